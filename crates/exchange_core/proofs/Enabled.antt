@@ -1,0 +1,122 @@
+-- Each desk has one event at most that may follow, the one in front there.
+use Rattle.std.proofs.Common.{◌≡◌, ◌≢◌, ℕ, ◌<◌, Bool, true, false, not, ltb, Option, Some, None, List, [], ◌∷◌, length, refl, sym, ap, ◌∙◌, subst, arith}
+use Rattle.std.specs.Prelude.{is_none, slice_get, if◌then◌else◌, MatchOption, IfSome, IfNone}
+use Rattle.match_model.specs.Instance.{Instance, IsInstance, IsProgramme, IsResident, quota, list_of_programme}
+use Rattle.exchange_core.specs.declared.event.Event.{Event}
+use Rattle.exchange_core.specs.declared.event.Event.TheVariants.{Offer, Take, Answer, Hear, Close}
+use Rattle.exchange_core.specs.declared.event.AnswerKind.{AnswerKind}
+use Rattle.exchange_core.specs.declared.event.Capacity.{Capacity}
+use Rattle.exchange_core.specs.declared.event.Refused.{Refused}
+use Rattle.exchange_core.specs.declared.event.Refused.TheVariants.{Closed, NoSuchDesk, NoPlace, NotNext, AnswerDue, NothingWaiting, WrongFront, NotDue, MailboxFull}
+use Rattle.exchange_core.specs.Mail.{Answered}
+use Rattle.exchange_core.specs.Legal.{is_closed, IsClosed, IsCapacity, MayFollow}
+use Rattle.exchange_core.specs.Left.{Left}
+use Rattle.exchange_core.specs.Refusal.{first_of, cause, is_number, is_answer, is_nil, strange_desk}
+use Rattle.exchange_core.specs.Steps.{resident_at, programme_at, event_fault_left, fault_left, next_offer_left, HasNoResidentEvent, HasNoProgrammeEvent}
+use Rattle.exchange_core.specs.Shown.{Shows}
+use Rattle.exchange_core.proofs.Tests.{three_none, four_none, head_none, rest_none, cause_none, not_false, number_from, answer_from}
+use Rattle.exchange_core.proofs.Outcomes.{follows_from, no_fault_from}
+use Rattle.exchange_core.proofs.NoJam.{next_event}
+
+-- the event of this desk with what stands in front, if something does
+abbrev answering : ℕ → Option Answered → Event
+answering r None = Close
+answering r (Some a) = Answer r a.0 a.1
+
+abbrev hearing : ℕ → Option Answered → Event
+hearing p None = Close
+hearing p (Some a) = Hear p a.0 a.1
+
+abbrev taking : ℕ → Option ℕ → Event
+taking r None = Close
+taking r (Some p) = Take r p
+
+abbrev offering : ℕ → Option ℕ → Event
+offering p None = Close
+offering p (Some r) = Offer p r
+
+some_none : {X : Type 0} (x : X) → Some x ≡ None → ⊥
+some_none x e = cc
+
+module _ (inst : Instance) (left : Left) where
+  own : (e : Event) → fault_left inst left e ≡ None → event_fault_left inst left e ≡ None
+  unfolding fault_left
+  own e h = head_none (event_fault_left inst left e) [] (rest_none (cause left.closed Closed) (event_fault_left inst left e ∷ []) h)
+
+  is_open : (e : Event) → fault_left inst left e ≡ None → left.closed ≡ false
+  unfolding fault_left
+  is_open e h = cause_none left.closed Closed (head_none (cause left.closed Closed) (event_fault_left inst left e ∷ []) h)
+
+  answer_front : (r p : ℕ) (k : AnswerKind) → fault_left inst left (Answer r p k) ≡ None → slice_get (resident_at left r).due 0 ≡ Some (p, k)
+  answer_front r p k h =
+      let first : Option Answered = slice_get (resident_at left r).due 0 in
+      answer_from first p k (not_false _ (three_none (strange_desk inst p r) (not (is_answer first p k)) (not (ltb (length (programme_at left p).waiting) (programme_at left p).room)) NoSuchDesk NotDue MailboxFull (own (Answer r p k) h)).1)
+
+  take_front : (r p : ℕ) → fault_left inst left (Take r p) ≡ None → slice_get (resident_at left r).waiting 0 ≡ Some p
+  take_front r p h =
+      let front : Option ℕ = slice_get (resident_at left r).waiting 0 in
+      number_from front p (not_false _ (four_none (strange_desk inst p r) (not (is_nil (resident_at left r).due)) (is_none front) (not (is_number front p)) NoSuchDesk AnswerDue NothingWaiting WrongFront (own (Take r p) h)).3)
+
+  hear_front : (p r : ℕ) (k : AnswerKind) → fault_left inst left (Hear p r k) ≡ None → slice_get (programme_at left p).waiting 0 ≡ Some (r, k)
+  hear_front p r k h =
+      let front : Option Answered = slice_get (programme_at left p).waiting 0 in
+      answer_from front r k (not_false _ (three_none (strange_desk inst p r) (is_none front) (not (is_answer front r k)) NoSuchDesk NothingWaiting WrongFront (own (Hear p r k) h)).2)
+
+  offer_next : (p r : ℕ) → fault_left inst left (Offer p r) ≡ None → next_offer_left inst left p ≡ Some r
+  unfolding next_offer_left
+  offer_next p r h =
+      let next : Option ℕ = slice_get (list_of_programme inst p) (programme_at left p).offered in
+      let free = four_none (strange_desk inst p r) (not (ltb (programme_at left p).out (quota inst p))) (not (is_number next r)) (not (ltb (length (resident_at left r).waiting) (resident_at left r).room)) NoSuchDesk NoPlace NotNext MailboxFull (own (Offer p r) h) in
+      pick left.closed (ltb (programme_at left p).out (quota inst p)) next (is_open (Offer p r) h) (not_false _ free.1) (number_from next r (not_false _ free.2))
+    where
+      pick : (shut place : Bool) (o : Option ℕ) → shut ≡ false → place ≡ true → o ≡ Some r → (if shut then None else (if place then o else None)) ≡ Some r
+      pick true b o e f g = cc
+      pick false true o e f g = g
+      pick false false o e f g = cc
+
+  -- an event that isn't the one in front may not follow
+  pub answer_only : (r q : ℕ) (m : AnswerKind) → slice_get (resident_at left r).due 0 ≡ Some (q, m) → fault_left inst left (Answer r q m) ≢ None → (p : ℕ) (k : AnswerKind) → fault_left inst left (Answer r p k) ≢ None
+  answer_only r q m first fault p k h = fault (subst (λ (o : Option Answered). fault_left inst left (answering r o) ≡ None) (sym (answer_front r p k h) ∙ first) h)
+
+  pub answer_none : (r : ℕ) → slice_get (resident_at left r).due 0 ≡ None → (p : ℕ) (k : AnswerKind) → fault_left inst left (Answer r p k) ≢ None
+  answer_none r none p k h = some_none (p, k) (sym (answer_front r p k h) ∙ none)
+
+  pub take_only : (r q : ℕ) → slice_get (resident_at left r).waiting 0 ≡ Some q → fault_left inst left (Take r q) ≢ None → (p : ℕ) → fault_left inst left (Take r p) ≢ None
+  take_only r q front fault p h = fault (subst (λ (o : Option ℕ). fault_left inst left (taking r o) ≡ None) (sym (take_front r p h) ∙ front) h)
+
+  pub take_none : (r : ℕ) → slice_get (resident_at left r).waiting 0 ≡ None → (p : ℕ) → fault_left inst left (Take r p) ≢ None
+  take_none r none p h = some_none p (sym (take_front r p h) ∙ none)
+
+  pub hear_only : (p s : ℕ) (m : AnswerKind) → slice_get (programme_at left p).waiting 0 ≡ Some (s, m) → fault_left inst left (Hear p s m) ≢ None → (r : ℕ) (k : AnswerKind) → fault_left inst left (Hear p r k) ≢ None
+  hear_only p s m front fault r k h = fault (subst (λ (o : Option Answered). fault_left inst left (hearing p o) ≡ None) (sym (hear_front p r k h) ∙ front) h)
+
+  pub hear_none : (p : ℕ) → slice_get (programme_at left p).waiting 0 ≡ None → (r : ℕ) (k : AnswerKind) → fault_left inst left (Hear p r k) ≢ None
+  hear_none p none r k h = some_none (r, k) (sym (hear_front p r k h) ∙ none)
+
+  pub offer_only : (p s : ℕ) → next_offer_left inst left p ≡ Some s → fault_left inst left (Offer p s) ≢ None → (r : ℕ) → fault_left inst left (Offer p r) ≢ None
+  offer_only p s next fault r h = fault (subst (λ (o : Option ℕ). fault_left inst left (offering p o) ≡ None) (sym (offer_next p r h) ∙ next) h)
+
+  pub offer_none : (p : ℕ) → next_offer_left inst left p ≡ None → (r : ℕ) → fault_left inst left (Offer p r) ≢ None
+  offer_none p none r h = some_none r (sym (offer_next p r h) ∙ none)
+
+-- where no desk has an event and no close may follow, the list is closed
+module _ (inst : Instance) (cap : Capacity) (j : List Event) (left : Left) (is_instance : IsInstance inst) (is_capacity : IsCapacity cap) (shows : Shows inst cap j left) where
+  stuck : (e : Event) → MayFollow inst cap j e → ((r : ℕ) → IsResident inst r → HasNoResidentEvent inst left r) → ((p : ℕ) → IsProgramme inst p → HasNoProgrammeEvent inst left p) → fault_left inst left Close ≢ None → ⊥
+  stuck (Offer p r) may rs ps close = (ps p may.allowed.by_programme).no_offer r (no_fault_from inst left (Offer p r) cap j shows may)
+  stuck (Take r p) may rs ps close = (rs r may.allowed.by_resident).no_take p (no_fault_from inst left (Take r p) cap j shows may)
+  stuck (Answer r p k) may rs ps close = (rs r may.allowed.by_resident).no_answer p k (no_fault_from inst left (Answer r p k) cap j shows may)
+  stuck (Hear p r k) may rs ps close = (ps p may.allowed.by_programme).no_hear r k (no_fault_from inst left (Hear p r k) cap j shows may)
+  stuck Close may rs ps close = close (no_fault_from inst left Close cap j shows may)
+
+  pub closed_where_stuck : ((r : ℕ) → IsResident inst r → HasNoResidentEvent inst left r) → ((p : ℕ) → IsProgramme inst p → HasNoProgrammeEvent inst left p) → fault_left inst left Close ≢ None → is_closed j ≡ true
+  closed_where_stuck rs ps close = step (is_closed j) refl
+    where
+      step : (b : Bool) → is_closed j ≡ b → is_closed j ≡ true
+      step true e = e
+      step false e = let next = next_event inst cap j is_instance is_capacity shows.legal e in absurd (stuck next.0 next.1 rs ps close)
+
+  -- the last answer: a close that may follow, or none
+  pub close_or_stuck : (o : Option Event) → IfSome o (λ e. (e ≡ Close) × (fault_left inst left Close ≡ None)) → IfNone o (fault_left inst left Close ≢ None) →
+      ((r : ℕ) → IsResident inst r → HasNoResidentEvent inst left r) → ((p : ℕ) → IsProgramme inst p → HasNoProgrammeEvent inst left p) → MatchOption o (IsClosed j) (λ e. MayFollow inst cap j e)
+  close_or_stuck None some none rs ps = closed_where_stuck rs ps none
+  close_or_stuck (Some e) some none rs ps = subst (λ (x : Event). MayFollow inst cap j x) (sym some.0) (follows_from inst left Close cap j shows some.1)

@@ -1,0 +1,203 @@
+//! What the core keeps of one desk.
+ghost use Rattle.std.specs.Prelude.{◌≡◌, ◌≢◌, ◌+◌, ◌^◌, ◌<◌, [], length, slice_get, IfOk, not, nat_lt, Some};
+ghost use Rattle.exchange_core.specs.Seats.{opened_resident, opened_programme, sent_offer, took_offer, gave_answer, made_offer, sent_answer, heard_answer};
+
+use crate::event::AnswerKind;
+use match_model::member::{ProgrammeNo, ResidentNo};
+use std::alloc::{AllocError, Global};
+use std::collections::VecDeque;
+use std::marker::Model;
+
+/// How many answers one offer calls for at most.
+const MOST_DUE: usize = 2;
+
+/// At a resident's desk: the offers that wait, the answers that are due, and the programme held.
+#[derive(Debug, Drop)]
+pub(crate) struct ResidentSeat {
+    waiting: VecDeque<ProgrammeNo>,
+    due: VecDeque<(ProgrammeNo, AnswerKind)>,
+    held: Option<ProgrammeNo>,
+    room: u32,
+}
+
+impl Model for ResidentSeat {
+    ghost use Rattle.std.specs.Prelude.{◌≤◌};
+    ghost use Rattle.std.specs.VecDeque.{deque_capacity};
+    ghost use Rattle.exchange_core.specs.Left.{ResidentLeft};
+
+    ghost Value = { ResidentLeft };
+
+    ghost view = { λ s. record { waiting = s.waiting.items; due = s.due.items; held = s.held; room = s.room } };
+
+    ghost invariant = { λ s. (s.room ≤ deque_capacity s.waiting) × (2 ≤ deque_capacity s.due) };
+}
+
+impl ResidentSeat {
+    /// A desk with room for this many offers.
+    pub(crate) fn open(alloc: Global, room: u32) -> Result<ResidentSeat, AllocError>
+        ensures { IfOk result (λ seat. seat ≡ opened_resident room) }
+    {
+        Ok(ResidentSeat {
+            waiting: VecDeque::with_capacity(alloc, room as usize)?,
+            due: VecDeque::with_capacity(alloc, MOST_DUE)?,
+            held: None,
+            room,
+        })
+    }
+
+    /// Whether as many offers wait as there is room for.
+    pub(crate) fn is_full(&self) -> bool
+        ensures { result ≡ not (nat_lt (length self.now.waiting) self.now.room) }
+    {
+        self.waiting.len() >= self.room as usize
+    }
+
+    /// The programme of the offer in front.
+    pub(crate) fn first_waiting(&self) -> Option<ProgrammeNo>
+        ensures { result ≡ slice_get self.now.waiting 0 }
+    {
+        self.waiting.front().copied()
+    }
+
+    /// The first answer due.
+    pub(crate) fn first_due(&self) -> Option<(ProgrammeNo, AnswerKind)>
+        ensures { result ≡ slice_get self.now.due 0 }
+    {
+        self.due.front().copied()
+    }
+
+    /// The programme of the last hold that was given.
+    pub(crate) fn held(&self) -> Option<ProgrammeNo>
+        ensures { result ≡ self.now.held }
+    {
+        self.held
+    }
+
+    /// An offer comes in.
+    pub(crate) fn receive(&mut self, programme: ProgrammeNo)
+        requires { length self.old.waiting < self.old.room }
+        ensures { self.new ≡ sent_offer self.old programme }
+    {
+        self.waiting.push_back_reserved(programme);
+    }
+
+    /// The offer in front, which is this programme's, is taken, and calls for its answers.
+    pub(crate) fn take(&mut self, programme: ProgrammeNo, better: bool)
+        requires { self.old.due ≡ [] }
+        ensures { self.new ≡ took_offer self.old better programme }
+    {
+        self.waiting.pop_front();
+        if better {
+            self.due.push_back_reserved((programme, AnswerKind::Hold));
+            if let Some(displaced) = self.held {
+                self.due
+                    .push_back_reserved((displaced, AnswerKind::Release));
+            }
+        } else {
+            self.due
+                .push_back_reserved((programme, AnswerKind::Decline));
+        }
+    }
+
+    /// The first answer due, which is this one, is given.
+    pub(crate) fn answer(&mut self, programme: ProgrammeNo, kind: AnswerKind)
+        ensures { self.new ≡ gave_answer self.old (programme, kind) }
+    {
+        self.due.pop_front();
+        if let AnswerKind::Hold = kind {
+            self.held = Some(programme);
+        }
+    }
+}
+
+/// At a programme's desk: how many offers it made and has out, and the answers that wait.
+#[derive(Debug, Drop)]
+pub(crate) struct ProgrammeSeat {
+    offered: u32,
+    out: u32,
+    waiting: VecDeque<(ResidentNo, AnswerKind)>,
+    room: u32,
+}
+
+impl Model for ProgrammeSeat {
+    ghost use Rattle.std.specs.Prelude.{◌≤◌};
+    ghost use Rattle.std.specs.VecDeque.{deque_capacity};
+    ghost use Rattle.exchange_core.specs.Left.{ProgrammeLeft};
+
+    ghost Value = { ProgrammeLeft };
+
+    ghost view = { λ s. record { offered = s.offered; out = s.out; waiting = s.waiting.items; room = s.room } };
+
+    ghost invariant = { λ s. s.room ≤ deque_capacity s.waiting };
+}
+
+impl ProgrammeSeat {
+    /// A desk with room for this many answers.
+    pub(crate) fn open(alloc: Global, room: u32) -> Result<ProgrammeSeat, AllocError>
+        ensures { IfOk result (λ seat. seat ≡ opened_programme room) }
+    {
+        Ok(ProgrammeSeat {
+            offered: 0,
+            out: 0,
+            waiting: VecDeque::with_capacity(alloc, room as usize)?,
+            room,
+        })
+    }
+
+    /// Whether as many answers wait as there is room for.
+    pub(crate) fn is_full(&self) -> bool
+        ensures { result ≡ not (nat_lt (length self.now.waiting) self.now.room) }
+    {
+        self.waiting.len() >= self.room as usize
+    }
+
+    /// The answer in front, with its resident.
+    pub(crate) fn first_waiting(&self) -> Option<(ResidentNo, AnswerKind)>
+        ensures { result ≡ slice_get self.now.waiting 0 }
+    {
+        self.waiting.front().copied()
+    }
+
+    /// How many offers were made.
+    pub(crate) fn offered(&self) -> u32
+        ensures { result ≡ self.now.offered }
+    {
+        self.offered
+    }
+
+    /// How many offers are out.
+    pub(crate) fn out(&self) -> u32
+        ensures { result ≡ self.now.out }
+    {
+        self.out
+    }
+
+    /// One offer more is made, and is out.
+    pub(crate) fn offer(&mut self)
+        requires offered { self.old.offered + 1 < 2 ^ 32 }
+        requires out { self.old.out + 1 < 2 ^ 32 }
+        ensures { self.new ≡ made_offer self.old }
+    {
+        self.offered += 1;
+        self.out += 1;
+    }
+
+    /// An answer comes in.
+    pub(crate) fn receive(&mut self, resident: ResidentNo, kind: AnswerKind)
+        requires { length self.old.waiting < self.old.room }
+        ensures { self.new ≡ sent_answer self.old (resident, kind) }
+    {
+        self.waiting.push_back_reserved((resident, kind));
+    }
+
+    /// The answer in front, which is this one, is heard; a rejection frees its place.
+    pub(crate) fn hear(&mut self, resident: ResidentNo, kind: AnswerKind)
+        ensures { self.new ≡ heard_answer self.old (resident, kind) }
+    {
+        self.waiting.pop_front();
+        match kind {
+            AnswerKind::Hold => {}
+            AnswerKind::Decline | AnswerKind::Release => self.out = self.out.saturating_sub(1),
+        }
+    }
+}

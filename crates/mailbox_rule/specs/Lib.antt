@@ -1,0 +1,4 @@
+pub mod Lists
+pub mod Mail
+pub mod Replies
+pub mod Rule

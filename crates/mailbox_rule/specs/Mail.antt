@@ -1,0 +1,31 @@
+-- What clauses see of the ends of a mailbox.
+use Rattle.std.specs.Prelude.{ℕ, List}
+use Rattle.atomic_table.specs.Seated.{TableId}
+use Rattle.atomic_table.specs.declared.badge.Badge.{Badge}
+use Rattle.crossbeam_channel.specs.declared.flavors.array.Key.{Key}
+use Rattle.crossbeam_channel.specs.Claims.{Pass}
+use Rattle.mailbox_rule.specs.declared.rule.Hand.{Hand}
+
+-- which mailbox it is
+pub record Mailbox (M : Type 0) : Type 0 where
+  pub table : TableId
+  pub keys : Badge (Key M)
+
+-- the mailbox that a pass belongs to
+abbrev pub mailbox_of : {M V : Type 0} → Pass M V → Mailbox M
+mailbox_of pass = record { table = pass.table_id; keys = pass.me.0.of }
+
+-- what the pass knows
+abbrev pub hand_of : {M : Type 0} → Pass M (Hand M) → Hand M
+hand_of pass = pass.me.0.client
+
+-- a sending end: its mailbox, with the capacity, and what it has put
+pub record PutSide (M : Type 0) : Type 0 where
+  pub mailbox : Mailbox M
+  pub room : ℕ
+  pub puts : List M
+
+-- a receiving end: its mailbox, and what it has taken
+pub record TakeSide (M : Type 0) : Type 0 where
+  pub mailbox : Mailbox M
+  pub taken : List M

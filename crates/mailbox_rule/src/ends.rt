@@ -1,0 +1,57 @@
+//! The two ends of a mailbox, as the crates above know them.
+ghost use Rattle.std.specs.Prelude.{◌≡◌, List, [], ◌∷◌, ◌++◌};
+ghost use Rattle.mailbox_rule.specs.Replies.{MatchPut, MatchTake};
+
+/// What a put answers. `Full` and `Gone` hand the message back.
+#[derive(Clone, Copy, PartialEq, Eq, Debug, Drop)]
+pub enum PutReply<M> {
+    Done,
+    Full(M),
+    Gone(M),
+}
+
+/// What a take answers.
+#[derive(Clone, Copy, PartialEq, Eq, Debug, Drop)]
+pub enum TakeReply<M> {
+    Got(M),
+    Nothing,
+    Gone,
+}
+
+/// The end of a mailbox that messages are put into.
+pub trait PutEnd<M> {
+    // What the end has put, first to last.
+    ghost puts: { Self → List M };
+
+    // Where a put may find no room.
+    ghost may_fill: { Self → Type 0 };
+
+    // Where a put may find that nobody can take.
+    ghost may_go: { Self → Type 0 };
+
+    /// Puts a message, or hands it back and changes nothing.
+    fn put(&mut self, m: M) -> PutReply<M>
+        ensures { MatchPut result
+            (puts self.new ≡ puts self.old ++ m ∷ [])
+            (λ back. (back ≡ m) × (self.new ≡ self.old) × may_fill self.old)
+            (λ back. (back ≡ m) × (self.new ≡ self.old) × may_go self.old) };
+}
+
+/// The end of a mailbox that messages are taken from.
+pub trait TakeEnd<M> {
+    // What the end has taken, first to last.
+    ghost taken: { Self → List M };
+
+    // Where a take may find no message.
+    ghost may_lack: { Self → Type 0 };
+
+    // Where a take may find that nobody can put.
+    ghost may_go: { Self → Type 0 };
+
+    /// Takes the oldest message, or changes nothing.
+    fn take(&mut self) -> TakeReply<M>
+        ensures { MatchTake result
+            (λ m. taken self.new ≡ taken self.old ++ m ∷ [])
+            ((self.new ≡ self.old) × may_lack self.old)
+            ((self.new ≡ self.old) × may_go self.old) };
+}

@@ -1,0 +1,110 @@
+//! Ends in memory that stand for those of a mailbox in tests.
+ghost use Rattle.std.specs.Prelude.{◌≡◌, ◌<◌, List, [], ◌∷◌, ◌++◌, length, IfOk, IfErr};
+ghost use Rattle.mailbox_rule.specs.Replies.{MatchPut, MatchTake};
+
+use crate::ends::{PutEnd, PutReply, TakeEnd, TakeReply};
+use crate::fault::MailFault;
+use std::alloc::Global;
+use std::marker::Model;
+
+/// Takes in as many messages as it has room for, and then answers `Full`. It never answers `Gone`.
+#[derive(Drop)]
+pub struct ListPut<M> {
+    messages: Vec<M>,
+    room: usize,
+}
+
+impl<M> Model for ListPut<M> {
+    ghost use Rattle.std.specs.Prelude.{◌≤◌, vec_len, vec_capacity};
+    ghost use Rattle.mailbox_rule.specs.Lists.{PutList};
+
+    ghost Value = { PutList M };
+
+    ghost view = { λ e. record { room = e.room; puts = e.messages.items } };
+
+    ghost invariant = { λ e. (vec_len e.messages ≤ e.room) × (e.room ≤ vec_capacity e.messages) };
+}
+
+impl<M> ListPut<M> {
+    /// An end with room for `n` messages, which may be 0. The one fault is `Memory`.
+    pub fn with_room(alloc: Global, n: u32) -> Result<ListPut<M>, MailFault>
+        ensures made { IfOk result (λ end. (end.room ≡ n) × (end.puts ≡ [])) }
+        ensures memory { IfErr result (λ fault. fault ≡ MailFault.Memory) }
+    {
+        let room = n as usize;
+        let Ok(messages) = Vec::with_capacity(alloc, room) else {
+            return Err(MailFault::Memory);
+        };
+        Ok(ListPut { messages, room })
+    }
+}
+
+impl<M> PutEnd<M> for ListPut<M> {
+    ghost puts = { λ end. end.puts };
+
+    ghost may_fill = { λ end. length end.puts ≡ end.room };
+
+    ghost may_go = { λ _. ⊥ };
+
+    fn put(&mut self, m: M) -> PutReply<M>
+        ensures { MatchPut result
+            ((length self.old.puts < self.old.room) × (self.new ≡ record self.old { puts = self.old.puts ++ m ∷ [] }))
+            (λ back. (back ≡ m) × (self.new ≡ self.old) × (length self.old.puts ≡ self.old.room))
+            (λ _. ⊥) }
+    {
+        if self.messages.len() >= self.room {
+            return PutReply::Full(m);
+        }
+        self.messages.push_reserved(m);
+        PutReply::Done
+    }
+}
+
+/// Gives the messages of a list in order, and then answers `Nothing`. It never answers `Gone`.
+#[derive(Drop)]
+pub struct ListTake<M: Copy> {
+    messages: Vec<M>,
+    next: usize,
+}
+
+impl<M: Copy> Model for ListTake<M> {
+    ghost use Rattle.std.specs.Prelude.{◌≤◌, vec_len, take, drop};
+    ghost use Rattle.mailbox_rule.specs.Lists.{TakeList};
+
+    ghost Value = { TakeList M };
+
+    ghost view = { λ e. record { taken = take e.next e.messages.items; left = drop e.next e.messages.items } };
+
+    ghost invariant = { λ e. e.next ≤ vec_len e.messages };
+}
+
+impl<M: Copy> ListTake<M> {
+    /// An end that gives these messages.
+    pub fn of(messages: Vec<M>) -> ListTake<M>
+        ensures { (result.left ≡ messages.items) × (result.taken ≡ []) }
+    {
+        ListTake { messages, next: 0 }
+    }
+}
+
+impl<M: Copy> TakeEnd<M> for ListTake<M> {
+    ghost taken = { λ end. end.taken };
+
+    ghost may_lack = { λ end. end.left ≡ [] };
+
+    ghost may_go = { λ _. ⊥ };
+
+    fn take(&mut self) -> TakeReply<M>
+        ensures { MatchTake result
+            (λ m. (self.old.left ≡ m ∷ self.new.left) × (self.new.taken ≡ self.old.taken ++ m ∷ []))
+            ((self.old.left ≡ []) × (self.new ≡ self.old))
+            ⊥ }
+    {
+        if self.next >= self.messages.len() {
+            return TakeReply::Nothing;
+        }
+        let m = self.messages[self.next];
+        self.next += 1;
+        TakeReply::Got(m)
+    }
+}

@@ -1,0 +1,164 @@
+//! A mailbox is a bounded channel under a rule, with one sending end and one receiving end.
+ghost use Rattle.std.specs.Prelude.{◌≡◌, ◌≢◌, ◌≤◌, ◌<◌, List, [], ◌∷◌, ◌++◌, length, Err, IfOk, IfErr};
+ghost use Rattle.mailbox_rule.specs.Replies.{MatchPut, MatchTake};
+
+use crate::ends::{PutEnd, PutReply, TakeEnd, TakeReply};
+use crate::fault::MailFault;
+use crate::rule::{Hand, InOrder, Puts, Sides, Takes, Whole};
+use crossbeam_channel::{
+    Pass, RuledReceiver, RuledSender, TryRecvError, TrySendError, bounded_with,
+};
+use std::alloc::Global;
+use std::marker::{Brand, Model};
+use std::sync::Wait;
+
+/// The sending end of a mailbox. There is one, and it cannot be cloned.
+#[derive(Drop)]
+pub struct RuledPut<M: Copy, R: Wait + Copy> {
+    sender: RuledSender<M, Hand<M>, InOrder>,
+    pass: Pass<M, Hand<M>>,
+    rt: R,
+}
+
+impl<M: Copy, R: Wait + Copy> Model for RuledPut<M, R> {
+    ghost use Rattle.std.specs.Prelude.{◌≡◌, true};
+    ghost use Rattle.crossbeam_channel.specs.Claims.{IsSeatAt};
+    ghost use Rattle.crossbeam_channel.specs.Ends.{sends_on, ruled_capacity};
+    ghost use Rattle.mailbox_rule.specs.Mail.{PutSide, mailbox_of, hand_of};
+
+    ghost Value = { PutSide M };
+
+    ghost view = { λ e. record {
+      mailbox = mailbox_of e.pass;
+      room = (hand_of e.pass).room;
+      puts = (hand_of e.pass).puts;
+    } };
+
+    ghost invariant = { λ e. IsSeatAt (sends_on e.sender) e.pass × ((hand_of e.pass).may_put ≡ true)
+        × ((hand_of e.pass).room ≡ ruled_capacity (sends_on e.sender)) };
+}
+
+/// The receiving end of a mailbox. There is one, and it cannot be cloned.
+#[derive(Drop)]
+pub struct RuledTake<M: Copy, R: Wait + Copy> {
+    receiver: RuledReceiver<M, Hand<M>, InOrder>,
+    pass: Pass<M, Hand<M>>,
+    rt: R,
+}
+
+impl<M: Copy, R: Wait + Copy> Model for RuledTake<M, R> {
+    ghost use Rattle.std.specs.Prelude.{◌≡◌, true};
+    ghost use Rattle.crossbeam_channel.specs.Claims.{IsSeatAt};
+    ghost use Rattle.crossbeam_channel.specs.Ends.{receives_on};
+    ghost use Rattle.mailbox_rule.specs.Mail.{TakeSide, mailbox_of, hand_of};
+
+    ghost Value = { TakeSide M };
+
+    ghost view = { λ e. record { mailbox = mailbox_of e.pass; taken = (hand_of e.pass).taken } };
+
+    ghost invariant = { λ e. IsSeatAt (receives_on e.receiver) e.pass × ((hand_of e.pass).may_take ≡ true) };
+}
+
+/// A mailbox that keeps at most `capacity` messages that are not yet taken.
+pub fn mailbox<M: Copy + Eq, R: Wait + Copy>(
+    alloc: Global,
+    rt: R,
+    capacity: u32,
+) -> Result<(RuledPut<M, R>, RuledTake<M, R>), MailFault>
+    ensures none { capacity ≡ 0 → result ≡ Err MailFault.NoCapacity }
+    ensures memory { capacity ≢ 0 → IfErr result (λ fault. fault ≡ MailFault.Memory) }
+    ensures made { IfOk result (λ ends. (ends.0.mailbox ≡ ends.1.mailbox)
+        × (ends.0.room ≡ capacity) × (ends.0.puts ≡ []) × (ends.1.taken ≡ [])) }
+{
+    if capacity == 0 {
+        return Err(MailFault::NoCapacity);
+    }
+    let Ok((sender, receiver, mut pass)) = bounded_with(alloc, capacity as usize) else {
+        return Err(MailFault::Memory);
+    };
+    let other = sender.another::<Brand>(&mut pass);
+    let put = RuledPut { sender, pass, rt };
+    let take = RuledTake {
+        receiver,
+        pass: other,
+        rt,
+    };
+    Ok((put, take))
+}
+
+impl<M: Copy, R: Wait + Copy> PutEnd<M> for RuledPut<M, R> {
+    ghost puts = { λ end. end.puts };
+
+    // Only where the capacity was put.
+    ghost may_fill = { λ end. end.room ≤ length end.puts };
+
+    ghost may_go = { λ _. Unit {0} };
+
+    fn put(&mut self, m: M) -> PutReply<M>
+        ensures { MatchPut result
+            (self.new ≡ record self.old { puts = self.old.puts ++ m ∷ [] })
+            (λ back. (back ≡ m) × (self.new ≡ self.old) × (self.old.room ≤ length self.old.puts))
+            (λ back. (back ≡ m) × (self.new ≡ self.old)) }
+    {
+        let Self { sender, pass, rt } = self;
+        match sender.try_send_as::<Puts, R>(rt, pass, m) {
+            Ok(()) => PutReply::Done,
+            Err(TrySendError::Full(back)) => PutReply::Full(back),
+            Err(TrySendError::Disconnected(back)) => PutReply::Gone(back),
+            Err(TrySendError::OutOfMemory(_)) => unreachable!(),
+        }
+    }
+}
+
+impl<M: Copy, R: Wait + Copy> TakeEnd<M> for RuledTake<M, R> {
+    ghost taken = { λ end. end.taken };
+
+    ghost may_lack = { λ _. Unit {0} };
+
+    ghost may_go = { λ _. Unit {0} };
+
+    fn take(&mut self) -> TakeReply<M>
+        ensures { MatchTake result
+            (λ m. self.new ≡ record self.old { taken = self.old.taken ++ m ∷ [] })
+            (self.new ≡ self.old)
+            (self.new ≡ self.old) }
+    {
+        let Self { receiver, pass, rt } = self;
+        match receiver.try_recv_as::<Takes, R>(rt, pass) {
+            Ok(m) => TakeReply::Got(m),
+            Err(TryRecvError::Empty) => TakeReply::Nothing,
+            Err(TryRecvError::Disconnected) => TakeReply::Gone,
+        }
+    }
+}
+
+/// Shows that what was taken is a prefix of what was put, and gives both ends back.
+pub fn agree<M: Copy, R: Wait + Copy>(
+    put: RuledPut<M, R>,
+    take: RuledTake<M, R>,
+) -> (RuledPut<M, R>, RuledTake<M, R>)
+    requires { put.mailbox ≡ take.mailbox }
+    ensures prefix { (rest : List M) × (take.taken ++ rest ≡ put.puts) × (length rest ≤ put.room) }
+    ensures same { (result.0 ≡ put) × (result.1 ≡ take) }
+{
+    let RuledPut {
+        sender,
+        mut pass,
+        rt,
+    } = put;
+    let RuledTake {
+        receiver,
+        pass: other,
+        rt: other_rt,
+    } = take;
+    sender.absorb::<Sides>(&mut pass, other);
+    sender.learn_as::<Whole>(&mut pass);
+    let other = sender.another::<Sides>(&mut pass);
+    let put = RuledPut { sender, pass, rt };
+    let take = RuledTake {
+        receiver,
+        pass: other,
+        rt: other_rt,
+    };
+    (put, take)
+}

@@ -1,0 +1,83 @@
+-- The instance of a draft keeps what an instance keeps.
+use Rattle.std.proofs.Common.{◌≡◌, ℕ, ◌+◌, ◌<◌, ◌≤◌, ◌↔◌, Bool, true, false, cond, ltb, List, [], ◌∷◌, ◌++◌, length, get_or, map, Option, Some, None, unwrap_or, refl, sym, ap, ◌∙◌, subst, arith, ◌&&◌, suc, zero, ⊎_elim}
+use Rattle.std.specs.List.{list_all, All, filter, enumerate_from, sum_by}
+use Rattle.std.proofs.lemmas.Bool.{cases_lt}
+use Rattle.std.proofs.lemmas.List.{length-map, get_or_past}
+use Rattle.std.proofs.lemmas.List.Sums.{get_or-le-sum_by}
+use Rattle.match_model.specs.Ranking.{place, is_listed, IsListed, HasNoRepeats}
+use Rattle.match_model.specs.Instance.{Instance, IsInstance, IsKept, list_at, pair_count, quota, list_of_programme, list_of_resident}
+use Rattle.match_model.specs.Draft.{Draft, IsDraft, AreLists, given_lists, instance_of, mutual_lists, has_no_repeats}
+use Rattle.match_model.specs.declared.limits.TheConstants.{MAX_PROGRAMMES, MAX_RESIDENTS, MAX_QUOTA, MAX_PAIRS}
+use Rattle.match_model.proofs.Rankings.{is_listed-filter, has_no_repeats-filter, HasNoRepeats-from_test, length-le_below}
+use Rattle.match_model.proofs.Mutual.{length-mutual_lists, get_or-mutual_lists}
+
+-- a fact of each list that was given holds of the empty list too
+at_list : (P : List ℕ → Type 0) (lists : List (List ℕ)) (i : ℕ) → P [] → All P lists → P (list_at lists i)
+at_list P lists i none all =
+    ⊎_elim (λ (h : i < length lists). all i [] h) (λ (h : length lists ≤ i). subst P (sym (get_or_past lists i [] h)) none) (cases_lt i (length lists))
+
+-- each mutual list is the filter of the list, for any number
+mutual_list_at : (mine theirs : List (List ℕ)) (i : ℕ) → list_at (mutual_lists mine theirs) i ≡ filter (λ x. is_listed (list_at theirs x) i) (list_at mine i)
+mutual_list_at mine theirs i =
+    ⊎_elim (λ (h : i < length mine). get_or-mutual_lists mine theirs i h)
+    (λ (h : length mine ≤ i). get_or_past (mutual_lists mine theirs) i [] (omega (arith, length-mutual_lists mine theirs)) ∙ sym (ap (λ (xs : List ℕ). filter (λ x. is_listed (list_at theirs x) i) xs) (get_or_past mine i [] h)))
+    (cases_lt i (length mine))
+
+-- who stands on a mutual list
+listed_both : (mine theirs : List (List ℕ)) (i x : ℕ) → is_listed (list_at (mutual_lists mine theirs) i) x ≡ is_listed (list_at mine i) x && is_listed (list_at theirs x) i
+listed_both mine theirs i x = ap (λ (xs : List ℕ). is_listed xs x) (mutual_list_at mine theirs i) ∙ is_listed-filter (λ y. is_listed (list_at theirs y) i) (list_at mine i) x
+
+no_repeats_at : (mine theirs : List (List ℕ)) (i : ℕ) → All (λ list. has_no_repeats list ≡ true) mine → has_no_repeats (list_at (mutual_lists mine theirs) i) ≡ true
+no_repeats_at mine theirs i all =
+    ap has_no_repeats (mutual_list_at mine theirs i) ∙ has_no_repeats-filter (λ x. is_listed (list_at theirs x) i) (list_at mine i) (at_list (λ list. has_no_repeats list ≡ true) mine i refl all)
+
+-- listed, as a fact and as a test
+listed_from : (xs : List ℕ) (x : ℕ) → is_listed xs x ≡ true → IsListed xs x
+listed_from xs x h = grind arith
+
+listed_to : (xs : List ℕ) (x : ℕ) → IsListed xs x → is_listed xs x ≡ true
+listed_to xs x h = grind arith
+
+and_comm : (a b : Bool) → a && b ≡ b && a
+and_comm true true = refl
+and_comm true false = refl
+and_comm false true = refl
+and_comm false false = refl
+
+turned : (mine theirs : List (List ℕ)) (i x : ℕ) → IsListed (list_at (mutual_lists mine theirs) i) x → IsListed (list_at (mutual_lists theirs mine) x) i
+turned mine theirs i x h =
+    listed_from _ i (listed_both theirs mine x i ∙ and_comm (is_listed (list_at theirs x) i) (is_listed (list_at mine i) x) ∙ sym (listed_both mine theirs i x) ∙ listed_to _ x h)
+
+fewer_kept : (q : ℕ → Bool) (xs : List ℕ) → length (filter q xs) ≤ length xs
+fewer_kept q [] = omega arith
+fewer_kept q (x ∷ xs) = step (q x) (fewer_kept q xs)
+  where
+    step : (b : Bool) → length (filter q xs) ≤ length xs → length (cond b (x ∷ filter q xs) (filter q xs)) ≤ length (x ∷ xs)
+    step true h = omega arith
+    step false h = omega arith
+
+-- a mutual list is no longer than there are members
+length_at : (mine theirs : List (List ℕ)) (i n : ℕ) → All (λ list. has_no_repeats list ≡ true) mine → All (λ list. list_all (λ x. ltb x n) list ≡ true) mine → length (list_at (mutual_lists mine theirs) i) ≤ n
+length_at mine theirs i n distinct below =
+    let short : length (list_at mine i) ≤ n = length-le_below (list_at mine i) n (at_list (λ list. has_no_repeats list ≡ true) mine i refl distinct) (at_list (λ list. list_all (λ x. ltb x n) list ≡ true) mine i refl below) in
+    subst (λ (xs : List ℕ). length xs ≤ n) (sym (mutual_list_at mine theirs i)) (let fewer = fewer_kept (λ x. is_listed (list_at theirs x) i) (list_at mine i) in omega arith)
+
+-- what the instance of a draft keeps
+pub IsKept-instance_of : (d : Draft) (pairs : ℕ) → IsDraft d → pair_count (instance_of d) ≤ MAX_PAIRS → pairs ≡ pair_count (instance_of d) → IsKept (instance_of d) pairs
+IsKept-instance_of d pairs h few count = record {
+  is_instance = record {
+    one_list_each = length-mutual_lists (given_lists d.programme_lists) (given_lists d.resident_lists) ∙ length-map d.programme_lists (λ list. unwrap_or list []) ∙ h.one_list_each;
+    programmes_rank_strictly = λ p. HasNoRepeats-from_test _ (no_repeats_at (given_lists d.programme_lists) (given_lists d.resident_lists) p h.programme_lists.no_repeats);
+    residents_rank_strictly = λ r. HasNoRepeats-from_test _ (no_repeats_at (given_lists d.resident_lists) (given_lists d.programme_lists) r h.resident_lists.no_repeats);
+    both_rank = λ p r. (turned (given_lists d.programme_lists) (given_lists d.resident_lists) p r, turned (given_lists d.resident_lists) (given_lists d.programme_lists) r p);
+    programmes_within = h.programmes_within;
+    residents_within = subst (λ n. n ≤ MAX_RESIDENTS) (sym (length-mutual_lists (given_lists d.resident_lists) (given_lists d.programme_lists) ∙ length-map d.resident_lists (λ list. unwrap_or list []))) h.residents_within;
+    quotas_within = λ p. ⊎_elim (λ (k : p < length d.quotas). h.quotas_within p 0 k) (λ (k : length d.quotas ≤ p). subst (λ n. n ≤ MAX_QUOTA) (sym (get_or_past d.quotas p 0 k)) (omega arith)) (cases_lt p (length d.quotas));
+    pairs_within = few;
+  };
+  pairs_counted = count;
+  programme_lists_within = λ p. ⊎_elim
+      (λ (k : p < length (instance_of d).programme_lists). let one = get_or-le-sum_by (λ (xs : List ℕ). length xs) (instance_of d).programme_lists p [] k in omega arith)
+      (λ (k : length (instance_of d).programme_lists ≤ p). subst (λ (xs : List ℕ). length xs ≤ MAX_PAIRS) (sym (get_or_past (instance_of d).programme_lists p [] k)) (omega arith)) (cases_lt p (length (instance_of d).programme_lists));
+  resident_lists_within = λ r. let one = length_at (given_lists d.resident_lists) (given_lists d.programme_lists) r (length d.quotas) h.resident_lists.no_repeats h.resident_lists.items_below in let most = h.programmes_within in omega arith;
+}

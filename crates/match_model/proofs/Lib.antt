@@ -1,0 +1,4 @@
+pub mod Rankings
+pub mod Drafts
+pub mod Mutual
+pub mod Kept

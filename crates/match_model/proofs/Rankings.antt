@@ -1,0 +1,228 @@
+-- Lemmas on rankings: the place that a walk finds, and ranks.
+use Rattle.std.specs.Prelude.{if◌then◌else◌}
+use Rattle.std.proofs.Common.{◌≡◌, ◌≢◌, ℕ, ◌+◌, ◌<◌, ◌≤◌, Bool, true, false, cond, eqb, ltb, List, [], ◌∷◌, ◌++◌, length, get_or, Option, Some, None, refl, sym, ap, ◌∙◌, suc, zero, arith, add-one, one-add, not, ◌&&◌, ◌||◌}
+use Rattle.std.proofs.lemmas.Grind.{common_steps}
+use Rattle.std.specs.List.{list_any, list_all, filter, IsDistinct, AllByRecursion}
+use Rattle.std.specs.List.Sorted.{IsPermutation, IsSorted, IsBinarySearchResult}
+use Rattle.std.specs.Ordering.{nat_cmp}
+use Rattle.std.specs.Prelude.{Result, Ok, Err, is_ok}
+use Rattle.std.proofs.Common.{⊎_elim}
+use Rattle.std.proofs.lemmas.Bool.{cases_lt}
+use Rattle.std.proofs.lemmas.List.Sorted.{IsNonDecreasingBy-from_sort, searched}
+use Rattle.std.proofs.lemmas.List.Sorted.{list_any-IsPermutation}
+use Rattle.std.proofs.lemmas.Map.Made.{AllPairs-from_IsDistinct}
+use Rattle.std.proofs.lemmas.Map.Steps.{length-le_from_distinct_below}
+use Rattle.std.proofs.lemmas.Bool.Decides.{Decides-eqb}
+use Rattle.match_model.specs.Ranking.{place, is_listed, HasNoRepeats}
+use Rattle.match_model.specs.Instance.{rank}
+use Rattle.match_model.specs.Draft.{has_no_repeats}
+
+-- one step of the walk
+pub place-cons_same : (y x : ℕ) (ys : List ℕ) → y ≡ x → place (y ∷ ys) x ≡ 0
+place-cons_same y x ys e = grind arith
+
+pub place-cons_other : (y x : ℕ) (ys : List ℕ) → y ≢ x → place (y ∷ ys) x ≡ 1 + place ys x
+place-cons_other y x ys e = grind arith
+
+-- the place of an item that no earlier one equals
+pub place_is : (xs : List ℕ) (x i : ℕ) → i < length xs → get_or xs i 0 ≡ x → ((k : ℕ) → k < i → get_or xs k 0 ≢ x) → place xs x ≡ i
+place_is [] x i h e none = absurd (omega arith)
+place_is (y ∷ ys) x zero h e none = place-cons_same y x ys e
+place_is (y ∷ ys) x (suc i) h e none =
+    place-cons_other y x ys (none 0 (omega arith)) ∙ ap (λ n. 1 + n) (place_is ys x i (omega arith) e (λ k l. none (suc k) (omega arith))) ∙ one-add i
+
+-- where no item is equal the place is the length
+pub place_past : (xs : List ℕ) (x : ℕ) → ((k : ℕ) → k < length xs → get_or xs k 0 ≢ x) → place xs x ≡ length xs
+place_past [] x none = refl
+place_past (y ∷ ys) x none =
+    place-cons_other y x ys (none 0 (omega arith)) ∙ ap (λ n. 1 + n) (place_past ys x (λ k l. none (suc k) (omega arith))) ∙ one-add (length ys)
+
+-- what a reader of ranks finds
+pub rank_found : (xs : List ℕ) (x i : ℕ) → i < length xs → get_or xs i 0 ≡ x → ((k : ℕ) → k < i → get_or xs k 0 ≢ x) → Some i ≡ rank xs x
+rank_found xs x i h e none = let p : place xs x ≡ i = place_is xs x i h e none in grind arith
+
+pub rank_none : (xs : List ℕ) (x : ℕ) → ((k : ℕ) → k < length xs → get_or xs k 0 ≢ x) → None ≡ rank xs x
+rank_none xs x none = let p : place xs x ≡ length xs = place_past xs x none in grind arith
+
+-- a place is at most the length
+pub place-le : (xs : List ℕ) (x : ℕ) → place xs x ≤ length xs
+place-le [] x = omega arith
+place-le (y ∷ ys) x = let h : place ys x ≤ length ys = place-le ys x in place-le_cons y x ys h
+  where
+    place-le_cons : (y x : ℕ) (ys : List ℕ) → place ys x ≤ length ys → place (y ∷ ys) x ≤ length (y ∷ ys)
+    place-le_cons y x ys h = grind arith
+
+-- listed, as a walk over the items tells it
+pub is_listed-any : (xs : List ℕ) (x : ℕ) → is_listed xs x ≡ list_any (λ y. eqb y x) xs
+is_listed-any [] x = refl
+is_listed-any (y ∷ ys) x = step y x ys (is_listed-any ys x)
+  where
+    step : (y x : ℕ) (ys : List ℕ) → is_listed ys x ≡ list_any (λ z. eqb z x) ys → is_listed (y ∷ ys) x ≡ list_any (λ z. eqb z x) (y ∷ ys)
+    step y x ys h = grind arith
+
+-- listed, at one item more in front or at the end
+pub is_listed-cons : (ys : List ℕ) (y x : ℕ) → is_listed (y ∷ ys) x ≡ eqb y x || is_listed ys x
+is_listed-cons ys y x = is_listed-any (y ∷ ys) x ∙ ap (λ b. eqb y x || b) (sym (is_listed-any ys x))
+
+pub is_listed-append : (xs ys : List ℕ) (x : ℕ) → is_listed (xs ++ ys) x ≡ is_listed xs x || is_listed ys x
+is_listed-append [] ys x = refl
+is_listed-append (z ∷ xs) ys x =
+    is_listed-cons (xs ++ ys) z x ∙ ap (λ b. eqb z x || b) (is_listed-append xs ys x) ∙ regroup (eqb z x) (is_listed xs x) (is_listed ys x)
+    ∙ ap (λ b. b || is_listed ys x) (sym (is_listed-cons xs z x))
+  where
+    regroup : (a b c : Bool) → a || (b || c) ≡ (a || b) || c
+    regroup true b c = refl
+    regroup false b c = refl
+
+pub is_listed_alone : (y x : ℕ) → is_listed (y ∷ []) x ≡ eqb y x
+is_listed_alone y x = grind arith
+
+-- equality of numbers doesn't care for order
+pub eqb_comm : (a b : ℕ) → eqb a b ≡ eqb b a
+eqb_comm a b = grind arith
+
+-- no repeats, at one item more at the end
+pub has_no_repeats-push : (xs : List ℕ) (y : ℕ) → has_no_repeats (xs ++ y ∷ []) ≡ has_no_repeats xs && not (is_listed xs y)
+has_no_repeats-push [] y = refl
+has_no_repeats-push (x ∷ xs) y =
+    ap (λ b. not b && has_no_repeats (xs ++ y ∷ [])) (is_listed-append xs (y ∷ []) x ∙ ap (λ b. is_listed xs x || b) (is_listed_alone y x))
+    ∙ ap (λ b. not (is_listed xs x || eqb y x) && b) (has_no_repeats-push xs y)
+    ∙ regroup (is_listed xs x) (eqb y x) (has_no_repeats xs) (is_listed xs y)
+    ∙ ap (λ b. (not (is_listed xs x) && has_no_repeats xs) && not (b || is_listed xs y)) (eqb_comm y x)
+    ∙ ap (λ b. (not (is_listed xs x) && has_no_repeats xs) && not b) (sym (is_listed-cons xs x y))
+  where
+    absorb : (n : Bool) → false ≡ n && false
+    absorb true = refl
+    absorb false = refl
+
+    regroup : (a e n b : Bool) → not (a || e) && (n && not b) ≡ (not a && n) && not (e || b)
+    regroup true e n b = refl
+    regroup false true n b = absorb n
+    regroup false false n b = refl
+
+-- a list that begins with a repeat has one
+pub has_no_repeats-append : (xs ys : List ℕ) → has_no_repeats xs ≡ false → has_no_repeats (xs ++ ys) ≡ false
+has_no_repeats-append [] ys h = absurd (true≢false h)
+  where
+    true≢false : true ≡ false → ⊥
+    true≢false e = cc
+has_no_repeats-append (x ∷ xs) ys h =
+    step (is_listed xs x) (is_listed ys x) (has_no_repeats xs) (has_no_repeats (xs ++ ys)) (is_listed (xs ++ ys) x) (is_listed-append xs ys x) h (has_no_repeats-append xs ys)
+  where
+    step : (a b n m l : Bool) → l ≡ a || b → not a && n ≡ false → (n ≡ false → m ≡ false) → not l && m ≡ false
+    step a b n m l e h f = grind arith
+
+-- what a filter keeps is listed where it was and passes
+pub is_listed-filter : (q : ℕ → Bool) (xs : List ℕ) (x : ℕ) → is_listed (filter q xs) x ≡ is_listed xs x && q x
+is_listed-filter q [] x = refl
+is_listed-filter q (y ∷ ys) x = step (q y) refl (is_listed-filter q ys x)
+  where
+    eq_from : (a b : ℕ) → eqb a b ≡ true → a ≡ b
+    eq_from a b e = grind arith
+
+    same : (b c : Bool) → eqb y x ≡ b → q y ≡ c → c ≡ cond b (q x) c
+    same true c e h = sym h ∙ ap q (eq_from y x e)
+    same false c e h = refl
+
+    join : (b l c d : Bool) → c ≡ cond b d c → cond c (b || (l && d)) (l && d) ≡ (b || l) && d
+    join b l c d e = grind arith
+
+    step : (c : Bool) → q y ≡ c → is_listed (filter q ys) x ≡ is_listed ys x && q x → is_listed (cond c (y ∷ filter q ys) (filter q ys)) x ≡ is_listed (y ∷ ys) x && q x
+    step true h ih = is_listed-cons (filter q ys) y x ∙ ap (λ b. eqb y x || b) ih ∙ join (eqb y x) (is_listed ys x) true (q x) (same (eqb y x) true refl h) ∙ ap (λ b. b && q x) (sym (is_listed-cons ys y x))
+    step false h ih = ih ∙ join (eqb y x) (is_listed ys x) false (q x) (same (eqb y x) false refl h) ∙ ap (λ b. b && q x) (sym (is_listed-cons ys y x))
+
+-- a filter makes no repeats
+pub has_no_repeats-filter : (q : ℕ → Bool) (xs : List ℕ) → has_no_repeats xs ≡ true → has_no_repeats (filter q xs) ≡ true
+has_no_repeats-filter q [] h = refl
+has_no_repeats-filter q (y ∷ ys) h = step (q y) (has_no_repeats-filter q ys (part.1)) (is_listed-filter q ys y)
+  where
+    both : (a n : Bool) → not a && n ≡ true → (a ≡ false) × (n ≡ true)
+    both a n e = grind arith
+
+    part : (is_listed ys y ≡ false) × (has_no_repeats ys ≡ true)
+    part = both (is_listed ys y) (has_no_repeats ys) h
+
+    keep : (a b n : Bool) (c : Bool) → a ≡ b && c → b ≡ false → n ≡ true → not a && n ≡ true
+    keep a b n c e f g = grind arith
+
+    step : (c : Bool) → has_no_repeats (filter q ys) ≡ true → is_listed (filter q ys) y ≡ is_listed ys y && q y → has_no_repeats (cond c (y ∷ filter q ys) (filter q ys)) ≡ true
+    step true ih l = keep _ _ _ (q y) l part.0 ih
+    step false ih l = ih
+
+-- no repeats, in std's words
+pub IsDistinct-from_test : (xs : List ℕ) → has_no_repeats xs ≡ true → IsDistinct eqb xs
+unfolding IsDistinct
+IsDistinct-from_test [] h = tt
+IsDistinct-from_test (x ∷ xs) h = (apart xs x (both (is_listed xs x) (has_no_repeats xs) h).0, IsDistinct-from_test xs (both (is_listed xs x) (has_no_repeats xs) h).1)
+  where
+    both : (a n : Bool) → not a && n ≡ true → (a ≡ false) × (n ≡ true)
+    both a n e = grind arith
+
+    neither : (a b : Bool) → a || b ≡ false → (a ≡ false) × (b ≡ false)
+    neither a b e = grind arith
+
+    apart : (ys : List ℕ) (x : ℕ) → is_listed ys x ≡ false → AllByRecursion (λ y. eqb x y ≡ false) ys
+    apart [] x e = tt
+    apart (y ∷ ys) x e =
+        let part : (eqb y x ≡ false) × (is_listed ys x ≡ false) = neither (eqb y x) (is_listed ys x) (sym (is_listed-cons ys y x) ∙ e) in
+        (eqb_comm x y ∙ part.0, apart ys x part.1)
+
+pub HasNoRepeats-from_test : (xs : List ℕ) → has_no_repeats xs ≡ true → HasNoRepeats xs
+HasNoRepeats-from_test xs h = AllPairs-from_IsDistinct {eq = eqb} (λ a b. Decides-eqb a b) xs (IsDistinct-from_test xs h)
+
+-- items below n without repeats are at most n
+pub listed_below : (n q : ℕ) (ys : List ℕ) → list_all (λ x. ltb x n) ys ≡ true → list_any (eqb q) ys ≡ true → q < n
+listed_below n q [] b e = absurd (false≢true e)
+  where
+    false≢true : false ≡ true → ⊥
+    false≢true e = cc
+listed_below n q (y ∷ ys) b e =
+    let part : (ltb y n ≡ true) × (list_all (λ x. ltb x n) ys ≡ true) = both (ltb y n) (list_all (λ x. ltb x n) ys) b in
+    step (eqb q y) (list_any (eqb q) ys) refl e part.0 (listed_below n q ys part.1)
+  where
+    both : (a c : Bool) → a && c ≡ true → (a ≡ true) × (c ≡ true)
+    both a c e = grind arith
+
+    here : eqb q y ≡ true → ltb y n ≡ true → q < n
+    here h k = grind arith
+
+    step : (a c : Bool) → eqb q y ≡ a → a || c ≡ true → ltb y n ≡ true → (c ≡ true → q < n) → q < n
+    step true c h e k f = here h k
+    step false c h e k f = f e
+
+pub length-le_below : (xs : List ℕ) (n : ℕ) → has_no_repeats xs ≡ true → list_all (λ x. ltb x n) xs ≡ true → length xs ≤ n
+length-le_below xs n h b = length-le_from_distinct_below xs n (IsDistinct-from_test xs h) (λ q e. listed_below n q xs b e)
+
+-- a list and its permutation list the same
+pub is_listed-IsPermutation : (xs ys : List ℕ) (x : ℕ) → IsPermutation xs ys → is_listed xs x ≡ is_listed ys x
+is_listed-IsPermutation xs ys x h = is_listed-any xs x ∙ list_any-IsPermutation (λ y. eqb y x) xs ys h ∙ sym (is_listed-any ys x)
+
+-- an item that is found is listed, and one that is nowhere isn't
+pub is_listed_at : (xs : List ℕ) (x i : ℕ) → i < length xs → get_or xs i 0 ≡ x → is_listed xs x ≡ true
+is_listed_at [] x i h e = absurd (omega arith)
+is_listed_at (y ∷ ys) x zero h e = is_listed-cons ys y x ∙ ap (λ b. b || is_listed ys x) (eqb_same y x e)
+  where
+    eqb_same : (a b : ℕ) → a ≡ b → eqb a b ≡ true
+    eqb_same a b e = grind arith
+is_listed_at (y ∷ ys) x (suc i) h e = is_listed-cons ys y x ∙ ap (λ b. eqb y x || b) (is_listed_at ys x i (omega arith) e) ∙ absorb (eqb y x)
+  where
+    absorb : (b : Bool) → b || true ≡ true
+    absorb true = refl
+    absorb false = refl
+
+pub is_listed_nowhere : (xs : List ℕ) (x : ℕ) → ((k : ℕ) → k < length xs → get_or xs k 0 ≢ x) → is_listed xs x ≡ false
+is_listed_nowhere xs x none = let p : place xs x ≡ length xs = place_past xs x none in grind arith
+
+-- what a search by halving finds in a rising list
+pub is_ok_searched : (xs : List ℕ) (x : ℕ) (r : Result ℕ ℕ) → IsBinarySearchResult (λ y. nat_cmp y x) xs r → IsSorted nat_cmp xs → is_ok r ≡ is_listed xs x
+is_ok_searched xs x (Ok i) found up =
+    let rises = IsNonDecreasingBy-from_sort (λ (n : ℕ). n) xs up in
+    let h = searched xs x (Ok i) found (λ a b l k. rises a b 0 l k) in
+    sym (is_listed_at xs x i h.0 h.1)
+is_ok_searched xs x (Err i) found up =
+    let rises = IsNonDecreasingBy-from_sort (λ (n : ℕ). n) xs up in
+    let h = searched xs x (Err i) found (λ a b l k. rises a b 0 l k) in
+    sym (is_listed_nowhere xs x (λ k l e. apart k l e h.1 h.2))
+  where
+    apart : (k : ℕ) → k < length xs → get_or xs k 0 ≡ x → ((k : ℕ) → k < i → get_or xs k 0 < x) → ((k : ℕ) → i ≤ k → k < length xs → x < get_or xs k 0) → ⊥
+    apart k l e low high = ⊎_elim (λ (b : k < i). let s = low k b in absurd (omega arith)) (λ (b : i ≤ k). let s = high k b l in absurd (omega arith)) (cases_lt k i)

@@ -1,0 +1,44 @@
+use Rattle.std.proofs.Common.{◌≡◌, ◌≤◌, ℕ, List, length, map, arith, sym, ap, ◌∙◌, subst}
+use Rattle.std.specs.Global.{Vec}
+use Rattle.std.specs.Prelude.{Option}
+use Rattle.match_model.proofs.Mutual.{lists_of}
+use Rattle.match_model.specs.Instance.{Instance, IsKept, pair_count}
+use Rattle.std.specs.List.{sum_by}
+use Rattle.match_model.specs.declared.limits.TheConstants.{MAX_PAIRS}
+use Rattle.match_model.specs.Draft.{Draft, instance_of, given_lists, mutual_lists, items_of}
+use Rattle.match_model.proofs.Kept.{IsKept-instance_of}
+use Rattle.match_model.proofs.builder.InstanceBuilder.instance.Goals as goal
+
+-- the mutual lists of what two vectors give
+abbrev mutual_of : List (Option (Vec ℕ)) → List (Option (Vec ℕ)) → List (List ℕ)
+mutual_of mine theirs = mutual_lists (given_lists (map items_of mine)) (given_lists (map items_of theirs))
+
+-- the parts of an instance, put in one at a time
+same_instance : (qs qs' : List ℕ) (ps ps' rs rs' : List (List ℕ)) → qs ≡ qs' → ps ≡ ps' → rs ≡ rs' →
+    (let a : Instance = record { quotas = qs; programme_lists = ps; resident_lists = rs } in let b : Instance = record { quotas = qs'; programme_lists = ps'; resident_lists = rs' } in a ≡ b)
+same_instance qs qs' ps ps' rs rs' e f g = λ i. record { quotas = e i; programme_lists = f i; resident_lists = g i }
+
+pub invariant_of-result : goal.invariant_of-result
+invariant_of-result c =
+    let quotas = c.in_ok-from_slice.ensures.items ∙ c.deref-6.ensures.value in
+    let programmes : lists_of c.in_ok-programmes.programmes.items ≡ mutual_of c.self.inside.programme_lists.items c.self.inside.resident_lists.items =
+    c.in_ok-programmes.ensures ∙ ap (λ (vs : List (Option (Vec ℕ))). mutual_of vs c.deref-2.result.now) c.deref.ensures.value ∙ ap (λ (vs : List (Option (Vec ℕ))). mutual_of c.self.inside.programme_lists.items vs) c.deref-2.ensures.value in
+    let residents : lists_of c.in_ok-residents.residents.items ≡ mutual_of c.self.inside.resident_lists.items c.self.inside.programme_lists.items =
+    c.in_ok-residents.ensures ∙ ap (λ (vs : List (Option (Vec ℕ))). mutual_of vs c.deref-4.result.now) c.deref-3.ensures.value ∙ ap (λ (vs : List (Option (Vec ℕ))). mutual_of c.self.inside.resident_lists.items vs) c.deref-4.ensures.value in
+    let ps = c.in_ok-residents_of.ensures ∙ ap lists_of c.deref-7.ensures.value ∙ programmes in
+    let rs = c.in_ok-programmes_of.ensures ∙ ap lists_of c.deref-8.ensures.value ∙ residents in
+    let d : Draft = record { quotas = c.self.inside.quotas.items; programme_lists = map items_of c.self.inside.programme_lists.items; resident_lists = map items_of c.self.inside.resident_lists.items } in
+    let counted : c.in-Some.pairs ≡ pair_count (instance_of d) = c.in-Some.ensures.counted.0 ∙ ap (λ (vs : List (Vec ℕ)). sum_by (length {A = ℕ}) (lists_of vs)) c.deref-5.ensures.value ∙ ap (sum_by (length {A = ℕ})) programmes in
+    let few : pair_count (instance_of d) ≤ MAX_PAIRS = (let most = c.in-Some.ensures.counted.1 in omega arith) in
+    subst (λ (inst : Instance). IsKept inst c.in-Some.pairs) (sym (same_instance _ _ _ _ _ _ quotas ps rs)) (IsKept-instance_of d c.in-Some.pairs c.self.invariant few counted)
+
+pub returns-clause-made : goal.returns-clause-made
+returns-clause-made c =
+    let quotas = c.in_ok-from_slice.ensures.items ∙ c.deref-6.ensures.value in
+    let programmes : lists_of c.in_ok-programmes.programmes.items ≡ mutual_of c.self.inside.programme_lists.items c.self.inside.resident_lists.items =
+    c.in_ok-programmes.ensures ∙ ap (λ (vs : List (Option (Vec ℕ))). mutual_of vs c.deref-2.result.now) c.deref.ensures.value ∙ ap (λ (vs : List (Option (Vec ℕ))). mutual_of c.self.inside.programme_lists.items vs) c.deref-2.ensures.value in
+    let residents : lists_of c.in_ok-residents.residents.items ≡ mutual_of c.self.inside.resident_lists.items c.self.inside.programme_lists.items =
+    c.in_ok-residents.ensures ∙ ap (λ (vs : List (Option (Vec ℕ))). mutual_of vs c.deref-4.result.now) c.deref-3.ensures.value ∙ ap (λ (vs : List (Option (Vec ℕ))). mutual_of c.self.inside.resident_lists.items vs) c.deref-4.ensures.value in
+    let ps = c.in_ok-residents_of.ensures ∙ ap lists_of c.deref-7.ensures.value ∙ programmes in
+    let rs = c.in_ok-programmes_of.ensures ∙ ap lists_of c.deref-8.ensures.value ∙ residents in
+    rw (← c.self.view_is) (same_instance _ _ _ _ _ _ quotas ps rs)

@@ -1,0 +1,17 @@
+use Rattle.std.proofs.Common.{◌≡◌, refl, sym, get_or, length, arith, subst, ◌∙◌, ℕ, ap}
+use Rattle.std.proofs.lemmas.List.{get_or_read}
+use Rattle.std.proofs.lemmas.Grind.{common_steps}
+use Rattle.match_model.proofs.Rankings.{rank_found, rank_none}
+use Rattle.match_model.specs.Instance.{rank}
+use Rattle.match_model.proofs.instance.Instance.rank_at_programme.Goals as goal
+
+pub returns-then-eq : goal.returns-then-eq
+returns-then-eq c =
+    let found : get_or c.list_of_programme-list.result.now c.loop-place.place 0 ≡ c.args.resident =
+    grind (arith, common_steps, get_or_read _ _ _ c.loop-place-test.true c.index-list-place.is 0) in
+    rank_found _ c.args.resident _ c.loop-place-test.true found c.loop-place.invariant ∙ ap (λ xs. rank xs c.args.resident) c.list_of_programme-list.ensures.list
+
+pub returns : goal.returns
+returns c =
+    rank_none c.list_of_programme-list.result.now c.args.resident (λ k h. c.loop-place.invariant k (omega arith))
+    ∙ ap (λ xs. rank xs c.args.resident) c.list_of_programme-list.ensures.list

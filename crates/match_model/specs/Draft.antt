@@ -1,0 +1,125 @@
+-- What a builder was handed, the instance that it makes, and the first fault of each call.
+use Rattle.std.specs.Prelude.{◌≡◌, ℕ, ◌+◌, ◌<◌, ◌≤◌, nat_lt, nat_le, not, ◌&&◌, ◌||◌, ◌⊎◌, if◌then◌else◌, Bool, true, Option, Some, None, Result, Ok, Err, List, [], ◌∷◌, ◌++◌, length, map, unwrap_or, slice_index_or, slice_set, is_some, IsTrue}
+use Rattle.std.specs.List.{filter, list_all, All, enumerate_from}
+use Rattle.std.specs.Global.{Vec}
+use Rattle.std.specs.List.Sorted.{IsSorted, IsPermutation}
+use Rattle.std.specs.Ordering.{nat_cmp}
+use Rattle.match_model.specs.Ranking.{is_listed, HasNoRepeats}
+use Rattle.match_model.specs.Instance.{Instance, list_at, pair_count}
+use Rattle.match_model.specs.declared.limits.TheConstants.{MAX_PROGRAMMES, MAX_RESIDENTS, MAX_QUOTA, MAX_PAIRS}
+use Rattle.match_model.specs.declared.fault.ModelFault.{ModelFault}
+use Rattle.match_model.specs.declared.fault.ModelFault.TheVariants.{TooManyProgrammes, TooManyResidents, QuotaTooLarge, NoSuchMember, ListGivenTwice, ListedTwice, TooManyPairs, Memory}
+
+-- by programme its quota, and by member the list that was given, if one was
+pub record Draft : Type 0 where
+  pub quotas : List ℕ
+  pub programme_lists : List (Option (List ℕ))
+  pub resident_lists : List (Option (List ℕ))
+
+-- the list that was given, or an empty one
+abbrev pub given_lists : List (Option (List ℕ)) → List (List ℕ)
+given_lists lists = map (λ list. unwrap_or list []) lists
+
+-- each member's list, in its order, with only those who list that member
+unfoldable pub mutual_lists : List (List ℕ) → List (List ℕ) → List (List ℕ)
+mutual_lists mine theirs =
+    map (λ (owned : ℕ × List ℕ). filter (λ x. is_listed (list_at theirs x) owned.0) owned.1) (enumerate_from 0 mine)
+
+-- the instance of what was handed in: the mutual part of each list
+abbrev pub instance_of : Draft → Instance
+instance_of d = record {
+  quotas = d.quotas;
+  programme_lists = mutual_lists (given_lists d.programme_lists) (given_lists d.resident_lists);
+  resident_lists = mutual_lists (given_lists d.resident_lists) (given_lists d.programme_lists);
+}
+
+-- the draft with one programme more, which has no list yet
+abbrev pub with_programme : Draft → ℕ → Draft
+with_programme d q = record d { quotas = d.quotas ++ q ∷ []; programme_lists = d.programme_lists ++ None ∷ [] }
+
+-- the draft with one resident more, who has no list yet
+abbrev pub with_resident : Draft → Draft
+with_resident d = record d { resident_lists = d.resident_lists ++ None ∷ [] }
+
+-- the draft in which p's list was given
+abbrev pub with_programme_list : Draft → ℕ → List ℕ → Draft
+with_programme_list d p items = record d { programme_lists = slice_set d.programme_lists p (Some items) }
+
+-- the draft in which r's list was given
+abbrev pub with_resident_list : Draft → ℕ → List ℕ → Draft
+with_resident_list d r items = record d { resident_lists = slice_set d.resident_lists r (Some items) }
+
+-- the list in a place that may have one
+abbrev pub items_of : Option (Vec ℕ) → Option (List ℕ)
+items_of None = None
+items_of (Some v) = Some v.items
+
+-- the first if there is one, else the second
+abbrev pub option_or : {X : Type 0} → Option X → Option X → Option X
+option_or (Some x) other = Some x
+option_or None other = other
+
+-- whether no item stands in the list twice
+abbrev pub has_no_repeats : List ℕ → Bool
+has_no_repeats [] = true
+has_no_repeats (x ∷ xs) = not (is_listed xs x) && has_no_repeats xs
+
+-- the first fault of an added programme
+abbrev pub programme_fault : Draft → ℕ → Option ModelFault
+programme_fault d q =
+    if nat_le MAX_PROGRAMMES (length d.quotas) then Some TooManyProgrammes
+    else (if nat_lt MAX_QUOTA q then Some QuotaTooLarge else None)
+
+-- the first fault of an added resident
+abbrev pub resident_fault : Draft → Option ModelFault
+resident_fault d = if nat_le MAX_RESIDENTS (length d.resident_lists) then Some TooManyResidents else None
+
+-- the fault of a list's owner: not added, or the list was given before
+abbrev pub owner_fault : List (Option (List ℕ)) → ℕ → Option ModelFault
+owner_fault lists owner =
+    if nat_le (length lists) owner then Some NoSuchMember
+    else (if is_some (slice_index_or lists owner None) then Some ListGivenTwice else None)
+
+-- the first fault of a list's items: one isn't below `others`, or one is listed twice
+abbrev pub items_fault : ℕ → List ℕ → Option ModelFault
+items_fault others items =
+    if not (list_all (λ x. nat_lt x others) items) then Some NoSuchMember
+    else (if not (has_no_repeats items) then Some ListedTwice else None)
+
+-- the first fault of a list: the owner's, and then that of its items, numbers below `others`
+abbrev pub list_fault : List (Option (List ℕ)) → ℕ → ℕ → List ℕ → Option ModelFault
+list_fault lists owner others items = option_or (owner_fault lists owner) (items_fault others items)
+
+-- where there is a fault it is the answer; else the answer is Ok, or want of memory
+abbrev pub AnswersFirst : {T : Type 0} → Option ModelFault → Result T ModelFault → Type 0
+AnswersFirst (Some fault) r = r ≡ Err fault
+AnswersFirst None (Ok v) = Unit {0}
+AnswersFirst None (Err e) = e ≡ Memory
+
+-- Ok comes only where there is no fault, and an error is that fault, or want of memory
+abbrev pub AnswersOrWantsMemory : {T : Type 0} → Option ModelFault → Result T ModelFault → Type 0
+AnswersOrWantsMemory fault (Ok v) = fault ≡ None
+AnswersOrWantsMemory fault (Err e) = (e ≡ Memory) ⊎ (fault ≡ Some e)
+
+-- every item of every list that was given is below n, and stands there once
+pub record AreLists (lists : List (Option (List ℕ))) (n : ℕ) : Type 0 where
+  pub items_below : All (λ list. list_all (λ x. nat_lt x n) list ≡ true) (given_lists lists)
+  pub no_repeats : All (λ list. has_no_repeats list ≡ true) (given_lists lists)
+
+-- the same items in rising order
+pub record IsSortedCopy (list copy : List ℕ) : Type 0 where
+  pub same_items : IsPermutation list copy
+  pub rising : IsSorted nat_cmp copy
+
+-- what a builder keeps: a list or none for each member, of members, without repeats, and the limits
+pub record IsDraft (d : Draft) : Type 0 where
+  pub one_list_each : length d.programme_lists ≡ length d.quotas
+  pub programmes_within : length d.quotas ≤ MAX_PROGRAMMES
+  pub residents_within : length d.resident_lists ≤ MAX_RESIDENTS
+  pub quotas_within : All (λ q. q ≤ MAX_QUOTA) d.quotas
+  pub programme_lists : AreLists d.programme_lists (length d.resident_lists)
+  pub resident_lists : AreLists d.resident_lists (length d.quotas)
+
+-- why the draft is not finished: want of memory, or more acceptable pairs than there may be
+abbrev pub IsFinishFault : Draft → ModelFault → Type 0
+IsFinishFault d fault = (fault ≡ Memory) ⊎ ((fault ≡ TooManyPairs) × (MAX_PAIRS < pair_count (instance_of d)))

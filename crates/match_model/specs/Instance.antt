@@ -1,0 +1,65 @@
+-- The instance of a match: quotas and rankings, of acceptable members only.
+use Rattle.std.specs.Prelude.{◌≡◌, ℕ, ◌<◌, ◌≤◌, ◌↔◌, if◌then◌else◌, Option, Some, None, List, [], length, slice_index, slice_index_or}
+use Rattle.std.specs.List.{sum_by}
+use Rattle.match_model.specs.Ranking.{place, is_listed, IsListed, HasNoRepeats}
+use Rattle.match_model.specs.declared.limits.TheConstants.{MAX_PROGRAMMES, MAX_RESIDENTS, MAX_PAIRS, MAX_QUOTA}
+
+-- by programme its quota and its ranking of acceptable residents, by resident its ranking of acceptable programmes
+pub record Instance : Type 0 where
+  pub quotas : List ℕ
+  pub programme_lists : List (List ℕ)
+  pub resident_lists : List (List ℕ)
+
+-- list i, which is empty past the end
+abbrev pub list_at : List (List ℕ) → ℕ → List ℕ
+list_at lists i = slice_index_or lists i []
+
+-- p is a programme of the instance
+abbrev pub IsProgramme : Instance → ℕ → Type 0
+IsProgramme inst p = p < length inst.quotas
+
+-- r is a resident of the instance
+abbrev pub IsResident : Instance → ℕ → Type 0
+IsResident inst r = r < length inst.resident_lists
+
+-- how many residents p may have
+abbrev pub quota : Instance → ℕ → ℕ
+quota inst p = slice_index inst.quotas p
+
+-- whom p ranks, best first, of those who rank p
+abbrev pub list_of_programme : Instance → ℕ → List ℕ
+list_of_programme inst p = list_at inst.programme_lists p
+
+-- whom r ranks, best first, of those that rank r
+abbrev pub list_of_resident : Instance → ℕ → List ℕ
+list_of_resident inst r = list_at inst.resident_lists r
+
+-- r and p rank one another
+abbrev pub Acceptable : Instance → ℕ → ℕ → Type 0
+Acceptable inst r p = IsListed (list_of_programme inst p) r
+
+-- how many pairs are acceptable
+abbrev pub pair_count : Instance → ℕ
+pair_count inst = sum_by (λ (xs : List ℕ). length xs) inst.programme_lists
+
+-- the place from 0 of x in the list, if it is listed
+abbrev pub rank : List ℕ → ℕ → Option ℕ
+rank xs x = if is_listed xs x then Some (place xs x) else None
+
+-- rankings without repeats, one for each member, in which p lists r exactly where r lists p, within the limits
+pub record IsInstance (inst : Instance) : Type 0 where
+  pub one_list_each : length inst.programme_lists ≡ length inst.quotas
+  pub programmes_rank_strictly : (p : ℕ) → HasNoRepeats (list_of_programme inst p)
+  pub residents_rank_strictly : (r : ℕ) → HasNoRepeats (list_of_resident inst r)
+  pub both_rank : (p r : ℕ) → IsListed (list_of_programme inst p) r ↔ IsListed (list_of_resident inst r) p
+  pub programmes_within : length inst.quotas ≤ MAX_PROGRAMMES
+  pub residents_within : length inst.resident_lists ≤ MAX_RESIDENTS
+  pub quotas_within : (p : ℕ) → quota inst p ≤ MAX_QUOTA
+  pub pairs_within : pair_count inst ≤ MAX_PAIRS
+
+-- what an instance keeps: its rankings are one, it counts its pairs, and no list is longer than there can be members
+pub record IsKept (inst : Instance) (pairs : ℕ) : Type 0 where
+  pub is_instance : IsInstance inst
+  pub pairs_counted : pairs ≡ pair_count inst
+  pub programme_lists_within : (p : ℕ) → length (list_of_programme inst p) ≤ MAX_PAIRS
+  pub resident_lists_within : (r : ℕ) → length (list_of_resident inst r) ≤ MAX_PAIRS

@@ -1,0 +1,4 @@
+pub mod Ranking
+pub mod Instance
+pub mod Draft
+pub mod Placement

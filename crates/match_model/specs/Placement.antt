@@ -1,0 +1,27 @@
+-- A placement gives each resident one programme or none: a list by resident.
+use Rattle.std.specs.Prelude.{◌≡◌, ℕ, ◌≤◌, ◌==◌, Bool, false, Option, Some, None, List, length, slice_index_or}
+use Rattle.std.specs.List.{count_by}
+use Rattle.match_model.specs.Instance.{Instance, Acceptable, quota}
+
+-- the programme that the placement gives to r, or none
+abbrev pub programme_of : List (Option ℕ) → ℕ → Option ℕ
+programme_of m r = slice_index_or m r None
+
+-- r is one of the members of p
+abbrev pub IsMemberOf : List (Option ℕ) → ℕ → ℕ → Type 0
+IsMemberOf m r p = programme_of m r ≡ Some p
+
+-- whether this place is one of p's
+abbrev pub holds : ℕ → Option ℕ → Bool
+holds p None = false
+holds p (Some q) = q == p
+
+-- how many members p has: the places of the list that hold p
+abbrev pub member_count : List (Option ℕ) → ℕ → ℕ
+member_count m p = count_by (holds p) m
+
+-- each resident has a place in the list, each pair is acceptable, and no programme has more members than its quota
+pub record IsAssignment (inst : Instance) (m : List (Option ℕ)) : Type 0 where
+  pub one_place_each : length m ≡ length inst.resident_lists
+  pub pairs_acceptable : (r p : ℕ) → IsMemberOf m r p → Acceptable inst r p
+  pub quotas_kept : (p : ℕ) → member_count m p ≤ quota inst p

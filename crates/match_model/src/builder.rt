@@ -1,0 +1,172 @@
+ghost use Rattle.std.specs.Prelude.{◌≡◌, ℕ, ◌⊎◌, ◌<◌, ◌≤◌, Option, List, [], length, IfOk, IfErr, OnOk, OnErr};
+ghost use Rattle.match_model.specs.Instance.{IsInstance, pair_count};
+
+use crate::fault::ModelFault;
+use crate::instance::Instance;
+use crate::limits::{MAX_PAIRS, MAX_PROGRAMMES, MAX_QUOTA, MAX_RESIDENTS};
+use crate::member::{ProgrammeNo, ResidentNo};
+use crate::ranking;
+use std::alloc::Global;
+use std::marker::Model;
+
+/// Takes quotas and lists as they are handed in, one member and one list at a time.
+#[derive(Debug, Drop)]
+pub struct InstanceBuilder {
+    alloc: Global,
+    quotas: Vec<u32>,
+    programme_lists: Vec<Option<Vec<u32>>>,
+    resident_lists: Vec<Option<Vec<u32>>>,
+}
+
+impl Model for InstanceBuilder {
+    ghost use Rattle.std.specs.Prelude.{map};
+    ghost use Rattle.match_model.specs.Draft.{Draft, IsDraft, items_of};
+
+    ghost Value = { Draft };
+
+    ghost view = { λ b. record { quotas = b.quotas.items; programme_lists = map items_of b.programme_lists.items; resident_lists = map items_of b.resident_lists.items } };
+
+    ghost invariant = { λ b. IsDraft (record { quotas = b.quotas.items; programme_lists = map items_of b.programme_lists.items; resident_lists = map items_of b.resident_lists.items }) };
+}
+
+/// Why `finish` refused, with the builder as it was.
+#[derive(Debug, Drop)]
+pub struct FinishRefused {
+    /// The builder that was finished.
+    pub builder: InstanceBuilder,
+    /// `TooManyPairs` or `Memory`.
+    pub fault: ModelFault,
+}
+
+impl InstanceBuilder {
+    ghost use Rattle.match_model.specs.Draft.{Draft, AnswersFirst, AnswersOrWantsMemory, programme_fault, resident_fault, list_fault, with_programme, with_resident, with_programme_list, with_resident_list, instance_of, IsFinishFault};
+
+    /// No members yet. The allocator serves all later growths.
+    pub fn new(alloc: Global) -> InstanceBuilder
+        ensures { result ≡ record { quotas = []; programme_lists = []; resident_lists = [] } }
+    {
+        InstanceBuilder {
+            alloc,
+            quotas: Vec::new(alloc),
+            programme_lists: Vec::new(alloc),
+            resident_lists: Vec::new(alloc),
+        }
+    }
+
+    /// Adds a programme with a quota, and gives its number. Refused as `TooManyProgrammes`, `QuotaTooLarge` or
+    /// `Memory`.
+    pub fn add_programme(&mut self, quota: u32) -> Result<ProgrammeNo, ModelFault>
+        ensures number { IfOk result (λ p. p ≡ length self.old.quotas) }
+        ensures added { OnOk result (self.new ≡ with_programme self.old quota) }
+        ensures first_fault { AnswersFirst (programme_fault self.old quota) result }
+        ensures err { OnErr result (self.new ≡ self.old) }
+    {
+        let number = self.quotas.len();
+        if number >= MAX_PROGRAMMES {
+            return Err(ModelFault::TooManyProgrammes);
+        }
+        if quota > MAX_QUOTA {
+            return Err(ModelFault::QuotaTooLarge);
+        }
+        let Ok(()) = self.quotas.push(quota) else {
+            return Err(ModelFault::Memory);
+        };
+        let Ok(()) = self.programme_lists.push(None) else {
+            self.quotas.truncate(number);
+            return Err(ModelFault::Memory);
+        };
+        Ok(ProgrammeNo(number as u32))
+    }
+
+    /// Adds a resident, and gives its number. Refused as `TooManyResidents` or `Memory`.
+    pub fn add_resident(&mut self) -> Result<ResidentNo, ModelFault>
+        ensures number { IfOk result (λ r. r ≡ length self.old.resident_lists) }
+        ensures added { OnOk result (self.new ≡ with_resident self.old) }
+        ensures first_fault { AnswersFirst (resident_fault self.old) result }
+        ensures err { OnErr result (self.new ≡ self.old) }
+    {
+        let number = self.resident_lists.len();
+        if number >= MAX_RESIDENTS {
+            return Err(ModelFault::TooManyResidents);
+        }
+        let Ok(()) = self.resident_lists.push(None) else {
+            return Err(ModelFault::Memory);
+        };
+        Ok(ResidentNo(number as u32))
+    }
+
+    /// Gives a programme its list, best first. Refused as `NoSuchMember` for the owner, `ListGivenTwice`,
+    /// `NoSuchMember` for an item, `ListedTwice` or `Memory`. An empty list counts as given.
+    pub fn programme_list(
+        &mut self,
+        programme: ProgrammeNo,
+        residents: &[ResidentNo],
+    ) -> Result<(), ModelFault>
+        ensures given { OnOk result (self.new ≡ with_programme_list self.old programme residents.now) }
+        ensures first_fault { AnswersOrWantsMemory (list_fault self.old.programme_lists programme (length self.old.resident_lists) residents.now) result }
+        ensures err { OnErr result (self.new ≡ self.old) }
+    {
+        let owner = programme.0 as usize;
+        ranking::test_owner(&self.programme_lists, owner)?;
+        let Ok(items) = ranking::numbers_of_residents(self.alloc, residents) else {
+            return Err(ModelFault::Memory);
+        };
+        ranking::test_items(self.alloc, self.resident_lists.len(), &items)?;
+        self.programme_lists[owner] = Some(items);
+        Ok(())
+    }
+
+    /// Gives a resident its list, best first, as `programme_list` does for a programme.
+    pub fn resident_list(
+        &mut self,
+        resident: ResidentNo,
+        programmes: &[ProgrammeNo],
+    ) -> Result<(), ModelFault>
+        ensures given { OnOk result (self.new ≡ with_resident_list self.old resident programmes.now) }
+        ensures first_fault { AnswersOrWantsMemory (list_fault self.old.resident_lists resident (length self.old.quotas) programmes.now) result }
+        ensures err { OnErr result (self.new ≡ self.old) }
+    {
+        let owner = resident.0 as usize;
+        ranking::test_owner(&self.resident_lists, owner)?;
+        let Ok(items) = ranking::numbers_of_programmes(self.alloc, programmes) else {
+            return Err(ModelFault::Memory);
+        };
+        ranking::test_items(self.alloc, self.quotas.len(), &items)?;
+        self.resident_lists[owner] = Some(items);
+        Ok(())
+    }
+
+    /// Makes the instance of the mutual parts of the lists. Refused as `TooManyPairs` or `Memory`, with the builder.
+    pub fn finish(self) -> Result<Instance, FinishRefused>
+        ensures made { IfOk result (λ inst. inst ≡ instance_of self) }
+        ensures within { OnOk result (pair_count (instance_of self) ≤ MAX_PAIRS) }
+        ensures handed_back { IfErr result (λ refused. refused.builder ≡ self) }
+        ensures cause { IfErr result (λ refused. IsFinishFault self refused.fault) }
+    {
+        match self.instance() {
+            Ok(instance) => Ok(instance),
+            Err(fault) => Err(FinishRefused {
+                builder: self,
+                fault,
+            }),
+        }
+    }
+
+    fn instance(&self) -> Result<Instance, ModelFault>
+        ensures made { IfOk result (λ inst. inst ≡ instance_of self.now) }
+        ensures within { OnOk result (pair_count (instance_of self.now) ≤ MAX_PAIRS) }
+        ensures cause { IfErr result (IsFinishFault self.now) }
+    {
+        let programmes = ranking::mutual(self.alloc, &self.programme_lists, &self.resident_lists)?;
+        let residents = ranking::mutual(self.alloc, &self.resident_lists, &self.programme_lists)?;
+        let Some(pairs) = ranking::count_items(&programmes) else {
+            return Err(ModelFault::TooManyPairs);
+        };
+        Ok(Instance {
+            quotas: Vec::from_slice(self.alloc, &self.quotas)?,
+            programme_lists: ranking::residents_of(self.alloc, &programmes)?,
+            resident_lists: ranking::programmes_of(self.alloc, &residents)?,
+            pairs,
+        })
+    }
+}

@@ -1,0 +1,106 @@
+ghost use Rattle.std.specs.Prelude.{◌≡◌, ◌<◌, ◌≤◌, length};
+ghost use Rattle.match_model.specs.Instance.{IsInstance, IsProgramme, IsResident, pair_count, quota as quota_of, list_of_programme as ranking_of_programme, list_of_resident as ranking_of_resident, rank};
+
+use crate::limits::MAX_PAIRS;
+use crate::member::{ProgrammeNo, ResidentNo};
+use std::marker::Model;
+
+/// Quotas, and for each member its ranking of acceptable members, best first.
+#[derive(Debug, Drop)]
+pub struct Instance {
+    pub(crate) quotas: Vec<u32>,
+    pub(crate) programme_lists: Vec<Vec<ResidentNo>>,
+    pub(crate) resident_lists: Vec<Vec<ProgrammeNo>>,
+    pub(crate) pairs: u32,
+}
+
+impl Model for Instance {
+    ghost use Rattle.std.specs.Prelude.{map};
+    ghost use Rattle.match_model.specs.Instance.{Instance as Rankings, IsKept};
+
+    ghost Value = { Rankings };
+
+    ghost view = { λ i. record { quotas = i.quotas.items; programme_lists = map (λ v. v.items) i.programme_lists.items; resident_lists = map (λ v. v.items) i.resident_lists.items } };
+
+    ghost invariant = { λ i. IsKept (record { quotas = i.quotas.items; programme_lists = map (λ v. v.items) i.programme_lists.items; resident_lists = map (λ v. v.items) i.resident_lists.items }) i.pairs };
+}
+
+impl Instance {
+    /// How many programmes there are, at most 2,000.
+    pub fn programmes(&self) -> u32
+        ensures count { result ≡ length self.now.quotas }
+        ensures instance { IsInstance self.now }
+    {
+        self.quotas.len() as u32
+    }
+
+    /// How many residents there are, at most 20,000.
+    pub fn residents(&self) -> u32
+        ensures count { result ≡ length self.now.resident_lists }
+        ensures instance { IsInstance self.now }
+    {
+        self.resident_lists.len() as u32
+    }
+
+    /// How many pairs are acceptable, at most 200,000.
+    pub fn pairs(&self) -> u32
+        ensures count { result ≡ pair_count self.now }
+        ensures instance { IsInstance self.now }
+    {
+        self.pairs
+    }
+
+    /// How many residents a programme may have, at most 10,000. The programme is a member.
+    pub fn quota(&self, programme: ProgrammeNo) -> u32
+        requires { IsProgramme self.now programme }
+        ensures { result ≡ quota_of self.now programme }
+    {
+        self.quotas[programme.0 as usize]
+    }
+
+    /// Whom a programme ranks, best first, of those who rank it. The programme is a member.
+    pub fn list_of_programme(&self, programme: ProgrammeNo) -> &[ResidentNo]
+        requires { IsProgramme self.now programme }
+        ensures list { result.now ≡ ranking_of_programme self.now programme }
+        ensures within { length (ranking_of_programme self.now programme) ≤ MAX_PAIRS }
+    {
+        self.programme_lists[programme.0 as usize].as_slice()
+    }
+
+    /// Whom a resident ranks, best first, of those that rank it. The resident is a member.
+    pub fn list_of_resident(&self, resident: ResidentNo) -> &[ProgrammeNo]
+        requires { IsResident self.now resident }
+        ensures list { result.now ≡ ranking_of_resident self.now resident }
+        ensures within { length (ranking_of_resident self.now resident) ≤ MAX_PAIRS }
+    {
+        self.resident_lists[resident.0 as usize].as_slice()
+    }
+
+    /// The place from 0 of a resident in a programme's list, if the pair is acceptable. The programme is a member.
+    pub fn rank_at_programme(&self, programme: ProgrammeNo, resident: ResidentNo) -> Option<u32>
+        requires { IsProgramme self.now programme }
+        ensures { result ≡ rank (ranking_of_programme self.now programme) resident }
+    {
+        let list = self.list_of_programme(programme);
+        for (place, other) in list.iter().enumerate() {
+            if *other == resident {
+                return Some(place as u32);
+            }
+        }
+        None
+    }
+
+    /// The place from 0 of a programme in a resident's list, if the pair is acceptable. The resident is a member.
+    pub fn rank_at_resident(&self, resident: ResidentNo, programme: ProgrammeNo) -> Option<u32>
+        requires { IsResident self.now resident }
+        ensures { result ≡ rank (ranking_of_resident self.now resident) programme }
+    {
+        let list = self.list_of_resident(resident);
+        for (place, other) in list.iter().enumerate() {
+            if *other == programme {
+                return Some(place as u32);
+            }
+        }
+        None
+    }
+}

@@ -1,0 +1,15 @@
+//! The model of a residency match: quotas, rankings, ranks and assignments.
+//!
+//! A builder takes quotas and lists as they were handed in; `finish` makes of them an instance, whose lists are the
+//! mutual parts of what was handed in, in order and without repeats.
+#![tactic(auto)]
+
+pub mod assignment;
+pub mod builder;
+pub mod fault;
+pub mod instance;
+pub mod limits;
+pub mod member;
+mod ranking;
+#[cfg(test)]
+mod tests;

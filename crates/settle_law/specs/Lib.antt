@@ -1,0 +1,4 @@
+pub mod Orderly
+pub mod ListLaws
+pub mod Stable
+pub mod SettledLaws

@@ -1,0 +1,26 @@
+-- The laws of legal lists: each is the contract of the function of its name.
+use Rattle.std.specs.Prelude.{◌≡◌, ◌+◌, ◌*◌, ◌≤◌, false, List, length}
+use Rattle.match_model.specs.Instance.{Instance, IsInstance, pair_count}
+use Rattle.exchange_core.specs.declared.event.Event.{Event}
+use Rattle.exchange_core.specs.declared.event.Capacity.{Capacity}
+use Rattle.exchange_core.specs.Legal.{is_closed, MayFollow, IsLegal, IsCapacity}
+use Rattle.settle_law.specs.Orderly.{IsOrderly}
+
+-- every legal list is orderly
+abbrev pub OrderlyLaw : Type 0
+OrderlyLaw =
+    (inst : Instance) (cap : Capacity) (j : List Event) → IsLegal inst cap j →
+    IsOrderly inst j
+
+-- a legal list has at most six events for each acceptable pair, and one close
+abbrev pub BoundLaw : Type 0
+BoundLaw =
+    (inst : Instance) (cap : Capacity) (j : List Event) → IsLegal inst cap j →
+    length j ≤ 6 * pair_count inst + 1
+
+-- while a legal list isn't closed some event may follow
+abbrev pub NoJamLaw : Type 0
+NoJamLaw =
+    (inst : Instance) (cap : Capacity) (j : List Event) →
+    IsInstance inst → IsCapacity cap → IsLegal inst cap j → is_closed j ≡ false →
+    (e : Event) × MayFollow inst cap j e

@@ -1,0 +1,25 @@
+//! What an exchange gives: no achievable programme is rejected, and a closed exchange is settled.
+
+ghost use Rattle.settle_law.specs.SettledLaws.{NeverRejectsLaw, SettledLaw, SameResidentsLaw, OneSettledLaw};
+
+/// In no legal list is a resident called to reject a programme that is achievable for it.
+pub fn law_never_rejects()
+    ensures { NeverRejectsLaw }
+{}
+
+/// What a closed legal list gives is stable, and settled: each programme has its best achievable residents up to its
+/// quota, and each resident its worst achievable programme.
+pub fn law_settled()
+    ensures { SettledLaw }
+{}
+
+/// Every stable assignment has the same residents matched as what a closed legal list gives, and as many at each
+/// programme.
+pub fn law_same_residents()
+    ensures { SameResidentsLaw }
+{}
+
+/// An instance has at most one settled assignment.
+pub fn law_one_settled()
+    ensures { OneSettledLaw }
+{}
