@@ -14,7 +14,7 @@ use Rattle.exchange_core.specs.Left.{Left}
 use Rattle.exchange_core.specs.Refusal.{first_of, cause, is_number, is_answer, is_nil, strange_desk}
 use Rattle.exchange_core.specs.Steps.{resident_at, programme_at, event_fault_left, fault_left, next_offer_left, HasNoResidentEvent, HasNoProgrammeEvent}
 use Rattle.exchange_core.specs.Shown.{Shows}
-use Rattle.exchange_core.proofs.Tests.{three_none, four_none, head_none, rest_none, cause_none, not_false, number_from, answer_from}
+use Rattle.exchange_core.proofs.Causes.{three_none, four_none, head_none, rest_none, cause_none, not_false, number_from, answer_from}
 use Rattle.exchange_core.proofs.Outcomes.{follows_from, no_fault_from}
 use Rattle.exchange_core.proofs.NoJam.{next_event}
 

@@ -12,7 +12,7 @@ pub mod Closing
 pub mod Totals
 mod ListExamples
 pub mod FirstBelow
-pub mod Tests
+pub mod Causes
 pub mod Bridge
 pub mod Accepts
 pub mod Stepped

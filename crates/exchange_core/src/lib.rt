@@ -4,3 +4,5 @@
 pub mod event;
 pub mod exchange;
 mod seat;
+#[cfg(test)]
+mod tests;

@@ -44,7 +44,8 @@ impl Assignment {
         requires { resident < length self.now }
         ensures { result ≡ programme_of self.now resident }
     {
-        self.places[resident.0 as usize]
+        let place = resident.0 as usize;
+        self.places[place]
     }
 
     /// Gives a resident a programme, or none. The resident is below `len`.
