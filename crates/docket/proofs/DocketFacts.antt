@@ -1,0 +1,124 @@
+-- The passes together.
+use Rattle.std.proofs.Common.{◌≡◌, ◌≤◌, ◌<◌, ◌+◌, ℕ, zero, suc, List, [], ◌∷◌, ◌++◌, Bool, true, false, length, map, sym, ◌∙◌, refl, ap, Option, Some, None, inl, inr, rules, arith}
+use Rattle.std.specs.Prelude.{◌==◌, ◌&&◌, ◌||◌, not, if◌then◌else◌, nat_eq, option_map, IfSome, OnOk}
+use Rattle.std.specs.List.{list_any}
+use Rattle.match_model.specs.Draft.{Draft}
+use Rattle.docket.specs.Fields.{Fields, field, is_kind, or_else}
+use Rattle.docket.specs.Contents.{Contents, contents_of, programmes_of, residents_of, rows_of, names_of, events_of, journal_of, JournalParts, has_sheet, is_sheet_row, declares_member, lists_of, quotas_of}
+use Rattle.docket.specs.Passes.{first_from, reading_fault, later_fault, first_fault, docket_of, rows_in, sheet_fault, mark_fault, missing_fault, filled_fault, ranking_fault, pairs_fault, event_fault}
+use Rattle.docket.specs.Answers.{Refuses}
+use Rattle.docket.specs.Source.{AreAll, Explains}
+use Rattle.docket.specs.Kept.{AreTables, IsRanked}
+use Rattle.std.specs.Prelude.{find, unwrap_or}
+use Rattle.exchange_core.specs.declared.event.Capacity.{Capacity}
+use Rattle.exchange_core.specs.declared.event.Capacity.TheVariants.{Full}
+use Rattle.exchange_core.specs.declared.event.Event.{Event}
+use Rattle.docket.specs.Words.{capacity_of}
+use Rattle.docket.specs.Collected.{IsDeclared, capacity_in}
+use Rattle.docket.specs.declared.declared.Declared.{Declared}
+use Rattle.docket.specs.declared.kind.TheConstants.{QUOTA, PROGRAMME_LIST, RESIDENT_LIST, CAPACITY, MAX_RECORDS}
+use Rattle.docket.specs.declared.fault.DocketFault.{DocketFault}
+use Rattle.docket.proofs.CollectedFacts.{refuses_first, refuses_second, no_fault}
+use Rattle.docket.proofs.RankFacts.{lists_of-none}
+
+-- a list with an item isn't empty
+not_empty : {A : Type 0} (x : A) (xs : List A) → nat_eq (length (x ∷ xs)) 0 ≡ false
+not_empty x xs = search rules
+
+and_false : (b : Bool) → (b && false) ≡ false
+and_false true = refl
+and_false false = refl
+
+-- no names exactly where no row declares a member
+no_members : (rows : List Fields) → (nat_eq (length (programmes_of rows)) 0 && nat_eq (length (residents_of rows)) 0) ≡ not (list_any declares_member rows)
+unfolding programmes_of residents_of
+no_members [] = refl
+no_members (r ∷ rows) = by (is_kind QUOTA r) (is_kind RESIDENT_LIST r) (no_members rows)
+  where
+    name : Fields → List ℕ
+    name row = field row 1
+
+    by : (q m : Bool) → (nat_eq (length (map (λ (row : Fields). field row 1) (rows_of QUOTA rows))) 0 && nat_eq (length (map (λ (row : Fields). field row 1) (rows_of RESIDENT_LIST rows))) 0) ≡ not (list_any declares_member rows)
+        → (nat_eq (length (map (λ (row : Fields). field row 1) (if q then r ∷ rows_of QUOTA rows else rows_of QUOTA rows))) 0
+        && nat_eq (length (map (λ (row : Fields). field row 1) (if m then r ∷ rows_of RESIDENT_LIST rows else rows_of RESIDENT_LIST rows))) 0) ≡ not ((q || m) || list_any declares_member rows)
+    by true m more = rw (not_empty (field r 1) (map (λ (row : Fields). field row 1) (rows_of QUOTA rows))) refl
+    by false true more = rw (not_empty (field r 1) (map (λ (row : Fields). field row 1) (rows_of RESIDENT_LIST rows))) (and_false (nat_eq (length (map (λ (row : Fields). field row 1) (rows_of QUOTA rows))) 0))
+    by false false more = more
+
+-- whether there is a sheet, by what is declared
+pub sheet_is : (d : Declared) (rows : List Fields) → IsDeclared d rows
+    → (d.has_sheet_row || (nat_eq (length d.programmes) 0 && nat_eq (length d.residents) 0)) ≡ has_sheet rows
+unfolding has_sheet
+sheet_is d rows h = rw (h.sheet_rows, h.programmes, h.residents, no_members rows) refl
+
+-- before the second pass
+pub ranked_start : (d : Declared) (rows : List Fields) → IsDeclared d rows → IsRanked d.builder rows []
+ranked_start d rows h = record {
+  quotas = h.quotas;
+  programme_lists = h.programme_lists ∙ sym (lists_of-none PROGRAMME_LIST (programmes_of rows) (residents_of rows));
+  resident_lists = h.resident_lists ∙ sym (lists_of-none RESIDENT_LIST (residents_of rows) (programmes_of rows));
+}
+
+pub tables_start : (d : Declared) (rows : List Fields) → IsDeclared d rows → first_from reading_fault [] rows ≡ None → length rows ≤ MAX_RECORDS
+    → AreTables rows d.programmes d.residents
+tables_start d rows h sound few = record { programmes_are = h.programmes; residents_are = h.residents; sound = sound; few = few }
+
+-- the answers of the whole, where the bytes are known
+pub whole_docket : (known : Option (List ℕ)) (left : Option (List Fields)) (rows : List Fields) (d : Contents) → left ≡ option_map rows_in known → AreAll left rows
+    → first_from reading_fault [] rows ≡ None → later_fault rows ≡ None → d ≡ contents_of rows
+    → IfSome known (λ bytes. (first_fault bytes ≡ None) × (d ≡ docket_of bytes))
+whole_docket None left rows d e all sound fine is = tt
+whole_docket (Some bytes) left rows d e all sound fine is =
+    let same : rows_in bytes ≡ rows = rw e at all in
+    rw same (no_fault _ _ sound fine, is)
+
+pub whole_reading : (known : Option (List ℕ)) (left : Option (List Fields)) (e : DocketFault) → left ≡ option_map rows_in known → Explains left (first_from reading_fault []) e
+    → IfSome known (λ bytes. Refuses (first_fault bytes) e)
+whole_reading None left f e h = tt
+whole_reading (Some bytes) left f e h = refuses_first _ _ f (rw e at h)
+
+pub whole_later : (known : Option (List ℕ)) (left : Option (List Fields)) (rows : List Fields) (f : DocketFault) → left ≡ option_map rows_in known → AreAll left rows
+    → first_from reading_fault [] rows ≡ None → Refuses (later_fault rows) f → IfSome known (λ bytes. Refuses (first_fault bytes) f)
+whole_later None left rows f e all sound h = tt
+whole_later (Some bytes) left rows f e all sound h =
+    let same : rows_in bytes ≡ rows = rw e at all in
+    rw same (refuses_second _ _ f sound h)
+
+-- the faults of a sheet are asked only where there is one
+pub sheet_asked : (rows : List Fields) → has_sheet rows ≡ true
+    → sheet_fault rows ≡ or_else (first_from (mark_fault rows) [] rows) (or_else (missing_fault rows) (first_from (filled_fault rows) [] rows))
+unfolding sheet_fault
+sheet_asked rows e = rw e refl
+
+pub sheet_free : (rows : List Fields) → has_sheet rows ≡ false → sheet_fault rows ≡ None
+unfolding sheet_fault
+sheet_free rows e = rw e refl
+
+-- the second pass and the later ones
+pub later_is : (rows : List Fields) → later_fault rows
+    ≡ or_else (or_else (first_from (ranking_fault rows) [] rows) (pairs_fault rows)) (or_else (sheet_fault rows) (first_from (event_fault rows) [] rows))
+unfolding later_fault
+later_is rows = by (first_from (ranking_fault rows) [] rows)
+  where
+    by : (a : Option DocketFault) → or_else a (or_else (pairs_fault rows) (or_else (sheet_fault rows) (first_from (event_fault rows) [] rows)))
+        ≡ or_else (or_else a (pairs_fault rows)) (or_else (sheet_fault rows) (first_from (event_fault rows) [] rows))
+    by None = refl
+    by (Some f) = refl
+
+-- contents of the same parts
+pub same_contents : {a b : Contents} → a.programmes ≡ b.programmes → a.residents ≡ b.residents → a.instance ≡ b.instance → a.sheet ≡ b.sheet → a.journal ≡ b.journal → a ≡ b
+same_contents p r n s j = λ i. record { programmes = p i; residents = r i; instance = n i; sheet = s i; journal = j i }
+
+abbrev parts_of : List Event → Capacity → JournalParts
+parts_of items c = record { capacity = c; events = items }
+
+-- the journal of a capacity and the events
+pub journal_is : (rows : List Fields) (cap : Option Capacity) (items : List Event) → cap ≡ capacity_in rows → items ≡ events_of rows
+    → option_map (parts_of items) cap ≡ journal_of rows
+unfolding capacity_in
+journal_is rows cap items e f = rw (e, f) (by (find (is_kind CAPACITY) rows))
+  where
+    by : (o : Option Fields) → option_map (parts_of (events_of rows)) (option_map (λ (row : Fields). unwrap_or (capacity_of (field row 1)) Full) o)
+        ≡ option_map (λ (row : Fields). parts_of (events_of rows) (unwrap_or (capacity_of (field row 1)) Full)) o
+    by None = refl
+    by (Some row) = refl

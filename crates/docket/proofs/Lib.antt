@@ -1,0 +1,16 @@
+pub mod WordFacts
+pub mod FieldFacts
+pub mod StoredFacts
+pub mod NameFacts
+pub mod SourceFacts
+pub mod CollectedFacts
+pub mod SoundFacts
+pub mod PassFacts
+pub mod ReadInvariant
+pub mod NumberFacts
+pub mod RankFacts
+pub mod EventFacts
+pub mod MarkFacts
+pub mod DocketFacts
+pub mod WholeFacts
+pub mod WriteFacts

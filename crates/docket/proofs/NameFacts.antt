@@ -1,0 +1,115 @@
+-- Facts on lists of names.
+use Rattle.std.proofs.Common.{◌≡◌, ◌≤◌, ◌<◌, ◌+◌, ℕ, zero, suc, List, [], ◌∷◌, ◌++◌, Bool, true, false, length, get_or, map, arith, sym, ◌∙◌, refl, ap, Option, Some, None, is_some, position, rules, cond}
+use Rattle.std.specs.Prelude.{bytes_eq, slice_get, IsUtf8, IsAscii, ◌&&◌, ◌||◌, nat_le, nat_lt, ◌==◌, if◌then◌else◌}
+use Rattle.std.specs.List.{list_all, list_any, position_from}
+use Rattle.std.proofs.lemmas.List.{map-append, get_or_past}
+use Rattle.std.proofs.lemmas.List.Folds.{list_all-append}
+use Rattle.std.proofs.lemmas.Iterator.Adapters.{position_from-zero}
+use Rattle.std.proofs.lemmas.Str.{IsUtf8-from_ascii}
+use Rattle.docket.specs.Words.{is_name, is_name_byte, is_between, is_digit}
+use Rattle.docket.specs.Contents.{number_in, is_declared}
+use Rattle.docket.proofs.WordFacts.{both, and_true, list_all_true_at}
+
+-- a position among images
+position_from-map : {A B : Type 0} (p : B → Bool) (f : A → B) (n : ℕ) (xs : List A) → position_from p n (map f xs) ≡ position_from (λ x. p (f x)) n xs
+position_from-map p f n [] = refl
+position_from-map p f n (x ∷ xs) = ap (λ o. cond (p (f x)) (Some n) o) (position_from-map p f (n + 1) xs)
+
+pub position-map : {A B : Type 0} (p : B → Bool) (f : A → B) (xs : List A) → position p (map f xs) ≡ position (λ x. p (f x)) xs
+position-map p f xs = position_from-zero p (map f xs) ∙ position_from-map p f 0 xs ∙ sym (position_from-zero (λ x. p (f x)) xs)
+
+-- there is a position exactly where the test passes somewhere
+is_some-position_from : {A : Type 0} (p : A → Bool) (n : ℕ) (xs : List A) → is_some (position_from p n xs) ≡ list_any p xs
+is_some-position_from p n [] = refl
+is_some-position_from p n (x ∷ xs) = by (p x) (is_some-position_from p (n + 1) xs)
+  where
+    by : (b : Bool) → is_some (position_from p (n + 1) xs) ≡ list_any p xs
+        → is_some (cond b (Some n) (position_from p (n + 1) xs)) ≡ (b || list_any p xs)
+    by true more = refl
+    by false more = more
+
+pub is_some-position : {A : Type 0} (p : A → Bool) (xs : List A) → is_some (position p xs) ≡ list_any p xs
+is_some-position p xs = ap is_some (position_from-zero p xs) ∙ is_some-position_from p 0 xs
+
+-- a test among images
+pub list_any-map : {A B : Type 0} (p : B → Bool) (f : A → B) (xs : List A) → list_any p (map f xs) ≡ list_any (λ x. p (f x)) xs
+list_any-map p f [] = refl
+list_any-map p f (x ∷ xs) = ap (λ b. p (f x) || b) (list_any-map p f xs)
+
+-- a name is declared exactly where it is equal to some name
+pub is_declared-any : (names : List (List ℕ)) (name : List ℕ) → is_declared names name ≡ list_any (bytes_eq name) names
+unfolding number_in
+is_declared-any names name = is_some-position (bytes_eq name) names
+
+-- the number of a name, by the keys that hold the names
+pub number_in-map : {K : Type 0} (f : K → List ℕ) (keys : List K) (name : List ℕ) → number_in (map f keys) name ≡ position (λ k. bytes_eq name (f k)) keys
+unfolding number_in
+number_in-map f keys name = position-map (bytes_eq name) f keys
+
+-- the names after a key is inserted
+pub names_after : {K : Type 0} (f : K → List ℕ) (keys : List K) (k : K) (name : List ℕ) → f k ≡ name
+    → map f (if list_any (λ x. bytes_eq (f k) (f x)) keys then keys else keys ++ k ∷ [])
+    ≡ (if is_declared (map f keys) name then map f keys else map f keys ++ name ∷ [])
+names_after f keys k name e =
+    rw (is_declared-any (map f keys) name, list_any-map (bytes_eq name) f keys, ← e) (by (list_any (λ x. bytes_eq (f k) (f x)) keys))
+  where
+    by : (b : Bool) → map f (if b then keys else keys ++ k ∷ []) ≡ (if b then map f keys else map f keys ++ f k ∷ [])
+    by true = refl
+    by false = map-append f keys (k ∷ [])
+
+-- each byte of a name is ASCII
+pub ascii_byte : (c : ℕ) → is_name_byte c ≡ true → c < 128
+ascii_byte c h = by (nat_le 97 c && nat_le c 122) (nat_le 65 c && nat_le c 90) (nat_le 48 c && nat_le c 57) (c == 45) (c == 95) (c == 46) refl refl refl refl refl refl h
+  where
+    by : (l u d m w p : Bool) → (nat_le 97 c && nat_le c 122) ≡ l → (nat_le 65 c && nat_le c 90) ≡ u → (nat_le 48 c && nat_le c 57) ≡ d
+        → (c == 45) ≡ m → (c == 95) ≡ w → (c == 46) ≡ p → (l || u || d || m || w || p) ≡ true → c < 128
+    by true u d m w p el eu ed em ew ep e = le122 (both (nat_le 97 c) (nat_le c 122) el).1
+      where
+        le122 : nat_le c 122 ≡ true → c < 128
+        le122 q = search (rules, q)
+    by false true d m w p el eu ed em ew ep e = le90 (both (nat_le 65 c) (nat_le c 90) eu).1
+      where
+        le90 : nat_le c 90 ≡ true → c < 128
+        le90 q = search (rules, q)
+    by false false true m w p el eu ed em ew ep e = le57 (both (nat_le 48 c) (nat_le c 57) ed).1
+      where
+        le57 : nat_le c 57 ≡ true → c < 128
+        le57 q = search (rules, q)
+    by false false false true w p el eu ed em ew ep e = search (rules, em)
+    by false false false false true p el eu ed em ew ep e = search (rules, ew)
+    by false false false false false true el eu ed em ew ep e = search (rules, ep)
+    by false false false false false false el eu ed em ew ep e = absurd (cc e)
+
+-- a name is text
+pub IsUtf8-is_name : (name : List ℕ) → is_name name ≡ true → IsUtf8 name
+unfolding is_name
+IsUtf8-is_name name h = IsUtf8-from_ascii name (λ i. at i (nat_lt i (length name)) refl)
+  where
+    bytes : list_all is_name_byte name ≡ true
+    bytes = (both (nat_le 1 (length name) && nat_le (length name) 32) (list_all is_name_byte name) h).1
+
+    at : (i : ℕ) (b : Bool) → nat_lt i (length name) ≡ b → get_or name i 0 < 128
+    at i true e = ascii_byte (get_or name i 0) (list_all_true_at is_name_byte name i 0 (search (rules, e)) bytes)
+    at i false e = rw (get_or_past name i 0 (search (rules, e))) (omega arith)
+
+-- each of some names is a name, and one more
+pub names_push : (names : List (List ℕ)) (name : List ℕ) → list_all is_name names ≡ true → is_name name ≡ true
+    → list_all is_name (if is_declared names name then names else names ++ name ∷ []) ≡ true
+names_push names name all one = by (is_declared names name)
+  where
+    more : list_all is_name (names ++ name ∷ []) ≡ true
+    more = list_all-append is_name names (name ∷ []) ∙ and_true _ _ all (and_true _ _ one refl)
+
+    by : (b : Bool) → list_all is_name (if b then names else names ++ name ∷ []) ≡ true
+    by true = all
+    by false = more
+
+-- a name among the keys is a name
+pub name_at : {K : Type 0} (f : K → List ℕ) (keys : List K) (i : ℕ) (k : K) → list_all is_name (map f keys) ≡ true → slice_get keys i ≡ Some k → is_name (f k) ≡ true
+name_at f [] i k all at = absurd (cc at)
+name_at f (x ∷ xs) zero k all at = let same : x ≡ k = cc at in rw (← same) (both (is_name (f x)) (list_all is_name (map f xs)) all).0
+name_at f (x ∷ xs) (suc i) k all at = name_at f xs i k (both (is_name (f x)) (list_all is_name (map f xs)) all).1 at
+
+-- whether a name is declared, by the keys that hold the names
+pub is_declared-map : {K : Type 0} (f : K → List ℕ) (keys : List K) (name : List ℕ) → is_declared (map f keys) name ≡ list_any (λ k. bytes_eq name (f k)) keys
+is_declared-map f keys name = is_declared-any (map f keys) name ∙ list_any-map (bytes_eq name) f keys

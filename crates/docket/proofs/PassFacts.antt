@@ -1,0 +1,115 @@
+-- The first record with a fault, as records are added one by one.
+use Rattle.std.proofs.Common.{◌≡◌, ◌≤◌, ◌<◌, ◌+◌, ℕ, zero, suc, List, [], ◌∷◌, ◌++◌, Bool, true, false, length, take, drop, get_or, arith, sym, ◌∙◌, refl, ap, Option, Some, None, inl, inr, append_assoc, append-nil, rules}
+use Rattle.std.specs.Prelude.{nat_le, if◌then◌else◌}
+use Rattle.std.proofs.lemmas.List.{take_more, take_all, take-append-drop, length-append}
+use Rattle.docket.specs.Fields.{Fields, or_else, row_fault}
+use Rattle.docket.specs.Stored.{row_at}
+use Rattle.docket.specs.Answers.{Refuses}
+use Rattle.docket.specs.Source.{GivesRow, IsSplit, Explains, AreAll}
+use Rattle.docket.specs.Passes.{first_from, reading_fault, repeat_fault, limit_fault, next_place}
+use Rattle.docket.specs.declared.kind.TheConstants.{MAX_RECORDS}
+use Rattle.docket.specs.declared.fault.DocketFault.{DocketFault}
+use Rattle.docket.specs.declared.fault.DocketFault.TheVariants.{TooManyRecords}
+
+or_else-assoc : (a b c : Option DocketFault) → or_else a (or_else b c) ≡ or_else (or_else a b) c
+or_else-assoc None b c = refl
+or_else-assoc (Some f) b c = refl
+
+-- the first fault of rows and then more rows
+pub first_from-append : (f : List Fields → Fields → Option DocketFault) (before xs ys : List Fields)
+    → first_from f before (xs ++ ys) ≡ or_else (first_from f before xs) (first_from f (before ++ xs) ys)
+unfolding first_from
+first_from-append f before [] ys = rw (append-nil before) refl
+first_from-append f before (x ∷ xs) ys =
+    ap (or_else (f before x)) (first_from-append f (before ++ x ∷ []) xs ys)
+    ∙ or_else-assoc (f before x) (first_from f (before ++ x ∷ []) xs) (first_from f ((before ++ x ∷ []) ++ xs) ys)
+    ∙ ap (λ (b : List Fields). or_else (or_else (f before x) (first_from f (before ++ x ∷ []) xs)) (first_from f b ys)) (append_assoc before (x ∷ []) xs)
+
+-- one row more without a fault
+pub first_from-push : (f : List Fields → Fields → Option DocketFault) (kept : List Fields) (row : Fields)
+    → first_from f [] kept ≡ None → f kept row ≡ None → first_from f [] (kept ++ row ∷ []) ≡ None
+unfolding first_from
+first_from-push f kept row none here = rw (first_from-append f [] kept (row ∷ []), none, here) refl
+
+-- the first row with a fault, whatever follows
+pub first_from-found : (f : List Fields → Fields → Option DocketFault) (kept rest : List Fields) (row : Fields) (e : DocketFault)
+    → first_from f [] kept ≡ None → f kept row ≡ Some e → first_from f [] (kept ++ row ∷ rest) ≡ Some e
+unfolding first_from
+first_from-found f kept rest row e none here = rw (first_from-append f [] kept (row ∷ rest), none, here) refl
+
+-- known rows, with the next one kept
+pub split_more : (all : Option (List Fields)) (kept : List Fields) (left after : Option (List Fields)) (row : Fields)
+    → IsSplit all kept left → GivesRow left after true row → IsSplit all (kept ++ row ∷ []) after
+split_more None kept left after row s g = tt
+split_more (Some rows) kept None after row s g = cc s.1
+split_more (Some rows) kept (Some l) after row s g =
+    let same : l ≡ s.0 = cc s.1 in
+    (g.0, g.1, s.2 ∙ ap (λ (r : List Fields). kept ++ r) (sym same ∙ g.2) ∙ sym (append_assoc kept (row ∷ []) g.0))
+
+-- no row is left
+pub split_end : (all : Option (List Fields)) (kept : List Fields) (left after : Option (List Fields)) (row : Fields)
+    → IsSplit all kept left → GivesRow left after false row → AreAll all kept
+split_end None kept left after row s g = tt
+split_end (Some rows) kept None after row s g = cc s.1
+split_end (Some rows) kept (Some l) after row s g =
+    let same : l ≡ s.0 = cc s.1 in
+    s.2 ∙ ap (λ (r : List Fields). kept ++ r) (sym same ∙ g) ∙ append-nil kept
+
+-- the next row has the first fault
+pub split_fault : (f : List Fields → Fields → Option DocketFault) (all : Option (List Fields)) (kept : List Fields) (left after : Option (List Fields)) (row : Fields) (e : DocketFault)
+    → IsSplit all kept left → GivesRow left after true row → first_from f [] kept ≡ None → Refuses (f kept row) e → Explains all (first_from f []) e
+split_fault f None kept left after row e s g none here = tt
+split_fault f (Some rows) kept None after row e s g none here = cc s.1
+split_fault f (Some rows) kept (Some l) after row e s g none (inl memory) = inl memory
+split_fault f (Some rows) kept (Some l) after row e s g none (inr here) =
+    let same : l ≡ s.0 = cc s.1 in
+    let all : rows ≡ kept ++ row ∷ g.0 = s.2 ∙ ap (λ (r : List Fields). kept ++ r) (sym same ∙ g.2) in
+    inr (rw all (first_from-found f kept g.0 row e none here))
+
+-- at the start all rows are left
+pub split_start : (all : Option (List Fields)) → IsSplit all [] all
+split_start None = tt
+split_start (Some rows) = (rows, refl, refl)
+
+-- the first pass at a row before the limit, and after it
+pub reading_fault-few : (before : List Fields) (row : Fields) → length before < MAX_RECORDS
+    → reading_fault before row ≡ or_else (row_fault (next_place before) row) (or_else (repeat_fault before row) (limit_fault before row))
+unfolding reading_fault
+reading_fault-few before row few = by (nat_le MAX_RECORDS (length before)) refl
+  where
+    by : (b : Bool) → nat_le MAX_RECORDS (length before) ≡ b
+        → (if b then Some (TooManyRecords (next_place before)) else or_else (row_fault (next_place before) row) (or_else (repeat_fault before row) (limit_fault before row)))
+        ≡ or_else (row_fault (next_place before) row) (or_else (repeat_fault before row) (limit_fault before row))
+    by true e = absurd (search (rules, few, e))
+    by false e = refl
+
+pub reading_fault-many : (before : List Fields) (row : Fields) → length before ≡ MAX_RECORDS → reading_fault before row ≡ Some (TooManyRecords (MAX_RECORDS + 1))
+unfolding reading_fault
+reading_fault-many before row many = rw many refl
+
+-- no rows have no fault
+pub first_from-none : (f : List Fields → Fields → Option DocketFault) → first_from f [] [] ≡ None
+unfolding first_from
+first_from-none f = refl
+
+pub length-push : {A : Type 0} (xs : List A) (x : A) → length (xs ++ x ∷ []) ≡ length xs + 1
+length-push xs x = length-append xs (x ∷ [])
+
+-- the first fault of a pass over kept rows, as each row is done
+pub pass_start : (f : List Fields → Fields → Option DocketFault) (rows : List Fields) → first_from f [] (take 0 rows) ≡ None
+unfolding first_from
+pass_start f rows = refl
+
+pub pass_more : (f : List Fields → Fields → Option DocketFault) (rows : List Fields) (k : ℕ) → k < length rows → first_from f [] (take k rows) ≡ None
+    → f (take k rows) (row_at rows k) ≡ None → first_from f [] (take (k + 1) rows) ≡ None
+pass_more f rows k lt none here = rw (take_more rows k [] lt) (first_from-push f (take k rows) (row_at rows k) none here)
+
+pub pass_fault : (f : List Fields → Fields → Option DocketFault) (rows : List Fields) (k : ℕ) (e : DocketFault) → k < length rows → first_from f [] (take k rows) ≡ None
+    → Refuses (f (take k rows) (row_at rows k)) e → Refuses (first_from f [] rows) e
+pass_fault f rows k e lt none (inl memory) = inl memory
+pass_fault f rows k e lt none (inr here) =
+    let whole : take k rows ++ row_at rows k ∷ drop (k + 1) rows ≡ rows = sym (append_assoc (take k rows) (row_at rows k ∷ []) (drop (k + 1) rows)) ∙ ap (λ (l : List Fields). l ++ drop (k + 1) rows) (sym (take_more rows k [] lt)) ∙ take-append-drop (k + 1) rows in
+    inr (ap (first_from f []) (sym whole) ∙ first_from-found f (take k rows) (drop (k + 1) rows) (row_at rows k) e none here)
+
+pub pass_end : (f : List Fields → Fields → Option DocketFault) (rows : List Fields) (k : ℕ) → length rows ≤ k → first_from f [] (take k rows) ≡ None → first_from f [] rows ≡ None
+pass_end f rows k end none = ap (first_from f []) (sym (take_all k rows end)) ∙ none

@@ -1,0 +1,96 @@
+-- What a record without a fault by itself holds.
+use Rattle.std.proofs.Common.{◌≡◌, ◌≤◌, ◌<◌, ◌+◌, ℕ, zero, suc, List, [], ◌∷◌, ◌++◌, Bool, true, false, length, get_or, drop, arith, sym, ◌∙◌, refl, ap, Option, Some, None, inl, inr, rules}
+use Rattle.std.specs.Prelude.{◌==◌, ◌&&◌, ◌||◌, not, if◌then◌else◌, ◌⊎◌, is_some, nat_lt}
+use Rattle.std.specs.List.{list_all}
+use Rattle.std.proofs.lemmas.Bool.{false≢true}
+use Rattle.docket.specs.Words.{is_name, number_of}
+use Rattle.docket.specs.Fields.{Fields, field, kind_of, is_kind, or_else, unless, counted, row_fault, quota_row_fault, list_row_fault, lists_names}
+use Rattle.docket.specs.declared.kind.TheConstants.{QUOTA, PROGRAMME_LIST, RESIDENT_LIST, MATCHED, UNMATCHED, FILLED, CAPACITY, EVENT}
+use Rattle.docket.specs.declared.fault.DocketFault.{DocketFault}
+use Rattle.docket.specs.declared.fault.DocketFault.TheVariants.{FieldCount, BadName, BadQuota, UnknownKind}
+use Rattle.docket.specs.Passes.{repeat_fault, limit_fault}
+use Rattle.docket.specs.Collected.{IsDeclared}
+use Rattle.docket.specs.declared.declared.Declared.{Declared}
+use Rattle.docket.proofs.CollectedFacts.{declared_push, option_or-none}
+use Rattle.docket.proofs.WordFacts.{list_all_true_at}
+use Rattle.docket.proofs.FieldFacts.{field-get_or}
+
+-- neither test has a fault
+pub both_none : (first second : Option DocketFault) → or_else first second ≡ None → (first ≡ None) × (second ≡ None)
+both_none None second e = (refl, e)
+both_none (Some f) second e = absurd (cc e)
+
+pub unless_none : (test : Bool) (fault : DocketFault) → unless test fault ≡ None → test ≡ true
+unless_none true fault e = refl
+unless_none false fault e = absurd (cc e)
+
+-- a Q row has a name and a number
+pub quota_row_sound : (n : ℕ) (row : Fields) → row_fault n row ≡ None → kind_of row ≡ QUOTA
+    → (is_name (field row 1) ≡ true) × (is_some (number_of (field row 2)) ≡ true)
+unfolding row_fault
+quota_row_sound n row h kind =
+    let own : quota_row_fault n row ≡ None = rw kind at h in
+    let rest = both_none (counted n 3 row) (or_else (unless (is_name (field row 1)) (BadName n)) (unless (is_some (number_of (field row 2))) (BadQuota n))) own in
+    let last = both_none (unless (is_name (field row 1)) (BadName n)) (unless (is_some (number_of (field row 2))) (BadQuota n)) rest.1 in
+    (unless_none (is_name (field row 1)) (BadName n) last.0, unless_none (is_some (number_of (field row 2))) (BadQuota n) last.1)
+
+-- a P or R row has names from field 1 on
+list_row_sound : (n : ℕ) (row : Fields) → list_row_fault n row ≡ None → is_name (field row 1) ≡ true
+unfolding lists_names
+list_row_sound n row own =
+    let rest = both_none (unless (nat_lt 1 (length row)) (FieldCount n)) (unless (lists_names row) (BadName n)) own in
+    let long = unless_none (nat_lt 1 (length row)) (FieldCount n) rest.0 in
+    let named = unless_none (lists_names row) (BadName n) rest.1 in
+    first row (search (rules, long)) named
+  where
+    first : (r : Fields) → 1 < length r → list_all is_name (drop 1 r) ≡ true → is_name (field r 1) ≡ true
+    first [] lt all = absurd (omega arith)
+    first (k ∷ []) lt all = absurd (omega arith)
+    first (k ∷ name ∷ rest) lt all = rw (field-get_or (k ∷ name ∷ rest) 1) (list_all_true_at is_name (name ∷ rest) 0 [] (omega arith) all)
+
+pub programme_list_sound : (n : ℕ) (row : Fields) → row_fault n row ≡ None → kind_of row ≡ PROGRAMME_LIST → is_name (field row 1) ≡ true
+unfolding row_fault
+programme_list_sound n row h kind = list_row_sound n row (rw kind at h)
+
+pub resident_list_sound : (n : ℕ) (row : Fields) → row_fault n row ≡ None → kind_of row ≡ RESIDENT_LIST → is_name (field row 1) ≡ true
+unfolding row_fault
+resident_list_sound n row h kind = list_row_sound n row (rw kind at h)
+
+-- a row of none of the five kinds is of a sheet
+pub sheet_kind : (n : ℕ) (row : Fields) → row_fault n row ≡ None
+    → (kind_of row ≡ QUOTA → ⊥) → (kind_of row ≡ PROGRAMME_LIST → ⊥) → (kind_of row ≡ RESIDENT_LIST → ⊥) → (kind_of row ≡ CAPACITY → ⊥) → (kind_of row ≡ EVENT → ⊥)
+    → (kind_of row ≡ MATCHED) ⊎ ((kind_of row ≡ UNMATCHED) ⊎ (kind_of row ≡ FILLED))
+unfolding row_fault
+sheet_kind n row h q p r c e =
+    by (is_kind MATCHED row) refl (is_kind UNMATCHED row) refl (is_kind FILLED row) refl
+  where
+    other : (k : ℕ) → (kind_of row ≡ k → ⊥) → (kind_of row == k) ≡ false
+    other k isnt = search (rules, isnt)
+
+    none : (is_kind MATCHED row) ≡ false → (is_kind UNMATCHED row) ≡ false → (is_kind FILLED row) ≡ false → ⊥
+    none m u f = let last : Some (UnknownKind n) ≡ None = rw (other QUOTA q, other PROGRAMME_LIST p, other RESIDENT_LIST r, m, u, f, other CAPACITY c, other EVENT e) at h in cc last
+
+    by : (m : Bool) → is_kind MATCHED row ≡ m → (u : Bool) → is_kind UNMATCHED row ≡ u → (f : Bool) → is_kind FILLED row ≡ f
+        → (kind_of row ≡ MATCHED) ⊎ ((kind_of row ≡ UNMATCHED) ⊎ (kind_of row ≡ FILLED))
+    by true m u eu f ef = inl (search (rules, m))
+    by false m true eu f ef = inr (inl (search (rules, eu)))
+    by false m false eu true ef = inr (inr (search (rules, ef)))
+    by false m false eu false ef = absurd (none m eu ef)
+
+-- nothing is asked of a row of a sheet
+pub sheet_row_free : (before : List Fields) (row : Fields) (k : ℕ) → kind_of row ≡ k → (k == QUOTA) ≡ false → (k == PROGRAMME_LIST) ≡ false
+    → (k == RESIDENT_LIST) ≡ false → (k == CAPACITY) ≡ false → (k == EVENT) ≡ false
+    → or_else (repeat_fault before row) (limit_fault before row) ≡ None
+unfolding repeat_fault limit_fault
+sheet_row_free before row k kind q p r c e = rw (kind, q, p, r, c, e) refl
+
+-- a row of a sheet more
+pub sheet_row_declared : (d : Declared) (rows : List Fields) (row : Fields)
+    → (kind_of row ≡ MATCHED) ⊎ ((kind_of row ≡ UNMATCHED) ⊎ (kind_of row ≡ FILLED)) → IsDeclared d rows
+    → IsDeclared (record d { has_sheet_row = true }) (rows ++ row ∷ []) × (or_else (repeat_fault rows row) (limit_fault rows row) ≡ None)
+sheet_row_declared d rows row (inl m) h =
+    (declared_push d _ rows row MATCHED m h refl refl refl refl refl refl (option_or-none d.capacity) refl refl, sheet_row_free rows row MATCHED m refl refl refl refl refl)
+sheet_row_declared d rows row (inr (inl u)) h =
+    (declared_push d _ rows row UNMATCHED u h refl refl refl refl refl refl (option_or-none d.capacity) refl refl, sheet_row_free rows row UNMATCHED u refl refl refl refl refl)
+sheet_row_declared d rows row (inr (inr f)) h =
+    (declared_push d _ rows row FILLED f h refl refl refl refl refl refl (option_or-none d.capacity) refl refl, sheet_row_free rows row FILLED f refl refl refl refl refl)

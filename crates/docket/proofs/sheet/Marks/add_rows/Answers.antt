@@ -1,0 +1,25 @@
+use Rattle.std.proofs.Common.{◌≡◌, ◌∙◌, sym, ap, arith, take}
+use Rattle.std.proofs.lemmas.Result.{err_from_is_err_and}
+use Rattle.std.proofs.lemmas.List.{take_all}
+use Rattle.docket.specs.Passes.{mark_fault}
+use Rattle.docket.proofs.PassFacts.{pass_start, pass_more, pass_fault, pass_end}
+use Rattle.docket.proofs.sheet.Marks.add_rows.Goals as goal
+
+pub loop-k-init : goal.loop-k-init
+loop-k-init c = (c.requires, pass_start (mark_fault c.args.tables.now) c.args.tables.now)
+
+pub loop-k-preserved : goal.loop-k-preserved
+loop-k-preserved c =
+    (c.in_ok-add_row.ensures.marked, pass_more (mark_fault c.args.tables.now) c.args.tables.now c.loop-k.k (omega arith) c.loop-k.invariant.1 c.in_ok-add_row.ensures.fault)
+
+pub returns-in_err-add_row-clause-fault : goal.returns-in_err-add_row-clause-fault
+returns-in_err-add_row-clause-fault c =
+    let p = err_from_is_err_and c.from_residual.result c.from_residual.ensures.1 in
+    rw (p.1, p.2) (pass_fault (mark_fault c.args.tables.now) c.args.tables.now c.loop-k.k _ (omega arith) c.loop-k.invariant.1 c.in_err-add_row.ensures.fault)
+
+pub returns-clause-marked : goal.returns-clause-marked
+returns-clause-marked c =
+    let all = take_all c.loop-k.k c.args.tables.now (omega arith) in rw all at c.loop-k.invariant.0
+
+pub returns-clause-fault : goal.returns-clause-fault
+returns-clause-fault c = pass_end (mark_fault c.args.tables.now) c.args.tables.now c.loop-k.k (omega arith) c.loop-k.invariant.1

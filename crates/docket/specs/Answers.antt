@@ -1,0 +1,26 @@
+-- How a call answers a fault.
+use Rattle.std.specs.Prelude.{◌≡◌, ◌⊎◌, ℕ, Option, Some, None, Result, Ok, Err}
+use Rattle.docket.specs.declared.fault.DocketFault.{DocketFault}
+use Rattle.docket.specs.declared.fault.DocketFault.TheVariants.{Memory, Model}
+use Rattle.match_model.specs.declared.fault.ModelFault.{ModelFault}
+use Rattle.match_model.specs.declared.fault.ModelFault.TheVariants as model
+
+-- the error is the fault, or want of memory
+abbrev pub Refuses : Option DocketFault → DocketFault → Type 0
+Refuses fault e = (e ≡ Memory) ⊎ (fault ≡ Some e)
+
+-- Ok comes only where there is no fault, and an error is that fault, or want of memory
+abbrev pub Answers : {T : Type 0} → Option DocketFault → Result T DocketFault → Type 0
+Answers fault (Ok v) = fault ≡ None
+Answers fault (Err e) = Refuses fault e
+
+-- the fault of a builder, at a record
+abbrev pub at_record : ℕ → ModelFault → DocketFault
+at_record n model.TooManyProgrammes = Model n model.TooManyProgrammes
+at_record n model.TooManyResidents = Model n model.TooManyResidents
+at_record n model.QuotaTooLarge = Model n model.QuotaTooLarge
+at_record n model.NoSuchMember = Model n model.NoSuchMember
+at_record n model.ListGivenTwice = Model n model.ListGivenTwice
+at_record n model.ListedTwice = Model n model.ListedTwice
+at_record n model.TooManyPairs = Model n model.TooManyPairs
+at_record n model.Memory = Memory

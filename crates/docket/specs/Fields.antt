@@ -1,0 +1,139 @@
+-- One record: its fields, and the faults that it has by itself.
+use Rattle.std.specs.Prelude.{ℕ, ◌+◌, nat_lt, ◌&&◌, ◌||◌, ◌==◌, not, Bool, if◌then◌else◌, Option, Some, None, is_none, is_some, List, [], ◌∷◌, length, drop, codes, bytes_eq, unwrap_or}
+use Rattle.std.specs.List.{list_all}
+use Rattle.csv.specs.Records.{field_at}
+use Rattle.docket.specs.Words.{is_name, number_of, capacity_of, answer_of}
+use Rattle.docket.specs.declared.kind.TheConstants.{QUOTA, PROGRAMME_LIST, RESIDENT_LIST, MATCHED, UNMATCHED, FILLED, CAPACITY, EVENT}
+use Rattle.docket.specs.declared.kind.EventWord.{EventWord}
+use Rattle.docket.specs.declared.kind.EventWord.TheVariants.{Offer, Take, Answer, Hear, Close}
+use Rattle.docket.specs.declared.fault.DocketFault.{DocketFault}
+use Rattle.docket.specs.declared.fault.DocketFault.TheVariants.{UnknownKind, FieldCount, BadName, BadQuota, BadEvent, BadSheet}
+
+-- a record is the list of its fields
+abbrev pub Fields : Type 0
+Fields = List (List ℕ)
+
+-- field i of a record, from 0, which is empty past the end
+unfoldable pub field : Fields → ℕ → List ℕ
+field row i = unwrap_or (field_at row i) []
+
+-- the byte of a text of one byte, or 0
+abbrev pub lone_byte : List ℕ → ℕ
+lone_byte [] = 0
+lone_byte (c ∷ []) = c
+lone_byte (c ∷ d ∷ rest) = 0
+
+-- the kind of a record: the one byte of its first field, or 0
+unfoldable pub kind_of : Fields → ℕ
+kind_of row = lone_byte (field row 0)
+
+-- whether the record is of the kind
+abbrev pub is_kind : ℕ → Fields → Bool
+is_kind kind row = kind_of row == kind
+
+-- whether the record is of the kind and its second field is the name
+abbrev pub is_row_of : ℕ → List ℕ → Fields → Bool
+is_row_of kind name row = is_kind kind row && bytes_eq name (field row 1)
+
+-- the first fault of two
+abbrev pub or_else : Option DocketFault → Option DocketFault → Option DocketFault
+or_else (Some fault) later = Some fault
+or_else None later = later
+
+-- the fault, where the test fails
+abbrev pub unless : Bool → DocketFault → Option DocketFault
+unless test fault = if test then None else Some fault
+
+-- which event a word names
+unfoldable pub event_word : List ℕ → Option EventWord
+event_word word =
+    if bytes_eq word (codes "offer") then Some Offer
+    else if bytes_eq word (codes "take") then Some Take
+    else if bytes_eq word (codes "answer") then Some Answer
+    else if bytes_eq word (codes "hear") then Some Hear
+    else if bytes_eq word (codes "close") then Some Close
+    else None
+
+-- how many fields an event of this word has
+abbrev pub width_of : EventWord → ℕ
+width_of Offer = 4
+width_of Take = 4
+width_of Answer = 5
+width_of Hear = 5
+width_of Close = 2
+
+-- the faults below are those of record n by itself, first the number of its fields
+abbrev pub counted : ℕ → ℕ → Fields → Option DocketFault
+counted n width row = unless (length row == width) (FieldCount n)
+
+-- `Q,programme,quota`
+abbrev pub quota_row_fault : ℕ → Fields → Option DocketFault
+quota_row_fault n row =
+    or_else (counted n 3 row)
+    (or_else (unless (is_name (field row 1)) (BadName n)) (unless (is_some (number_of (field row 2))) (BadQuota n)))
+
+-- whether the fields from 1 on are names
+unfoldable pub lists_names : Fields → Bool
+lists_names row = list_all is_name (drop 1 row)
+
+-- `P,programme,resident,..` and `R,resident,programme,..`
+abbrev pub list_row_fault : ℕ → Fields → Option DocketFault
+list_row_fault n row =
+    or_else (unless (nat_lt 1 (length row)) (FieldCount n)) (unless (lists_names row) (BadName n))
+
+-- `M,resident,programme`
+abbrev pub matched_row_fault : ℕ → Fields → Option DocketFault
+matched_row_fault n row = or_else (counted n 3 row) (unless (is_name (field row 1) && is_name (field row 2)) (BadName n))
+
+-- `U,resident`
+abbrev pub unmatched_row_fault : ℕ → Fields → Option DocketFault
+unmatched_row_fault n row = or_else (counted n 2 row) (unless (is_name (field row 1)) (BadName n))
+
+-- `F,programme,filled,quota`
+abbrev pub filled_row_fault : ℕ → Fields → Option DocketFault
+filled_row_fault n row =
+    or_else (counted n 4 row)
+    (or_else (unless (is_name (field row 1)) (BadName n))
+    (unless (is_some (number_of (field row 2)) && is_some (number_of (field row 3))) (BadSheet n)))
+
+-- `C,full` or `C,n`
+abbrev pub capacity_row_fault : ℕ → Fields → Option DocketFault
+capacity_row_fault n row = or_else (counted n 2 row) (unless (is_some (capacity_of (field row 1))) (BadEvent n))
+
+-- an event's two names
+abbrev pub event_names_fault : ℕ → Fields → Option DocketFault
+event_names_fault n row = unless (is_name (field row 2) && is_name (field row 3)) (BadName n)
+
+-- an event's two names and the kind of its answer
+abbrev pub answer_fault : ℕ → Fields → Option DocketFault
+answer_fault n row = or_else (event_names_fault n row) (unless (is_some (answer_of (field row 4))) (BadEvent n))
+
+-- what stands after an event's word
+abbrev pub event_fields_fault : ℕ → Fields → EventWord → Option DocketFault
+event_fields_fault n row Offer = event_names_fault n row
+event_fields_fault n row Take = event_names_fault n row
+event_fields_fault n row Answer = answer_fault n row
+event_fields_fault n row Hear = answer_fault n row
+event_fields_fault n row Close = None
+
+-- an event whose word is known, or isn't
+abbrev pub worded_row_fault : ℕ → Fields → Option EventWord → Option DocketFault
+worded_row_fault n row None = Some (BadEvent n)
+worded_row_fault n row (Some word) = or_else (counted n (width_of word) row) (event_fields_fault n row word)
+
+-- `E,word,..`
+abbrev pub event_row_fault : ℕ → Fields → Option DocketFault
+event_row_fault n row = or_else (unless (nat_lt 1 (length row)) (FieldCount n)) (worded_row_fault n row (event_word (field row 1)))
+
+-- the first fault of record n by itself: its kind, the number of its fields, its names, its numbers and words
+unfoldable pub row_fault : ℕ → Fields → Option DocketFault
+row_fault n row =
+    if is_kind QUOTA row then quota_row_fault n row
+    else if is_kind PROGRAMME_LIST row then list_row_fault n row
+    else if is_kind RESIDENT_LIST row then list_row_fault n row
+    else if is_kind MATCHED row then matched_row_fault n row
+    else if is_kind UNMATCHED row then unmatched_row_fault n row
+    else if is_kind FILLED row then filled_row_fault n row
+    else if is_kind CAPACITY row then capacity_row_fault n row
+    else if is_kind EVENT row then event_row_fault n row
+    else Some (UnknownKind n)

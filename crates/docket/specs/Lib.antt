@@ -1,0 +1,14 @@
+pub mod Words
+pub mod Fields
+pub mod Passes
+pub mod Contents
+pub mod Stored
+pub mod Source
+pub mod Collected
+pub mod Kept
+pub mod Answers
+pub mod Places
+pub mod Marked
+pub mod Whole
+pub mod Rows
+pub mod Texts

@@ -1,0 +1,88 @@
+//! A docket: names, an instance, and maybe a sheet and a journal.
+ghost use Rattle.std.specs.Prelude.{◌≡◌, ◌<◌, Some, slice_get, length, option_copied};
+ghost use Rattle.docket.specs.Whole.{IsWhole};
+
+use crate::names::Names;
+use exchange_core::event::{Capacity, Event};
+use match_model::assignment::Assignment;
+use match_model::instance::Instance;
+use match_model::member::{ProgrammeNo, ResidentNo};
+use std::marker::Model;
+
+/// The journal of an exchange: the capacity of its mailboxes, and its events in order.
+#[derive(Drop)]
+pub struct Journal {
+    /// The capacity of its mailboxes.
+    pub capacity: Capacity,
+    /// Its events, in order.
+    pub events: Vec<Event>,
+}
+
+impl Model for Journal {
+    ghost use Rattle.docket.specs.Contents.{JournalParts};
+
+    ghost Value = { JournalParts };
+
+    ghost view = { λ j. record { capacity = j.capacity; events = j.events.items } };
+}
+
+/// What a docket says.
+#[derive(Drop)]
+pub struct Docket {
+    pub(crate) programmes: Names,
+    pub(crate) residents: Names,
+    pub(crate) instance: Instance,
+    pub(crate) sheet: Option<Assignment>,
+    pub(crate) journal: Option<Journal>,
+}
+
+impl Model for Docket {
+    ghost use Rattle.docket.specs.Contents.{Contents};
+    ghost use Rattle.docket.specs.Whole.{IsWhole};
+
+    ghost Value = { Contents };
+
+    ghost view = { λ d. record { programmes = d.programmes; residents = d.residents; instance = d.instance; sheet = d.sheet; journal = d.journal } };
+
+    ghost invariant = { λ d. IsWhole (record { programmes = d.programmes; residents = d.residents; instance = d.instance; sheet = d.sheet; journal = d.journal }) };
+}
+
+impl Docket {
+    /// The quotas and the rankings.
+    pub fn instance(&self) -> &Instance
+        ensures instance { result.now ≡ self.now.instance }
+        ensures whole { IsWhole self.now }
+    {
+        &self.instance
+    }
+
+    /// The name of a programme. The programme is a member.
+    pub fn programme_name(&self, programme: ProgrammeNo) -> &str
+        requires { programme < length self.now.programmes }
+        ensures { slice_get self.now.programmes programme ≡ Some result.now }
+    {
+        self.programmes.name(programme.0 as usize)
+    }
+
+    /// The name of a resident. The resident is a member.
+    pub fn resident_name(&self, resident: ResidentNo) -> &str
+        requires { resident < length self.now.residents }
+        ensures { slice_get self.now.residents resident ≡ Some result.now }
+    {
+        self.residents.name(resident.0 as usize)
+    }
+
+    /// The sheet, if the docket has one.
+    pub fn sheet(&self) -> Option<&Assignment>
+        ensures { option_copied result ≡ self.now.sheet }
+    {
+        self.sheet.as_ref()
+    }
+
+    /// The journal, if the docket has one.
+    pub fn journal(&self) -> Option<&Journal>
+        ensures { option_copied result ≡ self.now.journal }
+    {
+        self.journal.as_ref()
+    }
+}

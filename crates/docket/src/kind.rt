@@ -1,0 +1,41 @@
+/// `Q,programme,quota`: declares a programme.
+pub const QUOTA: u8 = b'Q';
+
+/// `P,programme,resident,..`: a programme's list, best first.
+pub const PROGRAMME_LIST: u8 = b'P';
+
+/// `R,resident,programme,..`: declares a resident, with its list, best first.
+pub const RESIDENT_LIST: u8 = b'R';
+
+/// `M,resident,programme`: matched, of a sheet.
+pub const MATCHED: u8 = b'M';
+
+/// `U,resident`: unmatched, of a sheet.
+pub const UNMATCHED: u8 = b'U';
+
+/// `F,programme,filled,quota`: places filled, of a sheet.
+pub const FILLED: u8 = b'F';
+
+/// `C,full` or `C,n`: the capacity, of a journal.
+pub const CAPACITY: u8 = b'C';
+
+/// `E,word,..`: an event, of a journal.
+pub const EVENT: u8 = b'E';
+
+/// The most records of a docket.
+pub const MAX_RECORDS: u32 = 2_000_000;
+
+/// The word of an event.
+#[derive(Clone, Copy, Debug, PartialEq, Eq)]
+pub enum EventWord {
+    /// `E,offer,p,r`
+    Offer,
+    /// `E,take,r,p`
+    Take,
+    /// `E,answer,r,p,kind`
+    Answer,
+    /// `E,hear,p,r,kind`
+    Hear,
+    /// `E,close`
+    Close,
+}

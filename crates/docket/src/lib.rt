@@ -1,0 +1,22 @@
+//! Dockets: CSV rows to names, an instance, a sheet and a journal, and back.
+//!
+//! A docket is read exactly: what it says is what its rows say, and what is wrong with it is the first of its faults.
+#![tactic(auto)]
+
+mod declared;
+pub mod docket;
+pub mod fault;
+mod journal;
+pub mod kind;
+pub mod names;
+mod ranking;
+pub mod read;
+mod row;
+mod rows;
+mod sheet;
+mod tables;
+#[cfg(test)]
+mod tests;
+pub mod text;
+pub mod words;
+pub mod write;

@@ -1,0 +1,82 @@
+//! Names, numbered from 0 in the order in which they were first seen.
+ghost use Rattle.std.specs.Prelude.{◌≡◌, ◌≢◌, ◌<◌, ◌≤◌, ◌^◌, ◌+◌, ◌++◌, ◌∷◌, [], Some, not, if◌then◌else◌, length, slice_get, slice_index_or, IfOk, OnOk, OnErr, IfSome, true};
+ghost use Rattle.std.specs.List.{AllPairs};
+ghost use Rattle.docket.specs.Words as words;
+ghost use Rattle.docket.specs.Contents.{number_in, is_declared};
+
+use indexmap::IndexSet;
+use std::alloc::{AllocError, Global};
+use std::marker::Model;
+use std::str;
+
+/// Names, numbered from 0 in the order in which they were first seen.
+#[derive(Drop)]
+pub struct Names {
+    seen: IndexSet<Vec<u8>>,
+}
+
+impl Model for Names {
+    ghost use Rattle.std.specs.Prelude.{List, ℕ, map, true, ◌≡◌};
+    ghost use Rattle.std.specs.List.{list_all};
+    ghost use Rattle.docket.specs.Words as words;
+
+    ghost Value = { List (List ℕ) };
+
+    ghost view = { λ a. map (λ k. k.items) a.seen.keys };
+
+    ghost invariant = { λ a. list_all words.is_name (map (λ k. k.items) a.seen.keys) ≡ true };
+}
+
+impl Names {
+    /// No names yet.
+    pub fn new(alloc: Global) -> Names
+        ensures { result ≡ [] }
+    {
+        Names {
+            seen: IndexSet::new(alloc),
+        }
+    }
+
+    /// How many names there are.
+    pub fn len(&self) -> usize
+        ensures { result ≡ length self.now }
+    {
+        self.seen.len()
+    }
+
+    /// The number of a name, if it was seen.
+    pub fn number(&self, name: &[u8]) -> Option<usize>
+        ensures number { result ≡ number_in self.now name.now }
+        ensures within { IfSome result (λ i. i < length self.now) }
+    {
+        self.seen.get_index_of(name)
+    }
+
+    /// Adds a name, and says whether it is new.
+    pub fn add(&mut self, alloc: Global, name: &[u8]) -> Result<bool, AllocError>
+        requires { words.is_name name.now ≡ true }
+        ensures fresh { IfOk result (λ fresh. fresh ≡ not (is_declared self.old name.now)) }
+        ensures names { OnOk result (self.new ≡ (if is_declared self.old name.now then self.old else self.old ++ name.now ∷ [])) }
+        ensures err { OnErr result (self.new ≡ self.old) }
+    {
+        let key = Vec::from_slice(alloc, name)?;
+        let Ok(fresh) = self.seen.insert(key) else {
+            return Err(AllocError);
+        };
+        Ok(fresh)
+    }
+
+    /// The name of a number. The number was given to a name.
+    pub fn name(&self, number: usize) -> &str
+        requires { number < length self.now }
+        ensures { slice_get self.now number ≡ Some result.now }
+    {
+        match self.seen.get_index(number) {
+            Some(name) => match str::from_utf8(name.as_slice()) {
+                Ok(text) => text,
+                Err(_) => "",
+            },
+            None => "",
+        }
+    }
+}

@@ -1,0 +1,169 @@
+//! The second pass: the lists, by number.
+ghost use Rattle.std.specs.Prelude.{◌≡◌, ◌<◌, ◌≤◌, ◌+◌, [], true, length, take, drop, OnOk, IfOk};
+ghost use Rattle.match_model.specs.Draft.{instance_of};
+ghost use Rattle.std.specs.List.{list_all};
+ghost use Rattle.docket.specs.Fields.{field as field_of, kind_of, unless};
+ghost use Rattle.docket.specs.Contents.{is_declared, listed_in, draft_of, programmes_of, residents_of};
+ghost use Rattle.docket.specs.Passes.{first_from, ranking_fault, pairs_fault};
+ghost use Rattle.docket.specs.Answers.{Answers};
+ghost use Rattle.docket.specs.Stored.{row_at};
+ghost use Rattle.docket.specs.Kept.{IsRanked};
+
+use crate::declared::model_fault;
+use crate::fault::DocketFault;
+use crate::kind::{PROGRAMME_LIST, RESIDENT_LIST};
+use crate::tables::Tables;
+use match_model::builder::InstanceBuilder;
+use match_model::instance::Instance;
+use match_model::member::{ProgrammeNo, ResidentNo};
+use std::alloc::Global;
+
+// The residents whom row `k` lists.
+fn listed_residents(
+    tables: &Tables,
+    k: usize,
+    listed: &mut Vec<ResidentNo>,
+) -> Result<(), DocketFault>
+    requires { k < length tables.now }
+    ensures listed { OnOk result (listed.new.items ≡ listed_in (residents_of tables.now) (row_at tables.now k)) }
+    ensures fault { Answers (unless (list_all (is_declared (residents_of tables.now)) (drop 2 (row_at tables.now k))) (DocketFault.UnknownName (k + 1))) result }
+{
+    listed.clear();
+    for i in 0..tables.listed(k) {
+        let Some(resident) = tables.resident(k, i + 2) else {
+            return Err(DocketFault::UnknownName {
+                place: tables.place(k),
+            });
+        };
+        let Ok(()) = listed.push(resident) else {
+            return Err(DocketFault::Memory);
+        };
+    }
+    Ok(())
+}
+
+// The programmes that row `k` lists.
+fn listed_programmes(
+    tables: &Tables,
+    k: usize,
+    listed: &mut Vec<ProgrammeNo>,
+) -> Result<(), DocketFault>
+    requires { k < length tables.now }
+    ensures listed { OnOk result (listed.new.items ≡ listed_in (programmes_of tables.now) (row_at tables.now k)) }
+    ensures fault { Answers (unless (list_all (is_declared (programmes_of tables.now)) (drop 2 (row_at tables.now k))) (DocketFault.UnknownName (k + 1))) result }
+{
+    listed.clear();
+    for i in 0..tables.listed(k) {
+        let Some(programme) = tables.programme(k, i + 2) else {
+            return Err(DocketFault::UnknownName {
+                place: tables.place(k),
+            });
+        };
+        let Ok(()) = listed.push(programme) else {
+            return Err(DocketFault::Memory);
+        };
+    }
+    Ok(())
+}
+
+// `P,programme,resident,..`
+fn rank_residents(
+    tables: &Tables,
+    k: usize,
+    builder: &mut InstanceBuilder,
+    listed: &mut Vec<ResidentNo>,
+) -> Result<(), DocketFault>
+    requires place { k < length tables.now }
+    requires kind { kind_of (row_at tables.now k) ≡ PROGRAMME_LIST }
+    requires ranked { IsRanked builder.old tables.now (take k tables.now) }
+    ensures ranked { OnOk result (IsRanked builder.new tables.now (take (k + 1) tables.now)) }
+    ensures fault { Answers (ranking_fault tables.now (take k tables.now) (row_at tables.now k)) result }
+{
+    let place = tables.place(k);
+    let Some(owner) = tables.programme(k, 1) else {
+        return Err(DocketFault::UnknownName { place });
+    };
+    listed_residents(tables, k, listed)?;
+    match builder.programme_list(owner, listed.as_slice()) {
+        Ok(()) => Ok(()),
+        Err(fault) => Err(model_fault(place, fault)),
+    }
+}
+
+// `R,resident,programme,..`
+fn rank_programmes(
+    tables: &Tables,
+    k: usize,
+    builder: &mut InstanceBuilder,
+    listed: &mut Vec<ProgrammeNo>,
+) -> Result<(), DocketFault>
+    requires place { k < length tables.now }
+    requires kind { kind_of (row_at tables.now k) ≡ RESIDENT_LIST }
+    requires ranked { IsRanked builder.old tables.now (take k tables.now) }
+    ensures ranked { OnOk result (IsRanked builder.new tables.now (take (k + 1) tables.now)) }
+    ensures fault { Answers (ranking_fault tables.now (take k tables.now) (row_at tables.now k)) result }
+{
+    let place = tables.place(k);
+    let Some(owner) = tables.resident(k, 1) else {
+        return Err(DocketFault::UnknownName { place });
+    };
+    listed_programmes(tables, k, listed)?;
+    match builder.resident_list(owner, listed.as_slice()) {
+        Ok(()) => Ok(()),
+        Err(fault) => Err(model_fault(place, fault)),
+    }
+}
+
+// One row more of the second pass.
+fn rank_row(
+    tables: &Tables,
+    k: usize,
+    builder: &mut InstanceBuilder,
+    residents: &mut Vec<ResidentNo>,
+    programmes: &mut Vec<ProgrammeNo>,
+) -> Result<(), DocketFault>
+    requires place { k < length tables.now }
+    requires ranked { IsRanked builder.old tables.now (take k tables.now) }
+    ensures ranked { OnOk result (IsRanked builder.new tables.now (take (k + 1) tables.now)) }
+    ensures fault { Answers (ranking_fault tables.now (take k tables.now) (row_at tables.now k)) result }
+{
+    let kind = tables.kind(k);
+    if kind == PROGRAMME_LIST {
+        return rank_residents(tables, k, builder, residents);
+    }
+    if kind == RESIDENT_LIST {
+        return rank_programmes(tables, k, builder, programmes);
+    }
+    Ok(())
+}
+
+/// Hands the lists in to the builder, in the order of the rows.
+pub fn rank(
+    alloc: Global,
+    tables: &Tables,
+    builder: &mut InstanceBuilder,
+) -> Result<(), DocketFault>
+    requires { IsRanked builder.old tables.now [] }
+    ensures ranked { OnOk result (IsRanked builder.new tables.now tables.now) }
+    ensures fault { Answers (first_from (ranking_fault tables.now) [] tables.now) result }
+{
+    let mut residents = Vec::new(alloc);
+    let mut programmes = Vec::new(alloc);
+    for k in 0..tables.len() {
+        rank_row(tables, k, builder, &mut residents, &mut programmes)?;
+    }
+    Ok(())
+}
+
+/// The instance of the builder, after the last record.
+pub fn finished(builder: InstanceBuilder, tables: &Tables) -> Result<Instance, DocketFault>
+    requires { IsRanked builder tables.now tables.now }
+    ensures instance { IfOk result (λ instance. instance ≡ instance_of (draft_of tables.now)) }
+    ensures fault { Answers (pairs_fault tables.now) result }
+{
+    let place = tables.len() as u32;
+    match builder.finish() {
+        Ok(instance) => Ok(instance),
+        Err(refused) => Err(model_fault(place, refused.fault)),
+    }
+}

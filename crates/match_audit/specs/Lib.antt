@@ -1,0 +1,4 @@
+pub mod Listing
+pub mod Report
+pub mod Loads
+pub mod Replay

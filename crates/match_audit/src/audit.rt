@@ -1,0 +1,62 @@
+//! What keeps a placement from being stable.
+ghost use Rattle.std.specs.Prelude.{◌≡◌, ◌≢◌, ◌↔◌, length, IfOk, IsErrOf};
+ghost use Rattle.match_audit.specs.Report.{Reports};
+ghost use Rattle.match_audit.specs.declared.audit.AuditFault.TheVariants.{Memory};
+
+use crate::findings::{blocking_pairs, over_quota, unacceptable_pairs};
+use crate::load::loads;
+use crate::report::AuditReport;
+use match_model::assignment::Assignment;
+use match_model::instance::Instance;
+use std::alloc::{AllocError, Global};
+use std::error::Error;
+use std::fmt;
+
+/// Why a placement wasn't audited.
+#[derive(Clone, Copy, Debug, PartialEq, Eq, Hash)]
+pub enum AuditFault {
+    /// The placement has more or fewer places than there are residents.
+    WrongSize,
+    /// A growth was refused.
+    Memory,
+}
+
+impl fmt::Display for AuditFault {
+    fn fmt<W: fmt::Write>(&self, f: &mut fmt::Formatter<W>) -> fmt::Result {
+        f.write_str(match self {
+            AuditFault::WrongSize => "as many places as residents are wanted",
+            AuditFault::Memory => "out of memory",
+        })
+    }
+}
+
+impl Error for AuditFault {}
+
+impl From<AllocError> for AuditFault {
+    ghost from_gives = { λ _ fault. fault ≡ Memory };
+
+    fn from(_error: AllocError) -> AuditFault {
+        AuditFault::Memory
+    }
+}
+
+/// Finds the pairs that aren't acceptable, the programmes over their quota and the blocking pairs. For a pair that
+/// isn't acceptable, the member outside a list ranks below every listed one. A programme's number may be any.
+pub fn audit(
+    alloc: Global,
+    inst: &Instance,
+    assignment: &Assignment,
+) -> Result<AuditReport, AuditFault>
+    ensures report { IfOk result (Reports inst.now assignment.now) }
+    ensures wrong_size { IsErrOf result AuditFault.WrongSize ↔ (length assignment.now ≢ length inst.now.resident_lists) }
+{
+    if assignment.len() != inst.residents() {
+        return Err(AuditFault::WrongSize);
+    }
+    let loads = loads(alloc, inst, assignment)?;
+    Ok(AuditReport {
+        unacceptable: unacceptable_pairs(alloc, inst, assignment)?,
+        over: over_quota(alloc, inst, &loads)?,
+        blocking: blocking_pairs(alloc, inst, assignment, &loads)?,
+    })
+}

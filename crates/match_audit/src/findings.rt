@@ -1,0 +1,154 @@
+//! The three lists of a report.
+ghost use Rattle.std.specs.Prelude.{◌≡◌, ◌↔◌, ◌++◌, ◌<◌, ℕ, List, Option, map, length, IfOk, OnOk, IsTrue};
+ghost use Rattle.std.specs.List.{Contains};
+ghost use Rattle.std.specs.List.Sorted.{IsStrictlyIncreasing};
+ghost use Rattle.match_model.specs.Ranking.{IsListed, HasNoRepeats};
+ghost use Rattle.match_model.specs.Instance.{IsInstance, IsProgramme, IsResident, Acceptable, list_of_resident as ranking_of_resident};
+ghost use Rattle.settle_law.specs.Stable.{Blocks, Prefers, HasRoomFor};
+ghost use Rattle.match_audit.specs.Listing.{Lists};
+ghost use Rattle.match_audit.specs.Report.{IsUnacceptable, IsOver};
+ghost use Rattle.match_audit.specs.Loads.{AreLoads};
+
+use crate::load::{Load, place_at};
+use match_model::assignment::Assignment;
+use match_model::instance::Instance;
+use match_model::member::{ProgrammeNo, ResidentNo};
+use std::alloc::{AllocError, Global};
+
+/// The pairs of a placement that aren't acceptable, by resident.
+pub(crate) fn unacceptable_pairs(
+    alloc: Global,
+    inst: &Instance,
+    assignment: &Assignment,
+) -> Result<Vec<(ResidentNo, ProgrammeNo)>, AllocError>
+    ensures { IfOk result (λ pairs. Lists (IsUnacceptable inst.now assignment.now) pairs.items) }
+{
+    let mut pairs = Vec::new(alloc);
+    for r in 0..assignment.len() {
+        let resident = ResidentNo(r);
+        let Some(programme) = assignment.get(resident) else {
+            continue;
+        };
+        if !is_acceptable(inst, resident, programme) {
+            pairs.push((resident, programme))?;
+        }
+    }
+    Ok(pairs)
+}
+
+/// Whether the two rank one another.
+fn is_acceptable(inst: &Instance, resident: ResidentNo, programme: ProgrammeNo) -> bool
+    ensures { IsTrue result ↔ Acceptable inst.now resident programme }
+{
+    programme.0 < inst.programmes() && inst.rank_at_programme(programme, resident).is_some()
+}
+
+/// The programmes that have more members than their quota, by number, each with how many it has.
+pub(crate) fn over_quota(
+    alloc: Global,
+    inst: &Instance,
+    loads: &[Load],
+) -> Result<Vec<(ProgrammeNo, u32)>, AllocError>
+    requires { length loads.now ≡ length inst.now.quotas }
+    ensures { IfOk result (λ over. (m : List (Option ℕ)) → AreLoads inst.now m loads.now → Lists (IsOver inst.now m) over.items) }
+{
+    let mut over = Vec::new(alloc);
+    for p in 0..inst.programmes() {
+        let programme = ProgrammeNo(p);
+        let members = loads[p as usize].members;
+        if members > inst.quota(programme) {
+            over.push((programme, members))?;
+        }
+    }
+    Ok(over)
+}
+
+/// The blocking pairs, by resident and then by programme.
+pub(crate) fn blocking_pairs(
+    alloc: Global,
+    inst: &Instance,
+    assignment: &Assignment,
+    loads: &[Load],
+) -> Result<Vec<(ResidentNo, ProgrammeNo)>, AllocError>
+    requires size { length assignment.now ≡ length inst.now.resident_lists }
+    requires loads { AreLoads inst.now assignment.now loads.now }
+    ensures { IfOk result (λ pairs. Lists (Blocks inst.now assignment.now) pairs.items) }
+{
+    let mut pairs = Vec::new(alloc);
+    for r in 0..inst.residents() {
+        let resident = ResidentNo(r);
+        let programmes = blocking_programmes(alloc, inst, assignment, loads, resident)?;
+        append_pairs(&mut pairs, resident, &programmes)?;
+    }
+    Ok(pairs)
+}
+
+/// The pairs of a resident with these programmes go to the end of the list.
+fn append_pairs(
+    pairs: &mut Vec<(ResidentNo, ProgrammeNo)>,
+    resident: ResidentNo,
+    programmes: &[ProgrammeNo],
+) -> Result<(), AllocError>
+    ensures { OnOk result (pairs.new.items ≡ pairs.old.items ++ map (λ p. (resident, p)) programmes.now) }
+{
+    for programme in programmes {
+        pairs.push((resident, *programme))?;
+    }
+    Ok(())
+}
+
+/// The programmes with which a resident blocks, by number.
+fn blocking_programmes(
+    alloc: Global,
+    inst: &Instance,
+    assignment: &Assignment,
+    loads: &[Load],
+    resident: ResidentNo,
+) -> Result<Vec<ProgrammeNo>, AllocError>
+    requires instance { IsInstance inst.now }
+    requires member { IsResident inst.now resident }
+    requires size { length assignment.now ≡ length inst.now.resident_lists }
+    requires loads { AreLoads inst.now assignment.now loads.now }
+    ensures { IfOk result (λ programmes. IsStrictlyIncreasing programmes.items × ((p : ℕ) → Contains programmes.items p ↔ Blocks inst.now assignment.now resident p)) }
+{
+    let mut programmes = Vec::new(alloc);
+    for programme in preferred(inst, resident, assignment.get(resident)) {
+        if has_room_for(inst, loads, *programme, resident) {
+            programmes.push(*programme)?;
+        }
+    }
+    programmes.sort_unstable();
+    Ok(programmes)
+}
+
+/// The front of a resident's list: what it would rather have than the programme held, or all where that isn't listed.
+fn preferred(inst: &Instance, resident: ResidentNo, held: Option<ProgrammeNo>) -> &[ProgrammeNo]
+    requires instance { IsInstance inst.now }
+    requires member { IsResident inst.now resident }
+    ensures once { HasNoRepeats result.now }
+    ensures front { (p : ℕ) → IsListed result.now p ↔ (IsListed (ranking_of_resident inst.now resident) p × Prefers (ranking_of_resident inst.now resident) p held) }
+{
+    let list = inst.list_of_resident(resident);
+    let Some(held) = held else {
+        return list;
+    };
+    match inst.rank_at_resident(resident, held) {
+        Some(rank) => &list[..rank as usize],
+        None => list,
+    }
+}
+
+/// Whether a programme has a free place, or a member after this resident in its list.
+fn has_room_for(
+    inst: &Instance,
+    loads: &[Load],
+    programme: ProgrammeNo,
+    resident: ResidentNo,
+) -> bool
+    requires member { IsProgramme inst.now programme }
+    requires loads { length loads.now ≡ length inst.now.quotas }
+    ensures { (m : List (Option ℕ)) → AreLoads inst.now m loads.now → IsTrue result ↔ HasRoomFor inst.now m programme resident }
+{
+    let place = place_at(inst, programme, resident);
+    loads[programme.0 as usize].has_room(inst.quota(programme), place)
+}

@@ -1,0 +1,12 @@
+//! The auditor: what keeps a placement from being stable, and whether a list of events is a good exchange.
+//!
+//! Neither asks who made the placement or the list: all is found again from the instance.
+#![tactic(auto)]
+
+pub mod audit;
+mod findings;
+mod load;
+pub mod replay;
+pub mod report;
+#[cfg(test)]
+mod tests;

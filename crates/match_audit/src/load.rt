@@ -1,0 +1,68 @@
+//! What one walk over a placement notes of each programme.
+ghost use Rattle.std.specs.Prelude.{◌≡◌, ◌+◌, ◌^◌, ◌<◌, ◌⊎◌, ◌↔◌, max, IfOk, IsTrue};
+ghost use Rattle.match_model.specs.Ranking.{place as place_in};
+ghost use Rattle.match_model.specs.Instance.{IsProgramme, list_of_programme as ranking_of_programme};
+ghost use Rattle.match_audit.specs.Loads.{AreLoads};
+
+use match_model::assignment::Assignment;
+use match_model::instance::Instance;
+use match_model::member::{ProgrammeNo, ResidentNo};
+use std::alloc::{AllocError, Global};
+
+/// How many members a programme has, and the last place that one of them has in its list.
+#[derive(Clone, Copy, Debug, Default)]
+pub(crate) struct Load {
+    pub(crate) members: u32,
+    pub(crate) worst: u32,
+}
+
+impl Load {
+    /// One member more, which has this place in the list.
+    pub(crate) fn add(&mut self, place: u32)
+        requires { self.old.members + 1 < 2 ^ 32 }
+        ensures { self.new ≡ record { members = self.old.members + 1; worst = max self.old.worst place } }
+    {
+        self.members += 1;
+        self.worst = self.worst.max(place);
+    }
+
+    /// Whether there is a free place, or a member with a later place in the list.
+    pub(crate) fn has_room(&self, quota: u32, place: u32) -> bool
+        ensures { IsTrue result ↔ ((self.now.members < quota) ⊎ (place < self.now.worst)) }
+    {
+        self.members < quota || place < self.worst
+    }
+}
+
+/// The place of a resident in a programme's list, or the list's length where it isn't listed.
+pub(crate) fn place_at(inst: &Instance, programme: ProgrammeNo, resident: ResidentNo) -> u32
+    requires { IsProgramme inst.now programme }
+    ensures { result ≡ place_in (ranking_of_programme inst.now programme) resident }
+{
+    match inst.rank_at_programme(programme, resident) {
+        Some(rank) => rank,
+        None => inst.list_of_programme(programme).len() as u32,
+    }
+}
+
+/// The load of each programme.
+pub(crate) fn loads(
+    alloc: Global,
+    inst: &Instance,
+    assignment: &Assignment,
+) -> Result<Vec<Load>, AllocError>
+    ensures { IfOk result (λ loads. AreLoads inst.now assignment.now loads.items) }
+{
+    let programmes = inst.programmes();
+    let mut loads = vec![in alloc; Load::default(); programmes as usize]?;
+    for r in 0..assignment.len() {
+        let resident = ResidentNo(r);
+        let Some(programme) = assignment.get(resident) else {
+            continue;
+        };
+        if programme.0 < programmes {
+            loads[programme.0 as usize].add(place_at(inst, programme, resident));
+        }
+    }
+    Ok(loads)
+}

@@ -1,0 +1,27 @@
+//! What an audit finds.
+
+use match_model::member::{ProgrammeNo, ResidentNo};
+
+/// What keeps a placement from being stable: all of each kind, and nothing else.
+#[derive(Debug, Drop)]
+pub struct AuditReport {
+    /// The pairs that don't rank one another, by resident.
+    pub unacceptable: Vec<(ResidentNo, ProgrammeNo)>,
+    /// The programmes over their quota, by number, each with how many residents it has.
+    pub over: Vec<(ProgrammeNo, u32)>,
+    /// The blocking pairs, by resident and then by programme.
+    pub blocking: Vec<(ResidentNo, ProgrammeNo)>,
+}
+
+impl AuditReport {
+    ghost use Rattle.std.specs.Prelude.{◌≡◌, ◌↔◌, [], IsTrue};
+    ghost use Rattle.match_audit.specs.Report.{TellsStability};
+
+    /// Whether the placement is stable: nothing was found.
+    pub fn is_stable(&self) -> bool
+        ensures nothing_found { IsTrue result ↔ ((self.now.unacceptable.items ≡ []) × (self.now.over.items ≡ []) × (self.now.blocking.items ≡ [])) }
+        ensures stable { TellsStability self.now result }
+    {
+        self.unacceptable.is_empty() && self.over.is_empty() && self.blocking.is_empty()
+    }
+}

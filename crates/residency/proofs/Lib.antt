@@ -1,0 +1,5 @@
+pub mod Runs
+pub mod Outcomes
+pub mod Names
+pub mod Reports
+pub mod Audits

@@ -1,0 +1,15 @@
+use Rattle.std.proofs.Common.{◌≡◌, sym, ap, ◌∙◌}
+use Rattle.std.specs.Prelude.{decimal}
+use Rattle.std.proofs.lemmas.Result.{on_ok_weaker}
+use Rattle.match_model.specs.Instance.{quota}
+use Rattle.residency.proofs.Names.{programme_name-is}
+use Rattle.residency.specs.Report.{over_row}
+use Rattle.residency.proofs.report.push_over.Goals as goal
+
+pub returns-clause-row : goal.returns-clause-row
+unfolding over_row
+returns-clause-row c =
+    let name = programme_name-is c.args.docket.now c.args.programme _ c.programme_name.ensures ∙ sym c.as_bytes-name.ensures.value in
+    let filled = sym (c.as_bytes.ensures.value ∙ c.in-Ok-Ok.ensures.ok) in
+    let places = sym (c.as_bytes-2.ensures.value ∙ (c.in-Ok-Ok.ensures'.ok ∙ ap decimal (c.quota-quota.ensures ∙ ap (λ i. quota i c.args.programme) c.instance.ensures.instance))) in
+    on_ok_weaker c.push_row.result (λ h. rw (name, filled, places) h) c.push_row.ensures.row

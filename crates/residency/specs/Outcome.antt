@@ -1,0 +1,45 @@
+-- What an exchange gives that was run to its close.
+use Rattle.std.specs.Prelude.{◌≡◌, ℕ, Option, List, [], length}
+use Rattle.match_model.specs.Instance.{Instance, IsProgramme}
+use Rattle.match_model.specs.Placement.{IsMemberOf}
+use Rattle.exchange_core.specs.declared.event.Event.{Event}
+use Rattle.exchange_core.specs.declared.event.Capacity.{Capacity}
+use Rattle.exchange_core.specs.Legal.{IsLegal, IsClosed, IsCapacity}
+use Rattle.exchange_core.specs.Left.{Left, given}
+use Rattle.exchange_core.specs.Shown.{Shows}
+use Rattle.settle_law.specs.Stable.{IsStable, IsSettled}
+
+-- some closed legal list of this many events leaves this
+pub record IsRun (inst : Instance) (cap : Capacity) (left : Left) (events : ℕ) : Type 0 where
+  pub journal : List Event
+  pub shows : Shows inst cap journal left
+  pub closed : IsClosed journal
+  pub counted : events ≡ length journal
+
+-- from a core that shows what the empty list leaves, a run to its close
+abbrev pub RunsToClose : Instance → Left → Left → ℕ → Type 0
+RunsToClose inst old new events =
+    (cap : Capacity) → IsCapacity cap → Shows inst cap [] old → IsRun inst cap new events
+
+-- some closed legal list gives the placement
+pub record IsGiven (inst : Instance) (cap : Capacity) (m : List (Option ℕ)) : Type 0 where
+  pub journal : List Event
+  pub legal : IsLegal inst cap journal
+  pub closed : IsClosed journal
+  pub is_given : m ≡ given inst journal
+
+-- the placement is settled, and no other is
+pub record IsTheSettled (inst : Instance) (m : List (Option ℕ)) : Type 0 where
+  pub settled : IsSettled inst m
+  pub alone : (other : List (Option ℕ)) → IsSettled inst other → other ≡ m
+
+-- an exchange gives the placement, which is stable and the one settled placement
+pub record IsOutcome (inst : Instance) (cap : Capacity) (m : List (Option ℕ)) : Type 0 where
+  pub exchanged : IsGiven inst cap m
+  pub stable : IsStable inst m
+  pub settled : IsTheSettled inst m
+
+-- a place for each resident, and only programmes of the instance
+pub record IsOfMembers (inst : Instance) (m : List (Option ℕ)) : Type 0 where
+  pub one_place_each : length m ≡ length inst.resident_lists
+  pub programmes : (r p : ℕ) → IsMemberOf m r p → IsProgramme inst p

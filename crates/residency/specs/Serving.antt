@@ -1,0 +1,113 @@
+-- What a call wrote, and why another wrote nothing.
+use Rattle.std.specs.Prelude.{◌≡◌, ◌⊎◌, ◌↔◌, ℕ, Option, Some, None, Result, Ok, Err, List, IsSome}
+use Rattle.std.specs.Io.KnownBytes.{Appends}
+use Rattle.match_model.specs.Instance.{Instance}
+use Rattle.exchange_core.specs.declared.event.Capacity.{Capacity}
+use Rattle.exchange_core.specs.Left.{given}
+use Rattle.settle_law.specs.Stable.{IsStable}
+use Rattle.docket.specs.Contents.{Contents, JournalParts}
+use Rattle.docket.specs.Passes.{first_fault, docket_of}
+use Rattle.docket.specs.Texts.{sheet_text}
+use Rattle.docket.specs.declared.fault.DocketFault.{DocketFault}
+use Rattle.docket.specs.declared.fault.DocketFault.TheVariants as docket
+use Rattle.match_audit.specs.Report.{Reports}
+use Rattle.match_audit.specs.Replay.{IsGood, IsReplayOf, IsListFault, IsCheckFault}
+use Rattle.match_audit.specs.declared.report.AuditReport.{AuditReport}
+use Rattle.match_audit.specs.declared.replay.Replayed.{Replayed}
+use Rattle.match_audit.specs.declared.replay.ReplayFault.{ReplayFault}
+use Rattle.residency.specs.declared.fault.ServeFault.{ServeFault}
+use Rattle.residency.specs.declared.fault.ServeFault.TheVariants.{Docket, NoSheet, NoJournal, Memory}
+use Rattle.residency.specs.declared.status.Status.{Status}
+use Rattle.residency.specs.declared.status.Status.TheVariants.{Stable, Unstable, ReplayGood, ReplayBad}
+use Rattle.residency.specs.Outcome.{IsOutcome}
+use Rattle.residency.specs.Report.{report_text}
+use Rattle.residency.specs.Replay.{replay_text}
+
+-- what was appended, where it is known, is the sheet of what an exchange over the docket gives: its one settled assignment
+pub record WritesSettledSheet (d : Contents) (cap : Capacity) (old new : Option (List ℕ)) : Type 0 where
+  pub assignment : List (Option ℕ)
+  pub outcome : IsOutcome d.instance cap assignment
+  pub appended : Appends old new (sheet_text d assignment)
+
+-- the status tells whether the sheet is stable
+pub record TellsStable (inst : Instance) (sheet : List (Option ℕ)) (status : Status) : Type 0 where
+  pub either : (status ≡ Stable) ⊎ (status ≡ Unstable)
+  pub stable : (status ≡ Stable) ↔ IsStable inst sheet
+
+-- what was appended, where it is known, is the report on the docket's sheet
+pub record WritesReport (d : Contents) (status : Status) (old new : Option (List ℕ)) : Type 0 where
+  pub sheet : List (Option ℕ)
+  pub has_sheet : d.sheet ≡ Some sheet
+  pub report : AuditReport
+  pub reports : Reports d.instance sheet report
+  pub tells : TellsStable d.instance sheet status
+  pub appended : Appends old new (report_text d report)
+
+-- this is the answer of a replay, or of a check where there is a sheet, and it isn't want of memory
+abbrev pub IsReplayAnswer : Instance → JournalParts → Option (List (Option ℕ)) → Result Replayed ReplayFault → Type 0
+IsReplayAnswer inst j None (Ok replayed) = IsGood inst j.capacity j.events × IsReplayOf inst j.events replayed
+IsReplayAnswer inst j None (Err fault) = IsListFault inst j.capacity j.events fault
+IsReplayAnswer inst j (Some sheet) (Ok replayed) =
+    IsGood inst j.capacity j.events × IsReplayOf inst j.events replayed × (sheet ≡ given inst j.events)
+IsReplayAnswer inst j (Some sheet) (Err fault) = IsCheckFault inst j.capacity j.events sheet fault
+
+-- the status of an answer
+abbrev pub replay_status : Result Replayed ReplayFault → Status
+replay_status (Ok replayed) = ReplayGood
+replay_status (Err fault) = ReplayBad
+
+-- what was appended, where it is known, is the row of the answer on the docket's journal
+pub record WritesReplay (d : Contents) (status : Status) (old new : Option (List ℕ)) : Type 0 where
+  pub journal : JournalParts
+  pub has_journal : d.journal ≡ Some journal
+  pub answer : Result Replayed ReplayFault
+  pub answers : IsReplayAnswer d.instance journal d.sheet answer
+  pub tells : status ≡ replay_status answer
+  pub appended : Appends old new (replay_text d answer)
+
+-- the fault is of memory or the writer
+abbrev pub IsWriteFault : DocketFault → Type 0
+IsWriteFault fault = (fault ≡ docket.Memory) ⊎ (fault ≡ docket.Write)
+
+-- why a match of the docket wrote no whole sheet
+abbrev pub IsMatchFault : Contents → ServeFault → Type 0
+IsMatchFault d (Docket fault) = IsWriteFault fault
+IsMatchFault d NoSheet = ⊥
+IsMatchFault d NoJournal = ⊥
+IsMatchFault d Memory = Unit {0}
+
+-- why an audit of the docket wrote no whole report
+abbrev pub IsAuditFault : Contents → ServeFault → Type 0
+IsAuditFault d (Docket fault) = IsSome d.sheet × IsWriteFault fault
+IsAuditFault d NoSheet = d.sheet ≡ None
+IsAuditFault d NoJournal = ⊥
+IsAuditFault d Memory = IsSome d.sheet
+
+-- why a replay of the docket wrote no whole answer
+abbrev pub IsReplayFault : Contents → ServeFault → Type 0
+IsReplayFault d (Docket fault) = IsSome d.journal × IsWriteFault fault
+IsReplayFault d NoSheet = ⊥
+IsReplayFault d NoJournal = d.journal ≡ None
+IsReplayFault d Memory = IsSome d.journal
+
+-- the bytes are a docket of which P holds
+abbrev pub AreDocket : (Contents → Type 0) → List ℕ → Type 0
+AreDocket P bytes = (first_fault bytes ≡ None) × P (docket_of bytes)
+
+-- the fault is of memory or the reader, or the first fault of the bytes
+abbrev pub IsReadFault : List ℕ → ServeFault → Type 0
+IsReadFault bytes (Docket fault) = (fault ≡ docket.Memory) ⊎ (((place : ℕ) × (fault ≡ docket.Read place)) ⊎ (first_fault bytes ≡ Some fault))
+IsReadFault bytes NoSheet = ⊥
+IsReadFault bytes NoJournal = ⊥
+IsReadFault bytes Memory = ⊥
+
+-- the fault came in reading the bytes, or they are a docket of which it is a fault
+abbrev pub IsFaultOf : (Contents → ServeFault → Type 0) → List ℕ → ServeFault → Type 0
+IsFaultOf IsFault bytes fault = IsReadFault bytes fault ⊎ AreDocket (λ d. IsFault d fault) bytes
+
+-- whether this fault is known to have come before anything was written
+abbrev pub IsBeforeWriting : ServeFault → Type 0
+IsBeforeWriting (Docket fault) = (fault ≡ docket.Memory → ⊥) × (fault ≡ docket.Write → ⊥)
+IsBeforeWriting NoSheet = Unit {0}
+IsBeforeWriting NoJournal = Unit {0}
+IsBeforeWriting Memory = Unit {0}

@@ -1,0 +1,200 @@
+//! Writing what a replay answered.
+ghost use Rattle.std.specs.Prelude.{◌≡◌, ◌++◌, ◌∷◌, [], ◌+◌, ◌<◌, ◌^◌, length, codes, decimal, OnOk, IfErr};
+ghost use Rattle.std.specs.Io.KnownBytes.{Appends};
+ghost use Rattle.docket.specs.Rows.{AreWhole, bytes_of, row};
+ghost use Rattle.match_audit.specs.Replay.{NamesMember, RefusesMember, IsPendingMember};
+ghost use Rattle.residency.specs.Replay.{replay_text, refusal_word as word_of, refusal_fields, pending_word as kind_of, pending_name as name_of, event_count as count_of, fault_fields, answer_fields, IsAnswerOf};
+ghost use Rattle.residency.specs.Serving.{IsWriteFault};
+
+use docket::docket::Docket;
+use docket::fault::DocketFault;
+use docket::text::{Rows, no_rows, push_row, send_rows};
+use exchange_core::event::{Pending, Refused};
+use match_audit::replay::{ReplayFault, Replayed};
+use std::alloc::Global;
+use std::io::Write;
+
+// The word of a refusal.
+fn refusal_word(refused: &Refused) -> &'static str
+    ensures { result.now ≡ word_of refused.now }
+{
+    match refused {
+        Refused::Closed => "closed",
+        Refused::NoSuchDesk => "no-such-desk",
+        Refused::NoPlace => "no-place",
+        Refused::NotNext => "not-next",
+        Refused::AnswerDue => "answer-due",
+        Refused::NothingWaiting => "nothing-waiting",
+        Refused::WrongFront => "wrong-front",
+        Refused::NotDue => "not-due",
+        Refused::MailboxFull => "mailbox-full",
+        Refused::StillPending(_) => "still-pending",
+    }
+}
+
+// What is pending.
+fn pending_word(what: &Pending) -> &'static str
+    ensures { result.now ≡ kind_of what.now }
+{
+    match what {
+        Pending::Offers(_) => "offers",
+        Pending::Due(_) => "due",
+        Pending::Answers(_) => "answers",
+        Pending::Wish(_) => "wish",
+    }
+}
+
+// The name of the desk where something is pending.
+fn pending_name<'a>(docket: &'a Docket, what: &Pending) -> &'a str
+    requires { IsPendingMember docket.now.instance what.now }
+    ensures { result.now ≡ name_of docket.now what.now }
+{
+    let _members = docket.instance();
+    match what {
+        Pending::Offers(resident) | Pending::Due(resident) => docket.resident_name(*resident),
+        Pending::Answers(programme) | Pending::Wish(programme) => {
+            docket.programme_name(*programme)
+        }
+    }
+}
+
+// How many events the docket's journal has.
+fn event_count(docket: &Docket) -> usize
+    ensures count { result ≡ count_of docket.now.journal }
+    ensures within { result + 1 < 2 ^ 64 }
+{
+    match docket.journal() {
+        Some(journal) => journal.events.len(),
+        None => 0,
+    }
+}
+
+// Adds the row of a fault that one word tells.
+fn push_word(rows: &mut Rows, place: &[u8], word: &str) -> Result<(), DocketFault>
+    requires { AreWhole rows.old }
+    ensures row { OnOk result (bytes_of rows.new ≡ bytes_of rows.old ++ row (codes "N" ∷ place.now ∷ word.now ∷ [])) }
+    ensures err { IfErr result (λ fault. fault ≡ DocketFault.Memory) }
+{
+    push_row(rows, &[b"N", place, word.as_bytes()])
+}
+
+// Adds the row of a close that something pending kept from being accepted.
+fn push_pending(rows: &mut Rows, place: &[u8], kind: &str, name: &str) -> Result<(), DocketFault>
+    requires { AreWhole rows.old }
+    ensures row { OnOk result (bytes_of rows.new ≡ bytes_of rows.old ++ row (codes "N" ∷ place.now ∷ codes "still-pending" ∷ kind.now ∷ name.now ∷ [])) }
+    ensures err { IfErr result (λ fault. fault ≡ DocketFault.Memory) }
+{
+    push_row(
+        rows,
+        &[
+            b"N",
+            place,
+            b"still-pending",
+            kind.as_bytes(),
+            name.as_bytes(),
+        ],
+    )
+}
+
+// Adds the row of a refused event.
+fn push_refused(
+    rows: &mut Rows,
+    docket: &Docket,
+    place: &[u8],
+    refused: &Refused,
+) -> Result<(), DocketFault>
+    requires whole { AreWhole rows.old }
+    requires member { RefusesMember docket.now.instance refused.now }
+    ensures row { OnOk result (bytes_of rows.new ≡ bytes_of rows.old ++ row (codes "N" ∷ place.now ∷ word_of refused.now ∷ refusal_fields docket.now refused.now)) }
+    ensures err { IfErr result (λ fault. fault ≡ DocketFault.Memory) }
+{
+    match refused {
+        Refused::StillPending(what) => {
+            push_pending(rows, place, pending_word(what), pending_name(docket, what))
+        }
+        _ => push_word(rows, place, refusal_word(refused)),
+    }
+}
+
+// Adds the row of a fault.
+fn push_fault(
+    alloc: Global,
+    rows: &mut Rows,
+    docket: &Docket,
+    fault: &ReplayFault,
+) -> Result<(), DocketFault>
+    requires whole { AreWhole rows.old }
+    requires member { NamesMember docket.now.instance fault.now }
+    ensures row { OnOk result (bytes_of rows.new ≡ bytes_of rows.old ++ row (fault_fields docket.now fault.now)) }
+    ensures err { IfErr result (λ fault. fault ≡ DocketFault.Memory) }
+{
+    match fault {
+        ReplayFault::BadCapacity => push_word(rows, b"0", "bad-capacity"),
+        ReplayFault::Memory => push_word(rows, b"0", "memory"),
+        ReplayFault::At { place, refused } => {
+            let Ok(place) = place.to_string(alloc) else {
+                return Err(DocketFault::Memory);
+            };
+            push_refused(rows, docket, place.as_bytes(), refused)
+        }
+        ReplayFault::NotClosed => {
+            let Ok(place) = (event_count(docket) + 1).to_string(alloc) else {
+                return Err(DocketFault::Memory);
+            };
+            push_word(rows, place.as_bytes(), "not-closed")
+        }
+        ReplayFault::SheetDiffers(resident) => {
+            let _members = docket.instance();
+            push_row(rows, &[b"D", docket.resident_name(*resident).as_bytes()])
+        }
+    }
+}
+
+// Adds the row of a good replay.
+fn push_good(alloc: Global, rows: &mut Rows, events: usize) -> Result<(), DocketFault>
+    requires { AreWhole rows.old }
+    ensures row { OnOk result (bytes_of rows.new ≡ bytes_of rows.old ++ row (codes "G" ∷ decimal events ∷ [])) }
+    ensures err { IfErr result (λ fault. fault ≡ DocketFault.Memory) }
+{
+    let Ok(events) = events.to_string(alloc) else {
+        return Err(DocketFault::Memory);
+    };
+    push_row(rows, &[b"G", events.as_bytes()])
+}
+
+#[tactic(auto, unfolding(crate::specs::Replay::replay_text))]
+// Adds the row of an answer.
+fn push_answer(
+    alloc: Global,
+    rows: &mut Rows,
+    docket: &Docket,
+    answer: &Result<Replayed, ReplayFault>,
+) -> Result<(), DocketFault>
+    requires whole { AreWhole rows.old }
+    requires member { IsAnswerOf docket.now answer.now }
+    ensures row { OnOk result (bytes_of rows.new ≡ bytes_of rows.old ++ replay_text docket.now answer.now) }
+    ensures err { IfErr result (λ fault. fault ≡ DocketFault.Memory) }
+{
+    match answer {
+        Ok(replayed) => push_good(alloc, rows, replayed.events),
+        Err(fault) => push_fault(alloc, rows, docket, fault),
+    }
+}
+
+/// Writes what a replay of the docket's journal answered, in one row.
+///
+/// Whoever the answer names is a member of the docket. How much was written before a fault isn't told.
+pub fn write_replay<W: Write>(
+    alloc: Global,
+    docket: &Docket,
+    answer: &Result<Replayed, ReplayFault>,
+    writer: &mut W,
+) -> Result<(), DocketFault>
+    requires { IsAnswerOf docket.now answer.now }
+    ensures ok { OnOk result (Appends (W.contents writer.old) (W.contents writer.new) (replay_text docket.now answer.now)) }
+    ensures fault { IfErr result IsWriteFault }
+{
+    let mut rows = no_rows(alloc);
+    push_answer(alloc, &mut rows, docket, answer)?;
+    send_rows(rows, writer)
+}

@@ -1,0 +1,21 @@
+//! Why nothing, or not all, was written.
+
+use docket::fault::DocketFault;
+use thiserror::Error;
+
+/// Why a docket wasn't served.
+#[derive(Clone, Copy, Debug, PartialEq, Eq, Error)]
+pub enum ServeFault {
+    /// The docket could not be read, or the answer could not be written.
+    #[error(transparent)]
+    Docket(DocketFault),
+    /// The docket has no sheet.
+    #[error("no sheet in the docket")]
+    NoSheet,
+    /// The docket has no journal.
+    #[error("no journal in the docket")]
+    NoJournal,
+    /// A growth was refused.
+    #[error("out of memory")]
+    Memory,
+}
