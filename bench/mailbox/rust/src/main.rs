@@ -7,6 +7,9 @@ const PAIRS: u32 = 1_000_000;
 
 const CAPACITY: usize = 1024;
 
+// How long a thread that is refused waits, in hints to the processor, where it doesn't try again at once.
+const PAUSES: u32 = 2048;
+
 // Sends and receives in turn, and adds up what was received.
 fn alone(sender: Sender<u32>, receiver: Receiver<u32>) -> u64 {
     let mut total: u64 = 0;
@@ -21,31 +24,39 @@ fn alone(sender: Sender<u32>, receiver: Receiver<u32>) -> u64 {
     total
 }
 
-fn send_all(sender: Sender<u32>) {
+// After a refusal.
+fn pause(pauses: u32) {
+    for _ in 0..pauses {
+        std::hint::spin_loop();
+    }
+    thread::yield_now();
+}
+
+fn send_all(sender: Sender<u32>, pauses: u32) {
     let mut next = 0;
     while next < PAIRS {
         match sender.try_send(next) {
             Ok(()) => next += 1,
-            Err(_) => thread::yield_now(),
+            Err(_) => pause(pauses),
         }
     }
 }
 
-fn receive_all(receiver: Receiver<u32>) -> u64 {
+fn receive_all(receiver: Receiver<u32>, pauses: u32) -> u64 {
     let mut total: u64 = 0;
     loop {
         match receiver.try_recv() {
             Ok(number) => total = total.wrapping_add(u64::from(number)),
-            Err(TryRecvError::Empty) => thread::yield_now(),
+            Err(TryRecvError::Empty) => pause(pauses),
             Err(TryRecvError::Disconnected) => break,
         }
     }
     total
 }
 
-fn across(sender: Sender<u32>, receiver: Receiver<u32>) -> u64 {
-    let child = thread::spawn(move || send_all(sender));
-    let total = receive_all(receiver);
+fn across(sender: Sender<u32>, receiver: Receiver<u32>, pauses: u32) -> u64 {
+    let child = thread::spawn(move || send_all(sender, pauses));
+    let total = receive_all(receiver, pauses);
     child.join().expect("the sender ended");
     total
 }
@@ -55,8 +66,10 @@ fn main() {
     let start = Instant::now();
     let total = alone(sender, receiver);
     println!("alone {} {total}", start.elapsed().as_nanos());
-    let (sender, receiver) = bounded(CAPACITY);
-    let start = Instant::now();
-    let total = across(sender, receiver);
-    println!("across {} {total}", start.elapsed().as_nanos());
+    for (name, pauses) in [("across", 0), ("pausing", PAUSES)] {
+        let (sender, receiver) = bounded(CAPACITY);
+        let start = Instant::now();
+        let total = across(sender, receiver, pauses);
+        println!("{name} {} {total}", start.elapsed().as_nanos());
+    }
 }
