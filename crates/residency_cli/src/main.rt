@@ -14,19 +14,34 @@ use std::io::BufReader;
 use std::process::ExitCode;
 use std::{env, io};
 
+// The exit status after words that aren't text.
+const WRONG_WORDS: u8 = 2;
+
 // The words after the program's own name.
 fn words(rt: &HostRuntime) -> io::Result<Vec<String>> {
     Ok(env::args(rt)?.skip(1).collect(rt.alloc())?)
 }
 
+// Why the words order nothing.
+#[derive(Drop)]
+enum Unordered {
+    // A word isn't text.
+    NoText,
+    // The words are no command line.
+    Line(LineFault),
+}
+
 // What the words order.
-fn order(rt: &HostRuntime) -> Result<Order, LineFault>
+fn order(rt: &HostRuntime) -> Result<Order, Unordered>
     ensures { IfOk result IsOrder }
 {
-    let Ok(words) = words(rt) else {
-        return Err(LineFault::Memory);
-    };
-    read_line(rt.alloc(), words.as_slice())
+    match words(rt) {
+        Ok(words) => read_line(rt.alloc(), words.as_slice()).map_err(Unordered::Line),
+        Err(error) if error.kind() == io::ErrorKind::OutOfMemory => {
+            Err(Unordered::Line(LineFault::Memory))
+        }
+        Err(_) => Err(Unordered::NoText),
+    }
 }
 
 // Does what is ordered.
@@ -45,21 +60,23 @@ fn serve(rt: &HostRuntime, order: &Order) -> Result<Status, ServeFault>
     }
 }
 
-// Tells why the words order nothing. A text that can't be written changes no exit status.
-fn tell_line(rt: &HostRuntime, fault: &LineFault) {
+// Tells why the words order nothing, and gives the exit status. A text that can't be written changes no exit status.
+fn refuse(rt: &HostRuntime, fault: &Unordered) -> ExitCode {
     let _ = match fault {
-        LineFault::Memory => eprintln!(rt; "residency: {fault}"),
-        LineFault::Line(error) => error.print(rt),
+        Unordered::NoText => eprintln!(rt; "residency: a word of the command line is no text"),
+        Unordered::Line(LineFault::Line(error)) => error.print(rt),
+        Unordered::Line(LineFault::Memory) => eprintln!(rt; "residency: {}", LineFault::Memory),
     };
+    ExitCode::from(match fault {
+        Unordered::NoText => WRONG_WORDS,
+        Unordered::Line(fault) => line_status(fault),
+    })
 }
 
 fn main(rt: HostRuntime) -> ExitCode {
     let order = match order(&rt) {
         Ok(order) => order,
-        Err(fault) => {
-            tell_line(&rt, &fault);
-            return ExitCode::from(line_status(&fault));
-        }
+        Err(fault) => return refuse(&rt, &fault),
     };
     let answer = serve(&rt, &order);
     if let Err(fault) = &answer {
