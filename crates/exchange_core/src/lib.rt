@@ -1,4 +1,7 @@
 //! The pure core of the exchange of offers: which event may follow, and what a list of events leaves.
+//!
+//! A body that prints nothing for a `CoreFault` would meet its contract, which says nothing of texts: a test shows
+//! them.
 #![tactic(auto)]
 
 pub mod event;

@@ -5,12 +5,12 @@ mod slow;
 use crate::event::{AnswerKind, Capacity, Event, Pending, Refused};
 use crate::exchange::{Core, CoreFault};
 use match_model::builder::InstanceBuilder;
+use match_model::fault::ModelFault;
 use match_model::instance::Instance;
 use match_model::member::{ProgrammeNo, ResidentNo};
-use run::Run;
+use run::{Run, Seen};
 use std::alloc::{AllocError, Global};
 use std::process::Abort;
-use std::test::Fail;
 
 const A: ProgrammeNo = ProgrammeNo(0);
 
@@ -58,34 +58,58 @@ fn hear(programme: ProgrammeNo, resident: ResidentNo, kind: AnswerKind) -> Event
     }
 }
 
-/// Two programmes and two residents, who rank them the other way round.
-fn two_by_two(alloc: Global) -> Result<Instance, Fail> {
+/// Adds the members, a resident for each of its lists, and hands in their lists.
+fn add(
+    builder: &mut InstanceBuilder,
+    programmes: &[(u32, &[ResidentNo])],
+    residents: &[(ResidentNo, &[ProgrammeNo])],
+) -> Result<(), ModelFault> {
+    for _ in residents {
+        builder.add_resident()?;
+    }
+    for (quota, list) in programmes {
+        let programme = builder.add_programme(*quota)?;
+        builder.programme_list(programme, list)?;
+    }
+    for (resident, list) in residents {
+        builder.resident_list(*resident, list)?;
+    }
+    Ok(())
+}
+
+/// The instance of these quotas and lists, by number.
+fn instance(
+    alloc: Global,
+    programmes: &[(u32, &[ResidentNo])],
+    residents: &[(ResidentNo, &[ProgrammeNo])],
+) -> Result<Instance, ModelFault> {
     let mut builder = InstanceBuilder::new(alloc);
-    builder.add_programme(1)?;
-    builder.add_programme(1)?;
-    builder.add_resident()?;
-    builder.add_resident()?;
-    builder.programme_list(A, &[X, Y])?;
-    builder.programme_list(B, &[Y, X])?;
-    builder.resident_list(X, &[B, A])?;
-    builder.resident_list(Y, &[A, B])?;
-    Ok(builder.finish().map_err(|refused| refused.fault)?)
+    add(&mut builder, programmes, residents)?;
+    builder.finish().map_err(|refused| refused.fault)
+}
+
+/// Two programmes and two residents, who rank them the other way round.
+fn two_by_two(alloc: Global) -> Result<Instance, ModelFault> {
+    instance(
+        alloc,
+        &[(1, &[X, Y]), (1, &[Y, X])],
+        &[(X, &[B, A]), (Y, &[A, B])],
+    )
 }
 
 /// A programme of quota 2 that all rank, and one that displaces x from it.
-fn displaced(alloc: Global) -> Result<Instance, Fail> {
-    let mut builder = InstanceBuilder::new(alloc);
-    builder.add_programme(2)?;
-    builder.add_programme(1)?;
-    for _ in 0..3 {
-        builder.add_resident()?;
-    }
-    builder.programme_list(A, &[X, Y, Z])?;
-    builder.programme_list(B, &[X])?;
-    builder.resident_list(X, &[B, A])?;
-    builder.resident_list(Y, &[A])?;
-    builder.resident_list(Z, &[A])?;
-    Ok(builder.finish().map_err(|refused| refused.fault)?)
+fn displaced(alloc: Global) -> Result<Instance, ModelFault> {
+    instance(
+        alloc,
+        &[(2, &[X, Y, Z]), (1, &[X])],
+        &[(X, &[B, A]), (Y, &[A]), (Z, &[A])],
+    )
+}
+
+/// A core at the beginning of an exchange of this instance.
+fn begin(rt: &impl Abort, alloc: Global, inst: Result<Instance, ModelFault>, cap: Capacity) -> Run {
+    let inst = inst.expect(rt, "an instance");
+    Run::new(alloc, inst, cap).expect(rt, "a core")
 }
 
 /// The nine events of an exchange in which everybody holds its first offer.
@@ -129,28 +153,34 @@ fn nineteen() -> [Event; 19] {
 }
 
 #[test]
-fn refuses_what_is_no_member(rt: HostRuntime) -> Result<(), Fail> {
-    let mut run = Run::new(rt.alloc(), two_by_two(rt.alloc())?, Capacity::Full)?;
+fn refuses_what_is_no_member(rt: HostRuntime) {
+    let mut run = begin(&rt, rt.alloc(), two_by_two(rt.alloc()), Capacity::Full);
     assert_eq!(rt; run.step(take(ResidentNo(7), A)), Err(Refused::NoSuchDesk));
+}
+
+#[test]
+fn refuses_a_bad_capacity(rt: HostRuntime) {
+    let inst = two_by_two(rt.alloc()).expect(&rt, "an instance");
     for n in [0, 1_025] {
-        let inst = two_by_two(rt.alloc())?;
         let made = Core::new(rt.alloc(), &inst, Capacity::Each(n));
         assert!(rt; matches!(made, Err(CoreFault::BadCapacity)), "capacity {n}");
     }
-    Ok(())
+}
+
+#[test]
+fn prints_its_faults(rt: HostRuntime) {
+    let faults = [
+        (CoreFault::BadCapacity, "bad capacity"),
+        (CoreFault::Memory, "out of memory"),
+    ];
+    for (fault, text) in faults {
+        let printed = format!(in rt.alloc(); "{fault}").expect(&rt, "a text");
+        assert!(rt; printed.as_str() == text, "{printed}");
+    }
 }
 
 /// The first events are accepted, and the last is refused as said.
-fn refuses_last(
-    rt: &impl Abort,
-    alloc: Global,
-    inst: Instance,
-    cap: Capacity,
-    events: &[Event],
-    last: Event,
-    why: Refused,
-) -> Result<(), Fail> {
-    let mut run = Run::new(alloc, inst, cap)?;
+fn refuses_last(rt: &impl Abort, run: &mut Run, events: &[Event], last: Event, why: Refused) {
     for event in events {
         assert_eq!(rt; run.step(*event), Ok(()));
     }
@@ -158,13 +188,11 @@ fn refuses_last(
     let cause = why;
     assert_eq!(rt; run.may(last), Err(why));
     assert_eq!(rt; run.step(again), Err(cause));
-    Ok(())
 }
 
 #[test]
-fn refuses_the_first_wrong_event(rt: HostRuntime) -> Result<(), Fail> {
+fn refuses_the_first_wrong_event(rt: HostRuntime) {
     let all = nineteen();
-    let full = Capacity::Full;
     let cases: [(&[Event], Event, Refused); 7] = [
         (&[], take(X, A), Refused::NothingWaiting),
         (
@@ -193,74 +221,131 @@ fn refuses_the_first_wrong_event(rt: HostRuntime) -> Result<(), Fail> {
         ),
     ];
     for (events, last, why) in cases {
-        refuses_last(
-            &rt,
-            rt.alloc(),
-            displaced(rt.alloc())?,
-            full,
-            events,
-            last,
-            why,
-        )?;
+        let mut run = begin(&rt, rt.alloc(), displaced(rt.alloc()), Capacity::Full);
+        refuses_last(&rt, &mut run, events, last, why);
     }
-    let small = Capacity::Each(1);
+}
+
+#[test]
+fn refuses_what_there_is_no_room_for(rt: HostRuntime) {
     let one = [offer(A, X)];
-    refuses_last(
-        &rt,
-        rt.alloc(),
-        displaced(rt.alloc())?,
-        small,
-        &one,
-        offer(B, X),
-        Refused::MailboxFull,
-    )?;
-    refuses_last(
-        &rt,
-        rt.alloc(),
-        two_by_two(rt.alloc())?,
-        full,
-        &one,
+    let mut small = begin(&rt, rt.alloc(), displaced(rt.alloc()), Capacity::Each(1));
+    refuses_last(&rt, &mut small, &one, offer(B, X), Refused::MailboxFull);
+    let mut full = begin(&rt, rt.alloc(), two_by_two(rt.alloc()), Capacity::Full);
+    refuses_last(&rt, &mut full, &one, offer(A, Y), Refused::NoPlace);
+}
+
+/// After each of the nineteen events another one, which may follow or not.
+fn others() -> [Event; 19] {
+    [
         offer(A, Y),
-        Refused::NoPlace,
+        offer(A, Z),
+        answer(Y, A, HOLD),
+        answer(X, A, HOLD),
+        hear(A, Y, HOLD),
+        hear(A, X, HOLD),
+        offer(B, X),
+        answer(X, A, RELEASE),
+        answer(X, A, RELEASE),
+        hear(A, X, RELEASE),
+        offer(A, Z),
+        offer(A, Z),
+        offer(B, X),
+        offer(A, Z),
+        offer(A, X),
+        answer(Z, A, HOLD),
+        hear(A, Z, HOLD),
+        Event::Close,
+        Event::Close,
+    ]
+}
+
+/// Why that other one may not follow after so many of the nineteen events, if it may not.
+fn refused_after(place: usize) -> Option<Refused> {
+    match place {
+        2 | 7 | 11 | 12 | 13 | 15 => Some(Refused::NoPlace),
+        6 | 10 => Some(Refused::WrongFront),
+        8 => Some(Refused::NotDue),
+        19 => Some(Refused::Closed),
+        _ => None,
+    }
+}
+
+/// What keeps the exchange from rest after so many of the nineteen events.
+fn pending_after(place: usize) -> Option<Pending> {
+    match place {
+        1 | 2 | 3 | 7 => Some(Pending::Offers(X)),
+        4 | 5 | 8 | 9 => Some(Pending::Due(X)),
+        6 | 10 | 11 | 12 | 13 | 17 => Some(Pending::Answers(A)),
+        14 => Some(Pending::Wish(A)),
+        15 => Some(Pending::Offers(Z)),
+        16 => Some(Pending::Due(Z)),
+        _ => None,
+    }
+}
+
+/// Whom a would offer to after so many of the nineteen events.
+fn next_of_a_after(place: usize) -> Option<ResidentNo> {
+    match place {
+        1 => Some(Y),
+        14 => Some(Z),
+        _ => None,
+    }
+}
+
+/// What x holds after so many of the nineteen events.
+fn held_after(place: usize) -> Option<ProgrammeNo> {
+    match place {
+        0..=5 => None,
+        6..=8 => Some(A),
+        _ => Some(B),
+    }
+}
+
+/// What x owes first after so many of the nineteen events.
+fn due_after(place: usize) -> Option<(ProgrammeNo, AnswerKind)> {
+    match place {
+        4 | 5 => Some((A, HOLD)),
+        8 => Some((B, HOLD)),
+        9 => Some((A, RELEASE)),
+        _ => None,
+    }
+}
+
+/// What the core shows of a and x after so many of the nineteen events.
+fn seen_after(place: usize) -> Seen {
+    (
+        pending_after(place),
+        next_of_a_after(place),
+        held_after(place),
+        due_after(place),
     )
 }
 
-#[test]
-fn shows_what_is_left(rt: HostRuntime) -> Result<(), Fail> {
-    let mut run = Run::new(rt.alloc(), displaced(rt.alloc())?, Capacity::Full)?;
-    for (index, event) in nineteen().iter().enumerate() {
-        assert_eq!(rt; run.step(*event), Ok(()), "place {}", index + 1);
-        let next_of_a = run.next_offer(A);
-        match index + 1 {
-            2 | 11 | 12 | 13 | 15 => assert_eq!(rt; next_of_a, None),
-            14 => assert_eq!(rt; next_of_a, Some(Z)),
-            4 => {
-                assert_eq!(rt; run.next_answer(X), Some((A, HOLD)));
-                assert_eq!(rt; run.next_answer(Y), Some((A, HOLD)));
-            }
-            8 => assert_eq!(rt; run.next_answer(X), Some((B, HOLD))),
-            9 => {
-                assert_eq!(rt; run.held(X), Some(B));
-                assert_eq!(rt; run.next_answer(X), Some((A, RELEASE)));
-            }
-            16 => assert_eq!(rt; run.next_answer(Z), Some((A, HOLD))),
-            18 => assert_eq!(rt; run.first_pending(), None),
-            _ => {}
-        }
-        assert_eq!(rt; run.core.is_closed(), index == 18);
-    }
-    let given = run.given(rt.alloc())?;
-    assert_eq!(rt; given.len(), 3);
-    assert!(rt; given.len() == 3);
-    assert_eq!(rt; given.get(X), Some(B));
-    assert_eq!(rt; given.get(Y), Some(A));
-    assert_eq!(rt; given.get(Z), Some(A));
-    Ok(())
+/// The other event is told of as it should be, and the core shows what it should.
+fn shows(rt: &impl Abort, run: &Run, place: usize, other: Event) {
+    assert_eq!(rt; run.may(other).err(), refused_after(place), "after {place}");
+    assert!(rt; run.seen(A, X) == seen_after(place), "after {place}");
+    assert!(rt; run.core.is_closed() == (place == 19), "after {place}");
 }
 
 #[test]
-fn always_finds_an_event(rt: HostRuntime) -> Result<(), Fail> {
-    let mut run = Run::new(rt.alloc(), displaced(rt.alloc())?, Capacity::Each(1))?;
+fn shows_what_is_left(rt: HostRuntime) {
+    let mut run = begin(&rt, rt.alloc(), displaced(rt.alloc()), Capacity::Full);
+    for (index, (event, other)) in nineteen().iter().zip(&others()).enumerate() {
+        assert_eq!(rt; run.step(*event), Ok(()));
+        shows(&rt, &run, index + 1, *other);
+    }
+    let given = run.given(rt.alloc()).expect(&rt, "an assignment");
+    assert!(rt; given.len() == 3);
+    assert!(rt; given.get(X) == Some(B));
+    assert!(rt; given.get(Y) == Some(A));
+    assert!(rt; given.get(Z) == Some(A));
+}
+
+#[test]
+fn always_finds_an_event(rt: HostRuntime) {
+    let mut run = begin(&rt, rt.alloc(), displaced(rt.alloc()), Capacity::Each(1));
     let mut turns = 0;
     for turn in 1..=25 {
         let Some(event) = run.some_enabled() else {
@@ -271,8 +356,7 @@ fn always_finds_an_event(rt: HostRuntime) -> Result<(), Fail> {
     }
     assert!(rt; run.core.is_closed());
     assert!(rt; turns == 17 || turns == 19, "{turns} events");
-    assert_eq!(rt; run.some_enabled(), None);
-    Ok(())
+    assert!(rt; run.some_enabled().is_none());
 }
 
 /// Every event over the members.
@@ -293,31 +377,42 @@ fn events(alloc: Global, inst: &Instance) -> Result<Vec<Event>, AllocError> {
     Ok(events)
 }
 
-/// The core and the filters over the list agree on every event at every front of the list.
+/// The core and the filters over the list agree on every event after so many events of the list.
+fn agrees_after(rt: &impl Abort, run: &Run, cap: Capacity, earlier: &[Event], events: &[Event]) {
+    for event in events {
+        let slow = slow::refusal(&run.inst, cap, earlier, *event);
+        assert_eq!(rt;
+            run.may(*event).err(),
+            slow,
+            "{event:?} after {}",
+            earlier.len()
+        );
+    }
+}
+
+/// They agree at every front of the list, from none of it up to the whole.
 fn agrees(
     rt: &impl Abort,
     alloc: Global,
-    inst: Instance,
+    inst: Result<Instance, ModelFault>,
     cap: Capacity,
     list: &[Event],
-) -> Result<(), Fail> {
-    let mut run = Run::new(alloc, inst, cap)?;
-    let events = events(alloc, &run.inst)?;
-    for (index, event) in list.iter().enumerate() {
-        for other in &events {
-            let slow = slow::refusal(alloc, &run.inst, cap, &list[..index], *other)?;
-            assert_eq!(rt; run.may(*other).err(), slow, "{other:?} at {index}");
+) {
+    let mut run = begin(rt, alloc, inst, cap);
+    let events = events(alloc, &run.inst).expect(rt, "the events");
+    for place in 0..=list.len() {
+        let (earlier, later) = list.split_at(place);
+        agrees_after(rt, &run, cap, earlier, &events);
+        if let Some(next) = later.first() {
+            assert_eq!(rt; run.step(*next), Ok(()));
         }
-        assert_eq!(rt; run.step(*event), Ok(()));
     }
-    Ok(())
 }
 
 #[test]
-fn agrees_with_the_definitions(rt: HostRuntime) -> Result<(), Fail> {
+fn agrees_with_the_definitions(rt: HostRuntime) {
     for cap in [Capacity::Full, Capacity::Each(3)] {
-        agrees(&rt, rt.alloc(), two_by_two(rt.alloc())?, cap, &nine())?;
-        agrees(&rt, rt.alloc(), displaced(rt.alloc())?, cap, &nineteen())?;
+        agrees(&rt, rt.alloc(), two_by_two(rt.alloc()), cap, &nine());
+        agrees(&rt, rt.alloc(), displaced(rt.alloc()), cap, &nineteen());
     }
-    Ok(())
 }

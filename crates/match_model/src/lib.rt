@@ -2,6 +2,9 @@
 //!
 //! A builder takes quotas and lists as they were handed in; `finish` makes of them an instance, whose lists are the
 //! mutual parts of what was handed in, in order and without repeats.
+//!
+//! A body that prints nothing for a `ModelFault` would meet its contract, which says nothing of texts: a test shows
+//! them.
 #![tactic(auto)]
 
 pub mod assignment;

@@ -87,3 +87,24 @@ fn assigns(rt: HostRuntime) -> Result<(), Fail> {
     assert_eq!(rt; assignment.get(ResidentNo(0)), None);
     Ok(())
 }
+
+#[test]
+fn prints_its_faults(rt: HostRuntime) {
+    let faults = [
+        (ModelFault::TooManyProgrammes, "more than 2000 programmes"),
+        (ModelFault::TooManyResidents, "more than 20000 residents"),
+        (ModelFault::QuotaTooLarge, "quota over 10000"),
+        (ModelFault::NoSuchMember, "no such member"),
+        (ModelFault::ListGivenTwice, "a list was given twice"),
+        (ModelFault::ListedTwice, "a name is listed twice"),
+        (
+            ModelFault::TooManyPairs,
+            "more than 200000 acceptable pairs",
+        ),
+        (ModelFault::Memory, "out of memory"),
+    ];
+    for (fault, text) in faults {
+        let printed = format!(in rt.alloc(); "{fault}").expect(&rt, "a text");
+        assert!(rt; printed.as_str() == text, "{printed}");
+    }
+}

@@ -17,6 +17,15 @@ pub(super) struct Run {
     ghost core_of: { IsCoreOf inst core },
 }
 
+/// What the core shows: what keeps it from rest, whom a programme would offer to, what a resident holds and what it
+/// owes first.
+pub(super) type Seen = (
+    Option<Pending>,
+    Option<ResidentNo>,
+    Option<ProgrammeNo>,
+    Option<(ProgrammeNo, AnswerKind)>,
+);
+
 impl Run {
     pub(super) fn new(alloc: Global, inst: Instance, cap: Capacity) -> Result<Run, CoreFault> {
         let core = Core::new(alloc, &inst, cap)?;
@@ -35,29 +44,17 @@ impl Run {
         self.core.some_enabled(&self.inst)
     }
 
-    pub(super) fn first_pending(&self) -> Option<Pending> {
-        self.core.first_pending(&self.inst)
-    }
-
-    pub(super) fn next_offer(&self, programme: ProgrammeNo) -> Option<ResidentNo> {
-        if programme.0 >= self.inst.programmes() {
-            return None;
+    /// Nothing is seen of who is no member.
+    pub(super) fn seen(&self, programme: ProgrammeNo, resident: ResidentNo) -> Seen {
+        if programme.0 >= self.inst.programmes() || resident.0 >= self.inst.residents() {
+            return (None, None, None, None);
         }
-        self.core.next_offer(&self.inst, programme)
-    }
-
-    pub(super) fn next_answer(&self, resident: ResidentNo) -> Option<(ProgrammeNo, AnswerKind)> {
-        if resident.0 >= self.inst.residents() {
-            return None;
-        }
-        self.core.next_answer(resident)
-    }
-
-    pub(super) fn held(&self, resident: ResidentNo) -> Option<ProgrammeNo> {
-        if resident.0 >= self.inst.residents() {
-            return None;
-        }
-        self.core.held(resident)
+        (
+            self.core.first_pending(&self.inst),
+            self.core.next_offer(&self.inst, programme),
+            self.core.held(resident),
+            self.core.next_answer(resident),
+        )
     }
 
     pub(super) fn given(&self, alloc: Global) -> Result<Assignment, ModelFault>

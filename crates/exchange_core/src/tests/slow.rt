@@ -1,122 +1,162 @@
 //! The definitions applied by filters over the list of events, each time from its beginning.
+ghost use Rattle.std.specs.Prelude.{◌≡◌};
+ghost use Rattle.exchange_core.specs.Refusal.{strange_desk};
+
 use crate::event::{AnswerKind, Capacity, Event, Pending, Refused};
 use match_model::instance::Instance;
 use match_model::member::{ProgrammeNo, ResidentNo};
-use std::alloc::{AllocError, Global};
 
-type Answered<N> = (N, AnswerKind);
-
-fn offers_of(alloc: Global, p: ProgrammeNo, j: &[Event]) -> Result<Vec<ResidentNo>, AllocError> {
-    let mut found = Vec::new(alloc);
-    for event in j {
-        match event {
-            Event::Offer {
-                programme,
-                resident,
-            } if *programme == p => found.push(*resident)?,
-            _ => {}
-        }
-    }
-    Ok(found)
+/// One of the six lists of a list of events: what a desk sent, was sent, took or heard.
+#[derive(Clone, Copy)]
+enum Mail {
+    OffersOf,
+    OffersTo,
+    Takes,
+    AnswersOf,
+    AnswersTo,
+    Hears,
 }
 
-fn offers_to(alloc: Global, r: ResidentNo, j: &[Event]) -> Result<Vec<ProgrammeNo>, AllocError> {
-    let mut found = Vec::new(alloc);
-    for event in j {
-        match event {
-            Event::Offer {
-                programme,
-                resident,
-            } if *resident == r => found.push(*programme)?,
-            _ => {}
-        }
-    }
-    Ok(found)
+/// The member at the other end, and the kind of an answer.
+type Letter = (u32, Option<AnswerKind>);
+
+/// The letter alone where the two numbers agree, else none.
+fn where_same(a: u32, b: u32, letter: Letter) -> Option<Letter> {
+    if a == b { Some(letter) } else { None }
 }
 
-fn takes(alloc: Global, r: ResidentNo, j: &[Event]) -> Result<Vec<ProgrammeNo>, AllocError> {
-    let mut found = Vec::new(alloc);
-    for event in j {
-        match event {
-            Event::Take {
-                resident,
-                programme,
-            } if *resident == r => found.push(*programme)?,
-            _ => {}
-        }
+/// The event's letter, if it is one of this desk's list.
+fn letter(mail: Mail, desk: u32, event: &Event) -> Option<Letter> {
+    match event {
+        Event::Offer {
+            programme: p,
+            resident: r,
+        } => offer_letter(mail, desk, p.0, r.0),
+        Event::Take {
+            resident: r,
+            programme: p,
+        } => take_letter(mail, desk, r.0, p.0),
+        Event::Answer {
+            resident: r,
+            programme: p,
+            kind,
+        } => answer_letter(mail, desk, (r.0, p.0), *kind),
+        Event::Hear {
+            programme: p,
+            resident: r,
+            kind,
+        } => hear_letter(mail, desk, (p.0, r.0), *kind),
+        Event::Close => None,
     }
-    Ok(found)
 }
 
-fn answers_of(r: ResidentNo, j: &[Event]) -> usize {
+fn offer_letter(mail: Mail, desk: u32, p: u32, r: u32) -> Option<Letter> {
+    match mail {
+        Mail::OffersOf => where_same(p, desk, (r, None)),
+        Mail::OffersTo => where_same(r, desk, (p, None)),
+        _ => None,
+    }
+}
+
+fn take_letter(mail: Mail, desk: u32, r: u32, p: u32) -> Option<Letter> {
+    match mail {
+        Mail::Takes => where_same(r, desk, (p, None)),
+        _ => None,
+    }
+}
+
+fn answer_letter(mail: Mail, desk: u32, ends: (u32, u32), kind: AnswerKind) -> Option<Letter> {
+    let (r, p) = ends;
+    match mail {
+        Mail::AnswersOf => where_same(r, desk, (p, Some(kind))),
+        Mail::AnswersTo => where_same(p, desk, (r, Some(kind))),
+        _ => None,
+    }
+}
+
+fn hear_letter(mail: Mail, desk: u32, ends: (u32, u32), kind: AnswerKind) -> Option<Letter> {
+    let (p, r) = ends;
+    match mail {
+        Mail::Hears => where_same(p, desk, (r, Some(kind))),
+        _ => None,
+    }
+}
+
+/// How many letters the desk's list has.
+fn count(mail: Mail, desk: u32, j: &[Event]) -> usize {
     j.iter()
-        .filter(|event| matches!(event, Event::Answer { resident, .. } if *resident == r))
+        .filter(|event| letter(mail, desk, event).is_some())
         .count()
 }
 
-fn answers_to(
-    alloc: Global,
-    p: ProgrammeNo,
-    j: &[Event],
-) -> Result<Vec<Answered<ResidentNo>>, AllocError> {
-    let mut found = Vec::new(alloc);
+/// The letter at this place of the desk's list.
+fn item(mail: Mail, desk: u32, j: &[Event], place: usize) -> Option<Letter> {
+    let mut left = place;
     for event in j {
-        match event {
-            Event::Answer {
-                resident,
-                programme,
-                kind,
-            } if *programme == p => found.push((*resident, *kind))?,
-            _ => {}
+        if let Some(letter) = letter(mail, desk, event) {
+            if left == 0 {
+                return Some(letter);
+            }
+            left -= 1;
         }
     }
-    Ok(found)
+    None
 }
 
-fn hears(
-    alloc: Global,
-    p: ProgrammeNo,
-    j: &[Event],
-) -> Result<Vec<Answered<ResidentNo>>, AllocError> {
-    let mut found = Vec::new(alloc);
-    for event in j {
-        match event {
-            Event::Hear {
-                programme,
-                resident,
-                kind,
-            } if *programme == p => found.push((*resident, *kind))?,
-            _ => {}
-        }
-    }
-    Ok(found)
-}
-
-fn place(ranking: &[ProgrammeNo], p: ProgrammeNo) -> usize {
-    let found = ranking.iter().position(|q| *q == p);
+fn place(ranking: &[ProgrammeNo], p: u32) -> usize {
+    let found = ranking.iter().position(|q| q.0 == p);
     found.unwrap_or(ranking.len())
 }
 
-fn calls(
-    alloc: Global,
-    ranking: &[ProgrammeNo],
-    taken: &[ProgrammeNo],
-) -> Result<Vec<Answered<ProgrammeNo>>, AllocError> {
-    let mut calls = Vec::new(alloc);
-    for (index, p) in taken.iter().enumerate() {
-        let earlier = &taken[..index];
-        let here = place(ranking, *p);
-        let best = earlier.iter().all(|q| here < place(ranking, *q));
-        if here == ranking.len() || !best {
-            calls.push((*p, AnswerKind::Decline))?;
-            continue;
-        }
-        calls.push((*p, AnswerKind::Hold))?;
-        if let Some(before) = ranking.iter().find(|q| earlier.contains(*q)) {
-            calls.push((*before, AnswerKind::Release))?;
+/// Where the best programme stands that the resident took an offer of, or the ranking's length.
+fn best_place(ranking: &[ProgrammeNo], r: ResidentNo, j: &[Event]) -> usize {
+    let mut best = ranking.len();
+    for event in j {
+        if let Some((p, _)) = letter(Mail::Takes, r.0, event) {
+            best = best.min(place(ranking, p));
         }
     }
-    Ok(calls)
+    best
+}
+
+/// What an offer that the resident takes after these events calls for.
+fn calls(ranking: &[ProgrammeNo], r: ResidentNo, earlier: &[Event], p: u32) -> [Option<Letter>; 2] {
+    let before = best_place(ranking, r, earlier);
+    if place(ranking, p) >= before {
+        return [Some((p, Some(AnswerKind::Decline))), None];
+    }
+    let release = match ranking.get(before) {
+        Some(q) => Some((q.0, Some(AnswerKind::Release))),
+        None => None,
+    };
+    [Some((p, Some(AnswerKind::Hold))), release]
+}
+
+/// The first answer that the resident was called for and hasn't given.
+fn first_due(ranking: &[ProgrammeNo], r: ResidentNo, j: &[Event]) -> Option<Letter> {
+    let mut given = count(Mail::AnswersOf, r.0, j);
+    for (index, event) in j.iter().enumerate() {
+        let Some((p, _)) = letter(Mail::Takes, r.0, event) else {
+            continue;
+        };
+        let [first, second] = calls(ranking, r, &j[..index], p);
+        let called = if second.is_some() { 2 } else { 1 };
+        if given < called {
+            return if given == 0 { first } else { second };
+        }
+        given -= called;
+    }
+    None
+}
+
+/// How many offers the resident was sent and hasn't taken.
+fn offers_waiting(r: ResidentNo, j: &[Event]) -> usize {
+    count(Mail::OffersTo, r.0, j).saturating_sub(count(Mail::Takes, r.0, j))
+}
+
+/// How many answers the programme was sent and hasn't heard.
+fn answers_waiting(p: ProgrammeNo, j: &[Event]) -> usize {
+    count(Mail::AnswersTo, p.0, j).saturating_sub(count(Mail::Hears, p.0, j))
 }
 
 fn room(cap: Capacity, most: usize) -> usize {
@@ -126,166 +166,155 @@ fn room(cap: Capacity, most: usize) -> usize {
     }
 }
 
-fn out(alloc: Global, p: ProgrammeNo, j: &[Event]) -> Result<usize, AllocError> {
-    let heard = hears(alloc, p, j)?;
-    let freed = heard
-        .iter()
-        .filter(|answer| answer.1 != AnswerKind::Hold)
-        .count();
-    Ok(offers_of(alloc, p, j)?.len().saturating_sub(freed))
+/// Whether this is an answer that the programme heard, and that gives the place back.
+fn is_rejection(p: ProgrammeNo, event: &Event) -> bool {
+    match letter(Mail::Hears, p.0, event) {
+        Some((_, kind)) => kind != Some(AnswerKind::Hold),
+        None => false,
+    }
+}
+
+fn out(p: ProgrammeNo, j: &[Event]) -> usize {
+    let freed = j.iter().filter(|event| is_rejection(p, event)).count();
+    count(Mail::OffersOf, p.0, j).saturating_sub(freed)
 }
 
 /// The first cause for which the event may not follow the list, or none.
 pub(super) fn refusal(
-    alloc: Global,
     inst: &Instance,
     cap: Capacity,
     j: &[Event],
     event: Event,
-) -> Result<Option<Refused>, AllocError> {
+) -> Option<Refused> {
     if j.contains(&Event::Close) {
-        return Ok(Some(Refused::Closed));
+        return Some(Refused::Closed);
     }
     match event {
         Event::Offer {
             programme,
             resident,
-        } => offer(alloc, inst, cap, j, programme, resident),
+        } => offer(inst, cap, j, programme, resident),
         Event::Take {
             resident,
             programme,
-        } => take(alloc, inst, j, resident, programme),
+        } => take(inst, j, resident, programme),
         Event::Answer {
             resident,
             programme,
             kind,
-        } => answer(alloc, inst, cap, j, resident, (programme, kind)),
+        } => answer(inst, cap, j, resident, (programme, kind)),
         Event::Hear {
             programme,
             resident,
             kind,
-        } => hear(alloc, inst, j, programme, (resident, kind)),
-        Event::Close => Ok(pending(alloc, inst, j)?.map(Refused::StillPending)),
+        } => hear(inst, j, programme, (resident, kind)),
+        Event::Close => pending(inst, j).map(Refused::StillPending),
     }
 }
 
-fn is_strange(inst: &Instance, p: ProgrammeNo, r: ResidentNo) -> bool {
+fn is_strange(inst: &Instance, p: ProgrammeNo, r: ResidentNo) -> bool
+    ensures { result ≡ strange_desk inst.now p r }
+{
     p.0 >= inst.programmes() || r.0 >= inst.residents()
 }
 
 fn offer(
-    alloc: Global,
     inst: &Instance,
     cap: Capacity,
     j: &[Event],
     p: ProgrammeNo,
     r: ResidentNo,
-) -> Result<Option<Refused>, AllocError> {
-    if p.0 >= inst.programmes() || r.0 >= inst.residents() {
-        return Ok(Some(Refused::NoSuchDesk));
+) -> Option<Refused> {
+    if is_strange(inst, p, r) {
+        return Some(Refused::NoSuchDesk);
     }
-    if out(alloc, p, j)? >= inst.quota(p) as usize {
-        return Ok(Some(Refused::NoPlace));
+    if out(p, j) >= inst.quota(p) as usize {
+        return Some(Refused::NoPlace);
     }
-    let next = inst.list_of_programme(p).get(offers_of(alloc, p, j)?.len());
+    let next = inst.list_of_programme(p).get(count(Mail::OffersOf, p.0, j));
     if next.copied() != Some(r) {
-        return Ok(Some(Refused::NotNext));
+        return Some(Refused::NotNext);
     }
-    let waiting = offers_to(alloc, r, j)?
-        .len()
-        .saturating_sub(takes(alloc, r, j)?.len());
-    if waiting >= room(cap, inst.list_of_resident(r).len()) {
-        return Ok(Some(Refused::MailboxFull));
+    let most = inst.list_of_resident(r).len();
+    if offers_waiting(r, j) >= room(cap, most) {
+        return Some(Refused::MailboxFull);
     }
-    Ok(None)
+    None
 }
 
-fn take(
-    alloc: Global,
-    inst: &Instance,
-    j: &[Event],
-    r: ResidentNo,
-    p: ProgrammeNo,
-) -> Result<Option<Refused>, AllocError> {
-    if p.0 >= inst.programmes() || r.0 >= inst.residents() {
-        return Ok(Some(Refused::NoSuchDesk));
-    }
-    let taken = takes(alloc, r, j)?;
-    if calls(alloc, inst.list_of_resident(r), &taken)?.len() > answers_of(r, j) {
-        return Ok(Some(Refused::AnswerDue));
-    }
-    let sent = offers_to(alloc, r, j)?;
-    Ok(match sent.get(taken.len()) {
+/// Why the letter in front isn't this one, if it isn't.
+fn front_fault(front: Option<Letter>, wanted: Letter) -> Option<Refused> {
+    match front {
         None => Some(Refused::NothingWaiting),
-        Some(front) if *front == p => None,
+        Some(front) if front == wanted => None,
         Some(_) => Some(Refused::WrongFront),
-    })
+    }
+}
+
+fn take(inst: &Instance, j: &[Event], r: ResidentNo, p: ProgrammeNo) -> Option<Refused> {
+    if is_strange(inst, p, r) {
+        return Some(Refused::NoSuchDesk);
+    }
+    if first_due(inst.list_of_resident(r), r, j).is_some() {
+        return Some(Refused::AnswerDue);
+    }
+    let front = item(Mail::OffersTo, r.0, j, count(Mail::Takes, r.0, j));
+    front_fault(front, (p.0, None))
 }
 
 fn answer(
-    alloc: Global,
     inst: &Instance,
     cap: Capacity,
     j: &[Event],
     r: ResidentNo,
-    given: Answered<ProgrammeNo>,
-) -> Result<Option<Refused>, AllocError> {
-    let p = given.0;
-    if p.0 >= inst.programmes() || r.0 >= inst.residents() {
-        return Ok(Some(Refused::NoSuchDesk));
+    given: (ProgrammeNo, AnswerKind),
+) -> Option<Refused> {
+    let (p, kind) = given;
+    if is_strange(inst, p, r) {
+        return Some(Refused::NoSuchDesk);
     }
-    let called = calls(alloc, inst.list_of_resident(r), &takes(alloc, r, j)?)?;
-    if called.get(answers_of(r, j)).copied() != Some(given) {
-        return Ok(Some(Refused::NotDue));
+    if first_due(inst.list_of_resident(r), r, j) != Some((p.0, Some(kind))) {
+        return Some(Refused::NotDue);
     }
-    let waiting = answers_to(alloc, p, j)?
-        .len()
-        .saturating_sub(hears(alloc, p, j)?.len());
     let most = inst.list_of_programme(p).len().saturating_mul(2);
-    if waiting >= room(cap, most) {
-        return Ok(Some(Refused::MailboxFull));
+    if answers_waiting(p, j) >= room(cap, most) {
+        return Some(Refused::MailboxFull);
     }
-    Ok(None)
+    None
 }
 
 fn hear(
-    alloc: Global,
     inst: &Instance,
     j: &[Event],
     p: ProgrammeNo,
-    heard: Answered<ResidentNo>,
-) -> Result<Option<Refused>, AllocError> {
+    heard: (ResidentNo, AnswerKind),
+) -> Option<Refused> {
     if is_strange(inst, p, heard.0) {
-        return Ok(Some(Refused::NoSuchDesk));
+        return Some(Refused::NoSuchDesk);
     }
-    let sent = answers_to(alloc, p, j)?;
-    Ok(match sent.get(hears(alloc, p, j)?.len()) {
-        None => Some(Refused::NothingWaiting),
-        Some(front) if *front == heard => None,
-        Some(_) => Some(Refused::WrongFront),
-    })
+    let front = item(Mail::AnswersTo, p.0, j, count(Mail::Hears, p.0, j));
+    front_fault(front, (heard.0.0, Some(heard.1)))
 }
 
-fn pending(alloc: Global, inst: &Instance, j: &[Event]) -> Result<Option<Pending>, AllocError> {
+fn pending(inst: &Instance, j: &[Event]) -> Option<Pending> {
     for number in 0..inst.residents() {
         let r = ResidentNo(number);
-        let taken = takes(alloc, r, j)?;
-        if taken.len() < offers_to(alloc, r, j)?.len() {
-            return Ok(Some(Pending::Offers(r)));
+        if offers_waiting(r, j) > 0 {
+            return Some(Pending::Offers(r));
         }
-        if calls(alloc, inst.list_of_resident(r), &taken)?.len() > answers_of(r, j) {
-            return Ok(Some(Pending::Due(r)));
+        if first_due(inst.list_of_resident(r), r, j).is_some() {
+            return Some(Pending::Due(r));
         }
     }
     for number in 0..inst.programmes() {
         let p = ProgrammeNo(number);
-        if hears(alloc, p, j)?.len() < answers_to(alloc, p, j)?.len() {
-            return Ok(Some(Pending::Answers(p)));
+        if answers_waiting(p, j) > 0 {
+            return Some(Pending::Answers(p));
         }
-        let left = offers_of(alloc, p, j)?.len() < inst.list_of_programme(p).len();
-        if left && out(alloc, p, j)? < inst.quota(p) as usize {
-            return Ok(Some(Pending::Wish(p)));
+        let left = count(Mail::OffersOf, p.0, j) < inst.list_of_programme(p).len();
+        if left && out(p, j) < inst.quota(p) as usize {
+            return Some(Pending::Wish(p));
         }
     }
-    Ok(None)
+    None
 }
