@@ -1,11 +1,11 @@
 -- Blocking pairs, as a walk over a resident's list finds them.
-use Rattle.std.proofs.Common.{◌≡◌, ℕ, ◌<◌, inl, inr, List, [], length, arith, refl, sym, ap, ◌∙◌, subst}
-use Rattle.std.specs.Prelude.{Option, Some, None, ◌↔◌}
+use Rattle.std.proofs.Common.{◌≡◌, ℕ, inl, inr, List, [], length, arith, subst}
+use Rattle.std.specs.Prelude.{Option, Some, ◌↔◌}
 use Rattle.std.proofs.lemmas.Bool.{cases_lt}
 use Rattle.std.proofs.lemmas.List.{get_or_past}
 use Rattle.match_model.specs.Ranking.{IsListed, IsBefore}
 use Rattle.match_model.specs.Instance.{Instance, IsInstance, IsProgramme, IsResident, list_of_resident}
-use Rattle.match_model.specs.Placement.{programme_of, IsMemberOf}
+use Rattle.match_model.specs.Placement.{programme_of}
 use Rattle.settle_law.specs.Stable.{Blocks, Prefers, HasRoomFor}
 use Rattle.match_audit.proofs.Stability.{listed_programme}
 

@@ -1,14 +1,13 @@
 -- What one place more in a placement does to the loads.
 use Rattle.std.proofs.Common.{◌≡◌, ℕ, ◌+◌, ◌<◌, ◌≤◌, ◌⊎◌, inl, inr, Bool, true, false, cond, max, List, [], ◌∷◌, ◌++◌, length, slice_get, get_or, set, replicate, take, arith, refl, sym, ap, ◌∙◌, subst}
 use Rattle.std.specs.Prelude.{Option, Some, None, ◌↔◌}
-use Rattle.std.specs.List.{count_by}
-use Rattle.std.proofs.lemmas.Bool.{cases_lt, cases_eq, ne_eqb, eq-eqb}
-use Rattle.std.proofs.lemmas.List.{length_push, length-set, length-replicate, get_or_append_left, get_or_push, get_or-set_same, get_or-set_other, get_or-replicate, get_or_past, length-take-le}
+use Rattle.std.proofs.lemmas.Bool.{cases_lt, cases_eq, ne_eqb}
+use Rattle.std.proofs.lemmas.List.{length_push, length-set, length-replicate, get_or_append_left, get_or_push, get_or-set_same, get_or-set_other, get_or-replicate, length-take-le}
 use Rattle.std.proofs.lemmas.List.Sums.{sum_by_push, count_by-le-length}
 use Rattle.std.proofs.lemmas.Option.{get_or_from_slice_get, slice_get-get_or, slice_get_within, same_Some}
 use Rattle.match_model.specs.Ranking.{place}
 use Rattle.match_model.specs.Instance.{Instance, IsProgramme, quota, list_of_programme}
-use Rattle.match_model.specs.Placement.{programme_of, IsMemberOf, holds, member_count}
+use Rattle.match_model.specs.Placement.{IsMemberOf, holds, member_count}
 use Rattle.settle_law.specs.Stable.{HasRoomFor}
 use Rattle.settle_law.proofs.Placements.{member_within, holds_true}
 use Rattle.match_audit.specs.declared.load.Load.{Load}

@@ -1,10 +1,10 @@
 -- What a reader of ranks tells of places.
-use Rattle.std.proofs.Common.{◌≡◌, ℕ, ◌+◌, ◌<◌, ◌≤◌, ◌⊎◌, inl, inr, Bool, true, false, cond, List, [], ◌∷◌, ◌++◌, length, take, drop, arith, refl, sym, ap, ◌∙◌, subst, take-append-drop}
+use Rattle.std.proofs.Common.{◌≡◌, ℕ, ◌<◌, ◌≤◌, ◌⊎◌, inl, inr, Bool, true, false, cond, List, length, take, drop, arith, refl, sym, ap, ◌∙◌, take-append-drop}
 use Rattle.std.specs.Prelude.{Option, Some, None, ◌↔◌}
 use Rattle.std.proofs.lemmas.Bool.{cases_lt}
 use Rattle.std.proofs.lemmas.List.{length-take-le}
 use Rattle.std.proofs.lemmas.Option.{same_Some}
-use Rattle.match_model.specs.Ranking.{place, IsListed, is_listed, HasNoRepeats}
+use Rattle.match_model.specs.Ranking.{place, IsListed, is_listed}
 use Rattle.match_model.specs.Instance.{rank}
 use Rattle.exchange_core.proofs.Rankings.{place-le-length, place-append, place-append_past, is_listed-true, is_listed-false, is_listed_not}
 

@@ -1,18 +1,17 @@
 -- A placement is stable exactly where its report has nothing.
-use Rattle.std.proofs.Common.{◌≡◌, ℕ, suc, ◌+◌, ◌<◌, ◌≤◌, ◌⊎◌, inl, inr, Bool, true, false, cond, List, [], ◌∷◌, length, arith, refl, sym, ap, ◌∙◌, subst}
-use Rattle.std.specs.Prelude.{Option, Some, None, ◌↔◌, IsTrue}
+use Rattle.std.proofs.Common.{◌≡◌, ℕ, suc, ◌+◌, ◌<◌, inl, inr, Bool, true, false, cond, List, [], ◌∷◌, length, arith, refl, subst}
+use Rattle.std.specs.Prelude.{Option, ◌↔◌, IsTrue}
 use Rattle.std.specs.List.{Contains}
-use Rattle.std.proofs.lemmas.Bool.{cases_lt, cases_Bool}
+use Rattle.std.proofs.lemmas.Bool.{cases_lt}
 use Rattle.std.proofs.lemmas.List.{get_or_past}
 use Rattle.std.proofs.lemmas.List.Sums.{sum_by-cons}
 use Rattle.match_model.specs.Ranking.{place, IsListed}
-use Rattle.match_model.specs.Instance.{Instance, IsInstance, IsProgramme, Acceptable, quota, list_at, list_of_programme}
-use Rattle.match_model.specs.Placement.{programme_of, IsMemberOf, holds, member_count, IsAssignment}
-use Rattle.settle_law.specs.Stable.{Blocks, IsStable}
+use Rattle.match_model.specs.Instance.{Instance, IsInstance, IsProgramme, Acceptable, quota, list_of_programme}
+use Rattle.match_model.specs.Placement.{IsMemberOf, holds, member_count}
+use Rattle.settle_law.specs.Stable.{IsStable}
 use Rattle.settle_law.proofs.Placements.{same_from_holds}
 use Rattle.match_audit.specs.declared.report.AuditReport.{AuditReport}
-use Rattle.match_audit.specs.Listing.{Lists}
-use Rattle.match_audit.specs.Report.{Reports, IsUnacceptable, IsOver, TellsStability}
+use Rattle.match_audit.specs.Report.{Reports, TellsStability}
 
 nil_from_none : {X : Type 0} (xs : List X) → ((x : X) → Contains xs x → ⊥) → xs ≡ []
 nil_from_none [] none = refl

@@ -1,4 +1,4 @@
-use Rattle.std.proofs.Common.{◌≡◌, ◌∙◌, sym, subst, List}
+use Rattle.std.proofs.Common.{◌∙◌, sym, subst, List}
 use Rattle.match_audit.specs.declared.load.Load.{Load}
 use Rattle.match_audit.specs.Loads.{AreLoads}
 use Rattle.match_audit.proofs.audit.audit.Goals as goal

@@ -1,4 +1,4 @@
-use Rattle.std.proofs.Common.{◌≡◌, ◌++◌, ℕ, List, map, ap, sym, ◌∙◌, subst, arith, length}
+use Rattle.std.proofs.Common.{◌++◌, ℕ, List, map, ap, ◌∙◌, arith}
 use Rattle.settle_law.specs.Stable.{Blocks}
 use Rattle.match_audit.proofs.Listings.{Lists_all, Lists_more_row, pair_of}
 use Rattle.match_audit.proofs.Blocking.{blocking_resident}

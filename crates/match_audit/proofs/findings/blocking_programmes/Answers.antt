@@ -1,11 +1,11 @@
-use Rattle.std.proofs.Common.{◌≡◌, ◌+◌, ◌∷◌, [], ◌++◌, ℕ, Some, List, length, take, drop, get_or, take-append-drop, ap, sym, ◌∙◌, subst, arith}
+use Rattle.std.proofs.Common.{◌≡◌, ◌+◌, ◌∷◌, [], ◌++◌, ℕ, List, take, drop, take-append-drop, ap, sym, ◌∙◌, subst}
 use Rattle.std.specs.Prelude.{Option, ◌↔◌}
 use Rattle.std.specs.Global.{Vec}
 use Rattle.std.proofs.lemmas.List.{take_more, take_all}
 use Rattle.match_model.specs.Ranking.{IsListed, HasNoRepeats}
-use Rattle.match_model.specs.Instance.{IsProgramme, list_of_resident}
+use Rattle.match_model.specs.Instance.{list_of_resident}
 use Rattle.match_model.specs.Placement.{programme_of}
-use Rattle.settle_law.specs.Stable.{HasRoomFor, Prefers, Blocks}
+use Rattle.settle_law.specs.Stable.{HasRoomFor, Prefers}
 use Rattle.settle_law.proofs.Places.{IsListed-get_or}
 use Rattle.exchange_core.proofs.Rankings.{no_repeats_before}
 use Rattle.match_audit.proofs.Kept.{Keeps, Keeps_more_yes, Keeps_more_no, IsStrictlyIncreasing-sorted, Contains-sorted}

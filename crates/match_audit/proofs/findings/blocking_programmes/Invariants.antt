@@ -1,5 +1,4 @@
-use Rattle.std.proofs.Common.{◌≡◌, ℕ, take}
-use Rattle.std.specs.Prelude.{◌↔◌}
+use Rattle.std.proofs.Common.{take}
 use Rattle.settle_law.specs.Stable.{HasRoomFor}
 use Rattle.match_audit.proofs.Kept.{Keeps}
 use Rattle.match_audit.proofs.findings.blocking_programmes.Given as goal

@@ -1,4 +1,4 @@
-use Rattle.std.proofs.Common.{ℕ, Some, ◌≡◌, ◌∙◌, ap, sym, get_or, subst, ◌<◌, ◌⊎◌, arith, slice_get}
+use Rattle.std.proofs.Common.{Some, ◌≡◌, ◌∙◌, ap, sym, get_or, subst, ◌<◌, ◌⊎◌, arith, slice_get}
 use Rattle.std.specs.Prelude.{IsTrue, ◌↔◌}
 use Rattle.std.proofs.lemmas.Option.{slice_get-get_or}
 use Rattle.match_model.specs.Ranking.{place}

@@ -1,9 +1,7 @@
-use Rattle.std.proofs.Common.{◌≡◌, ◌<◌, length, arith, ◌∙◌, sym, ap, subst, Some, ℕ, List, slice_get, get_or}
-use Rattle.std.specs.Prelude.{Option}
+use Rattle.std.proofs.Common.{◌≡◌, ◌<◌, length, arith, ◌∙◌, sym, ap, Some, ℕ, slice_get, get_or}
 use Rattle.std.specs.Global.{Vec}
 use Rattle.std.proofs.lemmas.Option.{slice_get-get_or}
 use Rattle.match_audit.specs.declared.load.Load.{Load}
-use Rattle.match_audit.specs.Loads.{AreLoads}
 use Rattle.match_model.specs.Placement.{member_count}
 use Rattle.match_audit.specs.Report.{IsOver}
 use Rattle.match_audit.proofs.Listings.{Lists_all, Lists_more_none, Lists_more_one}

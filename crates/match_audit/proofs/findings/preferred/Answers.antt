@@ -1,4 +1,4 @@
-use Rattle.std.proofs.Common.{◌≡◌, ◌<◌, ℕ, Some, List, length, take, ap, sym, ◌∙◌, subst, arith}
+use Rattle.std.proofs.Common.{◌<◌, ℕ, List, take, sym, ◌∙◌, subst}
 use Rattle.std.specs.Prelude.{◌↔◌, Option}
 use Rattle.match_model.specs.Ranking.{place, IsListed}
 use Rattle.match_model.specs.Instance.{list_of_resident}

@@ -1,4 +1,4 @@
-use Rattle.std.proofs.Common.{take, ◌≡◌, ◌≤◌, length}
+use Rattle.std.proofs.Common.{take, ◌≡◌, length}
 use Rattle.match_audit.specs.Loads.{AreLoads}
 use Rattle.match_audit.proofs.load.loads.Given as goal
 

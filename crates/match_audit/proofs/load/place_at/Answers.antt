@@ -1,4 +1,4 @@
-use Rattle.std.proofs.Common.{◌≡◌, ap, ◌∙◌, sym, length, List, ℕ}
+use Rattle.std.proofs.Common.{ap, ◌∙◌, sym, length, List, ℕ}
 use Rattle.match_audit.proofs.Ranks.{place_unranked}
 use Rattle.match_audit.proofs.load.place_at.Goals as goal
 
