@@ -111,10 +111,11 @@ pub fn serve_match<R: Read + Drop, W: Write>(
     ensures fault { IfErr result (λ fault. (bytes : List ℕ) → R.remaining reader ≡ Some bytes → IsFaultOf IsMatchFault bytes fault) }
     ensures before { IfErr result (λ fault. IsBeforeWriting fault → writer.new ≡ writer.old) }
 {
-    match read_docket(alloc, reader) {
-        Ok(docket) => match_docket(alloc, &docket, writer, options.capacity),
-        Err(fault) => Err(ServeFault::Docket(fault)),
-    }
+    let docket = match read_docket(alloc, reader) {
+        Ok(docket) => docket,
+        Err(fault) => return Err(ServeFault::Docket(fault)),
+    };
+    match_docket(alloc, &docket, writer, options.capacity)
 }
 
 /// Reads a docket, and writes what keeps its sheet from being stable.

@@ -6,6 +6,7 @@ use crate::options::{MatchOptions, Order};
 use crate::serve::{serve_audit, serve_match, serve_replay};
 use crate::status::{Status, exit_status, line_status};
 use docket::fault::DocketFault;
+use exchange_core::event::Capacity;
 use match_model::fault::ModelFault;
 use std::alloc::{AllocError, Global};
 use std::io;
@@ -37,6 +38,9 @@ const TO_EIGHTEEN: &str =
 
 // One listed by one side alone.
 const ONE_SIDED: &str = "Q,a,1\nP,a,x\nR,x\n";
+// Each programme offers to the one resident, who likes each later one better: an exchange of twenty-three events, of the
+// twenty-five that four pairs allow.
+const CHAIN: &str = "Q,a,1\nQ,b,1\nQ,c,1\nQ,d,1\nP,a,x\nP,b,x\nP,c,x\nP,d,x\nR,x,d,c,b,a\n";
 
 fn joined(alloc: Global, parts: &[&str]) -> Result<String, AllocError> {
     let mut text = String::new(alloc);
@@ -68,6 +72,7 @@ fn matches(rt: HostRuntime) -> Result<(), Fail> {
             "M,x,b\nU,y\nF,a,0,2\nF,b,1,1\n",
         ),
         (with_sheet_and_journal.as_str(), SMALL_SHEET),
+        (CHAIN, "M,x,d\nF,a,0,1\nF,b,0,1\nF,c,0,1\nF,d,1,1\n"),
         (
             "Q,\"a\",1\r\nQ,b,1\r\n\r\nP,a,x,y\r\nP,b,y,x\r\nR,x,b,a\r\nR,y,a,b\r\n",
             SMALL_SHEET,
@@ -192,6 +197,69 @@ fn replays(rt: HostRuntime) -> Result<(), Fail> {
     Ok(())
 }
 
+// The events of a journal of the small docket.
+const NINE: [&str; 9] = [
+    "E,offer,a,x\n",
+    "E,offer,b,y\n",
+    "E,take,x,a\n",
+    "E,take,y,b\n",
+    "E,answer,x,a,hold\n",
+    "E,answer,y,b,hold\n",
+    "E,hear,a,x,hold\n",
+    "E,hear,b,y,hold\n",
+    "E,close\n",
+];
+
+// What a replay of the small docket answers where its journal has these of the nine events, counted from 0.
+fn replayed(
+    alloc: Global,
+    events: &[usize],
+) -> Result<(Result<Status, ServeFault>, Vec<u8>), Fail> {
+    let mut input = joined(alloc, &[SMALL, "C,full\n"])?;
+    for event in events {
+        input.push_str(NINE.get(*event).copied().unwrap_or(""))?;
+    }
+    let mut output = Vec::new(alloc);
+    let answer = serve_replay(alloc, input.as_bytes(), &mut output);
+    Ok((answer, output))
+}
+
+#[test]
+fn sees_forged_journals(rt: HostRuntime) -> Result<(), Fail> {
+    let alloc = rt.alloc();
+    let cases: [(&[usize], Status, &str); 7] = [
+        (&[0, 1, 2, 3, 4, 5, 6, 7, 8], Status::ReplayGood, "G,9\n"),
+        (
+            &[0, 1, 2, 3, 4, 5, 6, 8],
+            Status::ReplayBad,
+            "N,8,still-pending,answers,b\n",
+        ),
+        (
+            &[0, 1, 2, 3, 5, 6, 7, 8],
+            Status::ReplayBad,
+            "N,6,nothing-waiting\n",
+        ),
+        (
+            &[0, 1, 2, 2, 3, 4, 5, 6, 7, 8],
+            Status::ReplayBad,
+            "N,4,answer-due\n",
+        ),
+        (
+            &[0, 1, 4, 3, 2, 5, 6, 7, 8],
+            Status::ReplayBad,
+            "N,3,not-due\n",
+        ),
+        (&[1, 0, 2, 3, 4, 5, 6, 7, 8], Status::ReplayGood, "G,9\n"),
+        (&[0, 1, 2, 3, 4], Status::ReplayBad, "N,6,not-closed\n"),
+    ];
+    for (events, status, row) in cases {
+        let (answer, output) = replayed(alloc, events)?;
+        assert_eq!(rt; answer, Ok(status), "{row}");
+        assert!(rt; is_text(&output, row), "{row}");
+    }
+    Ok(())
+}
+
 #[test]
 fn tells_what_a_docket_lacks(rt: HostRuntime) -> Result<(), Fail> {
     let alloc = rt.alloc();
@@ -272,42 +340,112 @@ impl Write for CutWriter {
     }
 }
 
+// Does what is ordered over a reader and a writer.
+fn serve<R: Read + Drop, W: Write>(
+    alloc: Global,
+    order: &Order,
+    reader: R,
+    writer: &mut W,
+) -> Result<Status, ServeFault> {
+    match order {
+        Order::Match(_) => serve_match(alloc, reader, writer, &MatchOptions::default()),
+        Order::Audit => serve_audit(alloc, reader, writer),
+        Order::Replay => serve_replay(alloc, reader, writer),
+    }
+}
+
+// Each order, with its status and what it writes for a docket with a settled sheet and a journal.
+const ORDERS: [(Order, Status, &str); 3] = [
+    (
+        Order::Match(MatchOptions {
+            workers: 2,
+            capacity: Capacity::Full,
+            journal: false,
+        }),
+        Status::Closed,
+        SMALL_SHEET,
+    ),
+    (Order::Audit, Status::Stable, "S,stable\n"),
+    (Order::Replay, Status::ReplayGood, "G,9\n"),
+];
+
+// What is answered where the reader fails after `cut` bytes, and whether nothing was written.
+fn answer_of_cut(
+    alloc: Global,
+    order: &Order,
+    text: &str,
+    cut: usize,
+) -> (Result<Status, ServeFault>, bool) {
+    let reader = CutReader {
+        text: text.as_bytes(),
+        at: 0,
+        cut,
+    };
+    let mut output = Vec::new(alloc);
+    let answer = serve(alloc, order, reader, &mut output);
+    (answer, output.is_empty())
+}
+
 #[test]
-fn tells_of_broken_devices(rt: HostRuntime) -> Result<(), Fail> {
+fn tells_of_broken_readers(rt: HostRuntime) -> Result<(), Fail> {
     let alloc = rt.alloc();
-    for (cut, place) in [(0, 1), (8, 2), (44, 7)] {
-        let reader = CutReader {
-            text: SMALL.as_bytes(),
-            at: 0,
-            cut,
-        };
-        let mut output = Vec::new(alloc);
-        let answer = serve_match(alloc, reader, &mut output, &MatchOptions::default());
+    let text = joined(alloc, &[SMALL, SMALL_JOURNAL, SMALL_SHEET])?;
+    for (order, status, _) in &ORDERS {
+        let mut place = 1;
+        for (cut, byte) in text.as_bytes().iter().enumerate() {
+            let (answer, wrote_nothing) = answer_of_cut(alloc, order, &text, cut);
+            assert_eq!(rt;
+                answer,
+                Err(ServeFault::Docket(DocketFault::Read { place })),
+                "{cut}"
+            );
+            assert!(rt; wrote_nothing);
+            assert!(rt; exit_status(&answer) == 1);
+            if *byte == b'\n' {
+                place = place.saturating_add(1);
+            }
+        }
+        let (answer, _) = answer_of_cut(alloc, order, &text, text.len());
         assert_eq!(rt;
             answer,
-            Err(ServeFault::Docket(DocketFault::Read { place })),
-            "{cut}"
+            Err(ServeFault::Docket(DocketFault::Read { place }))
         );
-        assert!(rt; output.is_empty());
-        assert!(rt; exit_status(&answer) == 1);
+        let (answer, _) = answer_of_cut(alloc, order, &text, usize::MAX);
+        assert_eq!(rt; answer, Ok(*status));
     }
-    for good in 0..10 {
+    Ok(())
+}
+
+#[test]
+fn tells_of_broken_writers(rt: HostRuntime) -> Result<(), Fail> {
+    let alloc = rt.alloc();
+    let text = joined(alloc, &[SMALL, SMALL_JOURNAL, SMALL_SHEET])?;
+    for (order, status, wanted) in &ORDERS {
+        let writes = wanted.len().div_ceil(3);
+        for good in 0..writes {
+            let mut writer = CutWriter {
+                got: Vec::new(alloc),
+                good,
+            };
+            let answer = serve(alloc, order, text.as_bytes(), &mut writer);
+            assert_eq!(rt;
+                answer,
+                Err(ServeFault::Docket(DocketFault::Write)),
+                "{good}"
+            );
+            assert!(rt; exit_status(&answer) == 1);
+            assert!(rt;
+                wanted.as_bytes().starts_with(writer.got.as_slice()),
+                "{good}"
+            );
+        }
         let mut writer = CutWriter {
             got: Vec::new(alloc),
-            good,
+            good: writes,
         };
-        let answer = serve_match(
-            alloc,
-            SMALL.as_bytes(),
-            &mut writer,
-            &MatchOptions::default(),
-        );
-        assert_eq!(rt;
-            answer,
-            Err(ServeFault::Docket(DocketFault::Write)),
-            "{good}"
-        );
-        assert!(rt; exit_status(&answer) == 1);
+        let answer = serve(alloc, order, text.as_bytes(), &mut writer);
+        assert_eq!(rt; answer, Ok(*status));
+        assert!(rt; is_text(&writer.got, wanted));
     }
     Ok(())
 }
