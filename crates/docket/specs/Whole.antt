@@ -1,6 +1,9 @@
 -- What every docket keeps.
-use Rattle.std.specs.Prelude.{◌≡◌, ℕ, ◌<◌, ◌⊎◌, Option, Some, List, length}
+use Rattle.std.specs.Prelude.{◌≡◌, ℕ, ◌<◌, ◌⊎◌, ⊤, Option, Some, List, length}
+use Rattle.match_model.specs.Instance.{Instance, IsProgramme, IsResident}
 use Rattle.match_model.specs.Placement.{IsMemberOf}
+use Rattle.exchange_core.specs.declared.event.Event.{Event}
+use Rattle.exchange_core.specs.declared.event.Event.TheVariants.{Offer, Take, Answer, Hear, Close}
 use Rattle.docket.specs.Contents.{Contents}
 use Rattle.docket.specs.declared.fault.DocketFault.{DocketFault}
 use Rattle.docket.specs.declared.fault.DocketFault.TheVariants.{Memory, Write, Read}
@@ -15,3 +18,16 @@ pub record IsWhole (d : Contents) : Type 0 where
   pub programmes : length d.programmes ≡ length d.instance.quotas
   pub residents : length d.residents ≡ length d.instance.resident_lists
   pub sheet : (m : List (Option ℕ)) → d.sheet ≡ Some m → IsSheetOf d m
+
+-- a programme and a resident of the instance
+pub record AreMembers (inst : Instance) (p r : ℕ) : Type 0 where
+  pub programme : IsProgramme inst p
+  pub resident : IsResident inst r
+
+-- the numbers in an event are members
+abbrev pub NamesMembers : Instance → Event → Type 0
+NamesMembers inst (Offer p r) = AreMembers inst p r
+NamesMembers inst (Take r p) = AreMembers inst p r
+NamesMembers inst (Answer r p kind) = AreMembers inst p r
+NamesMembers inst (Hear p r kind) = AreMembers inst p r
+NamesMembers inst Close = ⊤

@@ -1,60 +1,47 @@
+//! Why a docket could not be read or written.
 use match_model::fault::ModelFault;
-use std::error::Error;
-use std::fmt;
+use thiserror::Error;
 
 /// Why a docket could not be read or written. `place` is the number of a record, from 1.
-#[derive(Clone, Copy, Debug, PartialEq, Eq, Hash)]
+#[derive(Clone, Copy, Debug, PartialEq, Eq, Hash, Error)]
 pub enum DocketFault {
     /// The reader answered a fault.
+    #[error("record {place}: the input could not be read")]
     Read { place: u32 },
     /// There are more than 2,000,000 records.
+    #[error("record {place}: more than 2000000 records")]
     TooManyRecords { place: u32 },
     /// The first field names no kind of row.
+    #[error("record {place}: unknown kind of row")]
     UnknownKind { place: u32 },
     /// The row has another number of fields than its kind.
+    #[error("record {place}: wrong number of fields")]
     FieldCount { place: u32 },
     /// A name isn't 1 to 32 letters, digits, `-`, `_` or `.`.
+    #[error("record {place}: bad name")]
     BadName { place: u32 },
     /// A quota isn't 1 to 9 digits.
+    #[error("record {place}: bad quota")]
     BadQuota { place: u32 },
     /// A row of the same kind declared the name before.
+    #[error("record {place}: declared twice")]
     DeclaredTwice { place: u32 },
     /// A name isn't declared.
+    #[error("record {place}: unknown name")]
     UnknownName { place: u32 },
     /// The instance can't be built.
+    #[error("record {place}: {fault}")]
     Model { place: u32, fault: ModelFault },
     /// A row of the journal is bad, or out of order.
+    #[error("record {place}: bad journal row")]
     BadEvent { place: u32 },
     /// The sheet is incomplete, or doesn't add up.
+    #[error("record {place}: bad sheet")]
     BadSheet { place: u32 },
     /// A growth was refused.
+    #[error("out of memory")]
     Memory,
     /// The writer answered a fault.
+    #[error("the output could not be written")]
     Write,
 }
-
-impl fmt::Display for DocketFault {
-    fn fmt<W: fmt::Write>(&self, f: &mut fmt::Formatter<W>) -> fmt::Result {
-        match *self {
-            DocketFault::Read { place } => write!(f, "record {place}: the input could not be read"),
-            DocketFault::TooManyRecords { place } => {
-                write!(f, "record {place}: more than 2000000 records")
-            }
-            DocketFault::UnknownKind { place } => write!(f, "record {place}: unknown kind of row"),
-            DocketFault::FieldCount { place } => {
-                write!(f, "record {place}: wrong number of fields")
-            }
-            DocketFault::BadName { place } => write!(f, "record {place}: bad name"),
-            DocketFault::BadQuota { place } => write!(f, "record {place}: bad quota"),
-            DocketFault::DeclaredTwice { place } => write!(f, "record {place}: declared twice"),
-            DocketFault::UnknownName { place } => write!(f, "record {place}: unknown name"),
-            DocketFault::Model { place, fault } => write!(f, "record {place}: {fault}"),
-            DocketFault::BadEvent { place } => write!(f, "record {place}: bad journal row"),
-            DocketFault::BadSheet { place } => write!(f, "record {place}: bad sheet"),
-            DocketFault::Memory => f.write_str("out of memory"),
-            DocketFault::Write => f.write_str("the output could not be written"),
-        }
-    }
-}
-
-impl Error for DocketFault {}
