@@ -1,197 +1,139 @@
 //! Each fault by itself.
-use super::told;
+use super::first_wrong;
 use crate::fault::DocketFault;
 use std::test::Fail;
 
-const KIND: &str = "record 1: unknown kind of row";
+const KINDS: &str = "\
+Z,a = record 1: unknown kind of row
+V,x = record 1: unknown kind of row
+W,x = record 1: unknown kind of row
+q,a,1 = record 1: unknown kind of row
+QQ,a,1 = record 1: unknown kind of row
+,a,1 = record 1: unknown kind of row";
 
-const COUNT: &str = "record 1: wrong number of fields";
+const COUNTS: &str = "\
+Q = record 1: wrong number of fields
+Q,a = record 1: wrong number of fields
+Q,a,1,1 = record 1: wrong number of fields
+P = record 1: wrong number of fields
+R = record 1: wrong number of fields
+M,x = record 1: wrong number of fields
+M,x,a,a = record 1: wrong number of fields
+U = record 1: wrong number of fields
+U,x,a = record 1: wrong number of fields
+F,a,1 = record 1: wrong number of fields
+F,a,1,1,1 = record 1: wrong number of fields
+C = record 1: wrong number of fields
+C,full,full = record 1: wrong number of fields
+E = record 1: wrong number of fields
+E,offer,a = record 1: wrong number of fields
+E,offer,a,x,hold = record 1: wrong number of fields
+E,take,x = record 1: wrong number of fields
+E,take,x,a,hold = record 1: wrong number of fields
+E,answer,x,a = record 1: wrong number of fields
+E,answer,x,a,hold,hold = record 1: wrong number of fields
+E,hear,a,x = record 1: wrong number of fields
+E,hear,a,x,hold,hold = record 1: wrong number of fields
+E,close,a = record 1: wrong number of fields";
 
-const NAME: &str = "record 1: bad name";
+const NAMES: &str = "\
+Q,,1 = record 1: bad name
+Q,a/b,1 = record 1: bad name
+Q,abcdefghijklmnopqrstuvwxyz012345,1 = read
+Q,abcdefghijklmnopqrstuvwxyz0123456,1 = record 1: bad name
+Q,AZaz09-_.,000000000 = read
+P,a,x, = record 1: bad name
+P,,x = record 1: bad name
+R,x@y = record 1: bad name
+R,x,a,b+ = record 1: bad name
+M,,a = record 1: bad name
+M,x, = record 1: bad name
+U, = record 1: bad name
+F,,0,0 = record 1: bad name
+E,offer,,x = record 1: bad name
+E,take,x, = record 1: bad name
+E,answer,x,,hold = record 1: bad name
+E,hear,,x,hold = record 1: bad name";
 
-const QUOTA: &str = "record 1: bad quota";
+const NUMBERS_AND_WORDS: &str = "\
+Q,a, = record 1: bad quota
+Q,a,x = record 1: bad quota
+Q,a,-1 = record 1: bad quota
+Q,a,+1 = record 1: bad quota
+Q,a,1.0 = record 1: bad quota
+Q,a,0000000001 = record 1: bad quota
+F,a,,1 = record 1: bad sheet
+F,a,1,x = record 1: bad sheet
+C, = record 1: bad journal row
+C,0 = record 1: bad journal row
+C,1025 = record 1: bad journal row
+C,Full = record 1: bad journal row
+E,stop = record 1: bad journal row
+E, = record 1: bad journal row
+C,full E,answer,x,a,keep = record 2: bad journal row
+C,full E,hear,a,x, = record 2: bad journal row";
 
-const SHEET: &str = "record 1: bad sheet";
+const ROWS_BEFORE: &str = "\
+E,close = record 1: bad journal row
+C,1 C,1 = record 2: bad journal row
+C,1024 E,close E,close C,1 = record 4: bad journal row
+C,full E,close E,close = read
+Q,a,1 Q,b,1 Q,a,2 = record 3: declared twice
+R,x R,x = record 2: declared twice
+Q,a,1 P,a R,x P,a,x = record 4: declared twice
+Q,a,1 R,a,a P,a,a = read
+Q,a,10001 = record 1: quota over 10000
+Q,a,1 Q,b,999999999 = record 2: quota over 10000";
 
-const JOURNAL: &str = "record 1: bad journal row";
+const LISTS: &str = "\
+R,x,a P,a,x Q,a,1 = read
+Q,a,1 P,b = record 2: unknown name
+Q,a,1 R,x P,a,x,y = record 3: unknown name
+Q,a,1 P,a,a = record 2: unknown name
+Q,a,1 R,x,a,b = record 2: unknown name
+R,x,x = record 1: unknown name
+Q,a,1 P,a,x,x R,x,a = record 2: a name is listed twice
+Q,a,1 Q,b,1 R,x,a,b,a = record 3: a name is listed twice";
+
+const SHEETS: &str = "\
+M,x,a = record 1: unknown name
+Q,a,1 M,x,a = record 2: unknown name
+R,x M,x,a = record 2: unknown name
+R,x U,y = record 2: unknown name
+Q,a,1 F,b,0,1 = record 2: unknown name
+R,x U,x U,x = record 3: bad sheet
+Q,a,1 R,x M,x,a U,x = record 4: bad sheet
+Q,a,1 R,x U,x M,x,a = record 4: bad sheet
+Q,a,1 F,a,0,1 F,a,0,1 = record 3: bad sheet
+R,x R,y U,x C,full = record 4: bad sheet
+Q,a,1 R,x F,a,0,1 = record 3: bad sheet
+Q,a,1 R,x U,x C,full = record 4: bad sheet
+Q,a,1 F,a,1,1 C,full = record 2: bad sheet
+Q,a,1 F,a,0,2 C,full = record 2: bad sheet
+Q,a,1 Q,b,1 R,x M,x,b F,a,0,1 F,b,0,1 = record 6: bad sheet
+F,a,2,1 M,x,a U,z M,y,a R,x R,y R,z Q,a,1 = read";
+
+const EVENTS: &str = "\
+C,full E,offer,a,x = record 2: unknown name
+Q,a,1 R,x C,full E,offer,b,x = record 4: unknown name
+Q,a,1 R,x C,full E,offer,x,a = record 4: unknown name
+Q,a,1 R,x C,full E,take,y,a = record 4: unknown name
+Q,a,1 R,x C,full E,answer,x,b,hold = record 4: unknown name
+Q,a,1 R,x C,full E,hear,a,y,hold = record 4: unknown name
+C,0007 E,take,x,a E,hear,a,x,decline Q,a,0 R,x = read";
 
 #[test]
 fn faults_of_one_record(rt: HostRuntime) -> Result<(), Fail> {
-    let cases = [
-        // kinds
-        ("Z,a\n", KIND),
-        ("V,x\n", KIND),
-        ("W,x\n", KIND),
-        ("q,a,1\n", KIND),
-        ("QQ,a,1\n", KIND),
-        (",a,1\n", KIND),
-        // counts
-        ("Q\n", COUNT),
-        ("Q,a\n", COUNT),
-        ("Q,a,1,1\n", COUNT),
-        ("P\n", COUNT),
-        ("R\n", COUNT),
-        ("M,x\n", COUNT),
-        ("M,x,a,a\n", COUNT),
-        ("U\n", COUNT),
-        ("U,x,a\n", COUNT),
-        ("F,a,1\n", COUNT),
-        ("F,a,1,1,1\n", COUNT),
-        ("C\n", COUNT),
-        ("C,full,full\n", COUNT),
-        ("E\n", COUNT),
-        ("E,offer,a\n", COUNT),
-        ("E,offer,a,x,hold\n", COUNT),
-        ("E,take,x\n", COUNT),
-        ("E,take,x,a,hold\n", COUNT),
-        ("E,answer,x,a\n", COUNT),
-        ("E,answer,x,a,hold,hold\n", COUNT),
-        ("E,hear,a,x\n", COUNT),
-        ("E,hear,a,x,hold,hold\n", COUNT),
-        ("E,close,a\n", COUNT),
-        // names
-        ("Q,,1\n", NAME),
-        ("Q,a/b,1\n", NAME),
-        ("Q,abcdefghijklmnopqrstuvwxyz0123456,1\n", NAME),
-        ("P,a,x,\n", NAME),
-        ("P,,x\n", NAME),
-        ("R,x y\n", NAME),
-        ("R,x,a,b+\n", NAME),
-        ("M,,a\n", NAME),
-        ("M,x,\n", NAME),
-        ("U,\n", NAME),
-        ("F,,0,0\n", NAME),
-        ("E,offer,,x\n", NAME),
-        ("E,take,x,\n", NAME),
-        ("E,answer,x,,hold\n", NAME),
-        ("E,hear,,x,hold\n", NAME),
-    ];
-    for (input, fault) in cases {
-        assert!(rt; told(rt.alloc(), input.as_bytes())?.as_str() == fault, "{input}");
+    for lines in [KINDS, COUNTS, NAMES, NUMBERS_AND_WORDS] {
+        assert_eq!(rt; first_wrong(rt.alloc(), lines)?, None);
     }
     Ok(())
 }
 
 #[test]
-fn faults_of_numbers_and_words(rt: HostRuntime) -> Result<(), Fail> {
-    let cases = [
-        ("Q,a,\n", QUOTA),
-        ("Q,a,x\n", QUOTA),
-        ("Q,a,-1\n", QUOTA),
-        ("Q,a,+1\n", QUOTA),
-        ("Q,a,1.0\n", QUOTA),
-        ("Q,a,0000000001\n", QUOTA),
-        ("F,a,,1\n", SHEET),
-        ("F,a,1,x\n", SHEET),
-        ("C,\n", JOURNAL),
-        ("C,0\n", JOURNAL),
-        ("C,1025\n", JOURNAL),
-        ("C,Full\n", JOURNAL),
-        ("E,stop\n", JOURNAL),
-        ("E,\n", JOURNAL),
-        (
-            "C,full\nE,answer,x,a,keep\n",
-            "record 2: bad journal row",
-        ),
-        ("C,full\nE,hear,a,x,\n", "record 2: bad journal row"),
-        ("E,close\n", JOURNAL),
-        ("C,1\nC,1\n", "record 2: bad journal row"),
-        (
-            "C,1024\nE,close\nE,close\nC,1\n",
-            "record 4: bad journal row",
-        ),
-        ("Q,a,1\nQ,b,1\nQ,a,2\n", "record 3: declared twice"),
-        ("R,x\nR,x\n", "record 2: declared twice"),
-        ("Q,a,1\nP,a\nR,x\nP,a,x\n", "record 4: declared twice"),
-        ("Q,a,10001\n", "record 1: quota over 10000"),
-        ("Q,a,1\nQ,b,999999999\n", "record 2: quota over 10000"),
-    ];
-    for (input, fault) in cases {
-        assert!(rt; told(rt.alloc(), input.as_bytes())?.as_str() == fault, "{input}");
-    }
-    Ok(())
-}
-
-#[test]
-fn faults_of_later_passes(rt: HostRuntime) -> Result<(), Fail> {
-    let cases = [
-        // lists
-        ("Q,a,1\nP,b\n", "record 2: unknown name"),
-        ("Q,a,1\nR,x\nP,a,x,y\n", "record 3: unknown name"),
-        ("Q,a,1\nP,a,a\n", "record 2: unknown name"),
-        ("Q,a,1\nR,x,a,b\n", "record 2: unknown name"),
-        ("R,x,x\n", "record 1: unknown name"),
-        ("Q,a,1\nP,a,x,x\nR,x,a\n", "record 2: a name is listed twice"),
-        (
-            "Q,a,1\nQ,b,1\nR,x,a,b,a\n",
-            "record 3: a name is listed twice",
-        ),
-        // a sheet's names, and its rows for one member
-        ("M,x,a\n", "record 1: unknown name"),
-        ("Q,a,1\nM,x,a\n", "record 2: unknown name"),
-        ("R,x\nM,x,a\n", "record 2: unknown name"),
-        ("R,x\nU,y\n", "record 2: unknown name"),
-        ("Q,a,1\nF,b,0,1\n", "record 2: unknown name"),
-        ("R,x\nU,x\nU,x\n", "record 3: bad sheet"),
-        ("Q,a,1\nR,x\nM,x,a\nU,x\n", "record 4: bad sheet"),
-        ("Q,a,1\nR,x\nU,x\nM,x,a\n", "record 4: bad sheet"),
-        ("Q,a,1\nF,a,0,1\nF,a,0,1\n", "record 3: bad sheet"),
-        // a member without a row
-        ("R,x\nR,y\nU,x\nC,full\n", "record 4: bad sheet"),
-        ("Q,a,1\nR,x\nF,a,0,1\n", "record 3: bad sheet"),
-        ("Q,a,1\nR,x\nU,x\nC,full\n", "record 4: bad sheet"),
-        // places filled, and quotas
-        ("Q,a,1\nF,a,1,1\nC,full\n", "record 2: bad sheet"),
-        ("Q,a,1\nF,a,0,2\nC,full\n", "record 2: bad sheet"),
-        (
-            "Q,a,1\nQ,b,1\nR,x\nM,x,b\nF,a,0,1\nF,b,0,1\n",
-            "record 6: bad sheet",
-        ),
-        // a journal's names
-        ("C,full\nE,offer,a,x\n", "record 2: unknown name"),
-        (
-            "Q,a,1\nR,x\nC,full\nE,offer,b,x\n",
-            "record 4: unknown name",
-        ),
-        (
-            "Q,a,1\nR,x\nC,full\nE,offer,x,a\n",
-            "record 4: unknown name",
-        ),
-        ("Q,a,1\nR,x\nC,full\nE,take,y,a\n", "record 4: unknown name"),
-        (
-            "Q,a,1\nR,x\nC,full\nE,answer,x,b,hold\n",
-            "record 4: unknown name",
-        ),
-        (
-            "Q,a,1\nR,x\nC,full\nE,hear,a,y,hold\n",
-            "record 4: unknown name",
-        ),
-    ];
-    for (input, fault) in cases {
-        assert!(rt; told(rt.alloc(), input.as_bytes())?.as_str() == fault, "{input}");
-    }
-    Ok(())
-}
-
-#[test]
-fn dockets_without_a_fault(rt: HostRuntime) -> Result<(), Fail> {
-    let cases = [
-        "",
-        "Q,abcdefghijklmnopqrstuvwxyz012345,1\n",
-        "Q,AZaz09-_.,000000000\n",
-        // one name for a programme and for a resident
-        "Q,a,1\nR,a,a\nP,a,a\n",
-        // rows in any order
-        "R,x,a\nP,a,x\nQ,a,1\n",
-        // a sheet over the quota, with a pair that isn't acceptable
-        "F,a,2,1\nM,x,a\nU,z\nM,y,a\nR,x\nR,y\nR,z\nQ,a,1\n",
-        // a capacity alone, and events that no exchange has
-        "C,1\n",
-        "C,full\nE,close\nE,close\n",
-        "C,0007\nE,take,x,a\nE,hear,a,x,decline\nQ,a,0\nR,x\n",
-    ];
-    for input in cases {
-        assert!(rt; told(rt.alloc(), input.as_bytes())?.is_empty(), "{input}");
+fn faults_among_records(rt: HostRuntime) -> Result<(), Fail> {
+    for lines in [ROWS_BEFORE, LISTS, SHEETS, EVENTS] {
+        assert_eq!(rt; first_wrong(rt.alloc(), lines)?, None);
     }
     Ok(())
 }

@@ -1,10 +1,26 @@
-//! One docket in many forms, bytes that aren't text, and readers that give little or fail.
+//! One docket in many forms, fields that are no names, and a reader that fails.
 use super::device::CutReader;
-use super::{A, B, SMALL, X, Y, told};
+use super::{A, B, SMALL, X, Y, first_wrong, told};
 use crate::docket::Docket;
 use crate::fault::DocketFault;
 use crate::read::read_docket;
 use std::test::Fail;
+
+// Lines ended by CR and LF, a blank line, and quotes.
+const CR_AND_LF: &str = "Q,\"a\",1\r\nQ,b,1\r\n\r\nP,a,x,y\r\nP,b,y,x\r\nR,x,b,a\r\nR,y,a,b\r\n";
+
+// Lines ended by CR alone, and none at the end.
+const CR_ALONE: &str = "Q,a,1\rQ,b,1\rP,a,x,y\rP,b,y,x\rR,x,b,a\rR,y,a,b";
+
+// A byte order mark, and blank lines.
+const MARK_AND_BLANKS: &str =
+    "\u{feff}\n\nQ,a,1\nQ,b,1\n\r\n\nP,a,x,y\nP,b,y,x\n\r\rR,x,b,a\nR,y,a,b\n\n\n";
+
+const QUOTES: &str =
+    "\"Q\",\"a\",\"1\"\n\"Q\",b,\"1\"\n\"P\",a,x,\"y\"\nP,b,y,x\n\"R\",\"x\",b,a\nR,\"y\",a,b\n";
+
+// Leading zeros, and rows in another order.
+const ANOTHER_ORDER: &str = "R,x,b,a\nP,b,y,x\nQ,a,01\nR,y,a,b\nP,a,x,y\nQ,b,000000001\n";
 
 // Whether the docket is that of `SMALL`.
 fn is_small(docket: &Docket) -> bool {
@@ -22,87 +38,79 @@ fn is_small(docket: &Docket) -> bool {
         && instance.list_of_programme(B) == [Y, X].as_slice()
         && instance.list_of_resident(X) == [B, A].as_slice()
         && instance.list_of_resident(Y) == [A, B].as_slice()
-        && docket.sheet().is_none()
-        && docket.journal().is_none()
 }
 
 #[test]
 fn one_docket_in_many_forms(rt: HostRuntime) -> Result<(), Fail> {
-    let alloc = rt.alloc();
-    let forms = [
+    for form in [
         SMALL,
-        // lines ended by CR and LF, a blank line, and quotes
-        "Q,\"a\",1\r\nQ,b,1\r\n\r\nP,a,x,y\r\nP,b,y,x\r\nR,x,b,a\r\nR,y,a,b\r\n",
-        // lines ended by CR alone, and none at the end
-        "Q,a,1\rQ,b,1\rP,a,x,y\rP,b,y,x\rR,x,b,a\rR,y,a,b",
-        // a byte order mark, and blank lines
-        "\u{feff}\n\nQ,a,1\nQ,b,1\n\r\n\nP,a,x,y\nP,b,y,x\n\r\rR,x,b,a\nR,y,a,b\n\n\n",
-        // quotes throughout
-        "\"Q\",\"a\",\"1\"\n\"Q\",\"b\",\"1\"\n\"P\",\"a\",\"x\",\"y\"\n\"P\",\"b\",\"y\",\"x\"\n\"R\",\"x\",\"b\",\"a\"\n\"R\",\"y\",\"a\",\"b\"\n",
-        // leading zeros, and rows in another order
-        "R,x,b,a\nP,b,y,x\nQ,a,01\nR,y,a,b\nP,a,x,y\nQ,b,000000001\n",
-    ];
-    for form in forms {
-        let docket = read_docket(alloc, form.as_bytes())?;
-        assert!(rt; is_small(&docket), "{form}");
-        let slow = read_docket(alloc, CutReader::new(form.as_bytes(), usize::MAX))?;
-        assert!(rt; is_small(&slow), "{form}");
+        CR_AND_LF,
+        CR_ALONE,
+        MARK_AND_BLANKS,
+        QUOTES,
+        ANOTHER_ORDER,
+    ] {
+        let at_once = read_docket(rt.alloc(), form.as_bytes())?;
+        assert!(rt; is_small(&at_once), "{form}");
+        let slowly = read_docket(rt.alloc(), CutReader::new(form.as_bytes(), usize::MAX))?;
+        assert!(rt; is_small(&slowly), "{form}");
     }
     Ok(())
 }
 
+// A NUL, bytes above 127, a tab, quotes within fields, lines ended within quotes, an empty field, blank lines, and a byte order mark.
+const FORMS: &str = "\
+Q,a\0,1 = record 1: bad name
+Q,a,1 R,\u{e9} = record 2: bad name
+Q,a\t,1 = record 1: bad name
+Q,\"a b\",1 = record 1: bad name
+Q,\"a\"\"b\",1 = record 1: bad name
+Q,a\"b\",1 = record 1: bad name
+Q,\"\",1 = record 1: bad name
+P,a, = record 1: bad name
+Q,a,1, = record 1: wrong number of fields
+Q,\"a,1 Q,b,1 = record 1: wrong number of fields
+Q,a,1 \0 = record 2: unknown kind of row
+\"\" = record 1: unknown kind of row
+Q,a,1\r\rZ = record 2: unknown kind of row
+  Q,a,1   Z   = record 2: unknown kind of row
+Q,a,1 \u{feff}Q,b,1 = record 2: unknown kind of row
+\u{feff}Z = record 1: unknown kind of row
+\u{feff} = read";
+
 #[test]
 fn fields_that_are_no_names(rt: HostRuntime) -> Result<(), Fail> {
-    let cases = [
-        (b"Q,a\0,1\n".as_slice(), "record 1: bad name"),
-        (b"Q,\xff,1\n".as_slice(), "record 1: bad name"),
-        (b"Q,a,1\nR,\xc3\xa9\n".as_slice(), "record 2: bad name"),
-        (b"Q, a,1\n".as_slice(), "record 1: bad name"),
-        (b"Q,a\t,1\n".as_slice(), "record 1: bad name"),
-        (b"Q,\"a\nb\",1\n".as_slice(), "record 1: bad name"),
-        (b"Q,\"a\"\"b\",1\n".as_slice(), "record 1: bad name"),
-        (b"Q,a\"b\",1\n".as_slice(), "record 1: bad name"),
-        (b"Q,\"\",1\n".as_slice(), "record 1: bad name"),
-        (b"P,a,\n".as_slice(), "record 1: bad name"),
-        (b"Q,a,1,\n".as_slice(), "record 1: wrong number of fields"),
-        (b"Q,\"a,1\nQ,b,1\n".as_slice(), "record 1: wrong number of fields"),
-        (b"Q,a,1\n\0\n".as_slice(), "record 2: unknown kind of row"),
-        (b"\"\"\n".as_slice(), "record 1: unknown kind of row"),
-        (b" \n".as_slice(), "record 1: unknown kind of row"),
-        (b"\n\r\n\r\xff".as_slice(), "record 1: unknown kind of row"),
-        (b"Q,a,1\n\n\n\xef\xbb\xbfQ,b,1".as_slice(), "record 2: unknown kind of row"),
-        (b"\xef\xbb\xbf".as_slice(), ""),
-        (b"\xef\xbb\xbfZ".as_slice(), "record 1: unknown kind of row"),
-    ];
-    for (input, fault) in cases {
-        assert!(rt; told(rt.alloc(), input)?.as_str() == fault, "{fault}");
-        let slow = read_docket(rt.alloc(), CutReader::new(input, usize::MAX));
-        assert!(rt; slow.err() == read_docket(rt.alloc(), input).err(), "{fault}");
+    assert_eq!(rt; first_wrong(rt.alloc(), FORMS)?, None);
+    for input in [
+        b"Q,\xff,1\n".as_slice(),
+        b"Q,\x80,1\n".as_slice(),
+        b"Q, a,1\n".as_slice(),
+    ] {
+        assert!(rt; told(rt.alloc(), input)?.as_str() == "record 1: bad name");
     }
+    assert!(rt; told(rt.alloc(), b" \n".as_slice())?.as_str() == "record 1: unknown kind of row");
+    assert!(rt; told(rt.alloc(), b"".as_slice())?.as_str() == "read");
     Ok(())
 }
 
 #[test]
 fn a_reader_that_fails(rt: HostRuntime) {
-    // at each line's end the next record is the one that isn't read
-    let cases = [
+    // the bytes that it gives, and the record that they don't end
+    for (cut, place) in [
         (0, 1),
         (5, 1),
         (6, 2),
-        (7, 2),
         (12, 3),
         (20, 4),
         (27, 4),
         (28, 5),
-        (36, 6),
         (43, 6),
         (44, 7),
-    ];
-    for (cut, place) in cases {
+    ] {
         let answer = read_docket(rt.alloc(), CutReader::new(SMALL.as_bytes(), cut));
         assert_eq!(rt; answer.err(), Some(DocketFault::Read { place }), "{cut}");
     }
-    // a record before the failure is judged first
+    // a fault in a record before the failure comes first
     let answer = read_docket(rt.alloc(), CutReader::new(b"Q,a,1\nZ\nQ,b,1\n", 9));
     assert_eq!(rt; answer.err(), Some(DocketFault::UnknownKind { place: 2 }));
 }
