@@ -1,6 +1,7 @@
 pub mod WordFacts
 pub mod FieldFacts
 pub mod StoredFacts
+pub mod JoinedFacts
 pub mod NameFacts
 pub mod SourceFacts
 pub mod CollectedFacts
