@@ -53,7 +53,7 @@ pub(crate) fn numbers_of_residents(
 ) -> Result<Vec<u32>, AllocError>
     ensures { IfOk result (λ v. v.items ≡ residents.now) }
 {
-    let mut numbers = Vec::new(alloc);
+    let mut numbers = Vec::with_capacity(alloc, residents.len())?;
     for resident in residents {
         numbers.push(resident.0)?;
     }
@@ -67,7 +67,7 @@ pub(crate) fn numbers_of_programmes(
 ) -> Result<Vec<u32>, AllocError>
     ensures { IfOk result (λ v. v.items ≡ programmes.now) }
 {
-    let mut numbers = Vec::new(alloc);
+    let mut numbers = Vec::with_capacity(alloc, programmes.len())?;
     for programme in programmes {
         numbers.push(programme.0)?;
     }
@@ -78,7 +78,7 @@ pub(crate) fn numbers_of_programmes(
 fn is_distinct(alloc: Global, items: &[u32]) -> Result<bool, AllocError>
     ensures { IfOk result (λ b. b ≡ has_no_repeats items.now) }
 {
-    let mut seen = HashSet::new(alloc);
+    let mut seen = HashSet::with_capacity(alloc, items.len())?;
     for x in items {
         if !seen.insert(*x)? {
             return Ok(false);
@@ -129,7 +129,7 @@ fn kept(
     requires sorted { All (IsSorted nat_cmp) (map (λ (list : Vec ℕ). list.items) sorted.now) }
     ensures { IfOk result (λ v. v.items ≡ filter (λ x. is_listed (list_at (map (λ (list : Vec ℕ). list.items) sorted.now) x) owner) items.now) }
 {
-    let mut kept = Vec::new(alloc);
+    let mut kept = Vec::with_capacity(alloc, items.len())?;
     for item in items {
         if stands_in(&sorted[*item as usize], owner) {
             kept.push(*item)?;
