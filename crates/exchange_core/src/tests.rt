@@ -329,18 +329,28 @@ fn shows(rt: &impl Abort, run: &Run, place: usize, other: Event) {
     assert!(rt; run.core.is_closed() == (place == 19), "after {place}");
 }
 
+/// x is assigned to b, and the others to a.
+fn shows_given(rt: &impl Abort, alloc: Global, run: &Run) {
+    let given = run.given(alloc).expect(rt, "an assignment");
+    for (r, held) in [(X, B), (Y, A), (Z, A)] {
+        assert!(rt; r.0 < given.len());
+        assert!(rt; given.get(r) == Some(held));
+    }
+}
+
+/// The nineteen events are accepted, and after each the core shows what it should.
+fn shows_each(rt: &impl Abort, run: &mut Run) {
+    for (index, (event, other)) in nineteen().iter().zip(&others()).enumerate() {
+        assert_eq!(rt; run.step(*event), Ok(()));
+        shows(rt, run, index + 1, *other);
+    }
+}
+
 #[test]
 fn shows_what_is_left(rt: HostRuntime) {
     let mut run = begin(&rt, rt.alloc(), displaced(rt.alloc()), Capacity::Full);
-    for (index, (event, other)) in nineteen().iter().zip(&others()).enumerate() {
-        assert_eq!(rt; run.step(*event), Ok(()));
-        shows(&rt, &run, index + 1, *other);
-    }
-    let given = run.given(rt.alloc()).expect(&rt, "an assignment");
-    assert!(rt; given.len() == 3);
-    assert!(rt; given.get(X) == Some(B));
-    assert!(rt; given.get(Y) == Some(A));
-    assert!(rt; given.get(Z) == Some(A));
+    shows_each(&rt, &mut run);
+    shows_given(&rt, rt.alloc(), &run);
 }
 
 #[test]
