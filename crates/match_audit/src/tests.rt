@@ -330,3 +330,37 @@ fn checks_sheets(rt: HostRuntime) -> Result<(), Fail> {
     assert_eq!(rt; checked.map(|checked| checked.events), Ok(19));
     Ok(())
 }
+
+#[test]
+fn tells_faults(rt: HostRuntime) -> Result<(), Fail> {
+    let alloc = rt.alloc();
+    let wrong_size = AuditFault::WrongSize.to_string(alloc)?;
+    assert_eq!(rt;
+        wrong_size.as_str(),
+        "as many places as residents are wanted"
+    );
+    assert_eq!(rt;
+        AuditFault::Memory.to_string(alloc)?.as_str(),
+        "out of memory"
+    );
+    let faults = [
+        (ReplayFault::BadCapacity, "bad capacity"),
+        (ReplayFault::Memory, "out of memory"),
+        (
+            ReplayFault::At {
+                place: 4,
+                refused: Refused::AnswerDue,
+            },
+            "event 4 is refused: AnswerDue",
+        ),
+        (ReplayFault::NotClosed, "the exchange isn't closed"),
+        (
+            ReplayFault::SheetDiffers(Z),
+            "the sheet differs at resident 2",
+        ),
+    ];
+    for (fault, text) in &faults {
+        assert_eq!(rt; fault.to_string(alloc)?.as_str(), *text);
+    }
+    Ok(())
+}
