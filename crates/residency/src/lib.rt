@@ -2,6 +2,9 @@
 //!
 //! The program is a thin shell over this crate: it reads its words by `read_line`, does what they order, and ends with
 //! `exit_status` or `line_status`.
+//!
+//! Which order `read_line` gives for which words is shown by tests alone: its contract says what every order keeps, so a
+//! body that always orders an audit keeps it. The texts of faults are shown by tests too.
 #![tactic(auto)]
 
 pub mod answer;
