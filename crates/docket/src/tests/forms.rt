@@ -4,6 +4,8 @@ use super::{A, B, SMALL, X, Y, first_wrong, told};
 use crate::docket::Docket;
 use crate::fault::DocketFault;
 use crate::read::read_docket;
+use std::alloc::Global;
+use std::io::Read;
 use std::test::Fail;
 
 // Lines ended by CR and LF, a blank line, and quotes.
@@ -40,8 +42,16 @@ fn is_small(docket: &Docket) -> bool {
         && instance.list_of_resident(Y) == [A, B].as_slice()
 }
 
+// Whether what is read is the docket of `SMALL`.
+fn reads_small<R: Read + Drop>(alloc: Global, reader: R) -> bool {
+    match read_docket(alloc, reader) {
+        Ok(docket) => is_small(&docket),
+        Err(_) => false,
+    }
+}
+
 #[test]
-fn one_docket_in_many_forms(rt: HostRuntime) -> Result<(), Fail> {
+fn one_docket_in_many_forms(rt: HostRuntime) {
     for form in [
         SMALL,
         CR_AND_LF,
@@ -50,12 +60,10 @@ fn one_docket_in_many_forms(rt: HostRuntime) -> Result<(), Fail> {
         QUOTES,
         ANOTHER_ORDER,
     ] {
-        let at_once = read_docket(rt.alloc(), form.as_bytes())?;
-        assert!(rt; is_small(&at_once), "{form}");
-        let slowly = read_docket(rt.alloc(), CutReader::new(form.as_bytes(), usize::MAX))?;
-        assert!(rt; is_small(&slowly), "{form}");
+        assert!(rt; reads_small(rt.alloc(), form.as_bytes()), "{form}");
+        let slowly = CutReader::new(form.as_bytes(), usize::MAX);
+        assert!(rt; reads_small(rt.alloc(), slowly), "{form}");
     }
-    Ok(())
 }
 
 // A NUL, bytes above 127, a tab, quotes within fields, lines ended within quotes, an empty field, blank lines, and a byte order mark.

@@ -1,53 +1,73 @@
 //! A docket read whole.
 use super::journals::{SMALL_JOURNAL, small_events};
 use super::{A, B, SMALL, X, Y, joined};
+use crate::docket::{Docket, Journal};
 use crate::read::read_docket;
 use exchange_core::event::Capacity;
+use match_model::assignment::Assignment;
+use std::alloc::{AllocError, Global};
 use std::test::Fail;
+
+// The sheet that residents who propose would get.
+const SHEET: &str = "M,x,b\nM,y,a\nF,a,1,1\nF,b,1,1\n";
+
+// Whether the sheet is that of `SHEET`.
+fn is_right_sheet(sheet: &Assignment) -> bool {
+    sheet.len() == 2 && sheet.get(X) == Some(B) && sheet.get(Y) == Some(A)
+}
+
+// Whether the journal is that of `SMALL_JOURNAL`.
+fn is_right_journal(journal: &Journal) -> bool {
+    journal.capacity == Capacity::Full && journal.events.as_slice() == small_events().as_slice()
+}
+
+// Whether each part of the docket is right.
+fn is_whole(docket: &Docket) -> bool {
+    let (Some(sheet), Some(journal)) = (docket.sheet(), docket.journal()) else {
+        return false;
+    };
+    docket.instance().pairs() == 4 && is_right_sheet(sheet) && is_right_journal(journal)
+}
+
+// Whether what is read of the texts, one after another, has each part.
+fn reads_whole(alloc: Global, texts: &[&str]) -> Result<bool, AllocError> {
+    let text = joined(alloc, texts)?;
+    match read_docket(alloc, text.as_bytes()) {
+        Ok(docket) => Ok(is_whole(&docket)),
+        Err(_) => Ok(false),
+    }
+}
+
+// How many places the sheet has, if there is one, and whether there is a journal.
+fn parts(alloc: Global, input: &str) -> Option<(Option<u32>, bool)> {
+    match read_docket(alloc, input.as_bytes()) {
+        Ok(docket) => Some((
+            docket.sheet().map(|sheet| sheet.len()),
+            docket.journal().is_some(),
+        )),
+        Err(_) => None,
+    }
+}
 
 #[test]
 fn reads_a_docket_whole(rt: HostRuntime) -> Result<(), Fail> {
-    let alloc = rt.alloc();
-    let sheet = "M,x,b\nM,y,a\nF,a,1,1\nF,b,1,1\n";
-    // the rows of the three parts in any order
-    let texts = [
-        joined(alloc, &[SMALL, "C,full\n", SMALL_JOURNAL, sheet])?,
-        joined(alloc, &[sheet, "C,full\n", SMALL, SMALL_JOURNAL])?,
-    ];
-    for text in &texts {
-        let docket = read_docket(alloc, text.as_bytes())?;
-        let instance = docket.instance();
-        assert_eq!(rt; instance.pairs(), 4);
-        assert_eq!(rt; instance.programmes(), 2);
-        assert_eq!(rt; instance.residents(), 2);
-        let sheet = docket.sheet().ok_or("a sheet")?;
-        assert_eq!(rt; sheet.len(), 2);
-        if sheet.len() == 2 {
-            assert_eq!(rt; sheet.get(X), Some(B));
-            assert_eq!(rt; sheet.get(Y), Some(A));
-        }
-        let journal = docket.journal().ok_or("a journal")?;
-        assert_eq!(rt; journal.capacity, Capacity::Full);
-        assert!(rt; journal.events.as_slice() == small_events().as_slice());
+    // the rows of the three parts in two orders
+    for texts in [
+        [SMALL, "C,full\n", SMALL_JOURNAL, SHEET],
+        [SHEET, "C,full\n", SMALL_JOURNAL, SMALL],
+    ] {
+        assert!(rt; reads_whole(rt.alloc(), texts.as_slice())?);
     }
     Ok(())
 }
 
 #[test]
-fn reads_what_a_docket_lacks(rt: HostRuntime) -> Result<(), Fail> {
+fn reads_what_a_docket_lacks(rt: HostRuntime) {
     let alloc = rt.alloc();
-    let names_alone = read_docket(alloc, SMALL.as_bytes())?;
-    assert!(rt; names_alone.sheet().is_none());
-    assert!(rt; names_alone.journal().is_none());
-    // where nobody is declared, the sheet is the one that has no rows
-    let nobody = read_docket(alloc, b"C,7\n".as_slice())?;
-    assert_eq!(rt; nobody.sheet().ok_or("a sheet")?.len(), 0);
-    let journal = nobody.journal().ok_or("a journal")?;
-    assert_eq!(rt; journal.capacity, Capacity::Each(7));
-    assert!(rt; journal.events.is_empty());
-    // a sheet that leaves everybody unmatched
-    let unmatched = read_docket(alloc, b"U,x\nR,x\n".as_slice())?;
-    assert_eq!(rt; unmatched.sheet().ok_or("a sheet")?.len(), 1);
-    assert!(rt; unmatched.journal().is_none());
-    Ok(())
+    assert_eq!(rt; parts(alloc, SMALL), Some((None, false)));
+    // where nobody is declared, the sheet is the one without rows
+    assert_eq!(rt; parts(alloc, ""), Some((Some(0), false)));
+    assert_eq!(rt; parts(alloc, "C,7\n"), Some((Some(0), true)));
+    assert_eq!(rt; parts(alloc, "Q,a,1\nC,7\n"), Some((None, true)));
+    assert_eq!(rt; parts(alloc, "U,x\nR,x\n"), Some((Some(1), false)));
 }

@@ -14,9 +14,19 @@ use crate::read::read_docket;
 use crate::write::{write_journal, write_sheet};
 use exchange_core::event::{AnswerKind, Capacity, Event};
 use match_model::instance::Instance;
-use std::alloc::Global;
+use std::alloc::{AllocError, Global};
 use std::io::Write;
 use std::test::Fail;
+
+// The rows of a docket with a sheet, in no order.
+const SHUFFLED: &str = "Q,a,1\nQ,b,1\nF,b,1,1\nF,a,1,1\nM,y,a\nM,x,b\nR,x,b,a\nR,y,a,b\n";
+
+const SHEET: &str = "M,x,b\nM,y,a\nF,a,1,1\nF,b,1,1\n";
+
+// More residents than the quota, none of them on a list.
+const CROWDED: &str = "F,a,02,01\nM,x,a\nU,z\nM,y,a\nR,x\nR,y\nR,z\nQ,a,1\n";
+
+const CROWDED_SHEET: &str = "M,x,a\nM,y,a\nU,z\nF,a,2,1\n";
 
 // Whether the numbers in an event are members.
 fn names_members(instance: &Instance, event: &Event) -> bool
@@ -57,8 +67,8 @@ fn name_members(instance: &Instance, events: &[Event]) -> bool
     true
 }
 
-// Writes a journal of members.
-fn written<W: Write>(
+// Writes a journal, where the events name members.
+fn write_checked<W: Write>(
     alloc: Global,
     docket: &Docket,
     capacity: Capacity,
@@ -72,106 +82,159 @@ fn written<W: Write>(
     }
 }
 
+// The journal that is written for the docket of these members.
+fn written(alloc: Global, members: &str, capacity: Capacity, events: &[Event]) -> Option<Vec<u8>> {
+    let mut output = Vec::new(alloc);
+    match read_docket(alloc, members.as_bytes()) {
+        Ok(docket) => match write_checked(alloc, &docket, capacity, events, &mut output) {
+            Some(Ok(())) => Some(output),
+            _ => None,
+        },
+        Err(_) => None,
+    }
+}
+
+// Whether the docket has this journal.
+fn has_journal(docket: &Docket, capacity: Capacity, events: &[Event]) -> bool {
+    match docket.journal() {
+        Some(read) => read.capacity == capacity && read.events.as_slice() == events,
+        None => false,
+    }
+}
+
+// Whether what is read has this journal.
+fn reads_back(alloc: Global, text: &str, capacity: Capacity, events: &[Event]) -> bool {
+    match read_docket(alloc, text.as_bytes()) {
+        Ok(docket) => has_journal(&docket, capacity, events),
+        Err(_) => false,
+    }
+}
+
+// Whether the journal is written as this text, and read back.
+fn is_written(
+    alloc: Global,
+    members: &str,
+    capacity: Capacity,
+    events: &[Event],
+    rows: &[&str],
+) -> Result<bool, AllocError> {
+    let journal = joined(alloc, rows)?;
+    let text = joined(alloc, &[members, journal.as_str()])?;
+    match written(alloc, members, capacity, events) {
+        Some(output) => Ok(
+            output.as_slice() == journal.as_bytes()
+                && reads_back(alloc, text.as_str(), capacity, events),
+        ),
+        None => Ok(false),
+    }
+}
+
 #[test]
 fn writes_journals(rt: HostRuntime) -> Result<(), Fail> {
     let alloc = rt.alloc();
+    let full = Capacity::Full;
     let small = small_events();
+    assert!(rt;
+        is_written(
+            alloc,
+            SMALL,
+            full,
+            small.as_slice(),
+            &["C,full\n", SMALL_JOURNAL]
+        )?
+    );
     let quotas = quotas_events();
-    let others = [
+    assert!(rt;
+        is_written(
+            alloc,
+            QUOTAS,
+            full,
+            quotas.as_slice(),
+            &["C,full\n", QUOTAS_JOURNAL]
+        )?
+    );
+    // the journal of nobody, and no events at all
+    let close = [Event::Close];
+    assert!(rt;
+        is_written(
+            alloc,
+            "",
+            full,
+            close.as_slice(),
+            &["C,full\n", "E,close\n"]
+        )?
+    );
+    assert!(rt; is_written(alloc, "", Capacity::Each(1), &[], &["C,1\n"])?);
+    // events that no exchange has
+    let declines = [
         answer(X, B, AnswerKind::Decline),
         hear(A, Y, AnswerKind::Decline),
     ];
-    let others_text = "E,answer,x,b,decline\nE,hear,a,y,decline\n";
-    let full = ("C,full\n", Capacity::Full);
-    let cases = [
-        (SMALL, full, small.as_slice(), SMALL_JOURNAL),
-        (QUOTAS, full, quotas.as_slice(), QUOTAS_JOURNAL),
-        ("", full, [Event::Close].as_slice(), "E,close\n"),
-        ("", full, [].as_slice(), ""),
-        (
-            SMALL,
-            ("C,1\n", Capacity::Each(1)),
-            others.as_slice(),
-            others_text,
-        ),
-        (
-            QUOTAS,
-            ("C,1024\n", Capacity::Each(1024)),
-            others.as_slice(),
-            others_text,
-        ),
-    ];
-    for (members, (row, capacity), events, rows) in cases {
-        let docket = read_docket(alloc, members.as_bytes())?;
-        let mut output = Vec::new(alloc);
-        assert_eq!(rt;
-            written(alloc, &docket, capacity, events, &mut output),
-            Some(Ok(()))
-        );
-        let journal = joined(alloc, &[row, rows])?;
-        assert!(rt; output.as_slice() == journal.as_bytes(), "{rows}");
-        let text = joined(alloc, &[members, journal.as_str()])?;
-        let again = read_docket(alloc, text.as_bytes())?;
-        let read = again.journal().ok_or("a journal")?;
-        assert_eq!(rt; read.capacity, capacity, "{rows}");
-        assert!(rt; read.events.as_slice() == events, "{rows}");
-    }
+    let each = Capacity::Each(1024);
+    let rows = ["C,1024\nE,answer,x,b,decline\nE,hear,a,y,decline\n"];
+    assert!(rt; is_written(alloc, SMALL, each, declines.as_slice(), &rows)?);
     Ok(())
+}
+
+// Writes the sheet that the docket has.
+fn write_own_sheet<W: Write>(
+    alloc: Global,
+    docket: &Docket,
+    writer: &mut W,
+) -> Result<(), DocketFault> {
+    let _whole = docket.instance();
+    match docket.sheet() {
+        Some(sheet) => write_sheet(alloc, docket, sheet, writer),
+        None => Ok(()),
+    }
+}
+
+// Reads a docket, and writes the sheet that it has.
+fn sheet_written<W: Write>(alloc: Global, input: &str, writer: &mut W) -> Result<(), DocketFault> {
+    match read_docket(alloc, input.as_bytes()) {
+        Ok(docket) => write_own_sheet(alloc, &docket, writer),
+        Err(fault) => Err(fault),
+    }
 }
 
 #[test]
 fn writes_sheets(rt: HostRuntime) -> Result<(), Fail> {
-    let alloc = rt.alloc();
-    let cases = [
-        ("", ""),
-        (
-            "Q,a,1\nQ,b,1\nF,b,1,1\nF,a,1,1\nM,y,a\nM,x,b\nR,x,b,a\nR,y,a,b\n",
-            "M,x,b\nM,y,a\nF,a,1,1\nF,b,1,1\n",
-        ),
-        (
-            "F,a,02,01\nM,x,a\nU,z\nM,y,a\nR,x\nR,y\nR,z\nQ,a,1\n",
-            "M,x,a\nM,y,a\nU,z\nF,a,2,1\n",
-        ),
-    ];
-    for (input, sheet) in cases {
-        let docket = read_docket(alloc, input.as_bytes())?;
-        let mut output = Vec::new(alloc);
-        if let Some(assignment) = docket.sheet() {
-            write_sheet(alloc, &docket, assignment, &mut output)?;
-        }
+    for (input, sheet) in [("", ""), (SHUFFLED, SHEET), (CROWDED, CROWDED_SHEET)] {
+        let mut output = Vec::new(rt.alloc());
+        sheet_written(rt.alloc(), input, &mut output)?;
         assert!(rt; output.as_slice() == sheet.as_bytes(), "{sheet}");
     }
     Ok(())
 }
 
+// What writing the journal of a small exchange answers, on a writer that fails after so many calls.
+fn journal_answer(alloc: Global, good: usize) -> Result<Option<Result<(), DocketFault>>, Fail> {
+    let docket = read_docket(alloc, SMALL.as_bytes())?;
+    let events = small_events();
+    let mut writer = CutWriter::new(Vec::new(alloc), good);
+    Ok(write_checked(
+        alloc,
+        &docket,
+        Capacity::Full,
+        events.as_slice(),
+        &mut writer,
+    ))
+}
+
 #[test]
 fn a_writer_that_fails(rt: HostRuntime) -> Result<(), Fail> {
-    let alloc = rt.alloc();
-    let events = small_events();
-    let text = joined(alloc, &[SMALL, "M,x,b\nM,y,a\nF,a,1,1\nF,b,1,1\n"])?;
-    let docket = read_docket(alloc, text.as_bytes())?;
-    // a sheet of 28 bytes, and a journal of 129
-    for (good, sheet, journal) in [
-        (0, Err(DocketFault::Write), Err(DocketFault::Write)),
-        (9, Err(DocketFault::Write), Err(DocketFault::Write)),
-        (10, Ok(()), Err(DocketFault::Write)),
-        (42, Ok(()), Err(DocketFault::Write)),
-        (43, Ok(()), Ok(())),
-    ] {
-        let mut writer = CutWriter::new(Vec::new(alloc), good);
-        let answer = written(
-            alloc,
-            &docket,
-            Capacity::Full,
-            events.as_slice(),
-            &mut writer,
+    let failed = Err(DocketFault::Write);
+    // three bytes a call: a sheet of 28 bytes, and a journal of 129
+    for (good, answer) in [(0, failed), (9, failed), (10, Ok(()))] {
+        let mut writer = CutWriter::new(Vec::new(rt.alloc()), good);
+        assert_eq!(rt;
+            sheet_written(rt.alloc(), SHUFFLED, &mut writer),
+            answer,
+            "{good}"
         );
-        assert_eq!(rt; answer, Some(journal), "{good}");
-        let mut writer = CutWriter::new(Vec::new(alloc), good);
-        if let Some(assignment) = docket.sheet() {
-            let answer = write_sheet(alloc, &docket, assignment, &mut writer);
-            assert_eq!(rt; answer, sheet, "{good}");
-        }
+    }
+    for (good, answer) in [(0, failed), (42, failed), (43, Ok(()))] {
+        assert_eq!(rt; journal_answer(rt.alloc(), good)?, Some(answer), "{good}");
     }
     Ok(())
 }
