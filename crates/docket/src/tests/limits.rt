@@ -1,10 +1,10 @@
 //! Each limit, and one more.
-use super::told;
+use super::{joined, told};
 use crate::read::read_docket;
 use std::alloc::{AllocError, Global};
 use std::test::Fail;
 
-// What each of the first ten programmes' residents lists.
+// The list of a resident who ranks all of ten programmes, last first.
 const TEN: &str = ",p9,p8,p7,p6,p5,p4,p3,p2,p1,p0\n";
 
 // Adds `start`, a number and `end`.
@@ -75,8 +75,11 @@ fn programmes(rt: HostRuntime) -> Result<(), Fail> {
     let alloc = rt.alloc();
     let most = numbered(alloc, "Q,p", 2_000, ",10000\n")?;
     assert!(rt; told(alloc, most.as_bytes())?.as_str() == "read");
-    let more = numbered(alloc, "Q,p", 2_001, ",10000\n")?;
+    // the quota is told of after the count of programmes, and a name declared twice before it
+    let more = joined(alloc, &[most.as_str(), "Q,q,10001\n"])?;
     assert!(rt; told(alloc, more.as_bytes())?.as_str() == "record 2001: more than 2000 programmes");
+    let twice = joined(alloc, &[most.as_str(), "Q,p0,10001\n"])?;
+    assert!(rt; told(alloc, twice.as_bytes())?.as_str() == "record 2001: declared twice");
     Ok(())
 }
 
