@@ -1,4 +1,4 @@
-ghost use Rattle.std.specs.Prelude.{◌≡◌, ℕ, ◌⊎◌, ◌<◌, ◌≤◌, Option, List, [], length, IfOk, IfErr, OnOk, OnErr};
+ghost use Rattle.std.specs.Prelude.{◌≡◌, ℕ, ◌⊎◌, ◌<◌, ◌≤◌, Option, List, [], length, IfOk, IfErr, OnOk, OnErr, IfSome, Err};
 ghost use Rattle.match_model.specs.Instance.{IsInstance, pair_count};
 
 use crate::fault::ModelFault;
@@ -39,7 +39,7 @@ pub struct FinishRefused {
 }
 
 impl InstanceBuilder {
-    ghost use Rattle.match_model.specs.Draft.{Draft, AnswersFirst, AnswersOrWantsMemory, programme_fault, resident_fault, list_fault, with_programme, with_resident, with_programme_list, with_resident_list, instance_of, IsFinishFault};
+    ghost use Rattle.match_model.specs.Draft.{Draft, AnswersFirst, AnswersOrWantsMemory, programme_fault, resident_fault, list_fault, owner_fault, with_programme, with_resident, with_programme_list, with_resident_list, instance_of, IsFinishFault};
 
     /// No members yet. The allocator serves all later growths.
     pub fn new(alloc: Global) -> InstanceBuilder
@@ -104,6 +104,7 @@ impl InstanceBuilder {
     ) -> Result<(), ModelFault>
         ensures given { OnOk result (self.new ≡ with_programme_list self.old programme residents.now) }
         ensures first_fault { AnswersOrWantsMemory (list_fault self.old.programme_lists programme (length self.old.resident_lists) residents.now) result }
+        ensures owner { IfSome (owner_fault self.old.programme_lists programme) (λ fault. result ≡ Err fault) }
         ensures err { OnErr result (self.new ≡ self.old) }
     {
         let owner = programme.0 as usize;
@@ -124,6 +125,7 @@ impl InstanceBuilder {
     ) -> Result<(), ModelFault>
         ensures given { OnOk result (self.new ≡ with_resident_list self.old resident programmes.now) }
         ensures first_fault { AnswersOrWantsMemory (list_fault self.old.resident_lists resident (length self.old.quotas) programmes.now) result }
+        ensures owner { IfSome (owner_fault self.old.resident_lists resident) (λ fault. result ≡ Err fault) }
         ensures err { OnErr result (self.new ≡ self.old) }
     {
         let owner = resident.0 as usize;
