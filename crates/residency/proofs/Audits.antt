@@ -1,15 +1,15 @@
 -- What an audit reports is of the docket, and tells whether its sheet is stable.
-use Rattle.std.proofs.Common.{◌≡◌, ℕ, ◌<◌, ◌≤◌, ◌⊎◌, inl, inr, Bool, true, false, ◌↔◌, IsTrue, Option, Some, None, List, [], length, refl, sym, ap, ◌∙◌, arith}
+use Rattle.std.proofs.Common.{◌≡◌, ℕ, ◌<◌, inl, inr, Bool, true, false, Option, Some, None, List, [], length, refl, arith}
 use Rattle.std.specs.List.{All, Contains}
 use Rattle.std.proofs.lemmas.List.{get_or_past}
 use Rattle.std.proofs.lemmas.List.Elements.{All-contains_itself, All-weaker}
 use Rattle.std.proofs.lemmas.Bool.{cases_lt}
 use Rattle.match_model.specs.Ranking.{place}
-use Rattle.match_model.specs.Instance.{Instance, IsInstance, IsProgramme, IsResident, Acceptable, list_at}
-use Rattle.match_model.specs.Placement.{programme_of, IsMemberOf}
-use Rattle.settle_law.specs.Stable.{Blocks, IsStable}
+use Rattle.match_model.specs.Instance.{Instance, IsInstance, IsProgramme, IsResident, Acceptable}
+use Rattle.match_model.specs.Placement.{IsMemberOf}
+use Rattle.settle_law.specs.Stable.{Blocks}
 use Rattle.docket.specs.Contents.{Contents}
-use Rattle.docket.specs.Whole.{IsSheetOf, IsWhole}
+use Rattle.docket.specs.Whole.{IsWhole}
 use Rattle.match_audit.specs.Listing.{Lists}
 use Rattle.match_audit.specs.Report.{IsUnacceptable, IsOver, Reports, TellsStability}
 use Rattle.match_audit.specs.declared.report.AuditReport.{AuditReport}

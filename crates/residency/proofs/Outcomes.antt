@@ -1,9 +1,9 @@
 -- What a run to the close gives.
-use Rattle.std.proofs.Common.{◌≡◌, ℕ, ◌<◌, ◌≤◌, ◌⊎◌, inl, inr, List, [], length, Option, sym, ◌∙◌, arith}
+use Rattle.std.proofs.Common.{◌≡◌, ℕ, ◌<◌, inl, inr, List, [], length, Option, arith}
 use Rattle.std.proofs.lemmas.List.{get_or_past}
 use Rattle.std.proofs.lemmas.Bool.{cases_lt}
 use Rattle.match_model.specs.Ranking.{place}
-use Rattle.match_model.specs.Instance.{Instance, IsInstance, IsProgramme, Acceptable, list_at}
+use Rattle.match_model.specs.Instance.{Instance, IsInstance, IsProgramme, Acceptable}
 use Rattle.exchange_core.specs.declared.event.Event.{Event}
 use Rattle.exchange_core.specs.declared.event.Capacity.{Capacity}
 use Rattle.exchange_core.specs.Legal.{IsCapacity}

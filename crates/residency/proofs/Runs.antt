@@ -1,5 +1,5 @@
 -- How a loop of events that may follow comes to a close.
-use Rattle.std.proofs.Common.{◌≡◌, ℕ, zero, suc, ◌+◌, ◌*◌, ◌<◌, ◌≤◌, Bool, true, false, IsTrue, ◌⊎◌, inl, inr, List, [], ◌∷◌, ◌++◌, length, take, slice_get, Some, None, Ok, Err, Result, Option, refl, sym, subst, arith, length-append}
+use Rattle.std.proofs.Common.{◌≡◌, ℕ, zero, suc, ◌+◌, ◌*◌, ◌<◌, Bool, true, false, ◌⊎◌, inl, inr, List, [], ◌∷◌, ◌++◌, length, take, slice_get, Some, None, Ok, Err, refl, sym, subst, arith, length-append}
 use Rattle.std.proofs.lemmas.List.{take_at, take-append-le}
 use Rattle.std.proofs.lemmas.Option.{slice_get_within}
 use Rattle.match_model.specs.Instance.{Instance, IsInstance, pair_count}
@@ -10,7 +10,7 @@ use Rattle.exchange_core.specs.Legal.{is_closed, IsClosed, IsCapacity, MayFollow
 use Rattle.exchange_core.specs.Left.{Left}
 use Rattle.exchange_core.specs.Shown.{Shows, EnabledExactly, TellsExactly, StepsExactly}
 use Rattle.settle_law.specs.ListLaws.{BoundLaw, NoJamLaw}
-use Rattle.residency.specs.Outcome.{IsRun, RunsToClose}
+use Rattle.residency.specs.Outcome.{RunsToClose}
 
 -- an item of a list with one more at its end is an item of the list, or that one
 slice_get_push : {A : Type 0} (xs : List A) (y : A) (i : ℕ) (x : A) → slice_get (xs ++ y ∷ []) i ≡ Some x →

@@ -1,4 +1,4 @@
-use Rattle.std.proofs.Common.{◌≡◌, ◌+◌, ◌*◌, arith}
+use Rattle.std.proofs.Common.{arith}
 use Rattle.residency.proofs.Runs.{runs_on_start, runs_on_step, runs_to_end, never_refused, runs_to_most}
 use Rattle.residency.proofs.exchange.run_to_close.Goals as goal
 
