@@ -1,4 +1,4 @@
--- What every docket keeps.
+-- What every docket keeps, and whom the events name that are written with it.
 use Rattle.std.specs.Prelude.{◌≡◌, ℕ, ◌<◌, ◌⊎◌, ⊤, Option, Some, List, length}
 use Rattle.match_model.specs.Instance.{Instance, IsProgramme, IsResident}
 use Rattle.match_model.specs.Placement.{IsMemberOf}
