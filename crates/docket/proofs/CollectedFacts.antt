@@ -1,6 +1,6 @@
 -- What one row more declares.
-use Rattle.std.proofs.Common.{◌≡◌, ◌≤◌, ◌<◌, ◌+◌, ℕ, zero, suc, List, [], ◌∷◌, ◌++◌, Bool, true, false, length, arith, sym, ◌∙◌, refl, ap, Option, Some, None, map, find, filter, is_some, inl, inr, append-nil}
-use Rattle.std.specs.Prelude.{◌==◌, ◌&&◌, ◌||◌, not, if◌then◌else◌, option_map, unwrap_or, bytes_eq, Result, Ok, Err, nat_le, nat_lt}
+use Rattle.std.proofs.Common.{◌≡◌, ℕ, List, [], ◌∷◌, ◌++◌, Bool, true, false, length, sym, ◌∙◌, refl, ap, Option, Some, None, map, find, filter, is_some, inl, inr, append-nil}
+use Rattle.std.specs.Prelude.{◌==◌, ◌&&◌, ◌||◌, not, if◌then◌else◌, option_map, unwrap_or, bytes_eq, Ok, Err, nat_le, nat_lt}
 use Rattle.std.specs.List.{list_any}
 use Rattle.std.specs.Option.{option_or}
 use Rattle.std.proofs.lemmas.List.{map-append, length-map}
@@ -14,15 +14,15 @@ use Rattle.match_model.specs.declared.fault.ModelFault.{ModelFault}
 use Rattle.match_model.specs.declared.fault.ModelFault.TheVariants as model
 use Rattle.docket.specs.Words.{number_of, capacity_of}
 use Rattle.docket.specs.Fields.{Fields, field, kind_of, is_kind, is_row_of, or_else, unless}
-use Rattle.docket.specs.Contents.{rows_of, names_of, programmes_of, residents_of, quotas_of, is_sheet_row, is_declared, number_in}
+use Rattle.docket.specs.Contents.{rows_of, names_of, programmes_of, residents_of, quotas_of, is_sheet_row, is_declared}
 use Rattle.docket.specs.Passes.{repeat_fault, limit_fault, next_place}
-use Rattle.docket.specs.Answers.{Answers, Refuses, at_record}
+use Rattle.docket.specs.Answers.{Refuses, at_record}
 use Rattle.docket.specs.Collected.{IsDeclared, capacity_in}
 use Rattle.docket.specs.declared.declared.Declared.{Declared}
 use Rattle.docket.specs.declared.kind.TheConstants.{QUOTA, PROGRAMME_LIST, RESIDENT_LIST, MATCHED, UNMATCHED, FILLED, CAPACITY, EVENT}
 use Rattle.docket.specs.declared.fault.DocketFault.{DocketFault}
-use Rattle.docket.specs.declared.fault.DocketFault.TheVariants.{Memory, DeclaredTwice, Model, BadEvent}
-use Rattle.docket.proofs.NameFacts.{is_declared-map, is_declared-any, list_any-map}
+use Rattle.docket.specs.declared.fault.DocketFault.TheVariants.{DeclaredTwice, Model, BadEvent}
+use Rattle.docket.proofs.NameFacts.{is_declared-map}
 
 -- the images of the rows of a kind, with one row more
 pub images-if : {A : Type 0} (f : Fields → A) (kind : ℕ) (rows : List Fields) (row : Fields)

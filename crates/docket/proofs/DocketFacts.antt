@@ -1,10 +1,9 @@
 -- The passes together.
-use Rattle.std.proofs.Common.{◌≡◌, ◌≤◌, ◌<◌, ◌+◌, ℕ, zero, suc, List, [], ◌∷◌, ◌++◌, Bool, true, false, length, map, sym, ◌∙◌, refl, ap, Option, Some, None, inl, inr, rules, arith}
-use Rattle.std.specs.Prelude.{◌==◌, ◌&&◌, ◌||◌, not, if◌then◌else◌, nat_eq, option_map, IfSome, OnOk}
+use Rattle.std.proofs.Common.{◌≡◌, ◌≤◌, ℕ, List, [], ◌∷◌, Bool, true, false, length, map, sym, ◌∙◌, refl, Option, Some, None, rules}
+use Rattle.std.specs.Prelude.{◌&&◌, ◌||◌, not, if◌then◌else◌, nat_eq, option_map, IfSome}
 use Rattle.std.specs.List.{list_any}
-use Rattle.match_model.specs.Draft.{Draft}
 use Rattle.docket.specs.Fields.{Fields, field, is_kind, or_else}
-use Rattle.docket.specs.Contents.{Contents, contents_of, programmes_of, residents_of, rows_of, names_of, events_of, journal_of, JournalParts, has_sheet, is_sheet_row, declares_member, lists_of, quotas_of}
+use Rattle.docket.specs.Contents.{Contents, contents_of, programmes_of, residents_of, rows_of, events_of, journal_of, JournalParts, has_sheet, declares_member}
 use Rattle.docket.specs.Passes.{first_from, reading_fault, later_fault, first_fault, docket_of, rows_in, sheet_fault, mark_fault, missing_fault, filled_fault, ranking_fault, pairs_fault, event_fault}
 use Rattle.docket.specs.Answers.{Refuses}
 use Rattle.docket.specs.Source.{AreAll, Explains}

@@ -1,12 +1,12 @@
 -- How the marks of a sheet grow with the rows.
-use Rattle.std.proofs.Common.{◌≡◌, ◌≤◌, ◌<◌, ◌+◌, ◌-◌, ℕ, zero, suc, List, [], ◌∷◌, ◌++◌, Bool, true, false, length, take, drop, get_or, map, find, count_by, arith, sym, ◌∙◌, refl, ap, Option, Some, None, inl, inr, rules, is_some, add-zero, zero-add}
-use Rattle.std.specs.Prelude.{◌==◌, ◌&&◌, ◌||◌, not, if◌then◌else◌, bytes_eq, replicate, slice_set, unwrap_or, option_and_then, slice_index_or}
+use Rattle.std.proofs.Common.{◌≡◌, ◌≤◌, ◌<◌, ◌+◌, ℕ, List, [], ◌∷◌, ◌++◌, Bool, true, false, length, take, get_or, map, find, count_by, arith, sym, ◌∙◌, refl, ap, Option, Some, None, inr, add-zero, zero-add}
+use Rattle.std.specs.Prelude.{◌==◌, ◌&&◌, ◌||◌, not, if◌then◌else◌, bytes_eq, replicate, slice_set, unwrap_or, slice_index_or}
 use Rattle.std.specs.List.{list_any, list_all}
-use Rattle.std.proofs.lemmas.List.{take_more, length-take, length-map}
+use Rattle.std.proofs.lemmas.List.{take_more, length-map}
 use Rattle.std.proofs.lemmas.List.Sums.{count_by-le-length, sum_by-append}
-use Rattle.docket.specs.Fields.{Fields, field, kind_of, is_kind, is_row_of, or_else, unless}
+use Rattle.docket.specs.Fields.{Fields, field, kind_of, is_kind, is_row_of, unless}
 use Rattle.docket.specs.Stored.{row_at}
-use Rattle.docket.specs.Contents.{number_in, is_declared, programmes_of, residents_of, is_mark_of, is_matched_with, places_of, quotas_of}
+use Rattle.docket.specs.Contents.{number_in, programmes_of, residents_of, is_mark_of, is_matched_with, places_of, quotas_of}
 use Rattle.docket.specs.Words.{number_of}
 use Rattle.docket.specs.Marked.{IsMarked, placed_in}
 use Rattle.docket.specs.Passes.{first_from, reading_fault, mark_fault, missing_fault, filled_fault, next_place}

@@ -1,12 +1,12 @@
 -- Facts on lists of names.
-use Rattle.std.proofs.Common.{◌≡◌, ◌≤◌, ◌<◌, ◌+◌, ℕ, zero, suc, List, [], ◌∷◌, ◌++◌, Bool, true, false, length, get_or, map, arith, sym, ◌∙◌, refl, ap, Option, Some, None, is_some, position, rules, cond}
-use Rattle.std.specs.Prelude.{bytes_eq, slice_get, IsUtf8, IsAscii, ◌&&◌, ◌||◌, nat_le, nat_lt, ◌==◌, if◌then◌else◌}
+use Rattle.std.proofs.Common.{◌≡◌, ◌<◌, ◌+◌, ℕ, zero, suc, List, [], ◌∷◌, ◌++◌, Bool, true, false, length, get_or, map, arith, sym, ◌∙◌, refl, ap, Some, is_some, position, rules, cond}
+use Rattle.std.specs.Prelude.{bytes_eq, slice_get, IsUtf8, ◌&&◌, ◌||◌, nat_le, nat_lt, ◌==◌, if◌then◌else◌}
 use Rattle.std.specs.List.{list_all, list_any, position_from}
 use Rattle.std.proofs.lemmas.List.{map-append, get_or_past}
 use Rattle.std.proofs.lemmas.List.Folds.{list_all-append}
 use Rattle.std.proofs.lemmas.Iterator.Adapters.{position_from-zero}
 use Rattle.std.proofs.lemmas.Str.{IsUtf8-from_ascii}
-use Rattle.docket.specs.Words.{is_name, is_name_byte, is_between, is_digit}
+use Rattle.docket.specs.Words.{is_name, is_name_byte}
 use Rattle.docket.specs.Contents.{number_in, is_declared}
 use Rattle.docket.proofs.WordFacts.{both, and_true, list_all_true_at}
 

@@ -1,6 +1,6 @@
 -- Facts on numbers of names, and on lists by number.
-use Rattle.std.proofs.Common.{◌≡◌, ◌≤◌, ◌<◌, ◌+◌, ◌-◌, ℕ, zero, suc, List, [], ◌∷◌, ◌++◌, Bool, true, false, length, get_or, take, drop, set, map, arith, sym, ◌∙◌, refl, ap, Option, Some, None, is_some, position, rules, cond, add-one}
-use Rattle.std.specs.Prelude.{bytes_eq, ◌&&◌, ◌||◌, not, if◌then◌else◌, option_map, unwrap_or, slice_set, slice_index_or}
+use Rattle.std.proofs.Common.{◌≡◌, ◌≤◌, ◌<◌, ◌+◌, ◌-◌, ℕ, suc, List, [], ◌∷◌, ◌++◌, Bool, true, false, length, get_or, take, drop, map, arith, sym, ◌∙◌, refl, ap, Option, Some, None, cond, add-one}
+use Rattle.std.specs.Prelude.{bytes_eq, ◌&&◌, ◌||◌, not, if◌then◌else◌, option_map, slice_set}
 use Rattle.std.specs.List.{list_any, position_from}
 use Rattle.std.proofs.lemmas.Iterator.Adapters.{position_from-zero}
 use Rattle.std.proofs.lemmas.Slice.Eq.{bytes_eq-Decides}
@@ -12,7 +12,7 @@ use Rattle.docket.specs.Contents.{number_in, is_declared, member_in, listed_in, 
 use Rattle.docket.specs.declared.kind.TheConstants.{QUOTA, RESIDENT_LIST}
 use Rattle.docket.specs.declared.fault.DocketFault.{DocketFault}
 use Rattle.docket.proofs.FieldFacts.{field-get_or}
-use Rattle.docket.proofs.WordFacts.{both, and_true}
+use Rattle.docket.proofs.WordFacts.{both}
 
 position_from-suc : {A : Type 0} (p : A → Bool) (n : ℕ) (xs : List A) → position_from p (n + 1) xs ≡ option_map suc (position_from p n xs)
 position_from-suc p n [] = refl

@@ -1,11 +1,11 @@
 -- How the lists by number grow with the rows.
-use Rattle.std.proofs.Common.{◌≡◌, ◌≤◌, ◌<◌, ◌+◌, ◌-◌, ℕ, zero, suc, List, [], ◌∷◌, ◌++◌, Bool, true, false, length, take, drop, get_or, map, find, arith, sym, ◌∙◌, refl, ap, Option, Some, None, inl, inr, rules, is_some, append-nil}
-use Rattle.std.specs.Prelude.{◌==◌, ◌&&◌, ◌||◌, not, if◌then◌else◌, option_map, bytes_eq, slice_set, nat_lt, nat_le, unwrap_or, slice_index_or, Result, Ok, Err}
+use Rattle.std.proofs.Common.{◌≡◌, ◌≤◌, ◌<◌, ◌+◌, ℕ, zero, suc, List, [], ◌∷◌, ◌++◌, Bool, true, false, length, take, drop, map, find, arith, sym, ◌∙◌, refl, ap, Option, Some, None, inl, inr, rules, is_some}
+use Rattle.std.specs.Prelude.{◌||◌, not, if◌then◌else◌, option_map, bytes_eq, slice_set, nat_lt, nat_le, unwrap_or, Result, Err}
 use Rattle.std.specs.Option.{option_or}
 use Rattle.std.specs.List.{list_any, list_all}
-use Rattle.std.proofs.lemmas.List.{take_more, take_all, take-append-drop, length-take, length-map, length-append}
+use Rattle.std.proofs.lemmas.List.{take_more, take_all, take-append-drop, length-take, length-map}
 use Rattle.std.proofs.lemmas.List.Folds.{list_any-append, find-append}
-use Rattle.match_model.specs.Draft.{Draft, with_programme_list, with_resident_list, AnswersOrWantsMemory, owner_fault, items_fault, list_fault, has_no_repeats, instance_of, IsFinishFault}
+use Rattle.match_model.specs.Draft.{Draft, with_programme_list, with_resident_list, AnswersOrWantsMemory, owner_fault, list_fault, has_no_repeats, instance_of, IsFinishFault}
 use Rattle.match_model.specs.declared.fault.ModelFault.{ModelFault}
 use Rattle.match_model.specs.declared.fault.ModelFault.TheVariants as model
 use Rattle.docket.specs.Fields.{Fields, field, kind_of, is_kind, is_row_of, or_else, unless, row_fault}
@@ -16,16 +16,16 @@ use Rattle.docket.specs.Kept.{IsRanked}
 use Rattle.docket.specs.Passes.{first_from, reading_fault, repeat_fault, limit_fault, next_place, listing_fault, ranking_fault, pairs_fault}
 use Rattle.match_model.specs.Instance.{pair_count}
 use Rattle.match_model.specs.declared.limits.TheConstants.{MAX_PAIRS}
-use Rattle.docket.specs.Answers.{Answers, Refuses, at_record}
+use Rattle.docket.specs.Answers.{Refuses, at_record}
 use Rattle.docket.specs.declared.kind.TheConstants.{QUOTA, PROGRAMME_LIST, RESIDENT_LIST, MAX_RECORDS}
 use Rattle.docket.specs.declared.fault.DocketFault.{DocketFault}
-use Rattle.docket.specs.declared.fault.DocketFault.TheVariants.{DeclaredTwice, UnknownName, Model, Memory}
+use Rattle.docket.specs.declared.fault.DocketFault.TheVariants.{DeclaredTwice, UnknownName, Model}
 use Rattle.docket.proofs.PassFacts.{first_from-append, reading_fault-few}
 use Rattle.docket.proofs.SoundFacts.{both_none, unless_none}
 use Rattle.docket.proofs.CollectedFacts.{names_of-if, is_declared-rows}
 use Rattle.docket.proofs.WordFacts.{both, and_true}
 use Rattle.docket.proofs.NameFacts.{is_declared-any}
-use Rattle.docket.proofs.NumberFacts.{distinct, number_in-cons, number_below, at_number, map_at, same_bytes, bytes_eq-same}
+use Rattle.docket.proofs.NumberFacts.{distinct, number_below, at_number, map_at, same_bytes, bytes_eq-same}
 
 pub off : (b : Bool) → not b ≡ true → b ≡ false
 off true h = cc h

@@ -1,8 +1,7 @@
 -- What a record without a fault by itself holds.
-use Rattle.std.proofs.Common.{◌≡◌, ◌≤◌, ◌<◌, ◌+◌, ℕ, zero, suc, List, [], ◌∷◌, ◌++◌, Bool, true, false, length, get_or, drop, arith, sym, ◌∙◌, refl, ap, Option, Some, None, inl, inr, rules}
-use Rattle.std.specs.Prelude.{◌==◌, ◌&&◌, ◌||◌, not, if◌then◌else◌, ◌⊎◌, is_some, nat_lt}
+use Rattle.std.proofs.Common.{◌≡◌, ◌<◌, ℕ, List, [], ◌∷◌, ◌++◌, Bool, true, false, length, drop, arith, refl, Option, Some, None, inl, inr, rules}
+use Rattle.std.specs.Prelude.{◌==◌, ◌⊎◌, is_some, nat_lt}
 use Rattle.std.specs.List.{list_all}
-use Rattle.std.proofs.lemmas.Bool.{false≢true}
 use Rattle.docket.specs.Words.{is_name, number_of}
 use Rattle.docket.specs.Fields.{Fields, field, kind_of, is_kind, or_else, unless, counted, row_fault, quota_row_fault, list_row_fault, lists_names}
 use Rattle.docket.specs.declared.kind.TheConstants.{QUOTA, PROGRAMME_LIST, RESIDENT_LIST, MATCHED, UNMATCHED, FILLED, CAPACITY, EVENT}

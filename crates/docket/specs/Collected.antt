@@ -1,5 +1,5 @@
 -- What the rows so far declare, as the code keeps it.
-use Rattle.std.specs.Prelude.{◌≡◌, ◌||◌, Bool, List, [], map, find, Option, Some, None, option_map, unwrap_or}
+use Rattle.std.specs.Prelude.{◌≡◌, List, map, find, Option, None, option_map, unwrap_or}
 use Rattle.std.specs.List.{list_any}
 use Rattle.exchange_core.specs.declared.event.Capacity.{Capacity}
 use Rattle.exchange_core.specs.declared.event.Capacity.TheVariants.{Full}

@@ -1,5 +1,5 @@
 -- One record: its fields, and the faults that it has by itself.
-use Rattle.std.specs.Prelude.{ℕ, ◌+◌, nat_lt, ◌&&◌, ◌||◌, ◌==◌, not, Bool, if◌then◌else◌, Option, Some, None, is_none, is_some, List, [], ◌∷◌, length, drop, codes, bytes_eq, unwrap_or}
+use Rattle.std.specs.Prelude.{ℕ, nat_lt, ◌&&◌, ◌==◌, Bool, if◌then◌else◌, Option, Some, None, is_some, List, [], ◌∷◌, length, drop, codes, bytes_eq, unwrap_or}
 use Rattle.std.specs.List.{list_all}
 use Rattle.csv.specs.Records.{field_at}
 use Rattle.docket.specs.Words.{is_name, number_of, capacity_of, answer_of}

@@ -1,12 +1,10 @@
 -- What every docket keeps, and whom the events name that are written with it.
-use Rattle.std.specs.Prelude.{◌≡◌, ℕ, ◌<◌, ◌⊎◌, ⊤, Option, Some, List, length}
+use Rattle.std.specs.Prelude.{◌≡◌, ℕ, ◌<◌, ⊤, Option, Some, List, length}
 use Rattle.match_model.specs.Instance.{Instance, IsProgramme, IsResident}
 use Rattle.match_model.specs.Placement.{IsMemberOf}
 use Rattle.exchange_core.specs.declared.event.Event.{Event}
 use Rattle.exchange_core.specs.declared.event.Event.TheVariants.{Offer, Take, Answer, Hear, Close}
 use Rattle.docket.specs.Contents.{Contents}
-use Rattle.docket.specs.declared.fault.DocketFault.{DocketFault}
-use Rattle.docket.specs.declared.fault.DocketFault.TheVariants.{Memory, Write, Read}
 
 -- one place for each resident, and only programmes of the docket
 pub record IsSheetOf (d : Contents) (m : List (Option ℕ)) : Type 0 where

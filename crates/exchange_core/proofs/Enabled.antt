@@ -1,17 +1,16 @@
 -- Each desk has one event at most that may follow, the one in front there.
-use Rattle.std.proofs.Common.{◌≡◌, ◌≢◌, ℕ, ◌<◌, Bool, true, false, not, ltb, Option, Some, None, List, [], ◌∷◌, length, refl, sym, ap, ◌∙◌, subst, arith}
+use Rattle.std.proofs.Common.{◌≡◌, ◌≢◌, ℕ, Bool, true, false, not, ltb, Option, Some, None, List, [], ◌∷◌, length, refl, sym, ◌∙◌, subst}
 use Rattle.std.specs.Prelude.{is_none, slice_get, if◌then◌else◌, MatchOption, IfSome, IfNone}
 use Rattle.match_model.specs.Instance.{Instance, IsInstance, IsProgramme, IsResident, quota, list_of_programme}
 use Rattle.exchange_core.specs.declared.event.Event.{Event}
 use Rattle.exchange_core.specs.declared.event.Event.TheVariants.{Offer, Take, Answer, Hear, Close}
 use Rattle.exchange_core.specs.declared.event.AnswerKind.{AnswerKind}
 use Rattle.exchange_core.specs.declared.event.Capacity.{Capacity}
-use Rattle.exchange_core.specs.declared.event.Refused.{Refused}
 use Rattle.exchange_core.specs.declared.event.Refused.TheVariants.{Closed, NoSuchDesk, NoPlace, NotNext, AnswerDue, NothingWaiting, WrongFront, NotDue, MailboxFull}
 use Rattle.exchange_core.specs.Mail.{Answered}
 use Rattle.exchange_core.specs.Legal.{is_closed, IsClosed, IsCapacity, MayFollow}
 use Rattle.exchange_core.specs.Left.{Left}
-use Rattle.exchange_core.specs.Refusal.{first_of, cause, is_number, is_answer, is_nil, strange_desk}
+use Rattle.exchange_core.specs.Refusal.{cause, is_number, is_answer, is_nil, strange_desk}
 use Rattle.exchange_core.specs.Steps.{resident_at, programme_at, event_fault_left, fault_left, next_offer_left, HasNoResidentEvent, HasNoProgrammeEvent}
 use Rattle.exchange_core.specs.Shown.{Shows}
 use Rattle.exchange_core.proofs.Causes.{three_none, four_none, head_none, rest_none, cause_none, not_false, number_from, answer_from}

@@ -1,9 +1,8 @@
 -- Lemmas on what a builder keeps.
-use Rattle.std.proofs.Common.{◌≡◌, ℕ, ◌+◌, ◌<◌, ◌≤◌, Bool, true, false, ltb, List, [], ◌∷◌, ◌++◌, length, set, map, Option, Some, None, unwrap_or, refl, sym, ap, ◌∙◌, subst, arith, ◌&&◌}
-use Rattle.std.proofs.lemmas.Grind.{common_steps}
+use Rattle.std.proofs.Common.{◌≡◌, ℕ, ◌+◌, ◌<◌, ◌≤◌, Bool, true, false, ltb, List, [], ◌∷◌, ◌++◌, length, set, Option, Some, None, unwrap_or, refl, sym, ap, ◌∙◌, subst, arith, ◌&&◌}
 use Rattle.std.proofs.lemmas.List.{map_push, map-set, length_push, length-set}
 use Rattle.std.proofs.lemmas.List.Elements.{All-push, All-set, All-weaker, All-same}
-use Rattle.std.specs.List.{list_all, All}
+use Rattle.std.specs.List.{list_all}
 use Rattle.match_model.specs.Draft.{Draft, IsDraft, AreLists, given_lists, has_no_repeats, items_fault, with_programme, with_resident, with_programme_list, with_resident_list}
 use Rattle.match_model.specs.declared.limits.TheConstants.{MAX_PROGRAMMES, MAX_RESIDENTS, MAX_QUOTA}
 use Rattle.match_model.specs.declared.fault.ModelFault.TheVariants.{NoSuchMember, ListedTwice}

@@ -1,13 +1,13 @@
 -- The instance of a draft keeps what an instance keeps.
-use Rattle.std.proofs.Common.{◌≡◌, ℕ, ◌+◌, ◌<◌, ◌≤◌, ◌↔◌, Bool, true, false, cond, ltb, List, [], ◌∷◌, ◌++◌, length, get_or, map, Option, Some, None, unwrap_or, refl, sym, ap, ◌∙◌, subst, arith, ◌&&◌, suc, zero, ⊎_elim}
-use Rattle.std.specs.List.{list_all, All, filter, enumerate_from, sum_by}
+use Rattle.std.proofs.Common.{◌≡◌, ℕ, ◌<◌, ◌≤◌, Bool, true, false, cond, ltb, List, [], ◌∷◌, length, unwrap_or, refl, sym, ap, ◌∙◌, subst, arith, ◌&&◌, ⊎_elim}
+use Rattle.std.specs.List.{list_all, All, filter}
 use Rattle.std.proofs.lemmas.Bool.{cases_lt}
 use Rattle.std.proofs.lemmas.List.{length-map, get_or_past}
 use Rattle.std.proofs.lemmas.List.Sums.{get_or-le-sum_by}
-use Rattle.match_model.specs.Ranking.{place, is_listed, IsListed, HasNoRepeats}
-use Rattle.match_model.specs.Instance.{Instance, IsInstance, IsKept, list_at, pair_count, quota, list_of_programme, list_of_resident}
-use Rattle.match_model.specs.Draft.{Draft, IsDraft, AreLists, given_lists, instance_of, mutual_lists, has_no_repeats}
-use Rattle.match_model.specs.declared.limits.TheConstants.{MAX_PROGRAMMES, MAX_RESIDENTS, MAX_QUOTA, MAX_PAIRS}
+use Rattle.match_model.specs.Ranking.{is_listed, IsListed}
+use Rattle.match_model.specs.Instance.{IsKept, list_at, pair_count}
+use Rattle.match_model.specs.Draft.{Draft, IsDraft, given_lists, instance_of, mutual_lists, has_no_repeats}
+use Rattle.match_model.specs.declared.limits.TheConstants.{MAX_RESIDENTS, MAX_QUOTA, MAX_PAIRS}
 use Rattle.match_model.proofs.Rankings.{is_listed-filter, has_no_repeats-filter, HasNoRepeats-from_test, length-le_below}
 use Rattle.match_model.proofs.Mutual.{length-mutual_lists, get_or-mutual_lists}
 

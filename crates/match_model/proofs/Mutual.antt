@@ -1,10 +1,10 @@
 -- Lemmas on sorted copies and on the mutual parts of lists.
-use Rattle.std.proofs.Common.{◌≡◌, ℕ, ◌+◌, ◌<◌, ◌≤◌, Bool, true, false, ltb, List, [], ◌∷◌, ◌++◌, length, get_or, take, set, map, Option, Some, None, unwrap_or, refl, sym, ap, ◌∙◌, subst, arith, ◌&&◌, suc, zero, zero-add}
+use Rattle.std.proofs.Common.{◌≡◌, ℕ, ◌<◌, Bool, true, false, ltb, List, [], ◌∷◌, length, get_or, map, Option, unwrap_or, refl, sym, ap, ◌∙◌, subst, arith, ◌&&◌, suc, zero, zero-add}
 use Rattle.std.specs.Global.{Vec}
 use Rattle.std.specs.List.{list_all, All, AllZip, filter, enumerate_from}
 use Rattle.std.specs.List.Sorted.{IsSorted}
 use Rattle.std.specs.Ordering.{nat_cmp}
-use Rattle.std.proofs.lemmas.List.{length-map, get_or-map, take_more, take_all, map_push, get_or_default}
+use Rattle.std.proofs.lemmas.List.{length-map, get_or-map}
 use Rattle.std.proofs.lemmas.List.FromFn.{length-enumerate_from, get_or-enumerate_from}
 use Rattle.std.proofs.lemmas.List.Elements.{All-nil, All-cons, filter_agree}
 use Rattle.match_model.specs.Ranking.{is_listed}

@@ -1,7 +1,5 @@
 -- Lemmas on rankings: the place that a walk finds, and ranks.
-use Rattle.std.specs.Prelude.{if◌then◌else◌}
-use Rattle.std.proofs.Common.{◌≡◌, ◌≢◌, ℕ, ◌+◌, ◌<◌, ◌≤◌, Bool, true, false, cond, eqb, ltb, List, [], ◌∷◌, ◌++◌, length, get_or, Option, Some, None, refl, sym, ap, ◌∙◌, suc, zero, arith, add-one, one-add, not, ◌&&◌, ◌||◌}
-use Rattle.std.proofs.lemmas.Grind.{common_steps}
+use Rattle.std.proofs.Common.{◌≡◌, ◌≢◌, ℕ, ◌+◌, ◌<◌, ◌≤◌, Bool, true, false, cond, eqb, ltb, List, [], ◌∷◌, ◌++◌, length, get_or, Some, None, refl, sym, ap, ◌∙◌, suc, zero, arith, one-add, not, ◌&&◌, ◌||◌}
 use Rattle.std.specs.List.{list_any, list_all, filter, IsDistinct, AllByRecursion}
 use Rattle.std.specs.List.Sorted.{IsPermutation, IsSorted, IsBinarySearchResult}
 use Rattle.std.specs.Ordering.{nat_cmp}

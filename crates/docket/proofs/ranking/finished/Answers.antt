@@ -1,4 +1,3 @@
-use Rattle.std.proofs.Common.{◌∙◌}
 use Rattle.docket.proofs.RankFacts.{pairs_fine, pairs_over}
 use Rattle.docket.proofs.ranking.finished.Goals as goal
 

@@ -1,6 +1,5 @@
-use Rattle.std.proofs.Common.{◌≡◌, ◌∙◌, sym, ap, inr, arith, refl, drop, take, map}
-use Rattle.std.proofs.lemmas.List.{length-drop, take_all}
-use Rattle.docket.specs.Contents.{programmes_of, listed_in, member_in, is_declared}
+use Rattle.std.proofs.Common.{◌∙◌, sym, inr, arith, refl}
+use Rattle.docket.specs.Contents.{programmes_of}
 use Rattle.docket.specs.Stored.{row_at}
 use Rattle.docket.proofs.NumberFacts.{listed_step, listed_fail, listed_all, listed_sound}
 use Rattle.docket.proofs.ranking.listed_programmes.Goals as goal

@@ -1,8 +1,7 @@
-use Rattle.std.proofs.Common.{◌≡◌, ◌∙◌, sym, ap, arith, take}
+use Rattle.std.proofs.Common.{arith}
 use Rattle.std.proofs.lemmas.Result.{err_from_is_err_and}
 use Rattle.std.proofs.lemmas.List.{take_all}
 use Rattle.docket.specs.Passes.{ranking_fault}
-use Rattle.docket.specs.Kept.{IsRanked}
 use Rattle.docket.proofs.PassFacts.{pass_start, pass_more, pass_fault, pass_end}
 use Rattle.docket.proofs.ranking.rank.Goals as goal
 

@@ -1,4 +1,3 @@
-use Rattle.std.proofs.Common.{◌∙◌}
 use Rattle.docket.specs.Stored.{row_at}
 use Rattle.docket.specs.declared.kind.TheConstants.{PROGRAMME_LIST, RESIDENT_LIST}
 use Rattle.docket.proofs.RankFacts.{not_kind, ranked_other, ranking_fault-other}

@@ -1,4 +1,4 @@
-use Rattle.std.proofs.Common.{◌≡◌, ◌≢◌}
+use Rattle.std.proofs.Common.{◌≢◌}
 use Rattle.csv.specs.Writing.{writer_setup}
 use Rattle.csv.specs.declared.writer.QuoteStyle.TheVariants as style
 use Rattle.docket.specs.Rows.{row}

@@ -1,4 +1,4 @@
-use Rattle.std.proofs.Common.{◌≡◌, ◌<◌, ◌≤◌, Some, length, arith, rules, sym, ap, ◌∙◌}
+use Rattle.std.proofs.Common.{◌≡◌, ◌<◌, Some, length, arith, rules, sym, ap, ◌∙◌}
 use Rattle.match_model.specs.Placement.{programme_of}
 use Rattle.docket.proofs.WriteFacts.{read_within, counts_next_none, counts_next_read}
 use Rattle.docket.proofs.write.filled_places.Goals as goal

@@ -1,4 +1,4 @@
-use Rattle.std.proofs.Common.{◌<◌, ◌≡◌, length, sym, ap, arith}
+use Rattle.std.proofs.Common.{◌<◌, length, sym, ap, arith}
 use Rattle.docket.specs.Texts.{filled_row}
 use Rattle.docket.proofs.WriteFacts.{rows_next}
 use Rattle.docket.proofs.write.push_programmes.Goals as goal

@@ -1,4 +1,4 @@
-use Rattle.std.proofs.Common.{◌<◌, ◌≡◌, length, ap, arith}
+use Rattle.std.proofs.Common.{length, ap, arith}
 use Rattle.std.proofs.lemmas.Result.{on_ok_weaker}
 use Rattle.docket.proofs.WriteFacts.{sheet_text-rows}
 use Rattle.docket.proofs.write.write_sheet.Goals as goal

@@ -1,10 +1,9 @@
-use Rattle.std.proofs.Common.{◌≡◌, ℕ, ◌+◌, List, take, drop, true, false, ◌++◌, ◌∷◌, [], not, ◌&&◌, ◌||◌, get_or, eqb, refl, sym, ap, ◌∙◌, arith, take-append-drop, Bool, cond, subst}
+use Rattle.std.proofs.Common.{◌≡◌, ℕ, ◌+◌, List, take, drop, true, false, ◌++◌, ◌∷◌, [], not, ◌&&◌, ◌||◌, get_or, eqb, refl, sym, ap, ◌∙◌, arith, take-append-drop, Bool, cond}
 use Rattle.std.proofs.lemmas.Grind.{common_steps}
 use Rattle.std.proofs.lemmas.List.{take_more}
-use Rattle.std.specs.HashSet as set
 use Rattle.match_model.specs.Ranking.{is_listed}
 use Rattle.match_model.specs.Draft.{has_no_repeats}
-use Rattle.match_model.proofs.Rankings.{has_no_repeats-push, has_no_repeats-append, is_listed-append, is_listed_alone, eqb_comm}
+use Rattle.match_model.proofs.Rankings.{has_no_repeats-push, has_no_repeats-append, is_listed-append, is_listed_alone}
 use Rattle.match_model.proofs.ranking.is_distinct.Goals as goal
 
 -- one item more, which was noted before or not

@@ -2,7 +2,7 @@ use Rattle.std.specs.Global.{Vec}
 use Rattle.std.specs.List.{list_all, filter}
 use Rattle.match_model.specs.Ranking.{is_listed}
 use Rattle.match_model.specs.Instance.{list_at}
-use Rattle.std.proofs.Common.{◌<◌, true, ltb, get_or, [], ◌++◌, ◌∷◌, ◌+◌, refl, ◌≡◌, arith, subst, sym, ap, ◌∙◌, length, map, List, ℕ, take}
+use Rattle.std.proofs.Common.{◌<◌, true, ltb, get_or, [], ◌++◌, ◌∷◌, ◌≡◌, arith, subst, sym, ap, ◌∙◌, length, map, List, ℕ, take}
 use Rattle.match_model.specs.Draft.{items_of, given_lists, mutual_lists}
 use Rattle.std.proofs.lemmas.List.{take_all, map_push, take_more, length-map}
 use Rattle.match_model.proofs.Mutual.{lists_of, given_at, length-given_lists, all_sorted, length_copies, filter_by_copies, length-mutual_lists, get_or-mutual_lists}

@@ -1,4 +1,4 @@
-use Rattle.std.proofs.Common.{◌∙◌, ap, sym, map}
+use Rattle.std.proofs.Common.{◌∙◌, ap, map}
 use Rattle.docket.proofs.NameFacts.{is_declared-map, names_after}
 use Rattle.docket.proofs.names.Names.add.Goals as goal
 

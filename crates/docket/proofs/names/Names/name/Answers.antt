@@ -1,4 +1,4 @@
-use Rattle.std.proofs.Common.{◌∙◌, ap, sym}
+use Rattle.std.proofs.Common.{sym}
 use Rattle.docket.proofs.NameFacts.{IsUtf8-is_name, name_at}
 use Rattle.docket.proofs.names.Names.name.Goals as goal
 

@@ -1,10 +1,8 @@
-use Rattle.std.proofs.Common.{◌≡◌, ◌∙◌, ◌+◌, ◌<◌, sym, ap, inr, refl, arith, take, true, false, Some, None, length, get_or}
+use Rattle.std.proofs.Common.{◌∙◌, sym, ap, inr, refl, arith, take, Some}
 use Rattle.docket.specs.Stored.{row_at}
 use Rattle.docket.specs.Fields.{field}
-use Rattle.docket.specs.Contents.{programmes_of, residents_of}
-use Rattle.docket.specs.declared.kind.TheConstants.{MATCHED, UNMATCHED, FILLED}
-use Rattle.docket.proofs.RankFacts.{place_at, not_kind}
-use Rattle.docket.proofs.MarkFacts.{marked_at, filled_at, counts_at, marked_below, filled_below, counts_below, placed_below, count_few, mark_fault-unknown_resident, mark_fault-unknown_programme, mark_fault-matched, mark_fault-unknown_unmatched, mark_fault-unmatched, mark_fault-unknown_filled, mark_fault-filled, mark_fault-other, second_row, first_row, marks_matched, marks_unmatched, marks_filled, marks_other}
+use Rattle.docket.proofs.RankFacts.{place_at}
+use Rattle.docket.proofs.MarkFacts.{filled_at, filled_below, mark_fault-unknown_filled, mark_fault-filled, second_row, first_row, marks_filled}
 use Rattle.docket.proofs.sheet.Marks.add_filled.Goals as goal
 
 pub returns-in_default-clause-fault : goal.returns-in_default-clause-fault

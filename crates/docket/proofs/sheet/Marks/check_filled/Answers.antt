@@ -1,9 +1,7 @@
-use Rattle.std.proofs.Common.{◌≡◌, ◌∙◌, ◌+◌, ap, sym, refl, inr, arith, rules, take}
+use Rattle.std.proofs.Common.{inr, arith, take}
 use Rattle.docket.specs.Stored.{row_at}
-use Rattle.docket.specs.Fields.{unless}
 use Rattle.docket.specs.Passes.{filled_fault}
 use Rattle.docket.specs.declared.kind.TheConstants.{FILLED}
-use Rattle.docket.specs.declared.fault.DocketFault.TheVariants.{BadSheet}
 use Rattle.docket.proofs.PassFacts.{pass_start, pass_more, pass_fault, pass_end}
 use Rattle.docket.proofs.RankFacts.{not_kind}
 use Rattle.docket.proofs.MarkFacts.{filled_other}

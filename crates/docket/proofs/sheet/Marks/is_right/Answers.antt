@@ -1,4 +1,4 @@
-use Rattle.std.proofs.Common.{◌≡◌, ◌∙◌, ◌+◌, ap, sym, refl, arith, rules, Some, take, get_or, length}
+use Rattle.std.proofs.Common.{◌∙◌, ◌+◌, ap, sym, refl, arith, rules, Some, take, length}
 use Rattle.std.specs.Prelude.{unwrap_or, slice_index_or, ◌==◌}
 use Rattle.docket.specs.Words.{number_of}
 use Rattle.docket.specs.Fields.{field}

@@ -1,7 +1,6 @@
-use Rattle.std.proofs.Common.{map, subst, sym, ap, ◌∙◌, arith}
+use Rattle.std.proofs.Common.{arith}
 use Rattle.std.proofs.lemmas.List.{map_push}
 use Rattle.match_model.proofs.Drafts.{IsDraft-with_programme}
-use Rattle.match_model.specs.Draft.{items_of}
 use Rattle.match_model.proofs.builder.InstanceBuilder.add_programme.Goals as goal
 
 pub invariant_of-self-in-Ok-push : goal.invariant_of-self-in-Ok-push

@@ -1,4 +1,4 @@
-use Rattle.std.proofs.Common.{map, subst, sym, ap, ◌∙◌, arith}
+use Rattle.std.proofs.Common.{arith}
 use Rattle.std.proofs.lemmas.List.{map_push, length-map}
 use Rattle.match_model.proofs.Drafts.{IsDraft-with_resident}
 use Rattle.match_model.specs.Draft.{items_of}

@@ -1,8 +1,7 @@
-use Rattle.std.proofs.Common.{◌≡◌, map, subst, sym, ap, ◌∙◌, arith, length, refl, set, None, Some, ◌⊎◌, inl, inr}
-use Rattle.std.proofs.lemmas.List.{map-set, length-map}
-use Rattle.std.proofs.lemmas.Grind.{common_steps}
+use Rattle.std.proofs.Common.{◌≡◌, arith, length, refl, None}
+use Rattle.std.proofs.lemmas.List.{map-set}
 use Rattle.match_model.proofs.Drafts.{IsDraft-with_resident_list, no_items_fault}
-use Rattle.match_model.specs.Draft.{items_of, items_fault, owner_fault, list_fault}
+use Rattle.match_model.specs.Draft.{items_fault}
 use Rattle.match_model.proofs.builder.InstanceBuilder.resident_list.Goals as goal
 
 pub invariant_of-self : goal.invariant_of-self

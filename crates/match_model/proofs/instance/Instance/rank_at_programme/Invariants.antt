@@ -1,4 +1,4 @@
-use Rattle.std.proofs.Common.{◌≡◌, ◌≢◌, ℕ, ◌<◌, get_or}
+use Rattle.std.proofs.Common.{◌≢◌, ℕ, ◌<◌, get_or}
 use Rattle.match_model.proofs.instance.Instance.rank_at_programme.Given as goal
 
 abbrev pub invariant-loop-place : goal.invariant-loop-place

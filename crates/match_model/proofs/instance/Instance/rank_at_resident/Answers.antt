@@ -1,4 +1,4 @@
-use Rattle.std.proofs.Common.{◌≡◌, refl, sym, get_or, length, arith, subst, ◌∙◌, ℕ, ap}
+use Rattle.std.proofs.Common.{◌≡◌, get_or, arith, ◌∙◌, ap}
 use Rattle.std.proofs.lemmas.List.{get_or_read}
 use Rattle.std.proofs.lemmas.Grind.{common_steps}
 use Rattle.match_model.proofs.Rankings.{rank_found, rank_none}
