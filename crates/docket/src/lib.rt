@@ -2,8 +2,8 @@
 //!
 //! A docket is read exactly: what it says is what its rows say, and what is wrong with it is the first of its faults.
 //!
-//! No contract says when memory or a device fails, so a body that only answers so meets its contract, as `send_rows` by
-//! `Write` alone; that the calls succeed is what the tests show.
+//! No contract says when memory or a device fails, so a body that only answers so meets its contract, as `RowText::send`
+//! by `Write` alone; that the calls succeed is what the tests show.
 #![tactic(auto)]
 
 mod declared;
@@ -15,11 +15,11 @@ pub mod names;
 mod ranking;
 pub mod read;
 mod row;
+pub mod row_text;
 mod rows;
 mod sheet;
 mod tables;
 #[cfg(test)]
 mod tests;
-pub mod text;
 pub mod words;
 pub mod write;

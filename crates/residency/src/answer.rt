@@ -1,14 +1,14 @@
 //! Writing what a replay answered.
 ghost use Rattle.std.specs.Prelude.{◌≡◌, ◌++◌, ◌∷◌, [], ◌+◌, ◌<◌, ◌^◌, length, codes, decimal, OnOk, IfErr};
 ghost use Rattle.std.specs.Io.KnownBytes.{Appends};
-ghost use Rattle.docket.specs.Rows.{AreWhole, bytes_of, row};
+ghost use Rattle.docket.specs.Rows.{row};
 ghost use Rattle.match_audit.specs.Replay.{NamesMember, RefusesMember, IsPendingMember};
 ghost use Rattle.residency.specs.Replay.{replay_text, refusal_word as word_of, refusal_fields, pending_word as kind_of, pending_name as name_of, event_count as count_of, fault_fields, answer_fields, IsAnswerOf};
 ghost use Rattle.residency.specs.Serving.{IsWriteFault};
 
 use docket::docket::Docket;
 use docket::fault::DocketFault;
-use docket::text::{Rows, no_rows, push_row, send_rows};
+use docket::row_text::RowText;
 use exchange_core::event::{Pending, Refused};
 use match_audit::replay::{ReplayFault, Replayed};
 use std::alloc::Global;
@@ -70,42 +70,36 @@ fn event_count(docket: &Docket) -> usize
 }
 
 // Adds the row of a fault that one word tells.
-fn push_word(rows: &mut Rows, place: &[u8], word: &str) -> Result<(), DocketFault>
-    requires { AreWhole rows.old }
-    ensures row { OnOk result (bytes_of rows.new ≡ bytes_of rows.old ++ row (codes "N" ∷ place.now ∷ word.now ∷ [])) }
+fn push_word(rows: &mut RowText, place: &[u8], word: &str) -> Result<(), DocketFault>
+    ensures row { OnOk result (rows.new ≡ rows.old ++ row (codes "N" ∷ place.now ∷ word.now ∷ [])) }
     ensures err { IfErr result (λ fault. fault ≡ DocketFault.Memory) }
 {
-    push_row(rows, &[b"N", place, word.as_bytes()])
+    rows.push(&[b"N", place, word.as_bytes()])
 }
 
 // Adds the row of a close that something pending kept from being accepted.
-fn push_pending(rows: &mut Rows, place: &[u8], kind: &str, name: &str) -> Result<(), DocketFault>
-    requires { AreWhole rows.old }
-    ensures row { OnOk result (bytes_of rows.new ≡ bytes_of rows.old ++ row (codes "N" ∷ place.now ∷ codes "still-pending" ∷ kind.now ∷ name.now ∷ [])) }
+fn push_pending(rows: &mut RowText, place: &[u8], kind: &str, name: &str) -> Result<(), DocketFault>
+    ensures row { OnOk result (rows.new ≡ rows.old ++ row (codes "N" ∷ place.now ∷ codes "still-pending" ∷ kind.now ∷ name.now ∷ [])) }
     ensures err { IfErr result (λ fault. fault ≡ DocketFault.Memory) }
 {
-    push_row(
-        rows,
-        &[
-            b"N",
-            place,
-            b"still-pending",
-            kind.as_bytes(),
-            name.as_bytes(),
-        ],
-    )
+    rows.push(&[
+        b"N",
+        place,
+        b"still-pending",
+        kind.as_bytes(),
+        name.as_bytes(),
+    ])
 }
 
 // Adds the row of a refused event.
 fn push_refused(
-    rows: &mut Rows,
+    rows: &mut RowText,
     docket: &Docket,
     place: &[u8],
     refused: &Refused,
 ) -> Result<(), DocketFault>
-    requires whole { AreWhole rows.old }
     requires member { RefusesMember docket.now.instance refused.now }
-    ensures row { OnOk result (bytes_of rows.new ≡ bytes_of rows.old ++ row (codes "N" ∷ place.now ∷ word_of refused.now ∷ refusal_fields docket.now refused.now)) }
+    ensures row { OnOk result (rows.new ≡ rows.old ++ row (codes "N" ∷ place.now ∷ word_of refused.now ∷ refusal_fields docket.now refused.now)) }
     ensures err { IfErr result (λ fault. fault ≡ DocketFault.Memory) }
 {
     match refused {
@@ -119,13 +113,12 @@ fn push_refused(
 // Adds the row of a fault.
 fn push_fault(
     alloc: Global,
-    rows: &mut Rows,
+    rows: &mut RowText,
     docket: &Docket,
     fault: &ReplayFault,
 ) -> Result<(), DocketFault>
-    requires whole { AreWhole rows.old }
     requires member { NamesMember docket.now.instance fault.now }
-    ensures row { OnOk result (bytes_of rows.new ≡ bytes_of rows.old ++ row (fault_fields docket.now fault.now)) }
+    ensures row { OnOk result (rows.new ≡ rows.old ++ row (fault_fields docket.now fault.now)) }
     ensures err { IfErr result (λ fault. fault ≡ DocketFault.Memory) }
 {
     match fault {
@@ -145,34 +138,32 @@ fn push_fault(
         }
         ReplayFault::SheetDiffers(resident) => {
             let _members = docket.instance();
-            push_row(rows, &[b"D", docket.resident_name(*resident).as_bytes()])
+            rows.push(&[b"D", docket.resident_name(*resident).as_bytes()])
         }
     }
 }
 
 // Adds the row of a good replay.
-fn push_good(alloc: Global, rows: &mut Rows, events: usize) -> Result<(), DocketFault>
-    requires { AreWhole rows.old }
-    ensures row { OnOk result (bytes_of rows.new ≡ bytes_of rows.old ++ row (codes "G" ∷ decimal events ∷ [])) }
+fn push_good(alloc: Global, rows: &mut RowText, events: usize) -> Result<(), DocketFault>
+    ensures row { OnOk result (rows.new ≡ rows.old ++ row (codes "G" ∷ decimal events ∷ [])) }
     ensures err { IfErr result (λ fault. fault ≡ DocketFault.Memory) }
 {
     let Ok(events) = events.to_string(alloc) else {
         return Err(DocketFault::Memory);
     };
-    push_row(rows, &[b"G", events.as_bytes()])
+    rows.push(&[b"G", events.as_bytes()])
 }
 
 #[tactic(auto, unfolding(crate::specs::Replay::replay_text))]
 // Adds the row of an answer.
 fn push_answer(
     alloc: Global,
-    rows: &mut Rows,
+    rows: &mut RowText,
     docket: &Docket,
     answer: &Result<Replayed, ReplayFault>,
 ) -> Result<(), DocketFault>
-    requires whole { AreWhole rows.old }
     requires member { IsAnswerOf docket.now answer.now }
-    ensures row { OnOk result (bytes_of rows.new ≡ bytes_of rows.old ++ replay_text docket.now answer.now) }
+    ensures row { OnOk result (rows.new ≡ rows.old ++ replay_text docket.now answer.now) }
     ensures err { IfErr result (λ fault. fault ≡ DocketFault.Memory) }
 {
     match answer {
@@ -194,7 +185,7 @@ pub fn write_replay<W: Write>(
     ensures ok { OnOk result (Appends (W.contents writer.old) (W.contents writer.new) (replay_text docket.now answer.now)) }
     ensures fault { IfErr result IsWriteFault }
 {
-    let mut rows = no_rows(alloc);
+    let mut rows = RowText::new(alloc);
     push_answer(alloc, &mut rows, docket, answer)?;
-    send_rows(rows, writer)
+    rows.send(writer)
 }

@@ -3,13 +3,13 @@ ghost use Rattle.std.specs.Prelude.{◌≡◌, ◌⊎◌, ◌++◌, ◌∷◌, [
 ghost use Rattle.std.specs.List.{All, flat_map};
 ghost use Rattle.std.specs.Io.KnownBytes.{Appends};
 ghost use Rattle.match_model.specs.Instance.{IsProgramme, IsResident};
-ghost use Rattle.docket.specs.Rows.{AreWhole, bytes_of, row};
+ghost use Rattle.docket.specs.Rows.{row};
 ghost use Rattle.residency.specs.Report.{report_text, stability_row, pair_row, over_row, IsPairOf, IsReportOf};
 ghost use Rattle.residency.specs.Serving.{IsWriteFault};
 
 use docket::docket::Docket;
 use docket::fault::DocketFault;
-use docket::text::{Rows, no_rows, push_row, send_rows};
+use docket::row_text::RowText;
 use match_audit::report::AuditReport;
 use match_model::member::{ProgrammeNo, ResidentNo};
 use std::alloc::Global;
@@ -17,35 +17,31 @@ use std::io::Write;
 
 // Adds the row of a resident and a programme.
 fn push_pair(
-    rows: &mut Rows,
+    rows: &mut RowText,
     docket: &Docket,
     kind: &[u8],
     resident: ResidentNo,
     programme: ProgrammeNo,
 ) -> Result<(), DocketFault>
-    requires whole { AreWhole rows.old }
     requires members { IsPairOf docket.now (resident, programme) }
-    ensures whole { OnOk result (AreWhole rows.new) }
-    ensures row { OnOk result (bytes_of rows.new ≡ bytes_of rows.old ++ pair_row docket.now kind.now (resident, programme)) }
+    ensures row { OnOk result (rows.new ≡ rows.old ++ pair_row docket.now kind.now (resident, programme)) }
     ensures err { IfErr result (λ fault. fault ≡ DocketFault.Memory) }
 {
     let _members = docket.instance();
     let resident = docket.resident_name(resident).as_bytes();
     let programme = docket.programme_name(programme).as_bytes();
-    push_row(rows, &[kind, resident, programme])
+    rows.push(&[kind, resident, programme])
 }
 
 // Adds a row for each pair.
 fn push_pairs(
-    rows: &mut Rows,
+    rows: &mut RowText,
     docket: &Docket,
     kind: &[u8],
     pairs: &[(ResidentNo, ProgrammeNo)],
 ) -> Result<(), DocketFault>
-    requires whole { AreWhole rows.old }
     requires members { All (IsPairOf docket.now) pairs.now }
-    ensures whole { OnOk result (AreWhole rows.new) }
-    ensures rows { OnOk result (bytes_of rows.new ≡ bytes_of rows.old ++ flat_map (pair_row docket.now kind.now) pairs.now) }
+    ensures rows { OnOk result (rows.new ≡ rows.old ++ flat_map (pair_row docket.now kind.now) pairs.now) }
     ensures err { IfErr result (λ fault. fault ≡ DocketFault.Memory) }
 {
     for (resident, programme) in pairs {
@@ -57,15 +53,13 @@ fn push_pairs(
 // Adds the row of a programme over its quota.
 fn push_over(
     alloc: Global,
-    rows: &mut Rows,
+    rows: &mut RowText,
     docket: &Docket,
     programme: ProgrammeNo,
     filled: u32,
 ) -> Result<(), DocketFault>
-    requires whole { AreWhole rows.old }
     requires member { IsProgramme docket.now.instance programme }
-    ensures whole { OnOk result (AreWhole rows.new) }
-    ensures row { OnOk result (bytes_of rows.new ≡ bytes_of rows.old ++ over_row docket.now (programme, filled)) }
+    ensures row { OnOk result (rows.new ≡ rows.old ++ over_row docket.now (programme, filled)) }
     ensures err { IfErr result (λ fault. fault ≡ DocketFault.Memory) }
 {
     let quota = docket.instance().quota(programme);
@@ -73,20 +67,18 @@ fn push_over(
         return Err(DocketFault::Memory);
     };
     let name = docket.programme_name(programme).as_bytes();
-    push_row(rows, &[b"O", name, filled.as_bytes(), quota.as_bytes()])
+    rows.push(&[b"O", name, filled.as_bytes(), quota.as_bytes()])
 }
 
 // Adds a row for each programme over its quota.
 fn push_all_over(
     alloc: Global,
-    rows: &mut Rows,
+    rows: &mut RowText,
     docket: &Docket,
     all: &[(ProgrammeNo, u32)],
 ) -> Result<(), DocketFault>
-    requires whole { AreWhole rows.old }
     requires members { All (λ over. IsProgramme docket.now.instance over.0) all.now }
-    ensures whole { OnOk result (AreWhole rows.new) }
-    ensures rows { OnOk result (bytes_of rows.new ≡ bytes_of rows.old ++ flat_map (over_row docket.now) all.now) }
+    ensures rows { OnOk result (rows.new ≡ rows.old ++ flat_map (over_row docket.now) all.now) }
     ensures err { IfErr result (λ fault. fault ≡ DocketFault.Memory) }
 {
     for (programme, filled) in all {
@@ -96,16 +88,14 @@ fn push_all_over(
 }
 
 // Adds the answer's row.
-fn push_stability(rows: &mut Rows, report: &AuditReport) -> Result<(), DocketFault>
-    requires { AreWhole rows.old }
-    ensures whole { OnOk result (AreWhole rows.new) }
-    ensures row { OnOk result (bytes_of rows.new ≡ bytes_of rows.old ++ stability_row report.now) }
+fn push_stability(rows: &mut RowText, report: &AuditReport) -> Result<(), DocketFault>
+    ensures row { OnOk result (rows.new ≡ rows.old ++ stability_row report.now) }
     ensures err { IfErr result (λ fault. fault ≡ DocketFault.Memory) }
 {
     if report.is_stable() {
-        push_row(rows, &[b"S", b"stable"])
+        rows.push(&[b"S", b"stable"])
     } else {
-        push_row(rows, &[b"S", b"unstable"])
+        rows.push(&[b"S", b"unstable"])
     }
 }
 
@@ -123,10 +113,10 @@ pub fn write_report<W: Write>(
     ensures ok { OnOk result (Appends (W.contents writer.old) (W.contents writer.new) (report_text docket.now report.now)) }
     ensures fault { IfErr result IsWriteFault }
 {
-    let mut rows = no_rows(alloc);
+    let mut rows = RowText::new(alloc);
     push_stability(&mut rows, report)?;
     push_pairs(&mut rows, docket, b"X", report.unacceptable.as_slice())?;
     push_all_over(alloc, &mut rows, docket, report.over.as_slice())?;
     push_pairs(&mut rows, docket, b"B", report.blocking.as_slice())?;
-    send_rows(rows, writer)
+    rows.send(writer)
 }

@@ -7,8 +7,4 @@ pub loop-p-preserved : goal.loop-p-preserved
 loop-p-preserved c =
     let below : c.loop-p.p < length c.args.docket.now.programmes =
     omega (arith, c.programmes-p-end.ensures.count, c.instance.ensures.whole.programmes, ap (λ i. length i.quotas) c.instance.ensures.instance) in
-    record {
-      whole = c.in_ok-push_filled.ensures.whole;
-      text = λ m h. rows_next (filled_row c.args.docket.now m) _ _ _ c.loop-p.p (c.loop-p.invariant.text m h)
-          (c.in_ok-push_filled.ensures.row m (sym (h c.loop-p.p below)));
-    }
+    λ m h. rows_next (filled_row c.args.docket.now m) _ _ _ c.loop-p.p (c.loop-p.invariant m h) (c.in_ok-push_filled.ensures.row m (sym (h c.loop-p.p below)))

@@ -16,4 +16,4 @@ pub returns-in-SheetDiffers-clause-row : goal.returns-in-SheetDiffers-clause-row
 returns-in-SheetDiffers-clause-row c =
     let name : resident_name c.args.docket.now c.in-SheetDiffers.resident ≡ c.as_bytes-in-SheetDiffers.result.now =
     resident_name-is c.args.docket.now c.in-SheetDiffers.resident _ c.resident_name.ensures ∙ sym c.as_bytes-in-SheetDiffers.ensures.value in
-    on_ok_weaker c.push_row.result (λ h. rw (c.in-SheetDiffers.is, name) h) c.push_row.ensures.row
+    on_ok_weaker c.push.result (λ h. rw (c.in-SheetDiffers.is, name) h) c.push.ensures.row

@@ -4,4 +4,4 @@ use Rattle.residency.proofs.answer.push_pending.Goals as goal
 
 pub returns-clause-row : goal.returns-clause-row
 returns-clause-row c =
-    on_ok_weaker c.push_row.result (λ h. rw (sym c.as_bytes.ensures.value, sym c.as_bytes-2.ensures.value) h) c.push_row.ensures.row
+    on_ok_weaker c.push.result (λ h. rw (sym c.as_bytes.ensures.value, sym c.as_bytes-2.ensures.value) h) c.push.ensures.row

@@ -12,4 +12,4 @@ returns-clause-row c =
     let name = programme_name-is c.args.docket.now c.args.programme _ c.programme_name.ensures ∙ sym c.as_bytes-name.ensures.value in
     let filled = sym (c.as_bytes.ensures.value ∙ c.in-Ok-Ok.ensures.ok) in
     let places = sym (c.as_bytes-2.ensures.value ∙ (c.in-Ok-Ok.ensures'.ok ∙ ap decimal (c.quota-quota.ensures ∙ ap (λ i. quota i c.args.programme) c.instance.ensures.instance))) in
-    on_ok_weaker c.push_row.result (λ h. rw (name, filled, places) h) c.push_row.ensures.row
+    on_ok_weaker c.push.result (λ h. rw (name, filled, places) h) c.push.ensures.row

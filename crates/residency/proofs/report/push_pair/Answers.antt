@@ -9,4 +9,4 @@ unfolding pair_row
 returns-clause-row c =
     let resident = resident_name-is c.args.docket.now c.args.resident _ c.resident_name.ensures ∙ sym c.as_bytes-resident.ensures.value in
     let programme = programme_name-is c.args.docket.now c.args.programme _ c.programme_name.ensures ∙ sym c.as_bytes-programme.ensures.value in
-    on_ok_weaker c.push_row.result (λ h. rw (resident, programme) h) c.push_row.ensures.row
+    on_ok_weaker c.push.result (λ h. rw (resident, programme) h) c.push.ensures.row

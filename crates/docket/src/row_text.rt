@@ -1,0 +1,77 @@
+//! Rows of CSV, gathered in memory and then sent to a writer, so that want of memory and a writer's fault are told apart.
+ghost use Rattle.std.specs.Prelude.{◌≡◌, ◌++◌, ◌⊎◌, [], map, OnOk, OnErr, IfErr};
+ghost use Rattle.std.specs.Io.KnownBytes.{Appends};
+ghost use Rattle.docket.specs.Rows.{AreWhole, bytes_of, row};
+
+use crate::fault::DocketFault;
+use csv::{Writer, WriterBuilder};
+use std::alloc::Global;
+use std::io::Write;
+use std::marker::Model;
+
+/// The text of rows, gathered in memory.
+#[derive(Drop)]
+pub struct RowText {
+    alloc: Global,
+    rows: Writer<Vec<u8>>,
+}
+
+impl Model for RowText {
+    ghost use Rattle.std.specs.Prelude.{List, ℕ};
+    ghost use Rattle.docket.specs.Rows.{AreWhole, bytes_of};
+
+    ghost Value = { List ℕ };
+
+    ghost view = { λ a. bytes_of a.rows };
+
+    ghost invariant = { λ a. AreWhole a.rows };
+}
+
+// A writer into memory that has written nothing.
+fn empty_rows(alloc: Global) -> Writer<Vec<u8>>
+    ensures whole { AreWhole result }
+    ensures none { bytes_of result ≡ [] }
+{
+    WriterBuilder::new()
+        .flexible(true)
+        .from_writer(Vec::new(alloc))
+}
+
+impl RowText {
+    /// No rows yet.
+    pub fn new(alloc: Global) -> RowText
+        ensures { result ≡ [] }
+    {
+        RowText {
+            alloc,
+            rows: empty_rows(alloc),
+        }
+    }
+
+    /// Adds a row. The one fault is `Memory`, and then no rows are left.
+    pub fn push(&mut self, fields: &[&[u8]]) -> Result<(), DocketFault>
+        ensures row { OnOk result (self.new ≡ self.old ++ row (map (λ f. f.now) fields.now)) }
+        ensures none { OnErr result (self.new ≡ []) }
+        ensures err { IfErr result (λ fault. fault ≡ DocketFault.Memory) }
+    {
+        let Ok(()) = self.rows.write_fields(fields) else {
+            self.rows = empty_rows(self.alloc);
+            return Err(DocketFault::Memory);
+        };
+        Ok(())
+    }
+
+    /// Sends the rows to a writer. The faults are `Memory` and `Write`.
+    pub fn send<W: Write>(self, writer: &mut W) -> Result<(), DocketFault>
+        ensures sent { OnOk result (Appends (W.contents writer.old) (W.contents writer.new) self) }
+        ensures err { IfErr result (λ fault. (fault ≡ DocketFault.Memory) ⊎ (fault ≡ DocketFault.Write)) }
+    {
+        let Ok(bytes) = self.rows.into_inner() else {
+            return Err(DocketFault::Memory);
+        };
+        let Ok(()) = writer.write_all(bytes.as_slice()) else {
+            return Err(DocketFault::Write);
+        };
+        Ok(())
+    }
+}
