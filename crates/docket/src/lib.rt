@@ -2,16 +2,16 @@
 //!
 //! A docket is read exactly: what it says is what its rows say, and what is wrong with it is the first of its faults.
 //!
-//! No contract says when memory or a device fails, so a body that only answers so meets its contract, as `RowText::send`
-//! by `Write` alone; that the calls succeed is what the tests show.
+//! Bodies that no contract refuses: one that only answers `Memory` or a device's fault, which tests refuse; `word_of`
+//! that answers none for each row, and `Declared::add` and `Rows::push` without the word, since that word is a hint.
 #![tactic(auto)]
 
 mod declared;
 pub mod docket;
 pub mod fault;
 mod journal;
-pub mod kind;
-pub mod names;
+mod kind;
+mod names;
 mod ranking;
 pub mod read;
 mod row;
