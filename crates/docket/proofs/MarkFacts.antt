@@ -169,6 +169,26 @@ second_row fault seen flag e is same held = inr (rw (is, ← same, held) refl)
 pub first_row : (fault : Option DocketFault) (seen flag : Bool) (e : DocketFault) → fault ≡ unless (not seen) e → flag ≡ seen → flag ≡ false → fault ≡ None
 first_row fault seen flag e is same nay = rw (is, ← same, nay) refl
 
+-- the places and by name the flags and the counts, with a row more that changes none of them
+placed_kept : (rows : List Fields) (k : ℕ) → k < length rows → is_kind MATCHED (row_at rows k) ≡ false
+    → map (placed_in (programmes_of rows) (take k rows)) (residents_of rows) ≡ map (placed_in (programmes_of rows) (take (k + 1) rows)) (residents_of rows)
+placed_kept rows k lt kind = rw (take_more rows k [] lt) (sym (placed_same (programmes_of rows) (residents_of rows) (take k rows) (row_at rows k) kind))
+
+flags_kept : (p : List ℕ → Fields → Bool) (names : List (List ℕ)) (rows : List Fields) (k : ℕ) → k < length rows → ((x : List ℕ) → p x (row_at rows k) ≡ false)
+    → map (λ n. list_any (p n) (take k rows)) names ≡ map (λ n. list_any (p n) (take (k + 1) rows)) names
+flags_kept p names rows k lt others = rw (take_more rows k [] lt) (sym (any_same p names (take k rows) (row_at rows k) others))
+
+counts_kept : (p : List ℕ → Fields → Bool) (names : List (List ℕ)) (rows : List Fields) (k : ℕ) → k < length rows → ((x : List ℕ) → p x (row_at rows k) ≡ false)
+    → map (λ n. count_by (p n) (take k rows)) names ≡ map (λ n. count_by (p n) (take (k + 1) rows)) names
+counts_kept p names rows k lt others = rw (take_more rows k [] lt) (sym (count_same p names (take k rows) (row_at rows k) others))
+
+-- the flags, with a row more that sets the flag of one name
+flags_more : (p : List ℕ → Fields → Bool) (names : List (List ℕ)) (rows : List Fields) (k i : ℕ) (name : List ℕ) (flags : List Bool) → k < length rows
+    → distinct names ≡ true → number_in names name ≡ Some i → p name (row_at rows k) ≡ true → ((x : List ℕ) → bytes_eq name x ≡ false → p x (row_at rows k) ≡ false)
+    → flags ≡ map (λ n. list_any (p n) (take k rows)) names → slice_set flags i true ≡ map (λ n. list_any (p n) (take (k + 1) rows)) names
+flags_more p names rows k i name flags lt d at here others h =
+    rw (h, take_more rows k [] lt) (sym (any_at p names (take k rows) (row_at rows k) name i d at here others))
+
 -- the marks after an M row, a U row, an F row and another
 pub marks_matched : (m e : Marks) (rows : List Fields) (k i p d : ℕ) → first_from reading_fault [] rows ≡ None → length rows ≤ MAX_RECORDS → k < length rows
     → kind_of (row_at rows k) ≡ MATCHED → number_in (residents_of rows) (field (row_at rows k) 1) ≡ Some i → number_in (programmes_of rows) (field (row_at rows k) 2) ≡ Some p
@@ -182,12 +202,9 @@ marks_matched m e rows k i p d sound few lt kind at to free h es em ef ec =
       sheet = es ∙ ap (λ (l : List (Option ℕ)). slice_set l i (Some p)) h.sheet
           ∙ sym (placed_at (programmes_of rows) (residents_of rows) (take k rows) row i p (distinct_residents rows sound few) at kind to (unmarked_unmatched (field row 1) (take k rows) free))
           ∙ ap (λ (done : List Fields). map (placed_in (programmes_of rows) done) (residents_of rows)) (sym next);
-      marked = em ∙ ap (λ (l : List Bool). slice_set l i true) h.marked
-          ∙ sym (any_at is_mark_of (residents_of rows) (take k rows) row (field row 1) i (distinct_residents rows sound few) at
-          (rw (kind, bytes_eq-same (field row 1)) refl) (λ x no. rw (kind, bytes_eq-swap (field row 1) x no) refl))
-          ∙ ap (λ (done : List Fields). map (λ n. list_any (is_mark_of n) done) (residents_of rows)) (sym next);
-      filled = ef ∙ h.filled ∙ sym (any_same (is_row_of FILLED) (programmes_of rows) (take k rows) row (λ x. rw kind refl))
-          ∙ ap (λ (done : List Fields). map (λ n. list_any (is_row_of FILLED n) done) (programmes_of rows)) (sym next);
+      marked = em ∙ flags_more is_mark_of (residents_of rows) rows k i (field row 1) m.marked.items lt (distinct_residents rows sound few) at
+          (rw (kind, bytes_eq-same (field row 1)) refl) (λ x no. rw (kind, bytes_eq-swap (field row 1) x no) refl) h.marked;
+      filled = ef ∙ h.filled ∙ flags_kept (is_row_of FILLED) (programmes_of rows) rows k lt (λ x. rw kind refl);
       counts = ec ∙ rw (counts_at m rows (take k rows) (field row 2) p d h to) (ap (λ (l : List ℕ). slice_set l p (count_by (is_matched_with (field row 2)) (take k rows) + 1)) h.counts)
           ∙ sym (count_at is_matched_with (programmes_of rows) (take k rows) row (field row 2) p (distinct_programmes rows sound few) to
           (rw (kind, bytes_eq-same (field row 2)) refl) (λ x no. rw (kind, bytes_eq-swap (field row 2) x no) refl))
@@ -199,18 +216,12 @@ pub marks_unmatched : (m e : Marks) (rows : List Fields) (k i : ℕ) → first_f
     → e.sheet ≡ m.sheet → e.marked.items ≡ slice_set m.marked.items i true → e.filled.items ≡ m.filled.items → e.counts.items ≡ m.counts.items → IsMarked e rows (take (k + 1) rows)
 marks_unmatched m e rows k i sound few lt kind at h es em ef ec =
     let row = row_at rows k in
-    let next = take_more rows k [] lt in
     record {
-      sheet = es ∙ h.sheet ∙ sym (placed_same (programmes_of rows) (residents_of rows) (take k rows) row (rw kind refl))
-          ∙ ap (λ (done : List Fields). map (placed_in (programmes_of rows) done) (residents_of rows)) (sym next);
-      marked = em ∙ ap (λ (l : List Bool). slice_set l i true) h.marked
-          ∙ sym (any_at is_mark_of (residents_of rows) (take k rows) row (field row 1) i (distinct_residents rows sound few) at
-          (rw (kind, bytes_eq-same (field row 1)) refl) (λ x no. rw (kind, bytes_eq-swap (field row 1) x no) refl))
-          ∙ ap (λ (done : List Fields). map (λ n. list_any (is_mark_of n) done) (residents_of rows)) (sym next);
-      filled = ef ∙ h.filled ∙ sym (any_same (is_row_of FILLED) (programmes_of rows) (take k rows) row (λ x. rw kind refl))
-          ∙ ap (λ (done : List Fields). map (λ n. list_any (is_row_of FILLED n) done) (programmes_of rows)) (sym next);
-      counts = ec ∙ h.counts ∙ sym (count_same is_matched_with (programmes_of rows) (take k rows) row (λ x. rw kind refl))
-          ∙ ap (λ (done : List Fields). map (λ n. count_by (is_matched_with n) done) (programmes_of rows)) (sym next);
+      sheet = es ∙ h.sheet ∙ placed_kept rows k lt (rw kind refl);
+      marked = em ∙ flags_more is_mark_of (residents_of rows) rows k i (field row 1) m.marked.items lt (distinct_residents rows sound few) at
+          (rw (kind, bytes_eq-same (field row 1)) refl) (λ x no. rw (kind, bytes_eq-swap (field row 1) x no) refl) h.marked;
+      filled = ef ∙ h.filled ∙ flags_kept (is_row_of FILLED) (programmes_of rows) rows k lt (λ x. rw kind refl);
+      counts = ec ∙ h.counts ∙ counts_kept is_matched_with (programmes_of rows) rows k lt (λ x. rw kind refl);
     }
 
 pub marks_filled : (m e : Marks) (rows : List Fields) (k i : ℕ) → first_from reading_fault [] rows ≡ None → length rows ≤ MAX_RECORDS → k < length rows
@@ -218,35 +229,22 @@ pub marks_filled : (m e : Marks) (rows : List Fields) (k i : ℕ) → first_from
     → e.sheet ≡ m.sheet → e.marked.items ≡ m.marked.items → e.filled.items ≡ slice_set m.filled.items i true → e.counts.items ≡ m.counts.items → IsMarked e rows (take (k + 1) rows)
 marks_filled m e rows k i sound few lt kind at h es em ef ec =
     let row = row_at rows k in
-    let next = take_more rows k [] lt in
     record {
-      sheet = es ∙ h.sheet ∙ sym (placed_same (programmes_of rows) (residents_of rows) (take k rows) row (rw kind refl))
-          ∙ ap (λ (done : List Fields). map (placed_in (programmes_of rows) done) (residents_of rows)) (sym next);
-      marked = em ∙ h.marked ∙ sym (any_same is_mark_of (residents_of rows) (take k rows) row (λ x. rw kind refl))
-          ∙ ap (λ (done : List Fields). map (λ n. list_any (is_mark_of n) done) (residents_of rows)) (sym next);
-      filled = ef ∙ ap (λ (l : List Bool). slice_set l i true) h.filled
-          ∙ sym (any_at (is_row_of FILLED) (programmes_of rows) (take k rows) row (field row 1) i (distinct_programmes rows sound few) at
-          (rw (kind, bytes_eq-same (field row 1)) refl) (λ x no. rw (kind, bytes_eq-swap (field row 1) x no) refl))
-          ∙ ap (λ (done : List Fields). map (λ n. list_any (is_row_of FILLED n) done) (programmes_of rows)) (sym next);
-      counts = ec ∙ h.counts ∙ sym (count_same is_matched_with (programmes_of rows) (take k rows) row (λ x. rw kind refl))
-          ∙ ap (λ (done : List Fields). map (λ n. count_by (is_matched_with n) done) (programmes_of rows)) (sym next);
+      sheet = es ∙ h.sheet ∙ placed_kept rows k lt (rw kind refl);
+      marked = em ∙ h.marked ∙ flags_kept is_mark_of (residents_of rows) rows k lt (λ x. rw kind refl);
+      filled = ef ∙ flags_more (is_row_of FILLED) (programmes_of rows) rows k i (field row 1) m.filled.items lt (distinct_programmes rows sound few) at
+          (rw (kind, bytes_eq-same (field row 1)) refl) (λ x no. rw (kind, bytes_eq-swap (field row 1) x no) refl) h.filled;
+      counts = ec ∙ h.counts ∙ counts_kept is_matched_with (programmes_of rows) rows k lt (λ x. rw kind refl);
     }
 
 pub marks_other : (m : Marks) (rows : List Fields) (k : ℕ) → k < length rows → is_kind MATCHED (row_at rows k) ≡ false → is_kind UNMATCHED (row_at rows k) ≡ false → is_kind FILLED (row_at rows k) ≡ false
     → IsMarked m rows (take k rows) → IsMarked m rows (take (k + 1) rows)
-marks_other m rows k lt im iu ifl h =
-    let row = row_at rows k in
-    let next = take_more rows k [] lt in
-    record {
-      sheet = h.sheet ∙ sym (placed_same (programmes_of rows) (residents_of rows) (take k rows) row im)
-          ∙ ap (λ (done : List Fields). map (placed_in (programmes_of rows) done) (residents_of rows)) (sym next);
-      marked = h.marked ∙ sym (any_same is_mark_of (residents_of rows) (take k rows) row (λ x. rw (im, iu) refl))
-          ∙ ap (λ (done : List Fields). map (λ n. list_any (is_mark_of n) done) (residents_of rows)) (sym next);
-      filled = h.filled ∙ sym (any_same (is_row_of FILLED) (programmes_of rows) (take k rows) row (λ x. rw ifl refl))
-          ∙ ap (λ (done : List Fields). map (λ n. list_any (is_row_of FILLED n) done) (programmes_of rows)) (sym next);
-      counts = h.counts ∙ sym (count_same is_matched_with (programmes_of rows) (take k rows) row (λ x. rw im refl))
-          ∙ ap (λ (done : List Fields). map (λ n. count_by (is_matched_with n) done) (programmes_of rows)) (sym next);
-    }
+marks_other m rows k lt im iu ifl h = record {
+  sheet = h.sheet ∙ placed_kept rows k lt im;
+  marked = h.marked ∙ flags_kept is_mark_of (residents_of rows) rows k lt (λ x. rw (im, iu) refl);
+  filled = h.filled ∙ flags_kept (is_row_of FILLED) (programmes_of rows) rows k lt (λ x. rw ifl refl);
+  counts = h.counts ∙ counts_kept is_matched_with (programmes_of rows) rows k lt (λ x. rw im refl);
+}
 
 -- the same value for each name
 pub map_const : {B : Type 0} (c : B) (names : List (List ℕ)) → replicate (length names) c ≡ map (λ (n : List ℕ). c) names
