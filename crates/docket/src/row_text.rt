@@ -1,10 +1,14 @@
 //! Rows of CSV, gathered in memory and then sent to a writer, so that want of memory and a writer's fault are told apart.
 ghost use Rattle.std.specs.Prelude.{◌≡◌, ◌++◌, ◌⊎◌, [], map, OnOk, OnErr, IfErr};
 ghost use Rattle.std.specs.Io.KnownBytes.{Appends};
+ghost use Rattle.match_model.specs.Instance.{IsProgramme};
 ghost use Rattle.docket.specs.Rows.{AreWhole, bytes_of, row};
+ghost use Rattle.docket.specs.Texts.{programme_row};
 
+use crate::docket::Docket;
 use crate::fault::DocketFault;
 use csv::{Writer, WriterBuilder};
+use match_model::member::ProgrammeNo;
 use std::alloc::Global;
 use std::io::Write;
 use std::marker::Model;
@@ -59,6 +63,31 @@ impl RowText {
             return Err(DocketFault::Memory);
         };
         Ok(())
+    }
+
+    /// Adds the row of a programme after its kind: its name, how many of its places are filled, and its quota.
+    ///
+    /// The programme is a member. The one fault is `Memory`, and then no rows are left.
+    pub fn push_programme(
+        &mut self,
+        docket: &Docket,
+        kind: &[u8],
+        programme: ProgrammeNo,
+        filled: u32,
+    ) -> Result<(), DocketFault>
+        requires { IsProgramme docket.now.instance programme }
+        ensures row { OnOk result (self.new ≡ self.old ++ programme_row docket.now kind.now programme filled) }
+        ensures none { OnErr result (self.new ≡ []) }
+        ensures err { IfErr result (λ fault. fault ≡ DocketFault.Memory) }
+    {
+        let quota = docket.instance().quota(programme);
+        let (Ok(filled), Ok(quota)) = (filled.to_string(self.alloc), quota.to_string(self.alloc))
+        else {
+            self.rows = empty_rows(self.alloc);
+            return Err(DocketFault::Memory);
+        };
+        let name = docket.programme_name(programme).as_bytes();
+        self.push(&[kind, name, filled.as_bytes(), quota.as_bytes()])
     }
 
     /// Sends the rows to a writer. The faults are `Memory` and `Write`.

@@ -1,10 +1,10 @@
 -- The rows that an audit writes.
-use Rattle.std.specs.Prelude.{ℕ, ◌==◌, ◌&&◌, Bool, if◌then◌else◌, List, [], ◌∷◌, ◌++◌, length, codes, decimal}
+use Rattle.std.specs.Prelude.{ℕ, ◌==◌, ◌&&◌, Bool, if◌then◌else◌, List, [], ◌∷◌, ◌++◌, length, codes}
 use Rattle.std.specs.List.{flat_map}
-use Rattle.match_model.specs.Instance.{quota, IsResident, IsProgramme}
+use Rattle.match_model.specs.Instance.{IsResident, IsProgramme}
 use Rattle.docket.specs.Contents.{Contents}
 use Rattle.docket.specs.Rows.{row}
-use Rattle.docket.specs.Texts.{programme_name, resident_name}
+use Rattle.docket.specs.Texts.{programme_name, programme_row, resident_name}
 use Rattle.match_audit.specs.declared.report.AuditReport.{AuditReport}
 use Rattle.std.specs.List.{All}
 
@@ -22,8 +22,8 @@ unfoldable pub pair_row : Contents → List ℕ → ℕ × ℕ → List ℕ
 pair_row d kind pair = row (kind ∷ resident_name d pair.0 ∷ programme_name d pair.1 ∷ [])
 
 -- `O,programme,filled,quota`
-unfoldable pub over_row : Contents → ℕ × ℕ → List ℕ
-over_row d over = row (codes "O" ∷ programme_name d over.0 ∷ decimal over.1 ∷ decimal (quota d.instance over.0) ∷ [])
+abbrev pub over_row : Contents → ℕ × ℕ → List ℕ
+over_row d over = programme_row d (codes "O") over.0 over.1
 
 -- the answer, the pairs that aren't acceptable, the programmes over their quota, and the blocking pairs
 unfoldable pub report_text : Contents → AuditReport → List ℕ

@@ -50,29 +50,8 @@ fn push_pairs(
     Ok(())
 }
 
-// Adds the row of a programme over its quota.
-fn push_over(
-    alloc: Global,
-    rows: &mut RowText,
-    docket: &Docket,
-    programme: ProgrammeNo,
-    filled: u32,
-) -> Result<(), DocketFault>
-    requires member { IsProgramme docket.now.instance programme }
-    ensures row { OnOk result (rows.new ≡ rows.old ++ over_row docket.now (programme, filled)) }
-    ensures err { IfErr result (λ fault. fault ≡ DocketFault.Memory) }
-{
-    let quota = docket.instance().quota(programme);
-    let (Ok(filled), Ok(quota)) = (filled.to_string(alloc), quota.to_string(alloc)) else {
-        return Err(DocketFault::Memory);
-    };
-    let name = docket.programme_name(programme).as_bytes();
-    rows.push(&[b"O", name, filled.as_bytes(), quota.as_bytes()])
-}
-
 // Adds a row for each programme over its quota.
 fn push_all_over(
-    alloc: Global,
     rows: &mut RowText,
     docket: &Docket,
     all: &[(ProgrammeNo, u32)],
@@ -82,7 +61,7 @@ fn push_all_over(
     ensures err { IfErr result (λ fault. fault ≡ DocketFault.Memory) }
 {
     for (programme, filled) in all {
-        push_over(alloc, rows, docket, *programme, *filled)?;
+        rows.push_programme(docket, b"O", *programme, *filled)?;
     }
     Ok(())
 }
@@ -116,7 +95,7 @@ pub fn write_report<W: Write>(
     let mut rows = RowText::new(alloc);
     push_stability(&mut rows, report)?;
     push_pairs(&mut rows, docket, b"X", report.unacceptable.as_slice())?;
-    push_all_over(alloc, &mut rows, docket, report.over.as_slice())?;
+    push_all_over(&mut rows, docket, report.over.as_slice())?;
     push_pairs(&mut rows, docket, b"B", report.blocking.as_slice())?;
     rows.send(writer)
 }

@@ -2,12 +2,12 @@ use Rattle.std.proofs.Common.{sym, ap, ◌∙◌}
 use Rattle.std.specs.Prelude.{decimal}
 use Rattle.std.proofs.lemmas.Result.{on_ok_weaker}
 use Rattle.match_model.specs.Instance.{quota}
-use Rattle.residency.proofs.Names.{programme_name-is}
-use Rattle.residency.specs.Report.{over_row}
-use Rattle.residency.proofs.report.push_over.Goals as goal
+use Rattle.docket.specs.Texts.{programme_row}
+use Rattle.docket.proofs.WriteFacts.{programme_name-is}
+use Rattle.docket.proofs.row_text.RowText.push_programme.Goals as goal
 
 pub returns-clause-row : goal.returns-clause-row
-unfolding over_row
+unfolding programme_row
 returns-clause-row c =
     let name = programme_name-is c.args.docket.now c.args.programme _ c.programme_name.ensures ∙ sym c.as_bytes-name.ensures.value in
     let filled = sym (c.as_bytes.ensures.value ∙ c.in-Ok-Ok.ensures.ok) in
