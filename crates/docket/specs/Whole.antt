@@ -1,21 +1,16 @@
 -- What every docket keeps, and whom the events name that are written with it.
 use Rattle.std.specs.Prelude.{◌≡◌, ℕ, ◌<◌, ⊤, Option, Some, List, length}
+use Rattle.std.specs.List.{All}
 use Rattle.match_model.specs.Instance.{Instance, IsProgramme, IsResident}
 use Rattle.match_model.specs.Placement.{IsMemberOf}
 use Rattle.exchange_core.specs.declared.event.Event.{Event}
 use Rattle.exchange_core.specs.declared.event.Event.TheVariants.{Offer, Take, Answer, Hear, Close}
-use Rattle.docket.specs.Contents.{Contents}
+use Rattle.docket.specs.Contents.{Contents, JournalParts}
 
 -- one place for each resident, and only programmes of the docket
 pub record IsSheetOf (d : Contents) (m : List (Option ℕ)) : Type 0 where
   pub one_place_each : length m ≡ length d.residents
   pub members : (r p : ℕ) → IsMemberOf m r p → p < length d.programmes
-
--- a name for each member, and a sheet of members
-pub record IsWhole (d : Contents) : Type 0 where
-  pub programmes : length d.programmes ≡ length d.instance.quotas
-  pub residents : length d.residents ≡ length d.instance.resident_lists
-  pub sheet : (m : List (Option ℕ)) → d.sheet ≡ Some m → IsSheetOf d m
 
 -- a programme and a resident of the instance
 pub record AreMembers (inst : Instance) (p r : ℕ) : Type 0 where
@@ -29,3 +24,10 @@ NamesMembers inst (Take r p) = AreMembers inst p r
 NamesMembers inst (Answer r p kind) = AreMembers inst p r
 NamesMembers inst (Hear p r kind) = AreMembers inst p r
 NamesMembers inst Close = ⊤
+
+-- a name for each member, a sheet of members, and a journal whose events name members
+pub record IsWhole (d : Contents) : Type 0 where
+  pub programmes : length d.programmes ≡ length d.instance.quotas
+  pub residents : length d.residents ≡ length d.instance.resident_lists
+  pub sheet : (m : List (Option ℕ)) → d.sheet ≡ Some m → IsSheetOf d m
+  pub journal : (j : JournalParts) → d.journal ≡ Some j → All (NamesMembers d.instance) j.events

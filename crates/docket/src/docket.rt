@@ -74,14 +74,16 @@ impl Docket {
 
     /// The sheet, if the docket has one.
     pub fn sheet(&self) -> Option<&Assignment>
-        ensures { option_copied result ≡ self.now.sheet }
+        ensures sheet { option_copied result ≡ self.now.sheet }
+        ensures whole { IsWhole self.now }
     {
         self.sheet.as_ref()
     }
 
     /// The journal, if the docket has one.
     pub fn journal(&self) -> Option<&Journal>
-        ensures { option_copied result ≡ self.now.journal }
+        ensures journal { option_copied result ≡ self.now.journal }
+        ensures whole { IsWhole self.now }
     {
         self.journal.as_ref()
     }

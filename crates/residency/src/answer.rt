@@ -1,9 +1,9 @@
 //! Writing what a replay answered.
-ghost use Rattle.std.specs.Prelude.{◌≡◌, ◌++◌, ◌∷◌, [], ◌+◌, ◌<◌, ◌^◌, length, codes, decimal, OnOk, IfErr};
+ghost use Rattle.std.specs.Prelude.{◌≡◌, ◌++◌, ◌∷◌, [], ◌+◌, ◌<◌, ◌^◌, codes, decimal, OnOk, IfErr};
 ghost use Rattle.std.specs.Io.KnownBytes.{Appends};
 ghost use Rattle.docket.specs.Rows.{row};
 ghost use Rattle.match_audit.specs.Replay.{NamesMember, RefusesMember, IsPendingMember};
-ghost use Rattle.residency.specs.Replay.{replay_text, refusal_word as word_of, refusal_fields, pending_word as kind_of, pending_name as name_of, event_count as count_of, fault_fields, answer_fields, IsAnswerOf};
+ghost use Rattle.residency.specs.Replay.{replay_text, refusal_word as word_of, refusal_fields, pending_word as kind_of, pending_name as name_of, event_count as count_of, fault_fields, IsAnswerOf};
 ghost use Rattle.residency.specs.Serving.{IsWriteFault};
 
 use docket::docket::Docket;

@@ -1,9 +1,8 @@
 //! Writing what an audit or a replay found.
-ghost use Rattle.std.specs.Prelude.{◌≡◌, ◌⊎◌, ◌++◌, ◌∷◌, [], ◌+◌, ◌<◌, length, OnOk, IfErr};
+ghost use Rattle.std.specs.Prelude.{◌≡◌, ◌++◌, OnOk, IfErr};
 ghost use Rattle.std.specs.List.{All, flat_map};
 ghost use Rattle.std.specs.Io.KnownBytes.{Appends};
-ghost use Rattle.match_model.specs.Instance.{IsProgramme, IsResident};
-ghost use Rattle.docket.specs.Rows.{row};
+ghost use Rattle.match_model.specs.Instance.{IsProgramme};
 ghost use Rattle.residency.specs.Report.{report_text, stability_row, pair_row, over_row, IsPairOf, IsReportOf};
 ghost use Rattle.residency.specs.Serving.{IsWriteFault};
 

@@ -4,7 +4,7 @@ use Rattle.residency.proofs.serve.audit_docket.Goals as goal
 
 pub write_report-requires : goal.write_report-requires
 write_report-requires g c =
-    report_of_docket _ c.in-Some.sheet.now _ c.instance-inst.ensures.whole (sym c.in-Some.ensures)
+    report_of_docket _ c.in-Some.sheet.now _ c.instance-inst.ensures.whole (sym c.in-Some.ensures.sheet)
     (rw c.instance-inst.ensures.instance at c.residents-residents.ensures.instance) (rw c.instance-inst.ensures.instance at c.in-Ok.ensures.report)
 
 pub returns-in-Ok-write_report-clause-report : goal.returns-in-Ok-write_report-clause-report
@@ -12,7 +12,7 @@ returns-in-Ok-write_report-clause-report g c =
     let reports = rw c.instance-inst.ensures.instance at c.in-Ok.ensures.report in
     record {
       sheet = c.in-Some.sheet.now;
-      has_sheet = sym c.in-Some.ensures;
+      has_sheet = sym c.in-Some.ensures.sheet;
       report = c.in-Ok.report;
       reports = reports;
       tells = tells_stable _ _ _ true reports c.if-is_stable.ensures.stable;
@@ -24,7 +24,7 @@ returns-in-Ok-2-clause-report g c =
     let reports = rw c.instance-inst.ensures.instance at c.in-Ok.ensures.report in
     record {
       sheet = c.in-Some.sheet.now;
-      has_sheet = sym c.in-Some.ensures;
+      has_sheet = sym c.in-Some.ensures.sheet;
       report = c.in-Ok.report;
       reports = reports;
       tells = tells_stable _ _ _ false reports c.if-is_stable.ensures.stable;
