@@ -12,6 +12,7 @@ pub mod NumberFacts
 pub mod RankFacts
 pub mod EventFacts
 pub mod MarkFacts
+pub mod RestFacts
 pub mod DocketFacts
 pub mod WholeFacts
 pub mod WriteFacts

@@ -1,5 +1,5 @@
 -- The first record with a fault, as records are added one by one.
-use Rattle.std.proofs.Common.{◌≡◌, ◌≤◌, ◌<◌, ◌+◌, ℕ, List, [], ◌∷◌, ◌++◌, Bool, true, false, length, take, drop, sym, ◌∙◌, refl, ap, Option, Some, None, inl, inr, append_assoc, append-nil, rules}
+use Rattle.std.proofs.Common.{◌≡◌, ◌≤◌, ◌<◌, ◌+◌, ◌-◌, ℕ, zero, suc, List, [], ◌∷◌, ◌++◌, Bool, true, false, length, take, drop, sym, ◌∙◌, refl, ap, Option, Some, None, inl, inr, append_assoc, append-nil, rules, subst, arith}
 use Rattle.std.specs.Prelude.{nat_le, if◌then◌else◌}
 use Rattle.std.proofs.lemmas.List.{take_more, take_all, take-append-drop, length-append}
 use Rattle.docket.specs.Fields.{Fields, or_else, row_fault}
@@ -113,3 +113,12 @@ pass_fault f rows k e lt none (inr here) =
 
 pub pass_end : (f : List Fields → Fields → Option DocketFault) (rows : List Fields) (k : ℕ) → length rows ≤ k → first_from f [] (take k rows) ≡ None → first_from f [] rows ≡ None
 pass_end f rows k end none = ap (first_from f []) (sym (take_all k rows end)) ∙ none
+
+-- what holds of a front of the rows, and goes on over each row after it, holds of all
+pub pass_rest : (P : List Fields → Type 0) (rows : List Fields) (n : ℕ) → n ≤ length rows
+    → ((k : ℕ) → n ≤ k → k < length rows → P (take k rows) → P (take (k + 1) rows)) → P (take n rows) → P rows
+pass_rest P rows n low step here = over (length rows - n) n (omega arith) (omega arith) here
+  where
+    over : (m k : ℕ) → n ≤ k → m + k ≡ length rows → P (take k rows) → P rows
+    over zero k up e p = subst P (take_all k rows (omega arith)) p
+    over (suc m) k up e p = over m (k + 1) (omega arith) (omega arith) (step k up (omega arith) p)

@@ -149,7 +149,7 @@ pub fn rank(
 {
     let mut residents = Vec::new(alloc);
     let mut programmes = Vec::new(alloc);
-    for k in 0..tables.len() {
+    for k in 0..tables.events_from() {
         rank_row(tables, k, builder, &mut residents, &mut programmes)?;
     }
     Ok(())

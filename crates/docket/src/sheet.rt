@@ -167,7 +167,7 @@ impl Marks {
         ensures marked { OnOk result (IsMarked self.new tables.now tables.now) }
         ensures fault { Answers (first_from (mark_fault tables.now) [] tables.now) result }
     {
-        for k in 0..tables.len() {
+        for k in 0..tables.events_from() {
             self.add_row(tables, k)?;
         }
         Ok(())
@@ -204,7 +204,7 @@ impl Marks {
         requires known { first_from (mark_fault tables.now) [] tables.now ≡ None }
         ensures { Answers (first_from (filled_fault tables.now) [] tables.now) result }
     {
-        for k in 0..tables.len() {
+        for k in 0..tables.events_from() {
             if tables.kind(k) == FILLED {
                 if !self.is_right(tables, k, instance) {
                     return Err(DocketFault::BadSheet {

@@ -1,8 +1,8 @@
-use Rattle.std.proofs.Common.{arith}
+use Rattle.std.proofs.Common.{◌≡◌, arith}
 use Rattle.std.proofs.lemmas.Result.{err_from_is_err_and}
-use Rattle.std.proofs.lemmas.List.{take_all}
 use Rattle.docket.specs.Passes.{ranking_fault}
-use Rattle.docket.proofs.PassFacts.{pass_start, pass_more, pass_fault, pass_end}
+use Rattle.docket.proofs.PassFacts.{pass_start, pass_more, pass_fault}
+use Rattle.docket.proofs.RestFacts.{ranked_rest}
 use Rattle.docket.proofs.ranking.rank.Goals as goal
 
 pub loop-k-init : goal.loop-k-init
@@ -19,7 +19,12 @@ returns-in_err-rank_row-clause-fault c =
 
 pub returns-clause-ranked : goal.returns-clause-ranked
 returns-clause-ranked c =
-    let all = take_all c.loop-k.k c.args.tables.now (omega arith) in rw all at c.loop-k.invariant.0
+    let end : c.loop-k.k ≡ c.events_from-k-end.result = omega arith in
+    let done = rw end at c.loop-k.invariant in
+    (ranked_rest c.loop-k.builder c.args.tables.now c.events_from-k-end.result c.events_from-k-end.ensures.within c.events_from-k-end.ensures.events done.0 done.1).0
 
 pub returns-clause-fault : goal.returns-clause-fault
-returns-clause-fault c = pass_end (ranking_fault c.args.tables.now) c.args.tables.now c.loop-k.k (omega arith) c.loop-k.invariant.1
+returns-clause-fault c =
+    let end : c.loop-k.k ≡ c.events_from-k-end.result = omega arith in
+    let done = rw end at c.loop-k.invariant in
+    (ranked_rest c.loop-k.builder c.args.tables.now c.events_from-k-end.result c.events_from-k-end.ensures.within c.events_from-k-end.ensures.events done.0 done.1).1

@@ -1,10 +1,11 @@
-use Rattle.std.proofs.Common.{inr, arith, take}
+use Rattle.std.proofs.Common.{◌≡◌, inr, arith, take}
 use Rattle.docket.specs.Stored.{row_at}
 use Rattle.docket.specs.Passes.{filled_fault}
 use Rattle.docket.specs.declared.kind.TheConstants.{FILLED}
-use Rattle.docket.proofs.PassFacts.{pass_start, pass_more, pass_fault, pass_end}
+use Rattle.docket.proofs.PassFacts.{pass_start, pass_more, pass_fault}
 use Rattle.docket.proofs.RankFacts.{not_kind}
 use Rattle.docket.proofs.MarkFacts.{filled_other}
+use Rattle.docket.proofs.RestFacts.{filled_rest}
 use Rattle.docket.proofs.sheet.Marks.check_filled.Goals as goal
 use Rattle.docket.proofs.sheet.Marks.check_filled.Goals.{then-kind-eq-FILLED+else-not-is_right, else-kind-eq-FILLED}
 
@@ -24,4 +25,6 @@ loop-k-preserved c = elim c.if-kind-eq-FILLED.branch [
 ]
 
 pub returns : goal.returns
-returns c = pass_end (filled_fault c.args.tables.now) c.args.tables.now c.loop-k.k (omega arith) c.loop-k.invariant
+returns c =
+    let end : c.loop-k.k ≡ c.events_from-k-end.result = omega arith in
+    filled_rest c.args.tables.now c.events_from-k-end.result c.events_from-k-end.ensures.within c.events_from-k-end.ensures.events (rw end at c.loop-k.invariant)
