@@ -5,7 +5,8 @@ use std::time::Instant;
 
 const PAIRS: u32 = 1_000_000;
 
-const CAPACITY: usize = 1024;
+// The most places that a mailbox is given by number.
+const MOST: usize = 1024;
 
 // How long a thread that is refused waits, in hints to the processor, where it doesn't try again at once.
 const PAUSES: u32 = 2048;
@@ -61,13 +62,21 @@ fn across(sender: Sender<u32>, receiver: Receiver<u32>, pauses: u32) -> u64 {
     total
 }
 
+// How the pairs go from one thread to another: the case, its places, and how long a thread that is refused waits.
+const CASES: [(&str, usize, u32); 4] = [
+    ("one-place", 1, 0),
+    ("most-places", MOST, 0),
+    ("most-places-pausing", MOST, PAUSES),
+    ("room-for-all", PAIRS as usize, 0),
+];
+
 fn main() {
-    let (sender, receiver) = bounded(CAPACITY);
+    let (sender, receiver) = bounded(MOST);
     let start = Instant::now();
     let total = alone(sender, receiver);
     println!("alone {} {total}", start.elapsed().as_nanos());
-    for (name, pauses) in [("across", 0), ("pausing", PAUSES)] {
-        let (sender, receiver) = bounded(CAPACITY);
+    for (name, places, pauses) in CASES {
+        let (sender, receiver) = bounded(places);
         let start = Instant::now();
         let total = across(sender, receiver, pauses);
         println!("{name} {} {total}", start.elapsed().as_nanos());
