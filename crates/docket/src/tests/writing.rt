@@ -182,7 +182,6 @@ fn write_own_sheet<W: Write>(
     docket: &Docket,
     writer: &mut W,
 ) -> Result<(), DocketFault> {
-    let _whole = docket.instance();
     match docket.sheet() {
         Some(sheet) => write_sheet(alloc, docket, sheet, writer),
         None => Ok(()),
@@ -204,6 +203,52 @@ fn writes_sheets(rt: HostRuntime) -> Result<(), Fail> {
         sheet_written(rt.alloc(), input, &mut output)?;
         assert!(rt; output.as_slice() == sheet.as_bytes(), "{sheet}");
     }
+    Ok(())
+}
+
+// Writes the journal that the docket has.
+fn write_own_journal<W: Write>(
+    alloc: Global,
+    docket: &Docket,
+    writer: &mut W,
+) -> Result<(), DocketFault> {
+    match docket.journal() {
+        Some(journal) => write_journal(
+            alloc,
+            docket,
+            journal.capacity,
+            journal.events.as_slice(),
+            writer,
+        ),
+        None => Ok(()),
+    }
+}
+
+// Reads a docket, and writes the journal that it has.
+fn journal_written<W: Write>(
+    alloc: Global,
+    input: &str,
+    writer: &mut W,
+) -> Result<(), DocketFault> {
+    match read_docket(alloc, input.as_bytes()) {
+        Ok(docket) => write_own_journal(alloc, &docket, writer),
+        Err(fault) => Err(fault),
+    }
+}
+
+// Whether the journal that is read with a docket is written as it was.
+fn writes_back(alloc: Global, members: &str, events: &str) -> Result<bool, Fail> {
+    let journal = joined(alloc, &["C,7\n", events])?;
+    let text = joined(alloc, &[journal.as_str(), members])?;
+    let mut output = Vec::new(alloc);
+    journal_written(alloc, text.as_str(), &mut output)?;
+    Ok(output.as_slice() == journal.as_bytes())
+}
+
+#[test]
+fn writes_journals_that_were_read(rt: HostRuntime) -> Result<(), Fail> {
+    assert!(rt; writes_back(rt.alloc(), SMALL, SMALL_JOURNAL)?);
+    assert!(rt; writes_back(rt.alloc(), QUOTAS, QUOTAS_JOURNAL)?);
     Ok(())
 }
 
