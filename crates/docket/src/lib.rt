@@ -11,6 +11,7 @@ pub mod docket;
 pub mod fault;
 mod journal;
 mod kind;
+mod long_record;
 mod names;
 mod ranking;
 pub mod read;
