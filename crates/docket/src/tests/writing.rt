@@ -11,6 +11,7 @@ use super::{A, B, SMALL, X, Y, joined};
 use crate::docket::Docket;
 use crate::fault::DocketFault;
 use crate::read::read_docket;
+use crate::row_text::RowText;
 use crate::write::{write_journal, write_sheet};
 use exchange_core::event::{AnswerKind, Capacity, Event};
 use match_model::instance::Instance;
@@ -281,5 +282,25 @@ fn a_writer_that_fails(rt: HostRuntime) -> Result<(), Fail> {
     for (good, answer) in [(0, failed), (42, failed), (43, Ok(()))] {
         assert_eq!(rt; journal_answer(rt.alloc(), good)?, Some(answer), "{good}");
     }
+    Ok(())
+}
+
+// A row of two fields, and one of a programme, as they are sent.
+fn gathered(alloc: Global, docket: &Docket) -> Result<Vec<u8>, DocketFault> {
+    let mut rows = RowText::new(alloc);
+    rows.push(&[b"U", b"x"])?;
+    if A.0 < docket.instance().programmes() {
+        rows.push_programme(docket, b"O", A, 2)?;
+    }
+    let mut output = Vec::new(alloc);
+    rows.send(&mut output)?;
+    Ok(output)
+}
+
+#[test]
+fn gathers_rows(rt: HostRuntime) -> Result<(), Fail> {
+    let docket = read_docket(rt.alloc(), SMALL.as_bytes())?;
+    let output = gathered(rt.alloc(), &docket)?;
+    assert!(rt; output.as_slice() == b"U,x\nO,a,2,1\n".as_slice());
     Ok(())
 }
