@@ -6,6 +6,7 @@
 
 pub mod event;
 pub mod exchange;
+pub mod note;
 mod seat;
 #[cfg(test)]
 mod tests;
