@@ -1,7 +1,8 @@
 -- What a resident's desk keeps, and what it owes.
-use Rattle.std.specs.Prelude.{◌≡◌, ℕ, ◌-◌, ◌≤◌, Bool, true, false, not, nat_lt, ◌&&◌, if◌then◌else◌, Option, Some, None, List, [], ◌∷◌, ◌++◌, length, take}
+use Rattle.std.specs.Prelude.{◌≡◌, ℕ, ◌-◌, ◌≤◌, Bool, true, false, not, nat_lt, ◌&&◌, if◌then◌else◌, Option, Some, None, List, [], ◌∷◌, ◌++◌, length, take, drop}
 use Rattle.match_model.specs.Ranking.{place}
 use Rattle.match_model.specs.Instance.{Instance, IsResident, list_of_resident}
+use Rattle.exchange_core.specs.declared.event.AnswerKind.TheVariants.{Hold, Decline}
 use Rattle.exchange_core.specs.Mail.{Answered}
 use Rattle.exchange_core.specs.Calls.{calls, best_of, release_of}
 use Rattle.exchange_core.specs.Refusal.{is_nil}
@@ -21,11 +22,26 @@ abbrev pub with_place : List ℕ → Option ℕ → Option (ℕ × ℕ)
 with_place ranking None = None
 with_place ranking (Some p) = Some (p, place ranking p)
 
+-- the programme without its place
+abbrev pub programme_in : Option (ℕ × ℕ) → Option ℕ
+programme_in None = None
+programme_in (Some (p, place)) = Some p
+
 -- the place of an offer that is before the best so far, if it is
 abbrev pub better_place : Option ℕ → Option (ℕ × ℕ) → Option ℕ
 better_place None best = None
 better_place (Some place) None = Some place
 better_place (Some place) (Some (p, best)) = if nat_lt place best then Some place else None
+
+-- what an offer by p calls for: where it has a place before the best so far a hold, and then a release of that one, else a decline
+abbrev pub called_for : ℕ → Option ℕ → Option (ℕ × ℕ) → List Answered
+called_for p None best = (p, Decline) ∷ []
+called_for p (Some place) best = (p, Hold) ∷ release_of (programme_in best)
+
+-- the best with p's offer, where that has a place before the best so far
+abbrev pub best_with : ℕ → Option ℕ → Option (ℕ × ℕ) → Option (ℕ × ℕ)
+best_with p None best = best
+best_with p (Some place) best = Some (p, place)
 
 module _ {T : Type 0} where
   -- r's desk with this end, which has taken nothing and owes nothing
@@ -47,6 +63,14 @@ module _ {T : Type 0} where
   -- one offer more is taken and isn't decided yet, from an end that is then this one
   abbrev pub took_offer : ResidentDesk T → T → ℕ → ResidentDesk T
   took_offer desk end p = record desk { end = end; taken = desk.taken ++ p ∷ []; undecided = true }
+
+  -- the offer taken last, by p, is decided
+  abbrev pub decided_offer : ResidentDesk T → ℕ → Option ℕ → ResidentDesk T
+  decided_offer desk p place = record desk { undecided = false; due = called_for p place desk.best; best = best_with p place desk.best }
+
+  -- the first answer due is given
+  abbrev pub gave_answer : ResidentDesk T → ResidentDesk T
+  gave_answer desk = record desk { due = drop 1 desk.due }
 
   -- the offers taken, without the last one where it isn't decided
   abbrev pub decided : ResidentDesk T → List ℕ
