@@ -1,9 +1,9 @@
 -- Where a list of events agrees with the desk, the programme's wish is the core's next offer.
-use Rattle.std.proofs.Common.{◌≡◌, ℕ, Bool, false, cond, ltb, ◌-◌, List, length, slice_get, Option, None, ap, sym, ◌∙◌, refl}
-use Rattle.match_model.specs.Instance.{Instance, quota, list_of_programme}
+use Rattle.std.proofs.Common.{◌≡◌, false, List, length, refl}
+use Rattle.match_model.specs.Instance.{Instance}
 use Rattle.exchange_core.specs.declared.event.Event.{Event}
-use Rattle.exchange_core.specs.Mail.{Answered, offers_of, hears}
-use Rattle.exchange_core.specs.Calls.{rejections, out}
+use Rattle.exchange_core.specs.Mail.{offers_of, hears}
+use Rattle.exchange_core.specs.Calls.{out}
 use Rattle.exchange_core.specs.Legal.{is_closed}
 use Rattle.exchange_core.specs.Shown.{next_offer}
 use Rattle.match_agents.specs.Desks.{ProgrammeDesk}

@@ -1,5 +1,5 @@
 -- What a programme's desk keeps, and whom it would offer to next.
-use Rattle.std.specs.Prelude.{◌≡◌, ℕ, ◌+◌, ◌-◌, ◌*◌, ◌≤◌, nat_lt, if◌then◌else◌, Option, None, List, [], ◌∷◌, ◌++◌, length, slice_get}
+use Rattle.std.specs.Prelude.{◌≡◌, ℕ, ◌-◌, ◌*◌, ◌≤◌, nat_lt, if◌then◌else◌, Option, None, [], ◌∷◌, ◌++◌, length, slice_get}
 use Rattle.match_model.specs.Instance.{Instance, IsProgramme, quota, list_of_programme}
 use Rattle.exchange_core.specs.Mail.{Answered}
 use Rattle.exchange_core.specs.Calls.{rejections}
