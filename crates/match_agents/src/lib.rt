@@ -4,6 +4,8 @@
 mod heard;
 mod programme;
 mod resident;
+#[cfg(test)]
+mod tests;
 
 pub use heard::{AgentRefused, Heard};
 pub use programme::ProgrammeAgent;
