@@ -10,7 +10,7 @@ use Rattle.match_agents.specs.Desks.{ResidentDesk}
 
 -- the items are the last of the list
 abbrev pub IsSuffix : {X : Type 0} → List X → List X → Type 0
-IsSuffix xs ys = (before : List _) × (before ++ xs ≡ ys)
+IsSuffix xs ys = drop (length ys - length xs) ys ≡ xs
 
 -- the answers due: the first one, and after it a release
 abbrev pub due_list : Option Answered → Option ℕ → List Answered

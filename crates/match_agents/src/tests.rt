@@ -78,15 +78,10 @@ fn releases_the_one_before(rt: HostRuntime) -> Result<(), Fail> {
     let end = ListTake::of([offer(A), offer(B)].to_vec(rt.alloc())?);
     let inst = instance(&rt, rt.alloc());
     let mut run = ResidentRun::open(rt.alloc(), inst, X, end).expect(&rt, "an agent");
-    let first = (A, [Some((A, HOLD)), None]);
-    let second = (B, [Some((B, HOLD)), Some((A, RELEASE))]);
-    for (programme, due) in [first, second] {
-        assert_eq!(rt; run.take(), Some(Heard::Got(offer(programme))));
-        for answer in due {
-            assert_eq!(rt; run.give(), answer);
-        }
-        assert_eq!(rt; run.give(), None);
-    }
+    assert_eq!(rt; run.take(), Some(Heard::Got(offer(A))));
+    assert_eq!(rt; run.give_two(), [Some((A, HOLD)), None]);
+    assert_eq!(rt; run.take(), Some(Heard::Got(offer(B))));
+    assert_eq!(rt; run.give_two(), [Some((B, HOLD)), Some((A, RELEASE))]);
     assert_eq!(rt; run.take(), Some(Heard::LogFull));
     assert_eq!(rt; run.log(), [offer(A), offer(B)].as_slice());
     Ok(())

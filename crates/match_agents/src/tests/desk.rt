@@ -56,6 +56,13 @@ impl<T: TakeEnd<OfferNote> + Drop> ResidentRun<T> {
         Some(due)
     }
 
+    /// Gives the first two answers due.
+    pub(super) fn give_two(&mut self) -> [Option<(ProgrammeNo, AnswerKind)>; 2] {
+        let first = self.give();
+        let second = self.give();
+        [first, second]
+    }
+
     pub(super) fn log(&self) -> &[OfferNote] {
         self.agent.taken_log()
     }
