@@ -1,0 +1,11 @@
+-- What a clause says of each answer of a desk that looked into its mailbox.
+use Rattle.match_agents.specs.declared.heard.Heard.{Heard}
+use Rattle.match_agents.specs.declared.heard.Heard.TheVariants as heard
+
+module _ {M : Type 0} where
+  -- a fact of the message that was taken, for a mailbox with none, for one that nobody can put into, and for a full log
+  abbrev pub MatchHeard : Heard M → (M → Type 0) → Type 0 → Type 0 → Type 0 → Type 0
+  MatchHeard (heard.Got m) got nothing gone full = got m
+  MatchHeard heard.Nothing got nothing gone full = nothing
+  MatchHeard heard.Gone got nothing gone full = gone
+  MatchHeard heard.LogFull got nothing gone full = full

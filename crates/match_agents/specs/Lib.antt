@@ -1,0 +1,4 @@
+pub mod Heard
+pub mod Desks
+pub mod Programmes
+pub mod Residents

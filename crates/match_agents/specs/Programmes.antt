@@ -1,0 +1,28 @@
+-- What a programme's desk keeps, and whom it would offer to next.
+use Rattle.std.specs.Prelude.{◌≡◌, ℕ, ◌-◌, ◌*◌, ◌≤◌, nat_lt, if◌then◌else◌, Option, None, [], ◌∷◌, ◌++◌, length, slice_get}
+use Rattle.match_model.specs.Instance.{Instance, IsProgramme, quota, list_of_programme}
+use Rattle.exchange_core.specs.Mail.{Answered}
+use Rattle.exchange_core.specs.Calls.{rejections}
+use Rattle.match_agents.specs.Desks.{ProgrammeDesk}
+
+module _ {T : Type 0} where
+  -- p's desk with this end, which has heard nothing and made no offer
+  abbrev pub opened_programme : Instance → ℕ → T → ProgrammeDesk T
+  opened_programme inst p end = record { programme = p; end = end; heard = []; room = 2 * length (list_of_programme inst p); offered = 0 }
+
+  -- one answer more is heard, from an end that is then this one
+  abbrev pub heard_answer : ProgrammeDesk T → T → Answered → ProgrammeDesk T
+  heard_answer desk end answer = record desk { end = end; heard = desk.heard ++ answer ∷ [] }
+
+  -- the next of the list, where fewer offers are out than the quota
+  abbrev pub wish_of : Instance → ProgrammeDesk T → Option ℕ
+  wish_of inst desk =
+      if nat_lt (desk.offered - rejections desk.heard) (quota inst desk.programme) then slice_get (list_of_programme inst desk.programme) desk.offered
+      else None
+
+  -- the desk of a programme of the instance, with room for all answers that it can be called for, and no offers but down its list
+  pub record IsProgrammeAgentOf (inst : Instance) (desk : ProgrammeDesk T) : Type 0 where
+    pub member : IsProgramme inst desk.programme
+    pub room_for_all : desk.room ≡ 2 * length (list_of_programme inst desk.programme)
+    pub log_within : length desk.heard ≤ desk.room
+    pub offers_within : desk.offered ≤ length (list_of_programme inst desk.programme)

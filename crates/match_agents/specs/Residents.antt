@@ -1,0 +1,91 @@
+-- What a resident's desk keeps, and what it owes.
+use Rattle.std.specs.Prelude.{◌≡◌, ℕ, ◌-◌, ◌≤◌, Bool, true, false, not, nat_lt, ◌&&◌, if◌then◌else◌, Option, Some, None, List, [], ◌∷◌, ◌++◌, length, take, drop}
+use Rattle.match_model.specs.Ranking.{place}
+use Rattle.match_model.specs.Instance.{Instance, IsResident, list_of_resident}
+use Rattle.exchange_core.specs.declared.event.AnswerKind.TheVariants.{Hold, Decline}
+use Rattle.exchange_core.specs.Mail.{Answered}
+use Rattle.exchange_core.specs.Calls.{calls, best_of, release_of}
+use Rattle.exchange_core.specs.Refusal.{is_nil}
+use Rattle.match_agents.specs.Desks.{ResidentDesk}
+
+-- the items are the last of the list
+abbrev pub IsSuffix : {X : Type 0} → List X → List X → Type 0
+IsSuffix xs ys = drop (length ys - length xs) ys ≡ xs
+
+-- the answers due: the first one, and after it a release
+abbrev pub due_list : Option Answered → Option ℕ → List Answered
+due_list None release = []
+due_list (Some answer) release = answer ∷ release_of release
+
+-- the programme with its place in the ranking, if there is one
+abbrev pub with_place : List ℕ → Option ℕ → Option (ℕ × ℕ)
+with_place ranking None = None
+with_place ranking (Some p) = Some (p, place ranking p)
+
+-- the programme without its place
+abbrev pub programme_in : Option (ℕ × ℕ) → Option ℕ
+programme_in None = None
+programme_in (Some (p, place)) = Some p
+
+-- the place of an offer that is before the best so far, if it is
+abbrev pub better_place : Option ℕ → Option (ℕ × ℕ) → Option ℕ
+better_place None best = None
+better_place (Some place) None = Some place
+better_place (Some place) (Some (p, best)) = if nat_lt place best then Some place else None
+
+-- what an offer by p calls for: where it has a place before the best so far a hold, and then a release of that one, else a decline
+abbrev pub called_for : ℕ → Option ℕ → Option (ℕ × ℕ) → List Answered
+called_for p None best = (p, Decline) ∷ []
+called_for p (Some place) best = (p, Hold) ∷ release_of (programme_in best)
+
+-- the best with p's offer, where that has a place before the best so far
+abbrev pub best_with : ℕ → Option ℕ → Option (ℕ × ℕ) → Option (ℕ × ℕ)
+best_with p None best = best
+best_with p (Some place) best = Some (p, place)
+
+module _ {T : Type 0} where
+  -- r's desk with this end, which has taken nothing and owes nothing
+  abbrev pub opened_resident : Instance → ℕ → T → ResidentDesk T
+  opened_resident inst r end = record {
+    resident = r;
+    end = end;
+    taken = [];
+    room = length (list_of_resident inst r);
+    undecided = false;
+    due = [];
+    best = None;
+  }
+
+  -- whether every offer taken was decided and no answer is due
+  abbrev pub is_ready : ResidentDesk T → Bool
+  is_ready desk = not desk.undecided && is_nil desk.due
+
+  -- one offer more is taken and isn't decided yet, from an end that is then this one
+  abbrev pub took_offer : ResidentDesk T → T → ℕ → ResidentDesk T
+  took_offer desk end p = record desk { end = end; taken = desk.taken ++ p ∷ []; undecided = true }
+
+  -- the offer taken last, by p, is decided
+  abbrev pub decided_offer : ResidentDesk T → ℕ → Option ℕ → ResidentDesk T
+  decided_offer desk p place = record desk { undecided = false; due = called_for p place desk.best; best = best_with p place desk.best }
+
+  -- the first answer due is given
+  abbrev pub gave_answer : ResidentDesk T → ResidentDesk T
+  gave_answer desk = record desk { due = drop 1 desk.due }
+
+  -- the offers taken, without the last one where it isn't decided
+  abbrev pub decided : ResidentDesk T → List ℕ
+  decided desk = if desk.undecided then take (length desk.taken - 1) desk.taken else desk.taken
+
+  -- the desk of a resident of the instance, with room for all offers that it can be sent, whose best offer is that of those
+  -- decided, and which owes the last answers that these call for, two at most
+  pub record IsResidentAgentOf (inst : Instance) (desk : ResidentDesk T) : Type 0 where
+    pub member : IsResident inst desk.resident
+    pub room_for_all : desk.room ≡ length (list_of_resident inst desk.resident)
+    pub log_within : length desk.taken ≤ desk.room
+    pub best_kept : desk.best ≡ with_place (list_of_resident inst desk.resident) (best_of (list_of_resident inst desk.resident) (decided desk))
+    pub owes_the_last : IsSuffix desk.due (calls (list_of_resident inst desk.resident) (decided desk))
+    pub few_due : length desk.due ≤ 2
+
+-- what is due is what the offers call for beyond what all but the last of them call for
+abbrev pub IsCalledByLast : List ℕ → List ℕ → List Answered → Type 0
+IsCalledByLast ranking offers due = (earlier : List ℕ) (p : ℕ) → offers ≡ earlier ++ p ∷ [] → calls ranking offers ≡ calls ranking earlier ++ due
