@@ -1,0 +1,233 @@
+//! What lies under the ledger's lock.
+ghost use Rattle.std.specs.Prelude.{◌≡◌};
+
+use crate::waits::Waits;
+use exchange_core::event::{AnswerKind, Event, Refused};
+use exchange_core::note::{AnswerNote, OfferNote};
+use mailbox_rule::PutEnd;
+use match_model::instance::Instance;
+use match_model::member::{ProgrammeNo, ResidentNo};
+use offer_ledger::{EntryRefused, Ledger, Naming, PutRefusal, Tally};
+
+/// The ledger, and the desks that wait for room.
+#[derive(Drop)]
+pub(crate) struct Books<J: Naming, P: PutEnd<OfferNote>, Q: PutEnd<AnswerNote>> {
+    pub(crate) ledger: Ledger<J, P, Q>,
+    pub(crate) waits: Waits,
+}
+
+/// What became of an event that was to be entered.
+#[derive(Clone, Copy, Debug)]
+pub(crate) enum Entry {
+    /// It is entered. Whether the desk's mailbox has more, and which desk it woke: the receiver of a put whose mailbox
+    /// was empty, or who waited for the room that a receipt made.
+    Made { more: bool, woken: Option<u32> },
+    /// The mailbox was full, and the desk waits for room.
+    Later,
+    /// Nothing is entered any more.
+    Ended,
+    /// The core refused it.
+    Refused,
+    /// Nobody can take from the mailbox any more.
+    Gone,
+}
+
+impl<J: Naming, P: PutEnd<OfferNote>, Q: PutEnd<AnswerNote>> Books<J, P, Q> {
+    /// Whether offers wait at a resident, as far as the core has it.
+    pub(crate) fn offers_wait(&self, inst: &Instance, resident: ResidentNo) -> bool
+        requires { inst.now ≡ J.inst }
+    {
+        let take = Event::Take {
+            resident,
+            programme: ProgrammeNo(0),
+        };
+        self.has_front(inst, take)
+    }
+
+    /// Whether answers wait at a programme, as far as the core has it.
+    pub(crate) fn answers_wait(&self, inst: &Instance, programme: ProgrammeNo) -> bool
+        requires { inst.now ≡ J.inst }
+    {
+        let hear = Event::Hear {
+            programme,
+            resident: ResidentNo(0),
+            kind: AnswerKind::Hold,
+        };
+        self.has_front(inst, hear)
+    }
+
+    // Whether a take or a hear isn't refused for want of a message.
+    fn has_front(&self, inst: &Instance, receipt: Event) -> bool
+        requires { inst.now ≡ J.inst }
+    {
+        !matches!(
+            self.ledger.core().may(inst, receipt),
+            Err(Refused::NothingWaiting | Refused::NoSuchDesk | Refused::Closed)
+        )
+    }
+
+    /// Enters an offer.
+    pub(crate) fn offer(
+        &mut self,
+        inst: &Instance,
+        tally: &mut Tally<J>,
+        programme: ProgrammeNo,
+        resident: ResidentNo,
+    ) -> Entry
+        requires { inst.now ≡ J.inst }
+    {
+        let receiver = resident.0;
+        let was_empty = !self.offers_wait(inst, resident);
+        let made = self.ledger.enter_offer(inst, tally, programme, resident);
+        let sender = desk_of_programme(inst, programme);
+        match self.put_entry(made, receiver, sender, was_empty) {
+            Entry::Made { woken, .. } => Entry::Made {
+                more: self.answers_wait(inst, programme),
+                woken,
+            },
+            entry => entry,
+        }
+    }
+
+    /// Enters an answer.
+    pub(crate) fn answer(
+        &mut self,
+        inst: &Instance,
+        tally: &mut Tally<J>,
+        resident: ResidentNo,
+        programme: ProgrammeNo,
+        kind: AnswerKind,
+    ) -> Entry
+        requires { inst.now ≡ J.inst }
+    {
+        let receiver = desk_of_programme(inst, programme);
+        let was_empty = !self.answers_wait(inst, programme);
+        let made = self
+            .ledger
+            .enter_answer(inst, tally, resident, programme, kind);
+        match self.put_entry(made, receiver, resident.0, was_empty) {
+            Entry::Made { woken, .. } => Entry::Made {
+                more: self.offers_wait(inst, resident),
+                woken,
+            },
+            entry => entry,
+        }
+    }
+
+    // What became of a put, whose receiver is woken where its mailbox was empty.
+    fn put_entry(
+        &mut self,
+        made: Result<(), EntryRefused>,
+        receiver: u32,
+        sender: u32,
+        was_empty: bool,
+    ) -> Entry {
+        match made {
+            Ok(()) => Entry::Made {
+                more: false,
+                woken: if was_empty { Some(receiver) } else { None },
+            },
+            Err(
+                EntryRefused::Step(Refused::MailboxFull)
+                | EntryRefused::PutRefused(PutRefusal::Full),
+            ) => {
+                self.waits.join(receiver, sender);
+                Entry::Later
+            }
+            Err(EntryRefused::Spoiled) => Entry::Ended,
+            Err(EntryRefused::PutRefused(PutRefusal::Gone)) => Entry::Gone,
+            Err(EntryRefused::Step(_)) => Entry::Refused,
+        }
+    }
+
+    /// Enters a take. A receipt that the core refuses spoils the ledger.
+    pub(crate) fn take(
+        &mut self,
+        inst: &Instance,
+        tally: &mut Tally<J>,
+        resident: ResidentNo,
+        programme: ProgrammeNo,
+    ) -> Entry
+        requires { inst.now ≡ J.inst }
+    {
+        let made = self.ledger.enter_take(inst, tally, resident, programme);
+        match self.receipt_entry(made, resident.0) {
+            Entry::Made { woken, .. } => Entry::Made { more: true, woken },
+            entry => entry,
+        }
+    }
+
+    /// Enters a hear. A receipt that the core refuses spoils the ledger.
+    pub(crate) fn hear(
+        &mut self,
+        inst: &Instance,
+        tally: &mut Tally<J>,
+        programme: ProgrammeNo,
+        resident: ResidentNo,
+        kind: AnswerKind,
+    ) -> Entry
+        requires { inst.now ≡ J.inst }
+    {
+        let made = self
+            .ledger
+            .enter_hear(inst, tally, programme, resident, kind);
+        let receiver = desk_of_programme(inst, programme);
+        match self.receipt_entry(made, receiver) {
+            Entry::Made { woken, .. } => Entry::Made {
+                more: self.answers_wait(inst, programme),
+                woken,
+            },
+            entry => entry,
+        }
+    }
+
+    // What became of a receipt, which makes room in its mailbox.
+    fn receipt_entry(&mut self, made: Result<(), EntryRefused>, receiver: u32) -> Entry {
+        match made {
+            Ok(()) => Entry::Made {
+                more: false,
+                woken: self.waits.leave(receiver),
+            },
+            Err(EntryRefused::Spoiled) => Entry::Ended,
+            Err(_) => {
+                self.ledger.spoil();
+                Entry::Refused
+            }
+        }
+    }
+
+    /// Some event that may follow; where that is the close it is entered, and this is none.
+    pub(crate) fn close_or_find(&mut self, inst: &Instance, tally: &mut Tally<J>) -> Found
+        requires { inst.now ≡ J.inst }
+    {
+        match self.ledger.core().some_enabled(inst) {
+            Some(Event::Close) => match self.ledger.close(inst, tally) {
+                Ok(()) => Found::Closed,
+                Err(_) => Found::Ended,
+            },
+            Some(Event::Take { resident, .. } | Event::Answer { resident, .. }) => {
+                Found::Desk(resident.0)
+            }
+            Some(Event::Hear { programme, .. } | Event::Offer { programme, .. }) => {
+                Found::Desk(desk_of_programme(inst, programme))
+            }
+            None => Found::Ended,
+        }
+    }
+}
+
+/// What a worker finds that asked the core for something to do.
+#[derive(Clone, Copy, Debug)]
+pub(crate) enum Found {
+    /// The exchange was at rest, and the close is entered.
+    Closed,
+    /// Nothing is entered any more.
+    Ended,
+    /// Some event of this desk may follow.
+    Desk(u32),
+}
+
+/// The number of a programme's desk: residents' desks come first.
+pub(crate) fn desk_of_programme(inst: &Instance, programme: ProgrammeNo) -> u32 {
+    inst.residents().saturating_add(programme.0)
+}

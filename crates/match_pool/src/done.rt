@@ -1,0 +1,55 @@
+//! What a run gives.
+use exchange_core::event::Event;
+use exchange_core::note::{AnswerNote, OfferNote};
+use mailbox_rule::{PutEnd, TakeEnd};
+use match_agents::{ProgrammeAgent, ResidentAgent};
+use match_model::assignment::Assignment;
+
+/// How a run ended.
+#[derive(Clone, Copy, Debug, PartialEq, Eq)]
+pub enum Ending {
+    /// The exchange was closed.
+    Closed,
+    /// The gate stopped it.
+    Stopped,
+}
+
+/// The ends and agents of a run: sending ends by receiver, agents by desk.
+#[derive(Drop)]
+pub struct Ends<P, T, Q, U>
+where
+    P: PutEnd<OfferNote>,
+    T: TakeEnd<OfferNote>,
+    Q: PutEnd<AnswerNote>,
+    U: TakeEnd<AnswerNote>,
+{
+    /// By resident, the end that offers were put into.
+    pub offer_puts: Vec<P>,
+    /// By resident, its agent.
+    pub residents: Vec<ResidentAgent<T>>,
+    /// By programme, the end that answers were put into.
+    pub answer_puts: Vec<Q>,
+    /// By programme, its agent.
+    pub programmes: Vec<ProgrammeAgent<U>>,
+}
+
+/// What a run gives.
+#[derive(Drop)]
+pub struct Done<P, T, Q, U>
+where
+    P: PutEnd<OfferNote>,
+    T: TakeEnd<OfferNote>,
+    Q: PutEnd<AnswerNote>,
+    U: TakeEnd<AnswerNote>,
+{
+    /// How it ended.
+    pub ending: Ending,
+    /// Every event, in the order of the ledger's lock.
+    pub journal: Vec<Event>,
+    /// What each resident holds after the journal.
+    pub assignment: Assignment,
+    /// By worker, how many events it entered.
+    pub entered: Vec<u64>,
+    /// The ends of the mailboxes, and the agents.
+    pub ends: Ends<P, T, Q, U>,
+}

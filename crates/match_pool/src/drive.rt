@@ -1,0 +1,63 @@
+//! The threads of a run.
+ghost use Rattle.std.specs.Prelude.{◌≡◌};
+
+use crate::fault::RunFault;
+use crate::floor::Floor;
+use crate::gate::Gate;
+use crate::worker::Worker;
+use exchange_core::note::{AnswerNote, OfferNote};
+use mailbox_rule::{PutEnd, TakeEnd};
+use match_model::instance::Instance;
+use offer_ledger::{Naming, Tally};
+use std::alloc::Global;
+use std::sync::Wait;
+use std::thread;
+use std::thread::Threads;
+
+/// Starts a worker for each tally, and joins them all. The tallies come back by worker. Where the system refuses to
+/// start one, the others are ended and joined.
+pub(crate) fn drive<J, P, Q, T, U, G, R>(
+    rt: &R,
+    alloc: Global,
+    inst: &Instance,
+    floor: &Floor<J, P, Q, T, U>,
+    gate: &G,
+    tallies: Vec<Tally<J>>,
+) -> Result<Vec<Tally<J>>, RunFault>
+where
+    J: Naming + Send + Sync,
+    P: PutEnd<OfferNote> + Drop + Send,
+    Q: PutEnd<AnswerNote> + Drop + Send,
+    T: TakeEnd<OfferNote> + Drop + Send,
+    U: TakeEnd<AnswerNote> + Drop + Send,
+    G: Gate + Sync,
+    R: Threads + Wait + Sync,
+    requires { inst.now ≡ J.inst }
+{
+    let workers = tallies.len();
+    let mut handles = Vec::with_capacity(alloc, workers)?;
+    let mut back = Vec::with_capacity(alloc, workers)?;
+    let all_started = thread::scope(thread::scope_env(), rt, |scope| -> bool {
+        let mut number = 0;
+        let mut all_started = true;
+        for tally in tallies {
+            let worker = Worker::new(rt, inst, gate, number, tally);
+            match scope.spawn(move || worker.work(floor)) {
+                Ok(handle) => handles.push_reserved(handle),
+                Err(_) => {
+                    all_started = false;
+                    floor.end(rt);
+                }
+            }
+            number += 1;
+        }
+        for handle in handles {
+            back.push_reserved(handle.join(rt));
+        }
+        all_started
+    });
+    if !all_started {
+        return Err(RunFault::Thread);
+    }
+    Ok(back)
+}

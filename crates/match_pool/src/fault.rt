@@ -1,0 +1,65 @@
+//! Why a run gave no result.
+use exchange_core::event::{Desk, Event};
+use mailbox_rule::MailFault;
+use std::alloc::{AllocError, AllocFailed};
+use thiserror::Error;
+
+/// Why a run gave no result. A fault ends all workers, and all are joined before it is answered.
+#[derive(Debug, Drop, Error)]
+pub enum RunFault {
+    /// A number of workers that isn't admitted.
+    #[error("bad number of workers")]
+    BadWorkers,
+    /// The capacity is neither full nor from 1 to 1,024.
+    #[error("bad capacity")]
+    BadCapacity,
+    /// A growth was refused.
+    #[error("out of memory")]
+    Memory,
+    /// The system refused to start a worker.
+    #[error("a worker could not be started")]
+    Thread,
+    /// A receipt that may not follow the journal.
+    #[error("a receipt was out of step")]
+    OutOfStep {
+        /// The events entered before.
+        journal: Vec<Event>,
+        /// The take or hear.
+        event: Event,
+    },
+    /// The desk's log differs from the journal, or the desk was left pending.
+    #[error("a desk's log differs from the journal")]
+    Torn(Desk),
+    /// Nobody holds the other end of this desk's mailbox.
+    #[error("a mailbox is gone")]
+    MailGone(Desk),
+}
+
+/// What ended the workers early.
+#[derive(Clone, Copy, Debug)]
+pub(crate) enum Trouble {
+    /// A receipt that the core refused.
+    OutOfStep(Event),
+    /// A desk whose log is full, or whose event the core refused.
+    Torn(Desk),
+    /// A desk whose mailbox has lost its other end.
+    MailGone(Desk),
+}
+
+impl From<AllocError> for RunFault {
+    fn from(_: AllocError) -> RunFault {
+        RunFault::Memory
+    }
+}
+
+impl From<MailFault> for RunFault {
+    fn from(_: MailFault) -> RunFault {
+        RunFault::Memory
+    }
+}
+
+impl<T: Drop> From<AllocFailed<T>> for RunFault {
+    fn from(_: AllocFailed<T>) -> RunFault {
+        RunFault::Memory
+    }
+}

@@ -1,0 +1,40 @@
+//! A gate sees a run as it goes, and may stop it.
+ghost use Rattle.std.specs.Prelude.{◌≡◌, true};
+
+use exchange_core::event::Desk;
+
+/// Whether a run goes on.
+#[derive(Clone, Copy, Debug, PartialEq, Eq)]
+pub enum Go {
+    /// It goes on.
+    On,
+    /// It ends once the events that were begun are entered.
+    Stop,
+}
+
+/// What the workers of a run call between their steps. Workers are numbered from 0.
+pub trait Gate {
+    /// Whether `pass` may answer `Stop`.
+    const MAY_STOP: bool;
+
+    /// Called between a receipt and its entry, with only this desk's lock held.
+    fn pass(&self, worker: usize, desk: Desk) -> Go
+        ensures { result ≡ Go.Stop → Self.MAY_STOP ≡ true };
+
+    /// Called after each accepted entry, with the ledger's lock released.
+    fn entered(&self, worker: usize);
+}
+
+/// A gate that never stops a run.
+#[derive(Clone, Copy, Debug)]
+pub struct OpenGate;
+
+impl Gate for OpenGate {
+    const MAY_STOP: bool = false;
+
+    fn pass(&self, _worker: usize, _desk: Desk) -> Go {
+        Go::On
+    }
+
+    fn entered(&self, _worker: usize) {}
+}

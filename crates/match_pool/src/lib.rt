@@ -1,0 +1,26 @@
+//! The pool: several threads drive the agents of an exchange, each desk under a lock of its own, the ledger under one,
+//! and the desks in hands and those that may have work under a third.
+#![tactic(auto)]
+
+mod books;
+mod compare;
+mod desks;
+mod done;
+mod drive;
+mod fault;
+mod floor;
+mod gate;
+mod hands;
+mod open;
+mod reserve;
+mod run;
+#[cfg(test)]
+mod tests;
+mod waits;
+mod woken;
+mod worker;
+
+pub use done::{Done, Ending, Ends};
+pub use fault::RunFault;
+pub use gate::{Gate, Go, OpenGate};
+pub use run::{RuledDone, run};

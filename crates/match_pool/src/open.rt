@@ -1,0 +1,141 @@
+//! What a run has before its workers start: mailboxes, agents and books.
+ghost use Rattle.std.specs.Prelude.{◌≡◌};
+
+use crate::books::Books;
+use crate::desks::{ProgrammeSeat, ResidentSeat};
+use crate::fault::RunFault;
+use crate::waits::Waits;
+use exchange_core::event::Capacity;
+use exchange_core::note::{AnswerNote, OfferNote};
+use mailbox_rule::{MailFault, PutEnd, RuledPut, RuledTake, TakeEnd, mailbox};
+use match_agents::{ProgrammeAgent, ResidentAgent};
+use match_model::instance::Instance;
+use match_model::member::{ProgrammeNo, ResidentNo};
+use offer_ledger::{Ledger, LedgerFault, Naming, Tally};
+use std::alloc::Global;
+use std::sync::ledger::Blank;
+use std::sync::{Mutex, Wait};
+
+/// The two ends of each mailbox of one kind, by receiver.
+pub(crate) type Mailboxes<M, R> = (Vec<RuledPut<M, R>>, Vec<RuledTake<M, R>>);
+
+/// A mailbox for each resident.
+pub(crate) fn offer_mailboxes<R: Wait + Copy>(
+    rt: R,
+    alloc: Global,
+    inst: &Instance,
+    cap: Capacity,
+) -> Result<Mailboxes<OfferNote, R>, RunFault> {
+    let count = inst.residents();
+    let mut puts = Vec::with_capacity(alloc, count as usize)?;
+    let mut takes = Vec::with_capacity(alloc, count as usize)?;
+    for r in 0..count {
+        let most = inst.list_of_resident(ResidentNo(r)).len();
+        let (put, take) = mailbox(alloc, rt, room(cap, most))?;
+        puts.push(put)?;
+        takes.push(take)?;
+    }
+    Ok((puts, takes))
+}
+
+/// A mailbox for each programme.
+pub(crate) fn answer_mailboxes<R: Wait + Copy>(
+    rt: R,
+    alloc: Global,
+    inst: &Instance,
+    cap: Capacity,
+) -> Result<Mailboxes<AnswerNote, R>, RunFault> {
+    let count = inst.programmes();
+    let mut puts = Vec::with_capacity(alloc, count as usize)?;
+    let mut takes = Vec::with_capacity(alloc, count as usize)?;
+    for p in 0..count {
+        let most = 2 * inst.list_of_programme(ProgrammeNo(p)).len();
+        let (put, take) = mailbox(alloc, rt, room(cap, most))?;
+        puts.push(put)?;
+        takes.push(take)?;
+    }
+    Ok((puts, takes))
+}
+
+// The room of a mailbox in which at most this many messages can ever wait: no more than that is ever used.
+fn room(cap: Capacity, most: usize) -> u32 {
+    let full = (most as u32).max(1);
+    match cap {
+        Capacity::Full => full,
+        Capacity::Each(n) => n.min(full),
+    }
+}
+
+/// A lock with an agent for each resident.
+pub(crate) fn resident_seats<J: Naming, T: TakeEnd<OfferNote> + Drop>(
+    alloc: Global,
+    inst: &Instance,
+    ends: Vec<T>,
+) -> Result<Vec<Mutex<ResidentSeat<J, T>>>, RunFault> {
+    let mut seats = Vec::with_capacity(alloc, ends.len())?;
+    let mut r = 0;
+    for end in ends {
+        let Ok(agent) = ResidentAgent::open(alloc, inst, ResidentNo(r), end) else {
+            return Err(RunFault::Memory);
+        };
+        seats.push(Mutex::new(ResidentSeat::new(agent)))?;
+        r += 1;
+    }
+    Ok(seats)
+}
+
+/// A lock with an agent for each programme.
+pub(crate) fn programme_seats<J: Naming, U: TakeEnd<AnswerNote> + Drop>(
+    alloc: Global,
+    inst: &Instance,
+    ends: Vec<U>,
+) -> Result<Vec<Mutex<ProgrammeSeat<J, U>>>, RunFault> {
+    let mut seats = Vec::with_capacity(alloc, ends.len())?;
+    let mut p = 0;
+    for end in ends {
+        let Ok(agent) = ProgrammeAgent::open(alloc, inst, ProgrammeNo(p), end) else {
+            return Err(RunFault::Memory);
+        };
+        seats.push(Mutex::new(ProgrammeSeat::new(agent)))?;
+        p += 1;
+    }
+    Ok(seats)
+}
+
+/// The ledger over these ends, with nobody waiting for room, and the tally of all its parts.
+pub(crate) fn open_books<J: Naming, P: PutEnd<OfferNote> + Drop, Q: PutEnd<AnswerNote> + Drop>(
+    alloc: Global,
+    blank: Blank,
+    inst: &Instance,
+    cap: Capacity,
+    offer_puts: Vec<P>,
+    answer_puts: Vec<Q>,
+) -> Result<(Books<J, P, Q>, Tally<J>), RunFault> {
+    let desks = offer_puts.len() + answer_puts.len();
+    let waits = Waits::with_desks(alloc, desks)?;
+    match Ledger::open(alloc, blank, inst, cap, offer_puts, answer_puts) {
+        Ok((ledger, tally)) => Ok((Books { ledger, waits }, tally)),
+        Err(refused) => match refused.fault {
+            LedgerFault::BadCapacity => Err(RunFault::BadCapacity),
+            LedgerFault::WrongEnds | LedgerFault::Memory => Err(RunFault::Memory),
+        },
+    }
+}
+
+/// As many tallies as there are workers, which together have all parts.
+pub(crate) fn cut<J: Naming>(
+    alloc: Global,
+    tally: Tally<J>,
+    workers: usize,
+) -> Result<Vec<Tally<J>>, RunFault> {
+    let mut tallies = Vec::with_capacity(alloc, workers)?;
+    let mut rest = tally;
+    for _ in 1..workers {
+        let Some(part) = rest.split() else {
+            return Err(RunFault::BadWorkers);
+        };
+        tallies.push(part)?;
+    }
+    tallies.push(rest)?;
+    Ok(tallies)
+}
