@@ -200,18 +200,15 @@ impl<J: Naming, P: PutEnd<OfferNote>, Q: PutEnd<AnswerNote>> Books<J, P, Q> {
     pub(crate) fn close_or_find(&mut self, inst: &Instance, tally: &mut Tally<J>) -> Found
         requires { inst.now ≡ J.inst }
     {
-        match self.ledger.core().some_enabled(inst) {
-            Some(Event::Close) => match self.ledger.close(inst, tally) {
+        let Some(event) = self.ledger.core().some_enabled(inst) else {
+            return Found::Ended;
+        };
+        match desk_of(inst, event) {
+            Some(desk) => Found::Desk(desk),
+            None => match self.ledger.close(inst, tally) {
                 Ok(()) => Found::Closed,
                 Err(_) => Found::Ended,
             },
-            Some(Event::Take { resident, .. } | Event::Answer { resident, .. }) => {
-                Found::Desk(resident.0)
-            }
-            Some(Event::Hear { programme, .. } | Event::Offer { programme, .. }) => {
-                Found::Desk(desk_of_programme(inst, programme))
-            }
-            None => Found::Ended,
         }
     }
 }
@@ -230,4 +227,15 @@ pub(crate) enum Found {
 /// The number of a programme's desk: residents' desks come first.
 pub(crate) fn desk_of_programme(inst: &Instance, programme: ProgrammeNo) -> u32 {
     inst.residents().saturating_add(programme.0)
+}
+
+// The number of the desk whose event this is; none of a close.
+fn desk_of(inst: &Instance, event: Event) -> Option<u32> {
+    match event {
+        Event::Take { resident, .. } => Some(resident.0),
+        Event::Answer { resident, .. } => Some(resident.0),
+        Event::Hear { programme, .. } => Some(desk_of_programme(inst, programme)),
+        Event::Offer { programme, .. } => Some(desk_of_programme(inst, programme)),
+        Event::Close => None,
+    }
 }

@@ -20,7 +20,7 @@ pub(crate) fn drive<J, P, Q, T, U, G, R>(
     rt: &R,
     alloc: Global,
     inst: &Instance,
-    floor: &Floor<J, P, Q, T, U>,
+    floor: &Floor<'_, J, P, Q, T, U, G>,
     gate: &G,
     tallies: Vec<Tally<J>>,
 ) -> Result<Vec<Tally<J>>, RunFault>

@@ -1,7 +1,10 @@
 //! What the workers share.
+ghost use Rattle.std.specs.Prelude.{◌≡◌, true};
+
 use crate::books::Books;
 use crate::desks::{ProgrammeSeat, ResidentSeat};
 use crate::fault::Trouble;
+use crate::gate::Gate;
 use crate::hands::Hands;
 use exchange_core::note::{AnswerNote, OfferNote};
 use mailbox_rule::{PutEnd, TakeEnd};
@@ -11,29 +14,31 @@ use std::sync::{Condvar, Mutex, Wait};
 
 /// The locks of a run. They are taken in the order desk, ledger; `hands` is never held while another is taken.
 #[derive(Drop)]
-pub(crate) struct Floor<J, P, Q, T, U>
+pub(crate) struct Floor<'a, J, P, Q, T, U, G>
 where
     J: Naming,
     P: PutEnd<OfferNote>,
     Q: PutEnd<AnswerNote>,
     T: TakeEnd<OfferNote>,
     U: TakeEnd<AnswerNote>,
+    G: Gate,
 {
     pub(crate) residents: Vec<Mutex<ResidentSeat<J, T>>>,
     pub(crate) programmes: Vec<Mutex<ProgrammeSeat<J, U>>>,
     pub(crate) books: Mutex<Books<J, P, Q>>,
-    pub(crate) hands: Mutex<Hands>,
+    pub(crate) hands: Mutex<Hands<'a, G>>,
     pub(crate) news: Condvar,
     pub(crate) ending: AtomicBool,
 }
 
-impl<J, P, Q, T, U> Floor<J, P, Q, T, U>
+impl<'a, J, P, Q, T, U, G> Floor<'a, J, P, Q, T, U, G>
 where
     J: Naming,
     P: PutEnd<OfferNote>,
     Q: PutEnd<AnswerNote>,
     T: TakeEnd<OfferNote>,
     U: TakeEnd<AnswerNote>,
+    G: Gate,
 {
     /// Whether the run ends.
     pub(crate) fn is_ending(&self) -> bool {
@@ -48,8 +53,10 @@ where
     }
 
     /// Ends the run on a gate's word.
-    pub(crate) fn stop<R: Wait>(&self, rt: &R) {
-        self.hands.lock(rt).stopped = true;
+    pub(crate) fn stop<R: Wait>(&self, rt: &R)
+        requires { G.MAY_STOP ≡ true }
+    {
+        self.hands.lock(rt).stop();
         self.end(rt);
     }
 

@@ -1,5 +1,5 @@
 //! A gate sees a run as it goes, and may stop it.
-ghost use Rattle.std.specs.Prelude.{◌≡◌, true};
+ghost use Rattle.std.specs.Prelude.{◌≡◌, Bool, true, false};
 
 use exchange_core::event::Desk;
 
@@ -14,12 +14,15 @@ pub enum Go {
 
 /// What the workers of a run call between their steps. Workers are numbered from 0.
 pub trait Gate {
+    // Whether `pass` may answer `Stop`, as clauses say it.
+    ghost MAY_STOP: { Bool };
+
     /// Whether `pass` may answer `Stop`.
     const MAY_STOP: bool;
 
     /// Called between a receipt and its entry, with only this desk's lock held.
     fn pass(&self, worker: usize, desk: Desk) -> Go
-        ensures { result ≡ Go.Stop → Self.MAY_STOP ≡ true };
+        ensures { result ≡ Go.Stop → MAY_STOP ≡ true };
 
     /// Called after each accepted entry, with the ledger's lock released.
     fn entered(&self, worker: usize);
@@ -30,6 +33,8 @@ pub trait Gate {
 pub struct OpenGate;
 
 impl Gate for OpenGate {
+    ghost MAY_STOP = { false };
+
     const MAY_STOP: bool = false;
 
     fn pass(&self, _worker: usize, _desk: Desk) -> Go {

@@ -1,10 +1,12 @@
 //! Which desks are in a worker's hands, and which may have work.
-ghost use Rattle.std.specs.Prelude.{◌≤◌};
+ghost use Rattle.std.specs.Prelude.{◌≡◌, ◌≤◌, true};
 ghost use Rattle.std.specs.VecDeque.{deque_capacity};
 
 use crate::fault::Trouble;
+use crate::gate::Gate;
 use std::alloc::{AllocError, Global};
 use std::collections::VecDeque;
+use std::marker::PhantomData;
 
 /// Where a desk is.
 #[derive(Clone, Copy, Debug, PartialEq, Eq)]
@@ -21,33 +23,46 @@ enum Place {
 
 /// The desks in hands and those that may have work, each listed at most once; and how the run ends.
 #[derive(Debug, Drop)]
-pub(crate) struct Hands {
+pub(crate) struct Hands<'a, G: Gate> {
     places: Vec<Place>,
     ready: VecDeque<u32>,
     room: usize,
     waiting: usize,
     pub(crate) ended: bool,
-    pub(crate) stopped: bool,
+    stopped: bool,
+    gate: PhantomData<&'a G>,
     pub(crate) trouble: Option<Trouble>,
     ghost reserved: { room ≤ deque_capacity ready },
+    ghost heeded: { stopped ≡ true → G.MAY_STOP ≡ true },
 }
 
-impl Hands {
-    /// All desks from `first` on may have work, and none is in a hand.
-    pub(crate) fn open(alloc: Global, desks: usize, first: u32) -> Result<Hands, AllocError> {
-        let mut hands = Hands {
+impl<'a, G: Gate> Hands<'a, G> {
+    /// No desk is in a hand, and every programme's desk may have work; residents' desks come first.
+    pub(crate) fn open(
+        alloc: Global,
+        residents: u32,
+        programmes: u32,
+    ) -> Result<Hands<'a, G>, AllocError> {
+        let desks = residents as usize + programmes as usize;
+        let mut hands = Hands::idle(alloc, desks)?;
+        for p in 0..programmes {
+            hands.list(residents.saturating_add(p));
+        }
+        Ok(hands)
+    }
+
+    // This many desks, with nobody and with no work.
+    fn idle(alloc: Global, desks: usize) -> Result<Hands<'a, G>, AllocError> {
+        Ok(Hands {
             places: vec![in alloc; Place::Idle; desks]?,
             ready: VecDeque::with_capacity(alloc, desks)?,
             room: desks,
             waiting: 0,
             ended: false,
             stopped: false,
+            gate: PhantomData,
             trouble: None,
-        };
-        for desk in first..desks as u32 {
-            hands.list(desk);
-        }
-        Ok(hands)
+        })
     }
 
     /// A desk may have work.
@@ -101,6 +116,20 @@ impl Hands {
             }
             _ => false,
         }
+    }
+
+    /// The gate stopped the run.
+    pub(crate) fn stop(&mut self)
+        requires { G.MAY_STOP ≡ true }
+    {
+        self.stopped = true;
+    }
+
+    /// Whether the gate stopped the run.
+    pub(crate) fn is_stopped(&self) -> bool
+        ensures { result ≡ true → G.MAY_STOP ≡ true }
+    {
+        self.stopped
     }
 
     /// Whether a worker that waits has something to wake for.

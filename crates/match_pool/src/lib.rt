@@ -12,8 +12,8 @@ mod floor;
 mod gate;
 mod hands;
 mod open;
+mod pool;
 mod reserve;
-mod run;
 #[cfg(test)]
 mod tests;
 mod waits;
@@ -23,4 +23,4 @@ mod worker;
 pub use done::{Done, Ending, Ends};
 pub use fault::RunFault;
 pub use gate::{Gate, Go, OpenGate};
-pub use run::{RuledDone, run};
+pub use pool::{RuledDone, run};

@@ -1,5 +1,5 @@
 //! What a run has before its workers start: mailboxes, agents and books.
-ghost use Rattle.std.specs.Prelude.{◌≡◌};
+ghost use Rattle.std.specs.Prelude.{◌≡◌, ◌≤◌};
 
 use crate::books::Books;
 use crate::desks::{ProgrammeSeat, ResidentSeat};
@@ -58,7 +58,9 @@ pub(crate) fn answer_mailboxes<R: Wait + Copy>(
 }
 
 // The room of a mailbox in which at most this many messages can ever wait: no more than that is ever used.
-fn room(cap: Capacity, most: usize) -> u32 {
+fn room(cap: Capacity, most: usize) -> u32
+    requires { most ≤ 400000 }
+{
     let full = (most as u32).max(1);
     match cap {
         Capacity::Full => full,

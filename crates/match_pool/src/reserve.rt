@@ -6,6 +6,7 @@ use crate::compare::Cursors;
 use crate::done::{Done, Ending, Ends};
 use crate::fault::{RunFault, Trouble};
 use crate::floor::Floor;
+use crate::gate::Gate;
 use crate::hands::Hands;
 use exchange_core::event::{Desk, Event, Pending};
 use exchange_core::note::{AnswerNote, OfferNote};
@@ -13,7 +14,7 @@ use mailbox_rule::{PutEnd, TakeEnd};
 use match_agents::{ProgrammeAgent, ResidentAgent};
 use match_model::assignment::Assignment;
 use match_model::instance::Instance;
-use match_model::member::ProgrammeNo;
+use match_model::member::ResidentNo;
 use offer_ledger::{Ledger, Naming, PARTS, Tally};
 use std::alloc::Global;
 
@@ -47,12 +48,16 @@ impl<T: TakeEnd<OfferNote> + Drop, U: TakeEnd<AnswerNote> + Drop> Reserve<T, U> 
     }
 
     /// What a run gives whose workers are joined, with these tallies by worker.
-    pub(crate) fn finish<J: Naming, P: PutEnd<OfferNote> + Drop, Q: PutEnd<AnswerNote> + Drop>(
+    pub(crate) fn finish<
+        J: Naming,
+        P: PutEnd<OfferNote> + Drop,
+        Q: PutEnd<AnswerNote> + Drop,
+        G: Gate,
+    >(
         self,
         inst: &Instance,
-        floor: Floor<J, P, Q, T, U>,
+        floor: Floor<'_, J, P, Q, T, U, G>,
         tallies: Vec<Tally<J>>,
-        may_stop: bool,
     ) -> Result<Done<P, T, Q, U>, RunFault>
         requires { inst.now ≡ J.inst }
     {
@@ -86,7 +91,7 @@ impl<T: TakeEnd<OfferNote> + Drop, U: TakeEnd<AnswerNote> + Drop> Reserve<T, U> 
         for seat in programme_seats {
             programmes.push_reserved(seat.into_inner().into_agent());
         }
-        let ending = ending_of(inst, &ledger, hands.stopped && may_stop)?;
+        let ending = ending_of(inst, &ledger, hands.is_stopped())?;
         if let Err(desk) = cursors.compare(ledger.journal(), &residents, &programmes) {
             return Err(RunFault::Torn(desk));
         }
@@ -142,12 +147,20 @@ fn ending_of<J: Naming, P: PutEnd<OfferNote> + Drop, Q: PutEnd<AnswerNote> + Dro
     if stopped {
         return Ok(Ending::Stopped);
     }
-    let desk = match ledger.core().first_pending(inst) {
-        Some(Pending::Offers(resident) | Pending::Due(resident)) => Desk::Resident(resident),
-        Some(Pending::Answers(programme) | Pending::Wish(programme)) => Desk::Programme(programme),
-        None => Desk::Programme(ProgrammeNo(0)),
+    let Some(pending) = ledger.core().first_pending(inst) else {
+        return Err(RunFault::Torn(Desk::Resident(ResidentNo(0))));
     };
-    Err(RunFault::Torn(desk))
+    Err(RunFault::Torn(pending_desk(pending)))
+}
+
+// The desk that is pending.
+fn pending_desk(pending: Pending) -> Desk {
+    match pending {
+        Pending::Offers(resident) => Desk::Resident(resident),
+        Pending::Due(resident) => Desk::Resident(resident),
+        Pending::Answers(programme) => Desk::Programme(programme),
+        Pending::Wish(programme) => Desk::Programme(programme),
+    }
 }
 
 // What a trouble is told as. A receipt is out of step only where the core refuses it still.
@@ -158,25 +171,43 @@ fn fault_of<J: Naming, P: PutEnd<OfferNote> + Drop, Q: PutEnd<AnswerNote> + Drop
 ) -> RunFault
     requires { inst.now ≡ J.inst }
 {
-    let event = match trouble {
-        Trouble::Torn(desk) => return RunFault::Torn(desk),
-        Trouble::MailGone(desk) => return RunFault::MailGone(desk),
-        Trouble::OutOfStep(event) => event,
-    };
+    match trouble {
+        Trouble::Torn(desk) => RunFault::Torn(desk),
+        Trouble::MailGone(desk) => RunFault::MailGone(desk),
+        Trouble::OutOfStep(event) => out_of_step(inst, ledger, event),
+    }
+}
+
+// A receipt that the core refuses, with the journal that it may not follow.
+fn out_of_step<J: Naming, P: PutEnd<OfferNote> + Drop, Q: PutEnd<AnswerNote> + Drop>(
+    inst: &Instance,
+    ledger: Ledger<J, P, Q>,
+    event: Event,
+) -> RunFault
+    requires { inst.now ≡ J.inst }
+{
     let again = event;
-    let desk = match event {
-        Event::Take { resident, .. } => Desk::Resident(resident),
-        Event::Hear { programme, .. } => Desk::Programme(programme),
-        _ => return RunFault::Thread,
+    let third = event;
+    let Some(desk) = receiver(event) else {
+        return RunFault::Thread;
     };
-    match ledger.core().may(inst, again) {
-        Ok(()) => RunFault::Torn(desk),
-        Err(_) => {
-            let (journal, ..) = ledger.into_parts();
-            RunFault::OutOfStep {
-                journal,
-                event: again,
-            }
-        }
+    if ledger.core().may(inst, again).is_ok() {
+        return RunFault::Torn(desk);
+    }
+    let (journal, _, _, _) = ledger.into_parts();
+    RunFault::OutOfStep {
+        journal,
+        event: third,
+    }
+}
+
+// The desk of a receipt.
+fn receiver(event: Event) -> Option<Desk> {
+    match event {
+        Event::Take { resident, .. } => Some(Desk::Resident(resident)),
+        Event::Hear { programme, .. } => Some(Desk::Programme(programme)),
+        Event::Offer { .. } => None,
+        Event::Answer { .. } => None,
+        Event::Close => None,
     }
 }

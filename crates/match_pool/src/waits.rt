@@ -1,8 +1,8 @@
 //! Desks that wait for room in a mailbox, in the order in which they were refused.
 use std::alloc::{AllocError, Global};
 
-/// For each mailbox the desks whose put was refused as full, and for each desk whether it waits and who waits behind it.
-/// Mailboxes and desks go by the number of the desk. Each desk waits at most once.
+/// For each mailbox the first and the last of the desks whose put was refused as full, and for each desk whether it
+/// waits and who waits behind it. Mailboxes and desks go by the number of the desk. Each desk waits at most once.
 #[derive(Debug, Drop)]
 pub(crate) struct Waits {
     first: Vec<Option<u32>>,
@@ -24,36 +24,46 @@ impl Waits {
 
     /// A desk begins to wait for room in a mailbox, unless it waits already.
     pub(crate) fn join(&mut self, mailbox: u32, desk: u32) {
-        let Some(waits) = self.waits.get_mut(desk as usize) else {
-            return;
-        };
-        if *waits {
+        if self.waits.get(desk as usize) != Some(&false) {
             return;
         }
-        *waits = true;
-        let Some(last) = self.last.get_mut(mailbox as usize) else {
-            return;
-        };
-        let before = last.replace(desk);
-        let link = match before {
-            Some(before) => self.behind.get_mut(before as usize),
-            None => self.first.get_mut(mailbox as usize),
-        };
-        if let Some(link) = link {
-            *link = Some(desk);
+        mark(&mut self.waits, desk, true);
+        match linked(&self.last, mailbox) {
+            Some(before) => link(&mut self.behind, before, Some(desk)),
+            None => link(&mut self.first, mailbox, Some(desk)),
         }
+        link(&mut self.last, mailbox, Some(desk));
     }
 
     /// The desk that has waited longest for room in a mailbox waits no more.
     pub(crate) fn leave(&mut self, mailbox: u32) -> Option<u32> {
-        let first = self.first.get_mut(mailbox as usize)?;
-        let desk = first.take()?;
-        let behind = self.behind.get_mut(desk as usize)?.take();
-        match behind {
-            Some(_) => *self.first.get_mut(mailbox as usize)? = behind,
-            None => *self.last.get_mut(mailbox as usize)? = None,
+        let desk = linked(&self.first, mailbox)?;
+        let behind = linked(&self.behind, desk);
+        link(&mut self.first, mailbox, behind);
+        link(&mut self.behind, desk, None);
+        if behind.is_none() {
+            link(&mut self.last, mailbox, None);
         }
-        *self.waits.get_mut(desk as usize)? = false;
+        mark(&mut self.waits, desk, false);
         Some(desk)
+    }
+}
+
+fn linked(row: &[Option<u32>], at: u32) -> Option<u32> {
+    match row.get(at as usize) {
+        Some(to) => *to,
+        None => None,
+    }
+}
+
+fn link(row: &mut [Option<u32>], at: u32, to: Option<u32>) {
+    if let Some(place) = row.get_mut(at as usize) {
+        *place = to;
+    }
+}
+
+fn mark(row: &mut [bool], at: u32, to: bool) {
+    if let Some(place) = row.get_mut(at as usize) {
+        *place = to;
     }
 }

@@ -62,7 +62,7 @@ impl<'a, J: Naming, G: Gate, R: Wait> Worker<'a, J, G, R> {
     }
 
     /// Drives desks until the run ends, and gives the tally back.
-    pub(crate) fn work<P, Q, T, U>(mut self, floor: &Floor<J, P, Q, T, U>) -> Tally<J>
+    pub(crate) fn work<P, Q, T, U>(mut self, floor: &Floor<'_, J, P, Q, T, U, G>) -> Tally<J>
     where
         P: PutEnd<OfferNote>,
         Q: PutEnd<AnswerNote>,
@@ -82,7 +82,7 @@ impl<'a, J: Naming, G: Gate, R: Wait> Worker<'a, J, G, R> {
     }
 
     // Stays at a desk while it has work. Answers whether to come back to it at once.
-    fn visit<P, Q, T, U>(&mut self, floor: &Floor<J, P, Q, T, U>, desk: u32) -> bool
+    fn visit<P, Q, T, U>(&mut self, floor: &Floor<'_, J, P, Q, T, U, G>, desk: u32) -> bool
     where
         P: PutEnd<OfferNote>,
         Q: PutEnd<AnswerNote>,
@@ -109,7 +109,7 @@ impl<'a, J: Naming, G: Gate, R: Wait> Worker<'a, J, G, R> {
     // Gives every answer that is due and takes the next offer, while there is one.
     fn visit_resident<P, Q, T, U>(
         &mut self,
-        floor: &Floor<J, P, Q, T, U>,
+        floor: &Floor<'_, J, P, Q, T, U, G>,
         seat: &mut ResidentSeat<J, T>,
         resident: ResidentNo,
     ) -> bool
@@ -140,7 +140,7 @@ impl<'a, J: Naming, G: Gate, R: Wait> Worker<'a, J, G, R> {
     // Hears every answer that waits, and offers while there is a wish.
     fn visit_programme<P, Q, T, U>(
         &mut self,
-        floor: &Floor<J, P, Q, T, U>,
+        floor: &Floor<'_, J, P, Q, T, U, G>,
         seat: &mut ProgrammeSeat<J, U>,
         programme: ProgrammeNo,
     ) -> bool
@@ -174,7 +174,7 @@ impl<'a, J: Naming, G: Gate, R: Wait> Worker<'a, J, G, R> {
     // Gives the first answer that is due.
     fn answer<P, Q, T, U>(
         &mut self,
-        floor: &Floor<J, P, Q, T, U>,
+        floor: &Floor<'_, J, P, Q, T, U, G>,
         seat: &mut ResidentSeat<J, T>,
         resident: ResidentNo,
         programme: ProgrammeNo,
@@ -205,7 +205,7 @@ impl<'a, J: Naming, G: Gate, R: Wait> Worker<'a, J, G, R> {
     // Offers to the next resident.
     fn offer<P, Q, T, U>(
         &mut self,
-        floor: &Floor<J, P, Q, T, U>,
+        floor: &Floor<'_, J, P, Q, T, U, G>,
         seat: &mut ProgrammeSeat<J, U>,
         programme: ProgrammeNo,
         resident: ResidentNo,
@@ -235,7 +235,7 @@ impl<'a, J: Naming, G: Gate, R: Wait> Worker<'a, J, G, R> {
     // Takes an offer out of the mailbox, enters the take, and decides.
     fn take<P, Q, T, U>(
         &mut self,
-        floor: &Floor<J, P, Q, T, U>,
+        floor: &Floor<'_, J, P, Q, T, U, G>,
         seat: &mut ResidentSeat<J, T>,
         resident: ResidentNo,
     ) -> Step
@@ -271,7 +271,7 @@ impl<'a, J: Naming, G: Gate, R: Wait> Worker<'a, J, G, R> {
     // Takes an answer out of the mailbox, and enters the hear.
     fn hear<P, Q, T, U>(
         &mut self,
-        floor: &Floor<J, P, Q, T, U>,
+        floor: &Floor<'_, J, P, Q, T, U, G>,
         seat: &mut ProgrammeSeat<J, U>,
         programme: ProgrammeNo,
     ) -> Step
@@ -306,7 +306,7 @@ impl<'a, J: Naming, G: Gate, R: Wait> Worker<'a, J, G, R> {
     }
 
     // Lets the gate see a receipt, and ends the run on its word.
-    fn pass<P, Q, T, U>(&mut self, floor: &Floor<J, P, Q, T, U>, desk: Desk)
+    fn pass<P, Q, T, U>(&mut self, floor: &Floor<'_, J, P, Q, T, U, G>, desk: Desk)
     where
         P: PutEnd<OfferNote>,
         Q: PutEnd<AnswerNote>,
@@ -321,7 +321,7 @@ impl<'a, J: Naming, G: Gate, R: Wait> Worker<'a, J, G, R> {
     // What a put leaves at the desk of its sender.
     fn after_put<P, Q, T, U>(
         &mut self,
-        floor: &Floor<J, P, Q, T, U>,
+        floor: &Floor<'_, J, P, Q, T, U, G>,
         entry: Entry,
         sender: Desk,
         receiver: Desk,
@@ -349,7 +349,7 @@ impl<'a, J: Naming, G: Gate, R: Wait> Worker<'a, J, G, R> {
     // What a receipt leaves at its desk.
     fn after_receipt<P, Q, T, U>(
         &mut self,
-        floor: &Floor<J, P, Q, T, U>,
+        floor: &Floor<'_, J, P, Q, T, U, G>,
         entry: Entry,
         receipt: Event,
     ) -> Step
@@ -372,7 +372,7 @@ impl<'a, J: Naming, G: Gate, R: Wait> Worker<'a, J, G, R> {
     // What a look into the mailbox leaves that found no message: nothing, nobody who can put, or no room in the log.
     fn after_no_receipt<P, Q, T, U>(
         &mut self,
-        floor: &Floor<J, P, Q, T, U>,
+        floor: &Floor<'_, J, P, Q, T, U, G>,
         nothing: bool,
         gone: bool,
         desk: Desk,
@@ -397,7 +397,7 @@ impl<'a, J: Naming, G: Gate, R: Wait> Worker<'a, J, G, R> {
     // An event was entered: the gate is told, and the desk that it woke is noted.
     fn made<P, Q, T, U>(
         &mut self,
-        floor: &Floor<J, P, Q, T, U>,
+        floor: &Floor<'_, J, P, Q, T, U, G>,
         more: bool,
         woken: Option<u32>,
     ) -> Step
@@ -418,7 +418,7 @@ impl<'a, J: Naming, G: Gate, R: Wait> Worker<'a, J, G, R> {
     }
 
     // Lists the desks that were woken, and wakes a worker that waits for one.
-    fn list_woken<P, Q, T, U>(&mut self, floor: &Floor<J, P, Q, T, U>)
+    fn list_woken<P, Q, T, U>(&mut self, floor: &Floor<'_, J, P, Q, T, U, G>)
     where
         P: PutEnd<OfferNote>,
         Q: PutEnd<AnswerNote>,
@@ -442,7 +442,7 @@ impl<'a, J: Naming, G: Gate, R: Wait> Worker<'a, J, G, R> {
     // Lets a desk go, lists what was woken, and takes the next desk.
     fn turn<P, Q, T, U>(
         &mut self,
-        floor: &Floor<J, P, Q, T, U>,
+        floor: &Floor<'_, J, P, Q, T, U, G>,
         desk: u32,
         again: bool,
     ) -> Option<u32>
@@ -472,7 +472,7 @@ impl<'a, J: Naming, G: Gate, R: Wait> Worker<'a, J, G, R> {
     }
 
     // The first desk.
-    fn next<P, Q, T, U>(&mut self, floor: &Floor<J, P, Q, T, U>) -> Option<u32>
+    fn next<P, Q, T, U>(&mut self, floor: &Floor<'_, J, P, Q, T, U, G>) -> Option<u32>
     where
         P: PutEnd<OfferNote>,
         Q: PutEnd<AnswerNote>,
@@ -487,7 +487,7 @@ impl<'a, J: Naming, G: Gate, R: Wait> Worker<'a, J, G, R> {
     }
 
     // Where no desk is listed: asks the core once, closes at rest, or waits for news. None once the run ends.
-    fn search<P, Q, T, U>(&mut self, floor: &Floor<J, P, Q, T, U>) -> Option<u32>
+    fn search<P, Q, T, U>(&mut self, floor: &Floor<'_, J, P, Q, T, U, G>) -> Option<u32>
     where
         P: PutEnd<OfferNote>,
         Q: PutEnd<AnswerNote>,

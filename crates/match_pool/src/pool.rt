@@ -85,7 +85,7 @@ fn run_named<J: Naming + Send + Sync, G: Gate + Sync, R: Threads + Wait + Sync +
     let (books, tally) = open_books(alloc, blank, inst, cap, offer_puts, answer_puts)?;
     let tallies = cut(alloc, tally, workers)?;
     let floor = Floor {
-        hands: Mutex::new(Hands::open(alloc, desks(inst), inst.residents())?),
+        hands: Mutex::new(Hands::open(alloc, inst.residents(), inst.programmes())?),
         residents,
         programmes,
         books: Mutex::new(books),
@@ -93,9 +93,5 @@ fn run_named<J: Naming + Send + Sync, G: Gate + Sync, R: Threads + Wait + Sync +
         ending: AtomicBool::new(false),
     };
     let tallies = drive(&rt, alloc, inst, &floor, gate, tallies)?;
-    reserve.finish(inst, floor, tallies, G::MAY_STOP)
-}
-
-fn desks(inst: &Instance) -> usize {
-    inst.residents() as usize + inst.programmes() as usize
+    reserve.finish(inst, floor, tallies)
 }
