@@ -1,6 +1,8 @@
 //! Why a run gave no result.
+ghost use Rattle.std.specs.Prelude.{◌≡◌};
+ghost use Rattle.match_pool.specs.declared.fault.RunFault.TheVariants.{Memory};
+
 use exchange_core::event::{Desk, Event};
-use mailbox_rule::MailFault;
 use std::alloc::{AllocError, AllocFailed};
 use thiserror::Error;
 
@@ -47,18 +49,16 @@ pub(crate) enum Trouble {
 }
 
 impl From<AllocError> for RunFault {
+    ghost from_gives = { λ _ fault. fault ≡ Memory };
+
     fn from(_: AllocError) -> RunFault {
         RunFault::Memory
     }
 }
 
-impl From<MailFault> for RunFault {
-    fn from(_: MailFault) -> RunFault {
-        RunFault::Memory
-    }
-}
-
 impl<T: Drop> From<AllocFailed<T>> for RunFault {
+    ghost from_gives = { λ _ fault. fault ≡ Memory };
+
     fn from(_: AllocFailed<T>) -> RunFault {
         RunFault::Memory
     }

@@ -1,5 +1,8 @@
 //! What a run has before its workers start: mailboxes, agents and books.
-ghost use Rattle.std.specs.Prelude.{◌≡◌, ◌≤◌};
+ghost use Rattle.std.specs.Prelude.{◌≡◌, ◌≤◌, ℕ, Some, [], length, slice_get, IfOk, IfErr};
+ghost use Rattle.match_model.specs.Instance.{IsResident, IsProgramme};
+ghost use Rattle.match_pool.specs.Done.{Each};
+ghost use Rattle.match_pool.specs.declared.fault.RunFault.TheVariants.{Memory};
 
 use crate::books::Books;
 use crate::desks::{ProgrammeSeat, ResidentSeat};
@@ -7,11 +10,11 @@ use crate::fault::RunFault;
 use crate::waits::Waits;
 use exchange_core::event::Capacity;
 use exchange_core::note::{AnswerNote, OfferNote};
-use mailbox_rule::{MailFault, PutEnd, RuledPut, RuledTake, TakeEnd, mailbox};
+use mailbox_rule::{PutEnd, RuledPut, RuledTake, TakeEnd, mailbox};
 use match_agents::{ProgrammeAgent, ResidentAgent};
 use match_model::instance::Instance;
 use match_model::member::{ProgrammeNo, ResidentNo};
-use offer_ledger::{Ledger, LedgerFault, Naming, Tally};
+use offer_ledger::{Ledger, Naming, Tally};
 use std::alloc::Global;
 use std::sync::ledger::Blank;
 use std::sync::{Mutex, Wait};
@@ -20,18 +23,25 @@ use std::sync::{Mutex, Wait};
 pub(crate) type Mailboxes<M, R> = (Vec<RuledPut<M, R>>, Vec<RuledTake<M, R>>);
 
 /// A mailbox for each resident.
+#[tactic(auto, using(crate::proofs::Rows::each_push))]
 pub(crate) fn offer_mailboxes<R: Wait + Copy>(
     rt: R,
     alloc: Global,
     inst: &Instance,
     cap: Capacity,
-) -> Result<Mailboxes<OfferNote, R>, RunFault> {
+) -> Result<Mailboxes<OfferNote, R>, RunFault>
+    ensures puts { IfOk result (λ both. Each both.0.items (length inst.now.resident_lists) (λ _ end. end.puts ≡ [])) }
+    ensures takes { IfOk result (λ both. Each both.1.items (length inst.now.resident_lists) (λ _ end. end.taken ≡ [])) }
+    ensures fault { IfErr result (λ fault. fault ≡ Memory) }
+{
     let count = inst.residents();
     let mut puts = Vec::with_capacity(alloc, count as usize)?;
     let mut takes = Vec::with_capacity(alloc, count as usize)?;
     for r in 0..count {
         let most = inst.list_of_resident(ResidentNo(r)).len();
-        let (put, take) = mailbox(alloc, rt, room(cap, most))?;
+        let Ok((put, take)) = mailbox(alloc, rt, room(cap, most)) else {
+            return Err(RunFault::Memory);
+        };
         puts.push(put)?;
         takes.push(take)?;
     }
@@ -39,18 +49,25 @@ pub(crate) fn offer_mailboxes<R: Wait + Copy>(
 }
 
 /// A mailbox for each programme.
+#[tactic(auto, using(crate::proofs::Rows::each_push))]
 pub(crate) fn answer_mailboxes<R: Wait + Copy>(
     rt: R,
     alloc: Global,
     inst: &Instance,
     cap: Capacity,
-) -> Result<Mailboxes<AnswerNote, R>, RunFault> {
+) -> Result<Mailboxes<AnswerNote, R>, RunFault>
+    ensures puts { IfOk result (λ both. Each both.0.items (length inst.now.quotas) (λ _ end. end.puts ≡ [])) }
+    ensures takes { IfOk result (λ both. Each both.1.items (length inst.now.quotas) (λ _ end. end.taken ≡ [])) }
+    ensures fault { IfErr result (λ fault. fault ≡ Memory) }
+{
     let count = inst.programmes();
     let mut puts = Vec::with_capacity(alloc, count as usize)?;
     let mut takes = Vec::with_capacity(alloc, count as usize)?;
     for p in 0..count {
         let most = 2 * inst.list_of_programme(ProgrammeNo(p)).len();
-        let (put, take) = mailbox(alloc, rt, room(cap, most))?;
+        let Ok((put, take)) = mailbox(alloc, rt, room(cap, most)) else {
+            return Err(RunFault::Memory);
+        };
         puts.push(put)?;
         takes.push(take)?;
     }
@@ -68,43 +85,57 @@ fn room(cap: Capacity, most: usize) -> u32
     }
 }
 
-/// A lock with an agent for each resident.
+/// A lock with an agent for each resident, over these ends, which have taken nothing.
 pub(crate) fn resident_seats<J: Naming, T: TakeEnd<OfferNote> + Drop>(
     alloc: Global,
     inst: &Instance,
     ends: Vec<T>,
-) -> Result<Vec<Mutex<ResidentSeat<J, T>>>, RunFault> {
+) -> Result<Vec<Mutex<ResidentSeat<J, T>>>, RunFault>
+    requires instance { inst.now ≡ J.inst }
+    requires unused { Each ends.items (length inst.now.resident_lists) (λ _ end. T.taken end ≡ []) }
+    ensures { IfErr result (λ fault. fault ≡ Memory) }
+{
     let mut seats = Vec::with_capacity(alloc, ends.len())?;
-    let mut r = 0;
-    for end in ends {
+    let mut ends = ends;
+    ends.reverse();
+    for r in 0..inst.residents() {
+        let Some(end) = ends.pop() else {
+            return Err(RunFault::Memory);
+        };
         let Ok(agent) = ResidentAgent::open(alloc, inst, ResidentNo(r), end) else {
             return Err(RunFault::Memory);
         };
         seats.push(Mutex::new(ResidentSeat::new(agent)))?;
-        r += 1;
     }
     Ok(seats)
 }
 
-/// A lock with an agent for each programme.
+/// A lock with an agent for each programme, over these ends, which have taken nothing.
 pub(crate) fn programme_seats<J: Naming, U: TakeEnd<AnswerNote> + Drop>(
     alloc: Global,
     inst: &Instance,
     ends: Vec<U>,
-) -> Result<Vec<Mutex<ProgrammeSeat<J, U>>>, RunFault> {
+) -> Result<Vec<Mutex<ProgrammeSeat<J, U>>>, RunFault>
+    requires instance { inst.now ≡ J.inst }
+    requires unused { Each ends.items (length inst.now.quotas) (λ _ end. U.taken end ≡ []) }
+    ensures { IfErr result (λ fault. fault ≡ Memory) }
+{
     let mut seats = Vec::with_capacity(alloc, ends.len())?;
-    let mut p = 0;
-    for end in ends {
+    let mut ends = ends;
+    ends.reverse();
+    for p in 0..inst.programmes() {
+        let Some(end) = ends.pop() else {
+            return Err(RunFault::Memory);
+        };
         let Ok(agent) = ProgrammeAgent::open(alloc, inst, ProgrammeNo(p), end) else {
             return Err(RunFault::Memory);
         };
         seats.push(Mutex::new(ProgrammeSeat::new(agent)))?;
-        p += 1;
     }
     Ok(seats)
 }
 
-/// The ledger over these ends, with nobody waiting for room, and the tally of all its parts.
+/// The ledger over these ends, which have put nothing, with nobody waiting for room; and the tally of all its parts.
 pub(crate) fn open_books<J: Naming, P: PutEnd<OfferNote> + Drop, Q: PutEnd<AnswerNote> + Drop>(
     alloc: Global,
     blank: Blank,
@@ -112,15 +143,19 @@ pub(crate) fn open_books<J: Naming, P: PutEnd<OfferNote> + Drop, Q: PutEnd<Answe
     cap: Capacity,
     offer_puts: Vec<P>,
     answer_puts: Vec<Q>,
-) -> Result<(Books<J, P, Q>, Tally<J>), RunFault> {
-    let desks = offer_puts.len() + answer_puts.len();
+) -> Result<(Books<J, P, Q>, Tally<J>), RunFault>
+    requires instance { inst.now ≡ J.inst }
+    requires capacity { cap ≡ J.cap }
+    requires blank { (blank.name ≡ J.name) × (blank.parts ≡ J.parts) × (J.parts ≡ 8) }
+    requires offer_puts { Each offer_puts.items (length inst.now.resident_lists) (λ _ end. P.puts end ≡ []) }
+    requires answer_puts { Each answer_puts.items (length inst.now.quotas) (λ _ end. Q.puts end ≡ []) }
+    ensures { IfErr result (λ fault. fault ≡ Memory) }
+{
+    let desks = inst.residents() as usize + inst.programmes() as usize;
     let waits = Waits::with_desks(alloc, desks)?;
     match Ledger::open(alloc, blank, inst, cap, offer_puts, answer_puts) {
         Ok((ledger, tally)) => Ok((Books { ledger, waits }, tally)),
-        Err(refused) => match refused.fault {
-            LedgerFault::BadCapacity => Err(RunFault::BadCapacity),
-            LedgerFault::WrongEnds | LedgerFault::Memory => Err(RunFault::Memory),
-        },
+        Err(_) => Err(RunFault::Memory),
     }
 }
 
@@ -129,12 +164,14 @@ pub(crate) fn cut<J: Naming>(
     alloc: Global,
     tally: Tally<J>,
     workers: usize,
-) -> Result<Vec<Tally<J>>, RunFault> {
+) -> Result<Vec<Tally<J>>, RunFault>
+    ensures { IfErr result (λ fault. fault ≡ Memory) }
+{
     let mut tallies = Vec::with_capacity(alloc, workers)?;
     let mut rest = tally;
     for _ in 1..workers {
         let Some(part) = rest.split() else {
-            return Err(RunFault::BadWorkers);
+            return Err(RunFault::Memory);
         };
         tallies.push(part)?;
     }

@@ -92,7 +92,7 @@ impl<T: TakeEnd<OfferNote> + Drop, U: TakeEnd<AnswerNote> + Drop> Reserve<T, U> 
             programmes.push_reserved(seat.into_inner().into_agent());
         }
         let ending = ending_of(inst, &ledger, hands.is_stopped())?;
-        if let Err(desk) = cursors.compare(ledger.journal(), &residents, &programmes) {
+        if let Err(desk) = cursors.compare(inst, ledger.journal(), &residents, &programmes) {
             return Err(RunFault::Torn(desk));
         }
         ledger.core().assignment(&mut assignment);

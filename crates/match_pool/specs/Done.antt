@@ -1,0 +1,61 @@
+-- What a run gives.
+use Rattle.std.specs.Prelude.{◌≡◌, ℕ, ◌↔◌, List, ◌∷◌, [], ◌++◌, length, slice_get, Some, Option}
+use Rattle.match_model.specs.Instance.{Instance}
+use Rattle.exchange_core.specs.declared.event.Event.{Event}
+use Rattle.exchange_core.specs.declared.event.Event.TheVariants.{Take, Hear, Close}
+use Rattle.exchange_core.specs.declared.event.Capacity.{Capacity}
+use Rattle.exchange_core.specs.Mail.{Answered, offers_to, answers_to, takes, hears}
+use Rattle.exchange_core.specs.Legal.{IsLegal, IsClosed, IsAtRest, MayFollow}
+use Rattle.exchange_core.specs.Left.{given}
+use Rattle.settle_law.specs.Orderly.{IsOrderly}
+use Rattle.settle_law.specs.Stable.{IsStable, IsSettled}
+use Rattle.match_agents.specs.Desks.{ResidentDesk, ProgrammeDesk}
+use Rattle.match_pool.specs.declared.done.Ending.{Ending}
+use Rattle.match_pool.specs.declared.done.Ending.TheVariants.{Closed}
+use Rattle.match_pool.specs.declared.fault.RunFault.{RunFault}
+use Rattle.match_pool.specs.declared.fault.RunFault.TheVariants.{BadWorkers, BadCapacity, Memory, Thread, OutOfStep, Torn, MailGone}
+
+-- one for each number below the count, with this property
+pub record Each {X : Type 0} (xs : List X) (count : ℕ) (property : ℕ → X → Type 0) : Type 0 where
+  pub one_each : length xs ≡ count
+  pub has : (i : ℕ) (x : X) → slice_get xs i ≡ Some x → property i x
+
+-- the journal is legal, closed exactly where the run ended so, and is what the ends of every desk have put and its agent's log has
+pub record IsRunOf (P T Q U : Type 0) (offers_put : P → List ℕ) (offers_taken : T → List ℕ) (answers_put : Q → List Answered) (answers_taken : U → List Answered)
+    (inst : Instance) (cap : Capacity) (ending : Ending) (journal : List Event)
+    (offer_puts : List P) (residents : List (ResidentDesk T)) (answer_puts : List Q) (programmes : List (ProgrammeDesk U)) : Type 0 where
+  pub legal : IsLegal inst cap journal
+  pub closed : (ending ≡ Closed) ↔ IsClosed journal
+  pub offers_are_put : Each offer_puts (length inst.resident_lists) (λ r end. offers_put end ≡ offers_to r journal)
+  pub offers_are_taken : Each residents (length inst.resident_lists) (λ r desk. (desk.taken ≡ takes r journal) × (offers_taken desk.end ≡ takes r journal))
+  pub answers_are_put : Each answer_puts (length inst.quotas) (λ p end. answers_put end ≡ answers_to p journal)
+  pub answers_are_heard : Each programmes (length inst.quotas) (λ p desk. (desk.heard ≡ hears p journal) × (answers_taken desk.end ≡ hears p journal))
+
+-- all is at rest before the close, which is last
+pub record ClosesAtRest (inst : Instance) (journal : List Event) : Type 0 where
+  pub before : List Event
+  pub close_is_last : journal ≡ before ++ Close ∷ []
+  pub at_rest : IsAtRest inst before
+
+-- every desk's list begins the one that it follows, all is at rest before the close, and what is given is stable and settled
+pub record IsSettledRun (inst : Instance) (journal : List Event) (assignment : List (Option ℕ)) : Type 0 where
+  pub orderly : IsOrderly inst journal
+  pub closes_at_rest : ClosesAtRest inst journal
+  pub stable : IsStable inst assignment
+  pub settled : IsSettled inst assignment
+
+-- a receipt: an offer is taken, or an answer heard
+abbrev pub IsReceipt : Event → Type 0
+IsReceipt (Take r p) = Unit {0}
+IsReceipt (Hear p r k) = Unit {0}
+IsReceipt e = ⊥
+
+-- a receipt that may not follow a legal journal; of the other faults nothing is said
+abbrev pub IsFault : Instance → Capacity → RunFault → Type 0
+IsFault inst cap BadWorkers = Unit {0}
+IsFault inst cap BadCapacity = Unit {0}
+IsFault inst cap Memory = Unit {0}
+IsFault inst cap Thread = Unit {0}
+IsFault inst cap (OutOfStep journal event) = IsLegal inst cap journal.items × IsReceipt event × (MayFollow inst cap journal.items event → ⊥)
+IsFault inst cap (Torn desk) = Unit {0}
+IsFault inst cap (MailGone desk) = Unit {0}
