@@ -1,5 +1,6 @@
 //! The threads of a run.
-ghost use Rattle.std.specs.Prelude.{◌≡◌};
+ghost use Rattle.std.specs.Prelude.{◌≡◌, ◌⊎◌, IfErr};
+ghost use Rattle.match_pool.specs.declared.fault.RunFault.TheVariants.{Memory, Thread};
 
 use crate::fault::RunFault;
 use crate::floor::Floor;
@@ -33,29 +34,39 @@ where
     G: Gate + Sync,
     R: Threads + Wait + Sync,
     requires { inst.now ≡ J.inst }
+    ensures { IfErr result (λ fault. (fault ≡ Memory) ⊎ (fault ≡ Thread)) }
 {
     let workers = tallies.len();
     let mut handles = Vec::with_capacity(alloc, workers)?;
     let mut back = Vec::with_capacity(alloc, workers)?;
-    let all_started = thread::scope(thread::scope_env(), rt, |scope| -> bool {
-        let mut number = 0;
-        let mut all_started = true;
-        for tally in tallies {
-            let worker = Worker::new(rt, inst, gate, number, tally);
-            match scope.spawn(move || worker.work(floor)) {
-                Ok(handle) => handles.push_reserved(handle),
-                Err(_) => {
+    let all_started = thread::scope(
+        thread::scope_env(),
+        rt,
+        |scope| -> bool
+            requires { inst.now ≡ J.inst }
+        {
+            let mut number = 0;
+            let mut all_started = true;
+            for tally in tallies {
+                let worker = Worker::new(rt, inst, gate, number, tally);
+                let started = match scope.spawn(move || worker.work(floor)) {
+                    Ok(handle) => handles.push(handle).is_ok(),
+                    Err(_) => false,
+                };
+                if !started {
                     all_started = false;
                     floor.end(rt);
                 }
+                number = number.saturating_add(1);
             }
-            number += 1;
-        }
-        for handle in handles {
-            back.push_reserved(handle.join(rt));
-        }
-        all_started
-    });
+            for handle in handles {
+                if back.push(handle.join(rt)).is_err() {
+                    all_started = false;
+                }
+            }
+            all_started
+        },
+    );
     if !all_started {
         return Err(RunFault::Thread);
     }

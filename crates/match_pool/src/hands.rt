@@ -132,6 +132,11 @@ impl<'a, G: Gate> Hands<'a, G> {
         self.stopped
     }
 
+    /// What ended the run early, if something did.
+    pub(crate) fn trouble(&self) -> Option<Trouble> {
+        self.trouble
+    }
+
     /// Whether a worker that waits has something to wake for.
     pub(crate) fn has_news(&self) -> bool {
         self.ended || !self.ready.is_empty()

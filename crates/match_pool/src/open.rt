@@ -19,59 +19,60 @@ use std::alloc::Global;
 use std::sync::ledger::Blank;
 use std::sync::{Mutex, Wait};
 
-/// The two ends of each mailbox of one kind, by receiver.
-pub(crate) type Mailboxes<M, R> = (Vec<RuledPut<M, R>>, Vec<RuledTake<M, R>>);
+/// By receiver, the sending ends of the mailboxes of one kind, and the locks of the desks.
+pub(crate) type Mailboxes<P, S> = (Vec<P>, Vec<Mutex<S>>);
 
-/// A mailbox for each resident.
-#[tactic(auto, using(crate::proofs::Rows::each_push))]
-pub(crate) fn offer_mailboxes<R: Wait + Copy>(
+/// A mailbox for each resident: its sending end, and a lock with the resident's agent over its receiving end.
+pub(crate) fn offer_mailboxes<J: Naming, R: Wait + Copy>(
     rt: R,
     alloc: Global,
     inst: &Instance,
     cap: Capacity,
-) -> Result<Mailboxes<OfferNote, R>, RunFault>
+) -> Result<Mailboxes<RuledPut<OfferNote, R>, ResidentSeat<J, RuledTake<OfferNote, R>>>, RunFault>
+    requires { inst.now ≡ J.inst }
     ensures puts { IfOk result (λ both. Each both.0.items (length inst.now.resident_lists) (λ _ end. end.puts ≡ [])) }
-    ensures takes { IfOk result (λ both. Each both.1.items (length inst.now.resident_lists) (λ _ end. end.taken ≡ [])) }
     ensures fault { IfErr result (λ fault. fault ≡ Memory) }
 {
     let count = inst.residents();
     let mut puts = Vec::with_capacity(alloc, count as usize)?;
-    let mut takes = Vec::with_capacity(alloc, count as usize)?;
+    let mut seats = Vec::with_capacity(alloc, count as usize)?;
     for r in 0..count {
         let most = inst.list_of_resident(ResidentNo(r)).len();
         let Ok((put, take)) = mailbox(alloc, rt, room(cap, most)) else {
             return Err(RunFault::Memory);
         };
         puts.push(put)?;
-        takes.push(take)?;
+        seats.push(resident_seat(alloc, inst, ResidentNo(r), take)?)?;
     }
-    Ok((puts, takes))
+    Ok((puts, seats))
 }
 
-/// A mailbox for each programme.
-#[tactic(auto, using(crate::proofs::Rows::each_push))]
-pub(crate) fn answer_mailboxes<R: Wait + Copy>(
+/// A mailbox for each programme: its sending end, and a lock with the programme's agent over its receiving end.
+pub(crate) fn answer_mailboxes<J: Naming, R: Wait + Copy>(
     rt: R,
     alloc: Global,
     inst: &Instance,
     cap: Capacity,
-) -> Result<Mailboxes<AnswerNote, R>, RunFault>
+) -> Result<
+    Mailboxes<RuledPut<AnswerNote, R>, ProgrammeSeat<J, RuledTake<AnswerNote, R>>>,
+    RunFault,
+>
+    requires { inst.now ≡ J.inst }
     ensures puts { IfOk result (λ both. Each both.0.items (length inst.now.quotas) (λ _ end. end.puts ≡ [])) }
-    ensures takes { IfOk result (λ both. Each both.1.items (length inst.now.quotas) (λ _ end. end.taken ≡ [])) }
     ensures fault { IfErr result (λ fault. fault ≡ Memory) }
 {
     let count = inst.programmes();
     let mut puts = Vec::with_capacity(alloc, count as usize)?;
-    let mut takes = Vec::with_capacity(alloc, count as usize)?;
+    let mut seats = Vec::with_capacity(alloc, count as usize)?;
     for p in 0..count {
         let most = 2 * inst.list_of_programme(ProgrammeNo(p)).len();
         let Ok((put, take)) = mailbox(alloc, rt, room(cap, most)) else {
             return Err(RunFault::Memory);
         };
         puts.push(put)?;
-        takes.push(take)?;
+        seats.push(programme_seat(alloc, inst, ProgrammeNo(p), take)?)?;
     }
-    Ok((puts, takes))
+    Ok((puts, seats))
 }
 
 // The room of a mailbox in which at most this many messages can ever wait: no more than that is ever used.
@@ -85,54 +86,40 @@ fn room(cap: Capacity, most: usize) -> u32
     }
 }
 
-/// A lock with an agent for each resident, over these ends, which have taken nothing.
-pub(crate) fn resident_seats<J: Naming, T: TakeEnd<OfferNote> + Drop>(
+// A lock with a resident's agent, over an end that has taken nothing.
+fn resident_seat<J: Naming, T: TakeEnd<OfferNote> + Drop>(
     alloc: Global,
     inst: &Instance,
-    ends: Vec<T>,
-) -> Result<Vec<Mutex<ResidentSeat<J, T>>>, RunFault>
+    resident: ResidentNo,
+    end: T,
+) -> Result<Mutex<ResidentSeat<J, T>>, RunFault>
     requires instance { inst.now ≡ J.inst }
-    requires unused { Each ends.items (length inst.now.resident_lists) (λ _ end. T.taken end ≡ []) }
+    requires member { IsResident inst.now resident }
+    requires unused { T.taken end ≡ [] }
     ensures { IfErr result (λ fault. fault ≡ Memory) }
 {
-    let mut seats = Vec::with_capacity(alloc, ends.len())?;
-    let mut ends = ends;
-    ends.reverse();
-    for r in 0..inst.residents() {
-        let Some(end) = ends.pop() else {
-            return Err(RunFault::Memory);
-        };
-        let Ok(agent) = ResidentAgent::open(alloc, inst, ResidentNo(r), end) else {
-            return Err(RunFault::Memory);
-        };
-        seats.push(Mutex::new(ResidentSeat::new(agent)))?;
+    match ResidentAgent::open(alloc, inst, resident, end) {
+        Ok(agent) => Ok(Mutex::new(ResidentSeat::new(agent))),
+        Err(_) => Err(RunFault::Memory),
     }
-    Ok(seats)
 }
 
-/// A lock with an agent for each programme, over these ends, which have taken nothing.
-pub(crate) fn programme_seats<J: Naming, U: TakeEnd<AnswerNote> + Drop>(
+// A lock with a programme's agent, over an end that has taken nothing.
+fn programme_seat<J: Naming, T: TakeEnd<AnswerNote> + Drop>(
     alloc: Global,
     inst: &Instance,
-    ends: Vec<U>,
-) -> Result<Vec<Mutex<ProgrammeSeat<J, U>>>, RunFault>
+    programme: ProgrammeNo,
+    end: T,
+) -> Result<Mutex<ProgrammeSeat<J, T>>, RunFault>
     requires instance { inst.now ≡ J.inst }
-    requires unused { Each ends.items (length inst.now.quotas) (λ _ end. U.taken end ≡ []) }
+    requires member { IsProgramme inst.now programme }
+    requires unused { T.taken end ≡ [] }
     ensures { IfErr result (λ fault. fault ≡ Memory) }
 {
-    let mut seats = Vec::with_capacity(alloc, ends.len())?;
-    let mut ends = ends;
-    ends.reverse();
-    for p in 0..inst.programmes() {
-        let Some(end) = ends.pop() else {
-            return Err(RunFault::Memory);
-        };
-        let Ok(agent) = ProgrammeAgent::open(alloc, inst, ProgrammeNo(p), end) else {
-            return Err(RunFault::Memory);
-        };
-        seats.push(Mutex::new(ProgrammeSeat::new(agent)))?;
+    match ProgrammeAgent::open(alloc, inst, programme, end) {
+        Ok(agent) => Ok(Mutex::new(ProgrammeSeat::new(agent))),
+        Err(_) => Err(RunFault::Memory),
     }
-    Ok(seats)
 }
 
 /// The ledger over these ends, which have put nothing, with nobody waiting for room; and the tally of all its parts.

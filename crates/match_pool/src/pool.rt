@@ -8,9 +8,7 @@ use crate::fault::RunFault;
 use crate::floor::Floor;
 use crate::gate::Gate;
 use crate::hands::Hands;
-use crate::open::{
-    answer_mailboxes, cut, offer_mailboxes, open_books, programme_seats, resident_seats,
-};
+use crate::open::{answer_mailboxes, cut, offer_mailboxes, open_books};
 use crate::reserve::Reserve;
 use exchange_core::event::Capacity;
 use exchange_core::note::{AnswerNote, OfferNote};
@@ -77,10 +75,8 @@ fn run_named<J: Naming + Send + Sync, G: Gate + Sync, R: Threads + Wait + Sync +
     requires capacity { cap ≡ J.cap }
     requires blank { (blank.name ≡ J.name) × (blank.parts ≡ J.parts) × (J.parts ≡ 8) }
 {
-    let (offer_puts, offer_takes) = offer_mailboxes(rt, alloc, inst, cap)?;
-    let (answer_puts, answer_takes) = answer_mailboxes(rt, alloc, inst, cap)?;
-    let residents = resident_seats::<J, _>(alloc, inst, offer_takes)?;
-    let programmes = programme_seats::<J, _>(alloc, inst, answer_takes)?;
+    let (offer_puts, residents) = offer_mailboxes::<J, R>(rt, alloc, inst, cap)?;
+    let (answer_puts, programmes) = answer_mailboxes::<J, R>(rt, alloc, inst, cap)?;
     let reserve = Reserve::new(alloc, inst, workers)?;
     let (books, tally) = open_books(alloc, blank, inst, cap, offer_puts, answer_puts)?;
     let tallies = cut(alloc, tally, workers)?;
@@ -93,5 +89,5 @@ fn run_named<J: Naming + Send + Sync, G: Gate + Sync, R: Threads + Wait + Sync +
         ending: AtomicBool::new(false),
     };
     let tallies = drive(&rt, alloc, inst, &floor, gate, tallies)?;
-    reserve.finish(inst, floor, tallies)
+    reserve.finish(inst, floor, tallies, workers)
 }

@@ -1,13 +1,18 @@
-//! What a run reserves at its start for what it does after the joins.
-ghost use Rattle.std.specs.Prelude.{◌≡◌};
+//! What a run reserves at its start for what it does after the joins, and what it does then.
+ghost use Rattle.std.specs.Prelude.{◌≡◌, ◌↔◌, ◌+◌, List, ℕ, [], sum, length, true, IfOk, IfErr, IfSome, OnOk, ◌⊎◌};
+ghost use Rattle.exchange_core.specs.declared.event.Event.{Event};
+ghost use Rattle.exchange_core.specs.Legal.{IsClosed};
+ghost use Rattle.exchange_core.specs.Left.{given};
+ghost use Rattle.match_pool.specs.Done.{IsRunOf, IsSettledRun, IsFault, IsReceipt};
+ghost use Rattle.match_pool.specs.declared.fault.RunFault.TheVariants.{Memory, Thread};
 
 use crate::books::Books;
 use crate::compare::Cursors;
+use crate::desks::{ProgrammeSeat, ResidentSeat};
 use crate::done::{Done, Ending, Ends};
 use crate::fault::{RunFault, Trouble};
 use crate::floor::Floor;
 use crate::gate::Gate;
-use crate::hands::Hands;
 use exchange_core::event::{Desk, Event, Pending};
 use exchange_core::note::{AnswerNote, OfferNote};
 use mailbox_rule::{PutEnd, TakeEnd};
@@ -16,14 +21,26 @@ use match_model::assignment::Assignment;
 use match_model::instance::Instance;
 use match_model::member::ResidentNo;
 use offer_ledger::{Ledger, Naming, PARTS, Tally};
+use settle_law::lists::law_orderly;
+use settle_law::settled::law_settled;
 use std::alloc::Global;
+use std::sync::Mutex;
 
-/// Room for the comparison and for the result, so that nothing is asked of memory after the joins.
+/// Room for the comparison and for the result, so that nothing more is asked of memory after the joins.
 #[derive(Drop)]
-pub(crate) struct Reserve<T: TakeEnd<OfferNote> + Drop, U: TakeEnd<AnswerNote> + Drop> {
+pub(crate) struct Reserve<T: TakeEnd<OfferNote>, U: TakeEnd<AnswerNote>> {
     cursors: Cursors,
     assignment: Assignment,
     entered: Vec<u64>,
+    residents: Vec<ResidentAgent<T>>,
+    programmes: Vec<ProgrammeAgent<U>>,
+    ghost none_entered: { entered.items ≡ [] },
+}
+
+/// The agents of a run, out of their locks, and the walk that compares them with its journal.
+#[derive(Drop)]
+pub(crate) struct Logs<T: TakeEnd<OfferNote>, U: TakeEnd<AnswerNote>> {
+    cursors: Cursors,
     residents: Vec<ResidentAgent<T>>,
     programmes: Vec<ProgrammeAgent<U>>,
 }
@@ -34,7 +51,10 @@ impl<T: TakeEnd<OfferNote> + Drop, U: TakeEnd<AnswerNote> + Drop> Reserve<T, U> 
         alloc: Global,
         inst: &Instance,
         workers: usize,
-    ) -> Result<Reserve<T, U>, RunFault> {
+    ) -> Result<Reserve<T, U>, RunFault>
+        ensures made { IfOk result (λ reserve. length reserve.assignment ≡ length inst.now.resident_lists) }
+        ensures fault { IfErr result (λ fault. fault ≡ Memory) }
+    {
         let Ok(assignment) = Assignment::new(alloc, inst.residents()) else {
             return Err(RunFault::Memory);
         };
@@ -58,15 +78,24 @@ impl<T: TakeEnd<OfferNote> + Drop, U: TakeEnd<AnswerNote> + Drop> Reserve<T, U> 
         inst: &Instance,
         floor: Floor<'_, J, P, Q, T, U, G>,
         tallies: Vec<Tally<J>>,
+        workers: usize,
     ) -> Result<Done<P, T, Q, U>, RunFault>
-        requires { inst.now ≡ J.inst }
+        requires instance { inst.now ≡ J.inst }
+        requires parts { J.parts ≡ 8 }
+        requires room { length self.assignment ≡ length inst.now.resident_lists }
+        ensures run { IfOk result (λ done. IsRunOf P T Q U P.puts T.taken Q.puts U.taken inst.now J.cap done.ending done.journal.items done.ends.offer_puts.items done.ends.residents.items done.ends.answer_puts.items done.ends.programmes.items) }
+        ensures stopped { IfOk result (λ done. done.ending ≡ Ending.Stopped → G.MAY_STOP ≡ true) }
+        ensures given { IfOk result (λ done. done.assignment ≡ given inst.now done.journal.items) }
+        ensures counts { IfOk result (λ done. (length done.entered.items ≡ workers) × (sum done.entered.items ≡ length done.journal.items)) }
+        ensures settled { IfOk result (λ done. done.ending ≡ Ending.Closed → IsSettledRun inst.now done.journal.items done.assignment) }
+        ensures fault { IfErr result (IsFault inst.now J.cap) }
     {
         let Reserve {
             cursors,
-            mut assignment,
+            assignment,
             mut entered,
-            mut residents,
-            mut programmes,
+            residents,
+            programmes,
         } = self;
         let Floor {
             residents: resident_seats,
@@ -81,35 +110,98 @@ impl<T: TakeEnd<OfferNote> + Drop, U: TakeEnd<AnswerNote> + Drop> Reserve<T, U> 
             waits: _,
         } = books.into_inner();
         let hands = hands.into_inner();
-        if let Some(trouble) = hands.trouble {
+        if let Some(trouble) = hands.trouble() {
             return Err(fault_of(inst, ledger, trouble));
         }
-        count(&mut ledger, tallies, &mut entered)?;
-        for seat in resident_seats {
-            residents.push_reserved(seat.into_inner().into_agent());
-        }
-        for seat in programme_seats {
-            programmes.push_reserved(seat.into_inner().into_agent());
-        }
+        count(&mut ledger, tallies, &mut entered, workers)?;
         let ending = ending_of(inst, &ledger, hands.is_stopped())?;
-        if let Err(desk) = cursors.compare(inst, ledger.journal(), &residents, &programmes) {
-            return Err(RunFault::Torn(desk));
-        }
-        ledger.core().assignment(&mut assignment);
-        let (journal, _, offer_puts, answer_puts) = ledger.into_parts();
-        Ok(Done {
-            ending,
-            journal,
-            assignment,
-            entered,
-            ends: Ends {
-                offer_puts,
-                residents,
-                answer_puts,
-                programmes,
-            },
-        })
+        let logs = Logs {
+            cursors,
+            residents: resident_agents(resident_seats, residents)?,
+            programmes: programme_agents(programme_seats, programmes)?,
+        };
+        result_of(inst, ledger, logs, ending, assignment, entered)
     }
+}
+
+// The agents out of their locks, by resident.
+fn resident_agents<J: Naming, T: TakeEnd<OfferNote> + Drop>(
+    seats: Vec<Mutex<ResidentSeat<J, T>>>,
+    agents: Vec<ResidentAgent<T>>,
+) -> Result<Vec<ResidentAgent<T>>, RunFault>
+    ensures { IfErr result (λ fault. fault ≡ Memory) }
+{
+    let mut agents = agents;
+    for seat in seats {
+        agents.push(seat.into_inner().into_agent())?;
+    }
+    Ok(agents)
+}
+
+// The agents out of their locks, by programme.
+fn programme_agents<J: Naming, U: TakeEnd<AnswerNote> + Drop>(
+    seats: Vec<Mutex<ProgrammeSeat<J, U>>>,
+    agents: Vec<ProgrammeAgent<U>>,
+) -> Result<Vec<ProgrammeAgent<U>>, RunFault>
+    ensures { IfErr result (λ fault. fault ≡ Memory) }
+{
+    let mut agents = agents;
+    for seat in seats {
+        agents.push(seat.into_inner().into_agent())?;
+    }
+    Ok(agents)
+}
+
+// The result, where every log is the journal's.
+fn result_of<J, P, Q, T, U>(
+    inst: &Instance,
+    ledger: Ledger<J, P, Q>,
+    logs: Logs<T, U>,
+    ending: Ending,
+    assignment: Assignment,
+    entered: Vec<u64>,
+) -> Result<Done<P, T, Q, U>, RunFault>
+where
+    J: Naming,
+    P: PutEnd<OfferNote> + Drop,
+    Q: PutEnd<AnswerNote> + Drop,
+    T: TakeEnd<OfferNote> + Drop,
+    U: TakeEnd<AnswerNote> + Drop,
+    requires instance { inst.now ≡ J.inst }
+    requires room { length assignment ≡ length inst.now.resident_lists }
+    requires ending { (ending ≡ Ending.Closed) ↔ IsClosed ledger.journal }
+    ensures run { IfOk result (λ done. IsRunOf P T Q U P.puts T.taken Q.puts U.taken inst.now J.cap done.ending done.journal.items done.ends.offer_puts.items done.ends.residents.items done.ends.answer_puts.items done.ends.programmes.items) }
+    ensures given { IfOk result (λ done. done.assignment ≡ given inst.now done.journal.items) }
+    ensures same { IfOk result (λ done. (done.journal.items ≡ ledger.journal) × (done.ending ≡ ending) × (done.entered ≡ entered)) }
+    ensures settled { IfOk result (λ done. done.ending ≡ Ending.Closed → IsSettledRun inst.now done.journal.items done.assignment) }
+    ensures fault { IfErr result (IsFault inst.now J.cap) }
+{
+    law_orderly();
+    law_settled();
+    let _members = inst.residents();
+    let Logs {
+        cursors,
+        residents,
+        programmes,
+    } = logs;
+    let mut assignment = assignment;
+    if let Err(desk) = cursors.compare(inst, ledger.journal(), &residents, &programmes) {
+        return Err(RunFault::Torn(desk));
+    }
+    ledger.core().assignment(&mut assignment);
+    let (journal, _, offer_puts, answer_puts) = ledger.into_parts();
+    Ok(Done {
+        ending,
+        journal,
+        assignment,
+        entered,
+        ends: Ends {
+            offer_puts,
+            residents,
+            answer_puts,
+            programmes,
+        },
+    })
 }
 
 // The count of each worker, once all their tallies are joined to one that has every part.
@@ -117,22 +209,28 @@ fn count<J: Naming, P: PutEnd<OfferNote> + Drop, Q: PutEnd<AnswerNote> + Drop>(
     ledger: &mut Ledger<J, P, Q>,
     tallies: Vec<Tally<J>>,
     entered: &mut Vec<u64>,
-) -> Result<(), RunFault> {
-    let mut whole: Option<Tally<J>> = None;
+    workers: usize,
+) -> Result<(), RunFault>
+    requires parts { J.parts ≡ 8 }
+    requires empty { entered.old.items ≡ [] }
+    ensures counts { OnOk result ((length entered.new.items ≡ workers) × (sum entered.new.items ≡ length ledger.new.journal)) }
+    ensures same { ledger.new ≡ ledger.old }
+    ensures fault { IfErr result (λ fault. (fault ≡ Memory) ⊎ (fault ≡ Thread)) }
+{
+    let mut tallies = tallies.into_iter();
+    let Some(mut whole) = tallies.next() else {
+        return Err(RunFault::Thread);
+    };
+    entered.push(whole.entered())?;
     for tally in tallies {
-        entered.push_reserved(tally.entered());
-        match &mut whole {
-            None => whole = Some(tally),
-            Some(whole) => ledger.join(whole, tally),
-        }
+        entered.push(tally.entered())?;
+        ledger.join(&mut whole, tally);
     }
-    match whole {
-        Some(mut whole) if whole.parts() == PARTS => {
-            ledger.entered(&mut whole);
-            Ok(())
-        }
-        _ => Err(RunFault::Thread),
+    if whole.parts() != PARTS || entered.len() != workers {
+        return Err(RunFault::Thread);
     }
+    ledger.entered(&mut whole);
+    Ok(())
 }
 
 // How a run ended: closed, or stopped where it was stopped; else the desk that was left pending.
@@ -140,7 +238,12 @@ fn ending_of<J: Naming, P: PutEnd<OfferNote> + Drop, Q: PutEnd<AnswerNote> + Dro
     inst: &Instance,
     ledger: &Ledger<J, P, Q>,
     stopped: bool,
-) -> Result<Ending, RunFault> {
+) -> Result<Ending, RunFault>
+    requires { inst.now ≡ J.inst }
+    ensures closed { IfOk result (λ ending. (ending ≡ Ending.Closed) ↔ IsClosed ledger.now.journal) }
+    ensures stopped { IfOk result (λ ending. ending ≡ Ending.Stopped → stopped ≡ true) }
+    ensures fault { IfErr result (IsFault inst.now J.cap) }
+{
     if ledger.core().is_closed() {
         return Ok(Ending::Closed);
     }
@@ -170,6 +273,7 @@ fn fault_of<J: Naming, P: PutEnd<OfferNote> + Drop, Q: PutEnd<AnswerNote> + Drop
     trouble: Trouble,
 ) -> RunFault
     requires { inst.now ≡ J.inst }
+    ensures { IsFault inst.now J.cap result }
 {
     match trouble {
         Trouble::Torn(desk) => RunFault::Torn(desk),
@@ -185,6 +289,7 @@ fn out_of_step<J: Naming, P: PutEnd<OfferNote> + Drop, Q: PutEnd<AnswerNote> + D
     event: Event,
 ) -> RunFault
     requires { inst.now ≡ J.inst }
+    ensures { IsFault inst.now J.cap result }
 {
     let again = event;
     let third = event;
@@ -202,7 +307,9 @@ fn out_of_step<J: Naming, P: PutEnd<OfferNote> + Drop, Q: PutEnd<AnswerNote> + D
 }
 
 // The desk of a receipt.
-fn receiver(event: Event) -> Option<Desk> {
+fn receiver(event: Event) -> Option<Desk>
+    ensures { IfSome result (λ _. IsReceipt event) }
+{
     match event {
         Event::Take { resident, .. } => Some(Desk::Resident(resident)),
         Event::Hear { programme, .. } => Some(Desk::Programme(programme)),

@@ -1,11 +1,9 @@
 use Rattle.std.proofs.Common.{◌≡◌, ℕ, []}
 use Rattle.exchange_core.specs.Mail.{Answered}
-use Rattle.mailbox_rule.specs.Mail.{PutSide, TakeSide}
+use Rattle.mailbox_rule.specs.Mail.{PutSide}
 use Rattle.match_pool.specs.Done.{Each}
 use Rattle.match_pool.proofs.open.answer_mailboxes.Given as goal
 
+-- no sending end so far has put anything
 abbrev pub invariant-loop-p : goal.invariant-loop-p
-invariant-loop-p g l = record {
-  puts : Each l.puts.items l.p (λ (i : ℕ) (end : PutSide Answered). end.puts ≡ []);
-  takes : Each l.takes.items l.p (λ (i : ℕ) (end : TakeSide Answered). end.taken ≡ []);
-}
+invariant-loop-p g l = Each l.puts.items l.p (λ (i : ℕ) (end : PutSide Answered). end.puts ≡ [])
