@@ -120,7 +120,10 @@ impl<T: TakeEnd<OfferNote> + Drop, U: TakeEnd<AnswerNote> + Drop> Reserve<T, U> 
             residents: resident_agents(resident_seats, residents)?,
             programmes: programme_agents(programme_seats, programmes)?,
         };
-        result_of(inst, ledger, logs, ending, assignment, entered)
+        match result_of(inst, ledger, logs, ending, assignment, entered) {
+            Ok(done) => Ok(done),
+            Err(fault) => Err(fault),
+        }
     }
 }
 
@@ -185,8 +188,9 @@ where
         programmes,
     } = logs;
     let mut assignment = assignment;
-    if let Err(desk) = cursors.compare(inst, ledger.journal(), &residents, &programmes) {
-        return Err(RunFault::Torn(desk));
+    match cursors.compare(inst, ledger.journal(), &residents, &programmes) {
+        Ok(()) => {}
+        Err(desk) => return Err(RunFault::Torn(desk)),
     }
     ledger.core().assignment(&mut assignment);
     let (journal, _, offer_puts, answer_puts) = ledger.into_parts();
@@ -296,9 +300,9 @@ fn out_of_step<J: Naming, P: PutEnd<OfferNote> + Drop, Q: PutEnd<AnswerNote> + D
     let Some(desk) = receiver(event) else {
         return RunFault::Thread;
     };
-    if ledger.core().may(inst, again).is_ok() {
+    let Err(_) = ledger.core().may(inst, again) else {
         return RunFault::Torn(desk);
-    }
+    };
     let (journal, _, _, _) = ledger.into_parts();
     RunFault::OutOfStep {
         journal,
