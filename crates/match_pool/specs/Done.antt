@@ -1,5 +1,6 @@
 -- What a run gives.
-use Rattle.std.specs.Prelude.{◌≡◌, ℕ, ◌↔◌, List, ◌∷◌, [], ◌++◌, length, slice_get, Some, Option}
+use Rattle.exchange_core.specs.Shown.{is_capacity}
+use Rattle.std.specs.Prelude.{◌≡◌, ◌≢◌, ℕ, true, false, ◌↔◌, List, ◌∷◌, [], ◌++◌, length, slice_get, Some, Option}
 use Rattle.match_model.specs.Instance.{Instance}
 use Rattle.exchange_core.specs.declared.event.Event.{Event}
 use Rattle.exchange_core.specs.declared.event.Event.TheVariants.{Take, Hear, Close}
@@ -50,12 +51,18 @@ IsReceipt (Take r p) = Unit {0}
 IsReceipt (Hear p r k) = Unit {0}
 IsReceipt e = ⊥
 
--- a receipt that may not follow a legal journal; of the other faults nothing is said
+-- no fault of the number of workers or of the capacity; out of step a receipt that may not follow a legal journal; of the others nothing is said
 abbrev pub IsFault : Instance → Capacity → RunFault → Type 0
-IsFault inst cap BadWorkers = Unit {0}
-IsFault inst cap BadCapacity = Unit {0}
+IsFault inst cap BadWorkers = ⊥
+IsFault inst cap BadCapacity = ⊥
 IsFault inst cap Memory = Unit {0}
 IsFault inst cap Thread = Unit {0}
 IsFault inst cap (OutOfStep journal event) = IsLegal inst cap journal.items × IsReceipt event × (MayFollow inst cap journal.items event → ⊥)
 IsFault inst cap (Torn desk) = Unit {0}
 IsFault inst cap (MailGone desk) = Unit {0}
+
+-- another number of workers than two comes first, then a capacity that isn't admitted; else it is a fault of the run
+abbrev pub IsRunFault : Instance → Capacity → ℕ → RunFault → Type 0
+IsRunFault inst cap workers BadWorkers = workers ≢ 2
+IsRunFault inst cap workers BadCapacity = (workers ≡ 2) × (is_capacity cap ≡ false)
+IsRunFault inst cap workers fault = (workers ≡ 2) × (is_capacity cap ≡ true) × IsFault inst cap fault

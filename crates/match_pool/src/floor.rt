@@ -40,6 +40,23 @@ where
     U: TakeEnd<AnswerNote>,
     G: Gate,
 {
+    /// Desks, books and hands, each under its lock.
+    pub(crate) fn new(
+        residents: Vec<Mutex<ResidentSeat<J, T>>>,
+        programmes: Vec<Mutex<ProgrammeSeat<J, U>>>,
+        books: Books<J, P, Q>,
+        hands: Hands<'a, G>,
+    ) -> Floor<'a, J, P, Q, T, U, G> {
+        Floor {
+            residents,
+            programmes,
+            books: Mutex::new(books),
+            hands: Mutex::new(hands),
+            news: Condvar::new(),
+            ending: AtomicBool::new(false),
+        }
+    }
+
     /// Whether the run ends.
     pub(crate) fn is_ending(&self) -> bool {
         self.ending.load(Ordering::SeqCst)

@@ -1,8 +1,12 @@
 //! A run: mailboxes, agents, ledger and workers, from an instance to what the ends put and took.
-ghost use Rattle.std.specs.Prelude.{◌≡◌};
+ghost use Rattle.std.specs.Prelude.{◌≡◌, ℕ, sum, length, true, IfOk, IfErr, OnOk};
+ghost use Rattle.exchange_core.specs.Mail.{Answered};
+ghost use Rattle.exchange_core.specs.Left.{given};
+ghost use Rattle.mailbox_rule.specs.Mail.{PutSide, TakeSide};
+ghost use Rattle.match_pool.specs.Done.{IsRunOf, IsSettledRun, IsFault, IsRunFault};
 ghost use Rattle.exchange_core.specs.Shown.{is_capacity};
 
-use crate::done::Done;
+use crate::done::{Done, Ending};
 use crate::drive::drive;
 use crate::fault::RunFault;
 use crate::floor::Floor;
@@ -17,9 +21,8 @@ use match_model::instance::Instance;
 use offer_ledger::{Naming, PARTS};
 use std::alloc::Global;
 use std::marker::Brand;
-use std::sync::atomic::AtomicBool;
+use std::sync::Wait;
 use std::sync::ledger::Blank;
-use std::sync::{Condvar, Mutex, Wait};
 use std::thread::Threads;
 
 /// How many workers a run has.
@@ -41,7 +44,15 @@ pub fn run<G: Gate + Sync, R: Threads + Wait + Sync + Send + Copy>(
     cap: Capacity,
     workers: usize,
     gate: &G,
-) -> Result<RuledDone<R>, RunFault> {
+) -> Result<RuledDone<R>, RunFault>
+    ensures run { IfOk result (λ done. IsRunOf (PutSide ℕ) (TakeSide ℕ) (PutSide Answered) (TakeSide Answered) (λ end. end.puts) (λ end. end.taken) (λ end. end.puts) (λ end. end.taken) inst.now cap done.ending done.journal.items done.ends.offer_puts.items done.ends.residents.items done.ends.answer_puts.items done.ends.programmes.items) }
+    ensures stopped { IfOk result (λ done. done.ending ≡ Ending.Stopped → G.MAY_STOP ≡ true) }
+    ensures given { IfOk result (λ done. done.assignment ≡ given inst.now done.journal.items) }
+    ensures counts { IfOk result (λ done. (length done.entered.items ≡ workers) × (sum done.entered.items ≡ length done.journal.items)) }
+    ensures settled { IfOk result (λ done. done.ending ≡ Ending.Closed → IsSettledRun inst.now done.journal.items done.assignment) }
+    ensures admitted { OnOk result ((workers ≡ 2) × (is_capacity cap ≡ true)) }
+    ensures fault { IfErr result (IsRunFault inst.now cap workers) }
+{
     if workers != WORKERS {
         return Err(RunFault::BadWorkers);
     }
@@ -74,20 +85,20 @@ fn run_named<J: Naming + Send + Sync, G: Gate + Sync, R: Threads + Wait + Sync +
     requires instance { inst.now ≡ J.inst }
     requires capacity { cap ≡ J.cap }
     requires blank { (blank.name ≡ J.name) × (blank.parts ≡ J.parts) × (J.parts ≡ 8) }
+    ensures run { IfOk result (λ done. IsRunOf (PutSide ℕ) (TakeSide ℕ) (PutSide Answered) (TakeSide Answered) (λ end. end.puts) (λ end. end.taken) (λ end. end.puts) (λ end. end.taken) inst.now cap done.ending done.journal.items done.ends.offer_puts.items done.ends.residents.items done.ends.answer_puts.items done.ends.programmes.items) }
+    ensures stopped { IfOk result (λ done. done.ending ≡ Ending.Stopped → G.MAY_STOP ≡ true) }
+    ensures given { IfOk result (λ done. done.assignment ≡ given inst.now done.journal.items) }
+    ensures counts { IfOk result (λ done. (length done.entered.items ≡ workers) × (sum done.entered.items ≡ length done.journal.items)) }
+    ensures settled { IfOk result (λ done. done.ending ≡ Ending.Closed → IsSettledRun inst.now done.journal.items done.assignment) }
+    ensures fault { IfErr result (IsFault inst.now cap) }
 {
     let (offer_puts, residents) = offer_mailboxes::<J, R>(rt, alloc, inst, cap)?;
     let (answer_puts, programmes) = answer_mailboxes::<J, R>(rt, alloc, inst, cap)?;
     let reserve = Reserve::new(alloc, inst, workers)?;
     let (books, tally) = open_books(alloc, blank, inst, cap, offer_puts, answer_puts)?;
     let tallies = cut(alloc, tally, workers)?;
-    let floor = Floor {
-        hands: Mutex::new(Hands::open(alloc, inst.residents(), inst.programmes())?),
-        residents,
-        programmes,
-        books: Mutex::new(books),
-        news: Condvar::new(),
-        ending: AtomicBool::new(false),
-    };
+    let hands = Hands::open(alloc, inst.residents(), inst.programmes())?;
+    let floor = Floor::new(residents, programmes, books, hands);
     let tallies = drive(&rt, alloc, inst, &floor, gate, tallies)?;
     reserve.finish(inst, floor, tallies, workers)
 }
