@@ -61,7 +61,7 @@ Q,a,1 R,x F,a,1,1 M,x,a C,full = read";
 #[test]
 fn two_faults(rt: HostRuntime) -> Result<(), Fail> {
     for lines in [ONE_RECORD, ONE_PASS, EARLIER_PASS, WALKS] {
-        assert_eq!(rt; first_wrong(rt.alloc(), lines)?, None);
+        assert!(rt; first_wrong(rt.alloc(), lines)? == None);
     }
     Ok(())
 }

@@ -1,6 +1,6 @@
 //! Each fault by itself.
-use super::first_wrong;
-use crate::fault::DocketFault;
+use super::{first_wrong, is_told};
+use docket::fault::DocketFault;
 use std::test::Fail;
 
 const KINDS: &str = "\
@@ -125,7 +125,7 @@ C,0007 E,take,x,a E,hear,a,x,decline Q,a,0 R,x = read";
 #[test]
 fn faults_of_one_record(rt: HostRuntime) -> Result<(), Fail> {
     for lines in [KINDS, COUNTS, NAMES, NUMBERS_AND_WORDS] {
-        assert_eq!(rt; first_wrong(rt.alloc(), lines)?, None);
+        assert!(rt; first_wrong(rt.alloc(), lines)? == None);
     }
     Ok(())
 }
@@ -133,15 +133,18 @@ fn faults_of_one_record(rt: HostRuntime) -> Result<(), Fail> {
 #[test]
 fn faults_among_records(rt: HostRuntime) -> Result<(), Fail> {
     for lines in [ROWS_BEFORE, LISTS, SHEETS, EVENTS] {
-        assert_eq!(rt; first_wrong(rt.alloc(), lines)?, None);
+        assert!(rt; first_wrong(rt.alloc(), lines)? == None);
     }
     Ok(())
 }
 
 #[test]
 fn faults_without_a_record(rt: HostRuntime) -> Result<(), Fail> {
-    let alloc = rt.alloc();
-    assert!(rt; DocketFault::Memory.to_string(alloc)?.as_str() == "out of memory");
-    assert!(rt; DocketFault::Write.to_string(alloc)?.as_str() == "the output could not be written");
+    for (fault, text) in [
+        (DocketFault::Memory, "out of memory"),
+        (DocketFault::Write, "the output could not be written"),
+    ] {
+        assert!(rt; is_told(rt.alloc(), Err(fault), text)?, "{text}");
+    }
     Ok(())
 }

@@ -43,6 +43,11 @@ impl CutWriter {
     pub(super) fn new(got: Vec<u8>, good: usize) -> CutWriter {
         CutWriter { got, good }
     }
+
+    /// What it took so far.
+    pub(super) fn got(&self) -> &[u8] {
+        self.got.as_slice()
+    }
 }
 
 impl Write for CutWriter {

@@ -1,6 +1,5 @@
 //! Each limit, and one more.
-use super::{joined, told};
-use crate::read::read_docket;
+use super::{read, tells};
 use std::alloc::{AllocError, Global};
 use std::test::Fail;
 
@@ -70,75 +69,87 @@ fn closes(alloc: Global, records: u32) -> Result<String, AllocError> {
     Ok(text)
 }
 
+// As many programmes as there may be, and one more record.
+fn most_programmes_and(alloc: Global, last: &str) -> Result<String, AllocError> {
+    let mut text = numbered(alloc, "Q,p", 2_000, ",10000\n")?;
+    text.push_str(last)?;
+    Ok(text)
+}
+
 #[test]
 fn programmes(rt: HostRuntime) -> Result<(), Fail> {
-    let alloc = rt.alloc();
-    let most = numbered(alloc, "Q,p", 2_000, ",10000\n")?;
-    assert!(rt; told(alloc, most.as_bytes())?.as_str() == "read");
     // the quota is told of after the count of programmes, and a name declared twice before it
-    let more = joined(alloc, &[most.as_str(), "Q,q,10001\n"])?;
-    assert!(rt; told(alloc, more.as_bytes())?.as_str() == "record 2001: more than 2000 programmes");
-    let twice = joined(alloc, &[most.as_str(), "Q,p0,10001\n"])?;
-    assert!(rt; told(alloc, twice.as_bytes())?.as_str() == "record 2001: declared twice");
+    for (last, wanted) in [
+        ("", "read"),
+        ("Q,q,10001\n", "record 2001: more than 2000 programmes"),
+        ("Q,p0,10001\n", "record 2001: declared twice"),
+    ] {
+        let text = most_programmes_and(rt.alloc(), last)?;
+        assert!(rt; tells(rt.alloc(), &[text.as_str()], wanted)?, "{wanted}");
+    }
     Ok(())
 }
 
 #[test]
 fn residents(rt: HostRuntime) -> Result<(), Fail> {
-    let alloc = rt.alloc();
-    let most = numbered(alloc, "R,r", 20_000, "\n")?;
-    assert!(rt; told(alloc, most.as_bytes())?.as_str() == "read");
-    let more = numbered(alloc, "R,r", 20_001, "\n")?;
-    assert!(rt;
-        told(alloc, more.as_bytes())?.as_str() == "record 20001: more than 20000 residents"
-    );
+    for (count, wanted) in [
+        (20_000, "read"),
+        (20_001, "record 20001: more than 20000 residents"),
+    ] {
+        let text = numbered(rt.alloc(), "R,r", count, "\n")?;
+        assert!(rt; tells(rt.alloc(), &[text.as_str()], wanted)?, "{wanted}");
+    }
     Ok(())
+}
+
+// How many pairs are acceptable in a docket.
+fn pairs(alloc: Global, input: &str) -> Option<u32> {
+    match read(alloc, input) {
+        Ok(docket) => Some(docket.instance().pairs()),
+        Err(_) => None,
+    }
 }
 
 #[test]
 fn most_pairs(rt: HostRuntime) -> Result<(), Fail> {
-    let alloc = rt.alloc();
-    let most = ranked(alloc, "R,r19999,p9,p8,p7,p6,p5,p4,p3,p2,p1,p0\n")?;
-    let docket = read_docket(alloc, most.as_bytes())?;
-    assert_eq!(rt; docket.instance().pairs(), 200_000);
+    let text = ranked(rt.alloc(), "R,r19999,p9,p8,p7,p6,p5,p4,p3,p2,p1,p0\n")?;
+    assert!(rt; pairs(rt.alloc(), text.as_str()) == Some(200_000));
     Ok(())
 }
 
 #[test]
 fn one_pair_too_many(rt: HostRuntime) -> Result<(), Fail> {
-    let alloc = rt.alloc();
-    let more = ranked(
-        alloc,
+    let text = ranked(
+        rt.alloc(),
         "R,r19999,p9,p8,p7,p6,p5,p4,p3,p2,p1,p0,p10\nQ,p10,0\nP,p10,r19999\nC,full\n",
     )?;
-    assert!(rt;
-        told(alloc, more.as_bytes())?.as_str() == "record 20023: more than 200000 acceptable pairs"
-    );
+    let wanted = "record 20023: more than 200000 acceptable pairs";
+    assert!(rt; tells(rt.alloc(), &[text.as_str()], wanted)?);
     Ok(())
 }
 
 #[test]
 fn quotas(rt: HostRuntime) -> Result<(), Fail> {
-    let alloc = rt.alloc();
-    assert!(rt; told(alloc, b"Q,a,10000\n".as_slice())?.as_str() == "read");
-    assert!(rt; told(alloc, b"Q,a,10001\n".as_slice())?.as_str() == "record 1: quota over 10000");
+    for (input, wanted) in [
+        ("Q,a,10000\n", "read"),
+        ("Q,a,10001\n", "record 1: quota over 10000"),
+    ] {
+        assert!(rt; tells(rt.alloc(), &[input], wanted)?, "{wanted}");
+    }
     Ok(())
 }
 
 #[test]
 fn most_records(rt: HostRuntime) -> Result<(), Fail> {
-    let alloc = rt.alloc();
-    let text = closes(alloc, 2_000_000)?;
-    assert!(rt; told(alloc, text.as_bytes())?.as_str() == "read");
+    let text = closes(rt.alloc(), 2_000_000)?;
+    assert!(rt; tells(rt.alloc(), &[text.as_str()], "read")?);
     Ok(())
 }
 
 #[test]
 fn one_record_too_many(rt: HostRuntime) -> Result<(), Fail> {
-    let alloc = rt.alloc();
-    let text = closes(alloc, 2_000_001)?;
-    assert!(rt;
-        told(alloc, text.as_bytes())?.as_str() == "record 2000001: more than 2000000 records"
-    );
+    let text = closes(rt.alloc(), 2_000_001)?;
+    let wanted = "record 2000001: more than 2000000 records";
+    assert!(rt; tells(rt.alloc(), &[text.as_str()], wanted)?);
     Ok(())
 }
