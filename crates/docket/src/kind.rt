@@ -1,3 +1,5 @@
+ghost use Rattle.std.specs.Prelude.{◌≡◌};
+
 /// `Q,programme,quota`: declares a programme.
 pub const QUOTA: u8 = b'Q';
 
@@ -24,6 +26,19 @@ pub const EVENT: u8 = b'E';
 
 /// The most records of a docket.
 pub const MAX_RECORDS: u32 = 2_000_000;
+
+/// What definitions name by a constant is this, whatever the constant says.
+pub fn law_constants()
+    ensures quota { QUOTA ≡ 81 }
+    ensures programme_list { PROGRAMME_LIST ≡ 80 }
+    ensures resident_list { RESIDENT_LIST ≡ 82 }
+    ensures matched { MATCHED ≡ 77 }
+    ensures unmatched { UNMATCHED ≡ 85 }
+    ensures filled { FILLED ≡ 70 }
+    ensures capacity { CAPACITY ≡ 67 }
+    ensures event { EVENT ≡ 69 }
+    ensures most_records { MAX_RECORDS ≡ 2000000 }
+{}
 
 /// The word of an event.
 #[derive(Clone, Copy, Debug, PartialEq, Eq)]

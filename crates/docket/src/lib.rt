@@ -20,7 +20,5 @@ pub mod row_text;
 mod rows;
 mod sheet;
 mod tables;
-#[cfg(test)]
-mod tests;
 pub mod words;
 pub mod write;

@@ -5,7 +5,6 @@ ghost use Rattle.std.specs.Bool.{OnTrue};
 use super::*;
 use std::alloc::Global;
 use std::marker::Model;
-use std::process::Abort;
 use std::sync::Wait;
 use std::test::*;
 use std::thread;
@@ -28,15 +27,16 @@ fn three_each<P: PutEnd<u32>, T: TakeEnd<u32>>(
     (put_replies, [first, second, third], put, take)
 }
 
+const PUT: [PutReply<u32>; 3] = [PutReply::Done, PutReply::Done, PutReply::Full(7)];
+
+const TAKEN: [TakeReply<u32>; 3] = [TakeReply::Got(5), TakeReply::Got(6), TakeReply::Nothing];
+
 #[test]
 fn two_places(rt: HostRuntime) -> Result<(), Fail> {
     let (put, take) = mailbox(rt.alloc(), rt, 2)?;
     let (puts, takes, _put, _take) = three_each(put, take);
-    assert_eq!(rt; puts, [PutReply::Done, PutReply::Done, PutReply::Full(7)]);
-    assert_eq!(rt;
-        takes,
-        [TakeReply::Got(5), TakeReply::Got(6), TakeReply::Nothing]
-    );
+    assert!(rt; puts == PUT);
+    assert!(rt; takes == TAKEN);
     Ok(())
 }
 
@@ -45,11 +45,8 @@ fn two_places_in_memory(rt: HostRuntime) -> Result<(), Fail> {
     let put = ListPut::with_room(rt.alloc(), 2)?;
     let take = ListTake::of([5, 6].to_vec(rt.alloc())?);
     let (puts, takes, _put, _take) = three_each(put, take);
-    assert_eq!(rt; puts, [PutReply::Done, PutReply::Done, PutReply::Full(7)]);
-    assert_eq!(rt;
-        takes,
-        [TakeReply::Got(5), TakeReply::Got(6), TakeReply::Nothing]
-    );
+    assert!(rt; puts == PUT);
+    assert!(rt; takes == TAKEN);
     Ok(())
 }
 
@@ -62,29 +59,37 @@ fn no_capacity(rt: HostRuntime) {
 #[test]
 fn no_room(rt: HostRuntime) -> Result<(), Fail> {
     let mut put = ListPut::with_room(rt.alloc(), 0)?;
-    assert_eq!(rt; put.put(5), PutReply::Full(5));
+    assert!(rt; put.put(5) == PutReply::Full(5));
     Ok(())
 }
 
 #[test]
 fn texts(rt: HostRuntime) -> Result<(), Fail> {
-    let no_capacity = format!(in rt.alloc(); "{}", MailFault::NoCapacity)?;
-    assert_eq!(rt; no_capacity.as_str(), "a mailbox needs a capacity above 0");
-    let memory = format!(in rt.alloc(); "{}", MailFault::Memory)?;
-    assert_eq!(rt; memory.as_str(), "out of memory");
+    for (fault, text) in [
+        (MailFault::NoCapacity, "a mailbox needs a capacity above 0"),
+        (MailFault::Memory, "out of memory"),
+    ] {
+        assert!(rt; fault.to_string(rt.alloc())?.as_str() == text, "{text}");
+    }
     Ok(())
 }
 
 #[test]
-fn gone(rt: HostRuntime) -> Result<(), Fail> {
+fn nobody_takes(rt: HostRuntime) -> Result<(), Fail> {
     let (mut put, take) = mailbox(rt.alloc(), rt, 2)?;
     drop(take);
-    assert_eq!(rt; put.put(5), PutReply::Gone(5));
+    assert!(rt; put.put(5) == PutReply::Gone(5));
+    Ok(())
+}
+
+#[test]
+fn nobody_puts(rt: HostRuntime) -> Result<(), Fail> {
     let (mut put, mut take) = mailbox(rt.alloc(), rt, 2)?;
-    assert_eq!(rt; put.put(5), PutReply::Done);
+    assert!(rt; put.put(5) == PutReply::Done);
     drop(put);
-    assert_eq!(rt; take.take(), TakeReply::Got(5));
-    assert_eq!(rt; take.take(), TakeReply::Gone);
+    for reply in [TakeReply::Got(5), TakeReply::Gone] {
+        assert!(rt; take.take() == reply);
+    }
     Ok(())
 }
 
@@ -115,8 +120,9 @@ fn notes(rt: HostRuntime) -> Result<(), Fail> {
     let (mut put, mut take) = mailbox(rt.alloc(), rt, 1)?;
     assert!(rt; post(&mut put, 7));
     assert!(rt; !post(&mut put, 8));
-    assert_eq!(rt; take.take(), TakeReply::Got(Note { number: 7 }));
-    assert_eq!(rt; take.take(), TakeReply::Nothing);
+    for reply in [TakeReply::Got(Note { number: 7 }), TakeReply::Nothing] {
+        assert!(rt; take.take() == reply);
+    }
     Ok(())
 }
 
@@ -238,24 +244,26 @@ fn relayed<R: Threads + Wait + Sync + Send + Copy>(
     Ok(numbers)
 }
 
-fn assert_counts(rt: &impl Abort, numbers: &[u32], count: u32) {
-    assert_eq!(rt; numbers.len(), count as usize);
-    for (number, expected) in numbers.iter().zip(0..count) {
-        assert_eq!(rt; *number, expected);
-    }
+// Whether the numbers are those below `count`, in order.
+fn is_counted(numbers: &[u32], count: u32) -> bool {
+    numbers.len() == count as usize
+        && numbers
+            .iter()
+            .zip(0..count)
+            .all(|(n, expected)| *n == expected)
 }
 
 #[test]
 fn relay(rt: HostRuntime) -> Result<(), Fail> {
     let numbers = relayed(rt, rt.alloc(), 8, 10_000)?;
-    assert_counts(&rt, numbers.as_slice(), 10_000);
+    assert!(rt; is_counted(numbers.as_slice(), 10_000));
     Ok(())
 }
 
 #[test]
 fn relay_one_by_one(rt: HostRuntime) -> Result<(), Fail> {
     let numbers = relayed(rt, rt.alloc(), 1, 10_000)?;
-    assert_counts(&rt, numbers.as_slice(), 10_000);
+    assert!(rt; is_counted(numbers.as_slice(), 10_000));
     Ok(())
 }
 
@@ -282,6 +290,6 @@ fn returned<R: Threads + Wait + Sync + Send + Copy>(
 #[test]
 fn there_and_back(rt: HostRuntime) -> Result<(), Fail> {
     let numbers = returned(rt, rt.alloc(), 8, 10_000)?;
-    assert_counts(&rt, numbers.as_slice(), 10_000);
+    assert!(rt; is_counted(numbers.as_slice(), 10_000));
     Ok(())
 }

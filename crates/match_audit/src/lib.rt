@@ -9,5 +9,3 @@ mod findings;
 mod load;
 pub mod replay;
 pub mod report;
-#[cfg(test)]
-mod tests;

@@ -14,5 +14,3 @@ pub mod instance;
 pub mod limits;
 pub mod member;
 mod ranking;
-#[cfg(test)]
-mod tests;

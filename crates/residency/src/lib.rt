@@ -15,5 +15,3 @@ pub mod options;
 pub mod report;
 pub mod serve;
 pub mod status;
-#[cfg(test)]
-mod tests;

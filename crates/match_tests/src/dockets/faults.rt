@@ -1,0 +1,150 @@
+//! Each fault by itself.
+use super::{first_wrong, is_told};
+use docket::fault::DocketFault;
+use std::test::Fail;
+
+const KINDS: &str = "\
+Z,a = record 1: unknown kind of row
+V,x = record 1: unknown kind of row
+W,x = record 1: unknown kind of row
+q,a,1 = record 1: unknown kind of row
+QQ,a,1 = record 1: unknown kind of row
+,a,1 = record 1: unknown kind of row";
+
+const COUNTS: &str = "\
+Q = record 1: wrong number of fields
+Q,a = record 1: wrong number of fields
+Q,a,1,1 = record 1: wrong number of fields
+P = record 1: wrong number of fields
+R = record 1: wrong number of fields
+M,x = record 1: wrong number of fields
+M,x,a,a = record 1: wrong number of fields
+U = record 1: wrong number of fields
+U,x,a = record 1: wrong number of fields
+F,a,1 = record 1: wrong number of fields
+F,a,1,1,1 = record 1: wrong number of fields
+C = record 1: wrong number of fields
+C,full,full = record 1: wrong number of fields
+E = record 1: wrong number of fields
+E,offer,a = record 1: wrong number of fields
+E,offer,a,x,hold = record 1: wrong number of fields
+E,take,x = record 1: wrong number of fields
+E,take,x,a,hold = record 1: wrong number of fields
+E,answer,x,a = record 1: wrong number of fields
+E,answer,x,a,hold,hold = record 1: wrong number of fields
+E,hear,a,x = record 1: wrong number of fields
+E,hear,a,x,hold,hold = record 1: wrong number of fields
+E,close,a = record 1: wrong number of fields";
+
+const NAMES: &str = "\
+Q,,1 = record 1: bad name
+Q,a/b,1 = record 1: bad name
+Q,abcdefghijklmnopqrstuvwxyz012345,1 = read
+Q,abcdefghijklmnopqrstuvwxyz0123456,1 = record 1: bad name
+Q,AZaz09-_.,000000000 = read
+P,a,x, = record 1: bad name
+P,,x = record 1: bad name
+R,x@y = record 1: bad name
+R,x,a,b+ = record 1: bad name
+M,,a = record 1: bad name
+M,x, = record 1: bad name
+U, = record 1: bad name
+F,,0,0 = record 1: bad name
+E,offer,,x = record 1: bad name
+E,take,x, = record 1: bad name
+E,answer,x,,hold = record 1: bad name
+E,hear,,x,hold = record 1: bad name";
+
+const NUMBERS_AND_WORDS: &str = "\
+Q,a, = record 1: bad quota
+Q,a,x = record 1: bad quota
+Q,a,-1 = record 1: bad quota
+Q,a,+1 = record 1: bad quota
+Q,a,1.0 = record 1: bad quota
+Q,a,0000000001 = record 1: bad quota
+F,a,,1 = record 1: bad sheet
+F,a,1,x = record 1: bad sheet
+C, = record 1: bad journal row
+C,0 = record 1: bad journal row
+C,1025 = record 1: bad journal row
+C,Full = record 1: bad journal row
+E,stop = record 1: bad journal row
+E, = record 1: bad journal row
+C,full E,answer,x,a,keep = record 2: bad journal row
+C,full E,hear,a,x, = record 2: bad journal row";
+
+const ROWS_BEFORE: &str = "\
+E,close = record 1: bad journal row
+C,1 C,1 = record 2: bad journal row
+C,1024 E,close E,close C,1 = record 4: bad journal row
+C,full E,close E,close = read
+Q,a,1 Q,b,1 Q,a,2 = record 3: declared twice
+R,x R,x = record 2: declared twice
+Q,a,1 P,a R,x P,a,x = record 4: declared twice
+Q,a,1 R,a,a P,a,a = read
+Q,a,10001 = record 1: quota over 10000
+Q,a,1 Q,b,999999999 = record 2: quota over 10000";
+
+const LISTS: &str = "\
+R,x,a P,a,x Q,a,1 = read
+Q,a,1 P,b = record 2: unknown name
+Q,a,1 R,x P,a,x,y = record 3: unknown name
+Q,a,1 P,a,a = record 2: unknown name
+Q,a,1 R,x,a,b = record 2: unknown name
+R,x,x = record 1: unknown name
+Q,a,1 P,a,x,x R,x,a = record 2: a name is listed twice
+Q,a,1 Q,b,1 R,x,a,b,a = record 3: a name is listed twice";
+
+const SHEETS: &str = "\
+M,x,a = record 1: unknown name
+Q,a,1 M,x,a = record 2: unknown name
+R,x M,x,a = record 2: unknown name
+R,x U,y = record 2: unknown name
+Q,a,1 F,b,0,1 = record 2: unknown name
+R,x U,x U,x = record 3: bad sheet
+Q,a,1 R,x M,x,a U,x = record 4: bad sheet
+Q,a,1 R,x U,x M,x,a = record 4: bad sheet
+Q,a,1 F,a,0,1 F,a,0,1 = record 3: bad sheet
+R,x R,y U,x C,full = record 4: bad sheet
+Q,a,1 R,x F,a,0,1 = record 3: bad sheet
+Q,a,1 R,x U,x C,full = record 4: bad sheet
+Q,a,1 F,a,1,1 C,full = record 2: bad sheet
+Q,a,1 F,a,0,2 C,full = record 2: bad sheet
+Q,a,1 Q,b,1 R,x M,x,b F,a,0,1 F,b,0,1 = record 6: bad sheet
+F,a,2,1 M,x,a U,z M,y,a R,x R,y R,z Q,a,1 = read";
+
+const EVENTS: &str = "\
+C,full E,offer,a,x = record 2: unknown name
+Q,a,1 R,x C,full E,offer,b,x = record 4: unknown name
+Q,a,1 R,x C,full E,offer,x,a = record 4: unknown name
+Q,a,1 R,x C,full E,take,y,a = record 4: unknown name
+Q,a,1 R,x C,full E,answer,x,b,hold = record 4: unknown name
+Q,a,1 R,x C,full E,hear,a,y,hold = record 4: unknown name
+C,0007 E,take,x,a E,hear,a,x,decline Q,a,0 R,x = read";
+
+#[test]
+fn faults_of_one_record(rt: HostRuntime) -> Result<(), Fail> {
+    for lines in [KINDS, COUNTS, NAMES, NUMBERS_AND_WORDS] {
+        assert!(rt; first_wrong(rt.alloc(), lines)? == None);
+    }
+    Ok(())
+}
+
+#[test]
+fn faults_among_records(rt: HostRuntime) -> Result<(), Fail> {
+    for lines in [ROWS_BEFORE, LISTS, SHEETS, EVENTS] {
+        assert!(rt; first_wrong(rt.alloc(), lines)? == None);
+    }
+    Ok(())
+}
+
+#[test]
+fn faults_without_a_record(rt: HostRuntime) -> Result<(), Fail> {
+    for (fault, text) in [
+        (DocketFault::Memory, "out of memory"),
+        (DocketFault::Write, "the output could not be written"),
+    ] {
+        assert!(rt; is_told(rt.alloc(), Err(fault), text)?, "{text}");
+    }
+    Ok(())
+}

@@ -1,0 +1,155 @@
+//! Each limit, and one more.
+use super::{read, tells};
+use std::alloc::{AllocError, Global};
+use std::test::Fail;
+
+// The list of a resident who ranks all of ten programmes, last first.
+const TEN: &str = ",p9,p8,p7,p6,p5,p4,p3,p2,p1,p0\n";
+
+// Adds `start`, a number and `end`.
+fn push_numbered(
+    text: &mut String,
+    alloc: Global,
+    start: &str,
+    n: u32,
+    end: &str,
+) -> Result<(), AllocError> {
+    text.push_str(start)?;
+    text.push_str(n.to_string(alloc)?.as_str())?;
+    text.push_str(end)
+}
+
+// Adds the same for each number below `count`.
+fn push_all(
+    text: &mut String,
+    alloc: Global,
+    start: &str,
+    count: u32,
+    end: &str,
+) -> Result<(), AllocError> {
+    for n in 0..count {
+        push_numbered(text, alloc, start, n, end)?;
+    }
+    Ok(())
+}
+
+// Adds the lists of ten programmes, each of 20,000 residents.
+fn push_lists(text: &mut String, alloc: Global) -> Result<(), AllocError> {
+    for p in 0..10u32 {
+        push_numbered(text, alloc, "P,p", p, "")?;
+        push_all(text, alloc, ",r", 20_000, "")?;
+        text.push_str("\n")?;
+    }
+    Ok(())
+}
+
+// A docket of numbered records.
+fn numbered(alloc: Global, start: &str, count: u32, end: &str) -> Result<String, AllocError> {
+    let mut text = String::new(alloc);
+    push_all(&mut text, alloc, start, count, end)?;
+    Ok(text)
+}
+
+// Ten programmes and 20,000 residents who all rank one another, the last of them in the records `last`.
+fn ranked(alloc: Global, last: &str) -> Result<String, AllocError> {
+    let mut text = numbered(alloc, "Q,p", 10, ",1\n")?;
+    push_lists(&mut text, alloc)?;
+    push_all(&mut text, alloc, "R,r", 19_999, TEN)?;
+    text.push_str(last)?;
+    Ok(text)
+}
+
+// A capacity and then the same event, in so many records.
+fn closes(alloc: Global, records: u32) -> Result<String, AllocError> {
+    let mut text = String::new(alloc);
+    text.push_str("C,full\n")?;
+    for _ in 1..records {
+        text.push_str("E,close\n")?;
+    }
+    Ok(text)
+}
+
+// As many programmes as there may be, and one more record.
+fn most_programmes_and(alloc: Global, last: &str) -> Result<String, AllocError> {
+    let mut text = numbered(alloc, "Q,p", 2_000, ",10000\n")?;
+    text.push_str(last)?;
+    Ok(text)
+}
+
+#[test]
+fn programmes(rt: HostRuntime) -> Result<(), Fail> {
+    // the quota is told of after the count of programmes, and a name declared twice before it
+    for (last, wanted) in [
+        ("", "read"),
+        ("Q,q,10001\n", "record 2001: more than 2000 programmes"),
+        ("Q,p0,10001\n", "record 2001: declared twice"),
+    ] {
+        let text = most_programmes_and(rt.alloc(), last)?;
+        assert!(rt; tells(rt.alloc(), &[text.as_str()], wanted)?, "{wanted}");
+    }
+    Ok(())
+}
+
+#[test]
+fn residents(rt: HostRuntime) -> Result<(), Fail> {
+    for (count, wanted) in [
+        (20_000, "read"),
+        (20_001, "record 20001: more than 20000 residents"),
+    ] {
+        let text = numbered(rt.alloc(), "R,r", count, "\n")?;
+        assert!(rt; tells(rt.alloc(), &[text.as_str()], wanted)?, "{wanted}");
+    }
+    Ok(())
+}
+
+// How many pairs are acceptable in a docket.
+fn pairs(alloc: Global, input: &str) -> Option<u32> {
+    match read(alloc, input) {
+        Ok(docket) => Some(docket.instance().pairs()),
+        Err(_) => None,
+    }
+}
+
+#[test]
+fn most_pairs(rt: HostRuntime) -> Result<(), Fail> {
+    let text = ranked(rt.alloc(), "R,r19999,p9,p8,p7,p6,p5,p4,p3,p2,p1,p0\n")?;
+    assert!(rt; pairs(rt.alloc(), text.as_str()) == Some(200_000));
+    Ok(())
+}
+
+#[test]
+fn one_pair_too_many(rt: HostRuntime) -> Result<(), Fail> {
+    let text = ranked(
+        rt.alloc(),
+        "R,r19999,p9,p8,p7,p6,p5,p4,p3,p2,p1,p0,p10\nQ,p10,0\nP,p10,r19999\nC,full\n",
+    )?;
+    let wanted = "record 20023: more than 200000 acceptable pairs";
+    assert!(rt; tells(rt.alloc(), &[text.as_str()], wanted)?);
+    Ok(())
+}
+
+#[test]
+fn quotas(rt: HostRuntime) -> Result<(), Fail> {
+    for (input, wanted) in [
+        ("Q,a,10000\n", "read"),
+        ("Q,a,10001\n", "record 1: quota over 10000"),
+    ] {
+        assert!(rt; tells(rt.alloc(), &[input], wanted)?, "{wanted}");
+    }
+    Ok(())
+}
+
+#[test]
+fn most_records(rt: HostRuntime) -> Result<(), Fail> {
+    let text = closes(rt.alloc(), 2_000_000)?;
+    assert!(rt; tells(rt.alloc(), &[text.as_str()], "read")?);
+    Ok(())
+}
+
+#[test]
+fn one_record_too_many(rt: HostRuntime) -> Result<(), Fail> {
+    let text = closes(rt.alloc(), 2_000_001)?;
+    let wanted = "record 2000001: more than 2000000 records";
+    assert!(rt; tells(rt.alloc(), &[text.as_str()], wanted)?);
+    Ok(())
+}

@@ -1,0 +1,67 @@
+//! Two faults in one docket: which of them is answered.
+use super::first_wrong;
+use std::test::Fail;
+
+// Both in one record: the count of its fields before a name, that before a number or the kind of an answer, that before a
+// name declared twice, and that before a limit; a name that isn't declared before one listed twice or a second row.
+const ONE_RECORD: &str = "\
+Q,/,1,1 = record 1: wrong number of fields
+Q,/,x = record 1: bad name
+F,/,x,1 = record 1: bad name
+F,/,1 = record 1: wrong number of fields
+C,0,0 = record 1: wrong number of fields
+E,stop,/,/,keep,more = record 1: bad journal row
+E,answer,/,a = record 1: wrong number of fields
+E,answer,/,a,keep = record 1: bad name
+E,offer,/,x = record 1: bad name
+Q,a,1 Q,a,x = record 2: bad quota
+Q,a,1 Q,a,10001 = record 2: declared twice
+Q,a,1 R,x P,a,x,x,y = record 3: unknown name
+P,b,x,x R,x = record 1: unknown name
+R,x U,x M,x,b = record 3: unknown name";
+
+// In two records, of one pass.
+const ONE_PASS: &str = "\
+Q,a,x Z = record 1: bad quota
+Q,a,10001 Q,/,1 = record 1: quota over 10000
+R,x R,x M,x = record 2: declared twice
+R,x,a,a P,a,y Q,a,1 = record 1: a name is listed twice
+P,a,y R,x,a,a Q,a,1 = record 1: unknown name
+R,x U,x U,x U,y = record 3: bad sheet
+R,x U,x U,y U,x = record 3: unknown name
+Q,a,1 Q,b,1 F,b,1,1 F,a,1,1 = record 3: bad sheet
+C,full E,close E,offer,a,x E,take,x,a = record 3: unknown name";
+
+// In a later record, of an earlier pass: the first, the second, and then the third by each of its walks.
+const EARLIER_PASS: &str = "\
+Q,a,1 P,b Z = record 3: unknown kind of row
+Q,a,1 P,b Q,c,10001 = record 3: quota over 10000
+M,x,a Z = record 2: unknown kind of row
+R,x U,x U,x R,x = record 4: declared twice
+C,full E,offer,a,x C,full = record 3: bad journal row
+M,x,a U,z P,a = record 3: unknown name
+F,a,5,1 Q,a,1 R,x,a,a = record 3: a name is listed twice
+C,full E,offer,b,y Q,a,1 R,x,a,a = record 4: a name is listed twice
+C,full E,take,y,a M,x,a = record 3: unknown name
+C,full E,take,y,a R,x U,x U,x R,z = record 5: bad sheet
+C,full E,take,y,a R,x R,z U,x = record 5: bad sheet
+C,full E,take,y,a Q,a,1 F,a,1,1 = record 4: bad sheet";
+
+// In the walks of a sheet: a row that is unknown or second, a member without a row, places that aren't right.
+const WALKS: &str = "\
+R,x R,y U,x U,x C,full = record 4: bad sheet
+R,x R,y U,x U,z C,full = record 4: unknown name
+Q,a,1 R,x F,a,5,1 M,x,a M,x,a = record 5: bad sheet
+Q,a,1 R,x F,a,5,1 M,x,a U,z = record 5: unknown name
+Q,a,1 R,x F,a,5,1 C,full = record 4: bad sheet
+Q,a,1 Q,b,1 F,a,5,1 C,full E,close = record 5: bad sheet
+Q,a,1 R,x F,a,5,1 M,x,a C,full = record 3: bad sheet
+Q,a,1 R,x F,a,1,1 M,x,a C,full = read";
+
+#[test]
+fn two_faults(rt: HostRuntime) -> Result<(), Fail> {
+    for lines in [ONE_RECORD, ONE_PASS, EARLIER_PASS, WALKS] {
+        assert!(rt; first_wrong(rt.alloc(), lines)? == None);
+    }
+    Ok(())
+}

@@ -1,0 +1,18 @@
+//! Worked instances, lists of events, sheets and dockets, and what the libraries below answer to them.
+//!
+//! A crate with tests is proved once with them and once without, so the tests of several crates stand in this one, which
+//! has nothing else.
+#![tactic(auto)]
+
+#[cfg(test)]
+mod audits;
+#[cfg(test)]
+mod devices;
+#[cfg(test)]
+mod dockets;
+#[cfg(test)]
+mod models;
+#[cfg(test)]
+mod samples;
+#[cfg(test)]
+mod serving;

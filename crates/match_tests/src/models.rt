@@ -1,0 +1,140 @@
+//! Instances and assignments by hand.
+use crate::samples::{A, B, X, Y, Z, is_programme, is_resident};
+use match_model::assignment::Assignment;
+use match_model::builder::InstanceBuilder;
+use match_model::fault::ModelFault;
+use match_model::instance::Instance;
+use match_model::member::{ProgrammeNo, ResidentNo};
+use std::alloc::Global;
+use std::test::Fail;
+
+// One programme with one place, and one resident.
+fn one_of_each(alloc: Global) -> Result<InstanceBuilder, ModelFault> {
+    let mut builder = InstanceBuilder::new(alloc);
+    for (quota, wanted) in [(10_001, Err(ModelFault::QuotaTooLarge)), (1, Ok(A))] {
+        if builder.add_programme(quota) != wanted {
+            return Err(ModelFault::Memory);
+        }
+    }
+    builder.add_resident()?;
+    Ok(builder)
+}
+
+#[test]
+fn refuses_in_order(rt: HostRuntime) -> Result<(), Fail> {
+    let mut builder = one_of_each(rt.alloc())?;
+    let of_programme: [(&[ResidentNo], Result<(), ModelFault>); 3] = [
+        (&[Y], Err(ModelFault::NoSuchMember)),
+        (&[X], Ok(())),
+        (&[X], Err(ModelFault::ListGivenTwice)),
+    ];
+    for (list, wanted) in of_programme {
+        assert!(rt; builder.programme_list(A, list) == wanted);
+    }
+    let of_resident: [(&[ProgrammeNo], Result<(), ModelFault>); 2] = [
+        (&[A, A], Err(ModelFault::ListedTwice)),
+        (&[A], Ok(())),
+    ];
+    for (list, wanted) in of_resident {
+        assert!(rt; builder.resident_list(X, list) == wanted);
+    }
+    assert!(rt; builder.resident_list(Y, &[]) == Err(ModelFault::NoSuchMember));
+    assert!(rt; has_pairs(builder, 1));
+    Ok(())
+}
+
+// Whether what is finished has so many pairs.
+fn has_pairs(builder: InstanceBuilder, pairs: u32) -> bool {
+    match builder.finish() {
+        Ok(instance) => instance.pairs() == pairs,
+        Err(_) => false,
+    }
+}
+
+// Two programmes, with 2 places and 1, and three residents.
+fn two_and_three(alloc: Global) -> Result<InstanceBuilder, ModelFault> {
+    let mut builder = InstanceBuilder::new(alloc);
+    for quota in [2, 1] {
+        builder.add_programme(quota)?;
+    }
+    for _ in 0..3 {
+        builder.add_resident()?;
+    }
+    Ok(builder)
+}
+
+// What is left of one list of a programme and those of two residents.
+fn mutual_parts(alloc: Global) -> Result<Instance, ModelFault> {
+    let mut builder = two_and_three(alloc)?;
+    builder.programme_list(A, &[Z, X, Y])?;
+    builder.resident_list(X, &[B, A])?;
+    builder.resident_list(Z, &[A])?;
+    builder.finish().map_err(|refused| refused.fault)
+}
+
+// Whether the two have these places in one another's lists.
+fn are_ranked(
+    instance: &Instance,
+    programme: ProgrammeNo,
+    resident: ResidentNo,
+    ranks: (Option<u32>, Option<u32>),
+) -> bool {
+    programme.0 < instance.programmes()
+        && resident.0 < instance.residents()
+        && instance.rank_at_programme(programme, resident) == ranks.0
+        && instance.rank_at_resident(resident, programme) == ranks.1
+}
+
+#[test]
+fn keeps_the_mutual_parts(rt: HostRuntime) -> Result<(), Fail> {
+    let instance = mutual_parts(rt.alloc())?;
+    let counts = [
+        instance.programmes(),
+        instance.residents(),
+        instance.pairs(),
+    ];
+    assert!(rt; counts == [2, 3, 2]);
+    assert!(rt; is_programme(&instance, A, 2, &[Z, X]));
+    assert!(rt; is_programme(&instance, B, 1, &[]));
+    assert!(rt; is_resident(&instance, X, &[A]));
+    for (resident, ranks) in [
+        (X, (Some(1), Some(0))),
+        (Y, (None, None)),
+        (Z, (Some(0), Some(0))),
+    ] {
+        assert!(rt; are_ranked(&instance, A, resident, ranks));
+    }
+    Ok(())
+}
+
+#[test]
+fn assigns(rt: HostRuntime) -> Result<(), Fail> {
+    let mut assignment = Assignment::new(rt.alloc(), 2)?;
+    assert!(rt; assignment.len() == 2);
+    assert_eq!(rt; assignment.get(Y), None);
+    assignment.set(Y, Some(ProgrammeNo(7)));
+    assert_eq!(rt; assignment.get(Y), Some(ProgrammeNo(7)));
+    assert_eq!(rt; assignment.get(X), None);
+    Ok(())
+}
+
+#[test]
+fn prints_its_faults(rt: HostRuntime) {
+    let faults = [
+        (ModelFault::TooManyProgrammes, "more than 2000 programmes"),
+        (ModelFault::TooManyResidents, "more than 20000 residents"),
+        (ModelFault::QuotaTooLarge, "quota over 10000"),
+        (ModelFault::NoSuchMember, "no such member"),
+        (ModelFault::ListGivenTwice, "a list was given twice"),
+        (ModelFault::ListedTwice, "a name is listed twice"),
+        (
+            ModelFault::TooManyPairs,
+            "more than 200000 acceptable pairs",
+        ),
+        (ModelFault::Memory, "out of memory"),
+    ];
+    for (fault, text) in faults {
+        let printed = format!(in rt.alloc(); "{fault}").expect(&rt, "a text");
+        assert!(rt; printed.as_str() == text, "{printed}");
+    }
+}
