@@ -12,6 +12,14 @@ use Rattle.match_agents.specs.Desks.{ResidentDesk}
 abbrev pub IsSuffix : {X : Type 0} → List X → List X → Type 0
 IsSuffix xs ys = drop (length ys - length xs) ys ≡ xs
 
+-- the list without its last item
+abbrev pub without_last : {X : Type 0} → List X → List X
+without_last xs = take (length xs - 1) xs
+
+-- what is due is what the offers call for beyond what all but the last of them call for
+abbrev pub IsCalledByLast : List ℕ → List ℕ → List Answered → Type 0
+IsCalledByLast ranking offers due = calls ranking offers ≡ calls ranking (without_last offers) ++ due
+
 -- the answers due: the first one, and after it a release
 abbrev pub due_list : Option Answered → Option ℕ → List Answered
 due_list None release = []
@@ -74,7 +82,7 @@ module _ {T : Type 0} where
 
   -- the offers taken, without the last one where it isn't decided
   abbrev pub decided : ResidentDesk T → List ℕ
-  decided desk = if desk.undecided then take (length desk.taken - 1) desk.taken else desk.taken
+  decided desk = if desk.undecided then without_last desk.taken else desk.taken
 
   -- the desk of a resident of the instance, with room for all offers that it can be sent, whose best offer is that of those
   -- decided, and which owes the last answers that these call for, two at most
@@ -85,7 +93,3 @@ module _ {T : Type 0} where
     pub best_kept : desk.best ≡ with_place (list_of_resident inst desk.resident) (best_of (list_of_resident inst desk.resident) (decided desk))
     pub owes_the_last : IsSuffix desk.due (calls (list_of_resident inst desk.resident) (decided desk))
     pub few_due : length desk.due ≤ 2
-
--- what is due is what the offers call for beyond what all but the last of them call for
-abbrev pub IsCalledByLast : List ℕ → List ℕ → List Answered → Type 0
-IsCalledByLast ranking offers due = (earlier : List ℕ) (p : ℕ) → offers ≡ earlier ++ p ∷ [] → calls ranking offers ≡ calls ranking earlier ++ due

@@ -1,4 +1,5 @@
 //! The agents of one docket over ends in memory, and over an end that nobody can put into.
+mod by_hand;
 mod desk;
 
 ghost use Rattle.std.specs.Prelude.{◌≡◌, []};
