@@ -13,6 +13,7 @@ pub mod fault;
 pub mod instance;
 pub mod limits;
 pub mod member;
+mod rank_table;
 mod ranking;
 #[cfg(test)]
 mod tests;
