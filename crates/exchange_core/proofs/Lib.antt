@@ -19,3 +19,4 @@ pub mod Stepped
 pub mod Outcomes
 pub mod NoJam
 pub mod Enabled
+mod Quiet

@@ -1,8 +1,9 @@
 //! What the core keeps of one desk.
-ghost use Rattle.std.specs.Prelude.{◌≡◌, ◌≢◌, ◌+◌, ◌^◌, ◌<◌, [], length, slice_get, IfOk, not, nat_lt, Some};
+ghost use Rattle.std.specs.Prelude.{◌≡◌, ◌≢◌, ◌+◌, ◌^◌, ◌<◌, ◌≤◌, [], length, slice_get, IfOk, not, nat_lt, Some};
+ghost use Rattle.exchange_core.specs.Legal.{room_for};
 ghost use Rattle.exchange_core.specs.Seats.{opened_resident, opened_programme, sent_offer, took_offer, gave_answer, made_offer, sent_answer, heard_answer};
 
-use crate::event::AnswerKind;
+use crate::event::{AnswerKind, Capacity};
 use match_model::member::{ProgrammeNo, ResidentNo};
 use std::alloc::{AllocError, Global};
 use std::collections::VecDeque;
@@ -199,5 +200,16 @@ impl ProgrammeSeat {
             AnswerKind::Hold => {}
             AnswerKind::Decline | AnswerKind::Release => self.out = self.out.saturating_sub(1),
         }
+    }
+}
+
+/// How many messages a mailbox has room for, where this many can ever be sent there.
+pub(crate) fn room(cap: Capacity, most: usize) -> u32
+    requires { most ≤ 400000 }
+    ensures { result ≡ room_for cap most }
+{
+    match cap {
+        Capacity::Full => most.max(1) as u32,
+        Capacity::Each(n) => n,
     }
 }
