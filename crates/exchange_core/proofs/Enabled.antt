@@ -1,6 +1,6 @@
 -- Each desk has one event at most that may follow, the one in front there.
-use Rattle.std.proofs.Common.{◌≡◌, ◌≢◌, ℕ, Bool, true, false, not, ltb, Option, Some, None, List, [], ◌∷◌, length, refl, sym, ◌∙◌, subst}
-use Rattle.std.specs.Prelude.{is_none, slice_get, if◌then◌else◌, MatchOption, IfSome, IfNone}
+use Rattle.std.proofs.Common.{◌≡◌, ◌≢◌, ℕ, Bool, true, false, not, ltb, Option, Some, None, List, [], ◌∷◌, length, sym, ◌∙◌, subst}
+use Rattle.std.specs.Prelude.{is_none, slice_get, if◌then◌else◌}
 use Rattle.match_model.specs.Instance.{Instance, IsInstance, IsProgramme, IsResident, quota, list_of_programme}
 use Rattle.exchange_core.specs.declared.event.Event.{Event}
 use Rattle.exchange_core.specs.declared.event.Event.TheVariants.{Offer, Take, Answer, Hear, Close}
@@ -8,13 +8,13 @@ use Rattle.exchange_core.specs.declared.event.AnswerKind.{AnswerKind}
 use Rattle.exchange_core.specs.declared.event.Capacity.{Capacity}
 use Rattle.exchange_core.specs.declared.event.Refused.TheVariants.{Closed, NoSuchDesk, NoPlace, NotNext, AnswerDue, NothingWaiting, WrongFront, NotDue, MailboxFull}
 use Rattle.exchange_core.specs.Mail.{Answered}
-use Rattle.exchange_core.specs.Legal.{is_closed, IsClosed, IsCapacity, MayFollow}
+use Rattle.exchange_core.specs.Legal.{is_closed, IsCapacity, MayFollow}
 use Rattle.exchange_core.specs.Left.{Left}
 use Rattle.exchange_core.specs.Refusal.{cause, is_number, is_answer, is_nil, strange_desk}
 use Rattle.exchange_core.specs.Steps.{resident_at, programme_at, event_fault_left, fault_left, next_offer_left, HasNoResidentEvent, HasNoProgrammeEvent}
 use Rattle.exchange_core.specs.Shown.{Shows}
 use Rattle.exchange_core.proofs.Causes.{three_none, four_none, head_none, rest_none, cause_none, not_false, number_from, answer_from}
-use Rattle.exchange_core.proofs.Outcomes.{follows_from, no_fault_from}
+use Rattle.exchange_core.proofs.Outcomes.{no_fault_from}
 use Rattle.exchange_core.proofs.NoJam.{next_event}
 
 -- the event of this desk with what stands in front, if something does
@@ -98,24 +98,15 @@ module _ (inst : Instance) (left : Left) where
   pub offer_none : (p : ℕ) → next_offer_left inst left p ≡ None → (r : ℕ) → fault_left inst left (Offer p r) ≢ None
   offer_none p none r h = some_none r (sym (offer_next p r h) ∙ none)
 
--- where no desk has an event and no close may follow, the list is closed
-module _ (inst : Instance) (cap : Capacity) (j : List Event) (left : Left) (is_instance : IsInstance inst) (is_capacity : IsCapacity cap) (shows : Shows inst cap j left) where
-  stuck : (e : Event) → MayFollow inst cap j e → ((r : ℕ) → IsResident inst r → HasNoResidentEvent inst left r) → ((p : ℕ) → IsProgramme inst p → HasNoProgrammeEvent inst left p) → fault_left inst left Close ≢ None → ⊥
-  stuck (Offer p r) may rs ps close = (ps p may.allowed.by_programme).no_offer r (no_fault_from inst left (Offer p r) cap j shows may)
-  stuck (Take r p) may rs ps close = (rs r may.allowed.by_resident).no_take p (no_fault_from inst left (Take r p) cap j shows may)
-  stuck (Answer r p k) may rs ps close = (rs r may.allowed.by_resident).no_answer p k (no_fault_from inst left (Answer r p k) cap j shows may)
-  stuck (Hear p r k) may rs ps close = (ps p may.allowed.by_programme).no_hear r k (no_fault_from inst left (Hear p r k) cap j shows may)
-  stuck Close may rs ps close = close (no_fault_from inst left Close cap j shows may)
+-- where no desk has an event and no close stands in the list, a close may follow
+module _ (inst : Instance) (cap : Capacity) (j : List Event) (left : Left) (is_instance : IsInstance inst) (is_capacity : IsCapacity cap) (shows : Shows inst cap j left)
+    (residents : (r : ℕ) → IsResident inst r → HasNoResidentEvent inst left r) (programmes : (p : ℕ) → IsProgramme inst p → HasNoProgrammeEvent inst left p) where
+  it_is_close : (e : Event) → MayFollow inst cap j e → MayFollow inst cap j Close
+  it_is_close (Offer p r) may = absurd ((programmes p may.allowed.by_programme).no_offer r (no_fault_from inst left (Offer p r) cap j shows may))
+  it_is_close (Take r p) may = absurd ((residents r may.allowed.by_resident).no_take p (no_fault_from inst left (Take r p) cap j shows may))
+  it_is_close (Answer r p k) may = absurd ((residents r may.allowed.by_resident).no_answer p k (no_fault_from inst left (Answer r p k) cap j shows may))
+  it_is_close (Hear p r k) may = absurd ((programmes p may.allowed.by_programme).no_hear r k (no_fault_from inst left (Hear p r k) cap j shows may))
+  it_is_close Close may = may
 
-  pub closed_where_stuck : ((r : ℕ) → IsResident inst r → HasNoResidentEvent inst left r) → ((p : ℕ) → IsProgramme inst p → HasNoProgrammeEvent inst left p) → fault_left inst left Close ≢ None → is_closed j ≡ true
-  closed_where_stuck rs ps close = step (is_closed j) refl
-    where
-      step : (b : Bool) → is_closed j ≡ b → is_closed j ≡ true
-      step true e = e
-      step false e = let next = next_event inst cap j is_instance is_capacity shows.legal e in absurd (stuck next.0 next.1 rs ps close)
-
-  -- the last answer: a close that may follow, or none
-  pub close_or_stuck : (o : Option Event) → IfSome o (λ e. (e ≡ Close) × (fault_left inst left Close ≡ None)) → IfNone o (fault_left inst left Close ≢ None) →
-      ((r : ℕ) → IsResident inst r → HasNoResidentEvent inst left r) → ((p : ℕ) → IsProgramme inst p → HasNoProgrammeEvent inst left p) → MatchOption o (IsClosed j) (λ e. MayFollow inst cap j e)
-  close_or_stuck None some none rs ps = closed_where_stuck rs ps none
-  close_or_stuck (Some e) some none rs ps = subst (λ (x : Event). MayFollow inst cap j x) (sym some.0) (follows_from inst left Close cap j shows some.1)
+  pub close_where_none : is_closed j ≡ false → MayFollow inst cap j Close
+  close_where_none open_still = let next = next_event inst cap j is_instance is_capacity shows.legal open_still in it_is_close next.0 next.1

@@ -19,3 +19,5 @@ pub mod Stepped
 pub mod Outcomes
 pub mod NoJam
 pub mod Enabled
+mod Seats
+mod Quiet

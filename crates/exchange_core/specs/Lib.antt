@@ -4,5 +4,6 @@ pub mod Legal
 pub mod Left
 pub mod Seats
 pub mod Refusal
+pub mod Pending
 pub mod Steps
 pub mod Shown

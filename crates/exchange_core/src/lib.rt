@@ -7,6 +7,8 @@
 pub mod event;
 pub mod exchange;
 pub mod note;
+mod programmes;
+mod residents;
 mod seat;
 #[cfg(test)]
 mod tests;

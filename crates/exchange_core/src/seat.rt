@@ -1,21 +1,23 @@
 //! What the core keeps of one desk.
-ghost use Rattle.std.specs.Prelude.{◌≡◌, ◌≢◌, ◌+◌, ◌^◌, ◌<◌, [], length, slice_get, IfOk, not, nat_lt, Some};
-ghost use Rattle.exchange_core.specs.Seats.{opened_resident, opened_programme, sent_offer, took_offer, gave_answer, made_offer, sent_answer, heard_answer};
+ghost use Rattle.std.specs.Prelude.{◌≡◌, ◌≢◌, ◌+◌, ◌^◌, ◌<◌, ◌≤◌, [], length, slice_get, IfOk, not, nat_lt, drop, None};
+ghost use Rattle.std.specs.Option.{option_to_list};
+ghost use Rattle.exchange_core.specs.Calls.{release_of as released};
+ghost use Rattle.exchange_core.specs.Legal.{room_for};
+ghost use Rattle.exchange_core.specs.Seats.{opened_resident, opened_programme, due_of, sent_offer, took_offer, gave_answer, made_offer, sent_answer, heard_answer};
 
-use crate::event::AnswerKind;
+use crate::event::{AnswerKind, Capacity};
 use match_model::member::{ProgrammeNo, ResidentNo};
 use std::alloc::{AllocError, Global};
 use std::collections::VecDeque;
 use std::marker::Model;
 
-/// How many answers one offer calls for at most.
-const MOST_DUE: usize = 2;
-
-/// At a resident's desk: the offers that wait, the answers that are due, and the programme held.
+/// At a resident's desk: the offers that wait, the answers that are due, of which an offer calls for two at most, and
+/// the programme held.
 #[derive(Debug, Drop)]
 pub(crate) struct ResidentSeat {
     waiting: VecDeque<ProgrammeNo>,
-    due: VecDeque<(ProgrammeNo, AnswerKind)>,
+    first_due: Option<(ProgrammeNo, AnswerKind)>,
+    second_due: Option<(ProgrammeNo, AnswerKind)>,
     held: Option<ProgrammeNo>,
     room: u32,
 }
@@ -24,12 +26,13 @@ impl Model for ResidentSeat {
     ghost use Rattle.std.specs.Prelude.{◌≤◌};
     ghost use Rattle.std.specs.VecDeque.{deque_capacity};
     ghost use Rattle.exchange_core.specs.Left.{ResidentLeft};
+    ghost use Rattle.exchange_core.specs.Seats.{due_of};
 
     ghost Value = { ResidentLeft };
 
-    ghost view = { λ s. record { waiting = s.waiting.items; due = s.due.items; held = s.held; room = s.room } };
+    ghost view = { λ s. record { waiting = s.waiting.items; due = due_of s.first_due s.second_due; held = s.held; room = s.room } };
 
-    ghost invariant = { λ s. (s.room ≤ deque_capacity s.waiting) × (2 ≤ deque_capacity s.due) };
+    ghost invariant = { λ s. s.room ≤ deque_capacity s.waiting };
 }
 
 impl ResidentSeat {
@@ -39,7 +42,8 @@ impl ResidentSeat {
     {
         Ok(ResidentSeat {
             waiting: VecDeque::with_capacity(alloc, room as usize)?,
-            due: VecDeque::with_capacity(alloc, MOST_DUE)?,
+            first_due: None,
+            second_due: None,
             held: None,
             room,
         })
@@ -63,7 +67,7 @@ impl ResidentSeat {
     pub(crate) fn first_due(&self) -> Option<(ProgrammeNo, AnswerKind)>
         ensures { result ≡ slice_get self.now.due 0 }
     {
-        self.due.front().copied()
+        self.first_due
     }
 
     /// The programme of the last hold that was given.
@@ -88,14 +92,11 @@ impl ResidentSeat {
     {
         self.waiting.pop_front();
         if better {
-            self.due.push_back_reserved((programme, AnswerKind::Hold));
-            if let Some(displaced) = self.held {
-                self.due
-                    .push_back_reserved((displaced, AnswerKind::Release));
-            }
+            self.first_due = Some((programme, AnswerKind::Hold));
+            self.second_due = release_of(self.held);
         } else {
-            self.due
-                .push_back_reserved((programme, AnswerKind::Decline));
+            self.first_due = Some((programme, AnswerKind::Decline));
+            self.second_due = None;
         }
     }
 
@@ -103,10 +104,35 @@ impl ResidentSeat {
     pub(crate) fn answer(&mut self, programme: ProgrammeNo, kind: AnswerKind)
         ensures { self.new ≡ gave_answer self.old (programme, kind) }
     {
-        self.due.pop_front();
+        self.first_due = due_next(self.first_due, self.second_due);
+        self.second_due = None;
         if let AnswerKind::Hold = kind {
             self.held = Some(programme);
         }
+    }
+}
+
+/// What is due first after the first of these.
+#[tactic(auto, using(crate::proofs::Seats::due_after_first))]
+fn due_next(
+    first: Option<(ProgrammeNo, AnswerKind)>,
+    second: Option<(ProgrammeNo, AnswerKind)>,
+) -> Option<(ProgrammeNo, AnswerKind)>
+    ensures { due_of result None ≡ drop 1 (due_of first second) }
+{
+    match first {
+        Some(_) => second,
+        None => None,
+    }
+}
+
+/// The release of a programme, if there is one.
+fn release_of(held: Option<ProgrammeNo>) -> Option<(ProgrammeNo, AnswerKind)>
+    ensures { option_to_list result ≡ released held }
+{
+    match held {
+        Some(displaced) => Some((displaced, AnswerKind::Release)),
+        None => None,
     }
 }
 
@@ -199,5 +225,16 @@ impl ProgrammeSeat {
             AnswerKind::Hold => {}
             AnswerKind::Decline | AnswerKind::Release => self.out = self.out.saturating_sub(1),
         }
+    }
+}
+
+/// How many messages a mailbox has room for, where this many can ever be sent there.
+pub(crate) fn room(cap: Capacity, most: usize) -> u32
+    requires { most ≤ 400000 }
+    ensures { result ≡ room_for cap most }
+{
+    match cap {
+        Capacity::Full => most.max(1) as u32,
+        Capacity::Each(n) => n,
     }
 }

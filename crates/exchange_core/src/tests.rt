@@ -1,6 +1,7 @@
 //! The core on two dockets, event by event.
 mod run;
 mod slow;
+mod walks;
 
 use crate::event::{AnswerKind, Capacity, Event, Pending, Refused};
 use crate::exchange::{Core, CoreFault};
@@ -424,5 +425,14 @@ fn agrees_with_the_definitions(rt: HostRuntime) {
     for cap in [Capacity::Full, Capacity::Each(3)] {
         agrees(&rt, rt.alloc(), two_by_two(rt.alloc()), cap, &nine());
         agrees(&rt, rt.alloc(), displaced(rt.alloc()), cap, &nineteen());
+    }
+}
+
+#[test]
+fn agrees_on_random_walks(rt: HostRuntime) {
+    for cap in [Capacity::Full, Capacity::Each(1), Capacity::Each(2)] {
+        for seed in 1..=15 {
+            walks::walk(&rt, rt.alloc(), seed, cap, 300);
+        }
     }
 }

@@ -2,7 +2,7 @@
 use Rattle.std.proofs.Common.{◌≡◌, ℕ, ◌<◌, ◌≤◌, Bool, true, false, cond, ltb, List, [], ◌∷◌, length, unwrap_or, refl, sym, ap, ◌∙◌, subst, arith, ◌&&◌, ⊎_elim}
 use Rattle.std.specs.List.{list_all, All, filter}
 use Rattle.std.proofs.lemmas.Bool.{cases_lt}
-use Rattle.std.proofs.lemmas.List.{length-map, get_or_past}
+use Rattle.std.proofs.lemmas.List.{length-map, get_or_past, get_or_default}
 use Rattle.std.proofs.lemmas.List.Sums.{get_or-le-sum_by}
 use Rattle.match_model.specs.Ranking.{is_listed, IsListed}
 use Rattle.match_model.specs.Instance.{IsKept, list_at, pair_count}
@@ -62,6 +62,17 @@ length_at mine theirs i n distinct below =
     let short : length (list_at mine i) ≤ n = length-le_below (list_at mine i) n (at_list (λ list. has_no_repeats list ≡ true) mine i refl distinct) (at_list (λ list. list_all (λ x. ltb x n) list ≡ true) mine i refl below) in
     subst (λ (xs : List ℕ). length xs ≤ n) (sym (mutual_list_at mine theirs i)) (let fewer = fewer_kept (λ x. is_listed (list_at theirs x) i) (list_at mine i) in omega arith)
 
+-- no resident's list is longer than there may be pairs
+resident_list_short : (d : Draft) (r : ℕ) → IsDraft d → length (list_at (instance_of d).resident_lists r) ≤ MAX_PAIRS
+resident_list_short d r h =
+    let one = length_at (given_lists d.resident_lists) (given_lists d.programme_lists) r (length d.quotas) h.resident_lists.no_repeats h.resident_lists.items_below in
+    let most = h.programmes_within in
+    omega arith
+
+pub resident_lists_short : (d : Draft) → IsDraft d → All (λ (list : List ℕ). length list ≤ MAX_PAIRS) (instance_of d).resident_lists
+resident_lists_short d h = λ r other within.
+    subst (λ (list : List ℕ). length list ≤ MAX_PAIRS) (get_or_default (instance_of d).resident_lists r [] other within) (resident_list_short d r h)
+
 -- what the instance of a draft keeps
 pub IsKept-instance_of : (d : Draft) (pairs : ℕ) → IsDraft d → pair_count (instance_of d) ≤ MAX_PAIRS → pairs ≡ pair_count (instance_of d) → IsKept (instance_of d) pairs
 IsKept-instance_of d pairs h few count = record {
@@ -79,5 +90,5 @@ IsKept-instance_of d pairs h few count = record {
   programme_lists_within = λ p. ⊎_elim
       (λ (k : p < length (instance_of d).programme_lists). let one = get_or-le-sum_by (λ (xs : List ℕ). length xs) (instance_of d).programme_lists p [] k in omega arith)
       (λ (k : length (instance_of d).programme_lists ≤ p). subst (λ (xs : List ℕ). length xs ≤ MAX_PAIRS) (sym (get_or_past (instance_of d).programme_lists p [] k)) (omega arith)) (cases_lt p (length (instance_of d).programme_lists));
-  resident_lists_within = λ r. let one = length_at (given_lists d.resident_lists) (given_lists d.programme_lists) r (length d.quotas) h.resident_lists.no_repeats h.resident_lists.items_below in let most = h.programmes_within in omega arith;
+  resident_lists_within = λ r. resident_list_short d r h;
 }

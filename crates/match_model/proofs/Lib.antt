@@ -1,4 +1,5 @@
 pub mod Rankings
+pub mod RankTables
 pub mod Drafts
 pub mod Mutual
 pub mod Kept

@@ -1,4 +1,5 @@
 pub mod Ranking
 pub mod Instance
+pub mod RankTable
 pub mod Draft
 pub mod Placement

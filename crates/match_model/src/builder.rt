@@ -5,6 +5,7 @@ use crate::fault::ModelFault;
 use crate::instance::Instance;
 use crate::limits::{MAX_PAIRS, MAX_PROGRAMMES, MAX_QUOTA, MAX_RESIDENTS};
 use crate::member::{ProgrammeNo, ResidentNo};
+use crate::rank_table::rank_tables;
 use crate::ranking;
 use std::alloc::Global;
 use std::marker::Model;
@@ -164,10 +165,14 @@ impl InstanceBuilder {
         let Some(pairs) = ranking::count_items(&programmes) else {
             return Err(ModelFault::TooManyPairs);
         };
+        let programme_ranks = rank_tables(self.alloc, &programmes)?;
+        let resident_ranks = rank_tables(self.alloc, &residents)?;
         Ok(Instance {
             quotas: Vec::from_slice(self.alloc, &self.quotas)?,
             programme_lists: ranking::residents_of(self.alloc, &programmes)?,
             resident_lists: ranking::programmes_of(self.alloc, &residents)?,
+            programme_ranks,
+            resident_ranks,
             pairs,
         })
     }

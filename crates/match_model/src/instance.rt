@@ -3,6 +3,7 @@ ghost use Rattle.match_model.specs.Instance.{IsInstance, IsProgramme, IsResident
 
 use crate::limits::MAX_PAIRS;
 use crate::member::{ProgrammeNo, ResidentNo};
+use crate::rank_table::RankTable;
 use std::marker::Model;
 
 /// Quotas, and for each member its ranking of acceptable members, best first.
@@ -11,18 +12,25 @@ pub struct Instance {
     pub(crate) quotas: Vec<u32>,
     pub(crate) programme_lists: Vec<Vec<ResidentNo>>,
     pub(crate) resident_lists: Vec<Vec<ProgrammeNo>>,
+    pub(crate) programme_ranks: Vec<RankTable>,
+    pub(crate) resident_ranks: Vec<RankTable>,
     pub(crate) pairs: u32,
 }
 
 impl Model for Instance {
     ghost use Rattle.std.specs.Prelude.{map};
     ghost use Rattle.match_model.specs.Instance.{Instance as Rankings, IsKept};
+    ghost use Rattle.match_model.specs.RankTable.{AreRankTables};
 
     ghost Value = { Rankings };
 
     ghost view = { λ i. record { quotas = i.quotas.items; programme_lists = map (λ v. v.items) i.programme_lists.items; resident_lists = map (λ v. v.items) i.resident_lists.items } };
 
-    ghost invariant = { λ i. IsKept (record { quotas = i.quotas.items; programme_lists = map (λ v. v.items) i.programme_lists.items; resident_lists = map (λ v. v.items) i.resident_lists.items }) i.pairs };
+    ghost invariant = { λ i. record {
+      rankings : IsKept (record { quotas = i.quotas.items; programme_lists = map (λ v. v.items) i.programme_lists.items; resident_lists = map (λ v. v.items) i.resident_lists.items }) i.pairs;
+      programme_ranks : AreRankTables (map (λ v. v.items) i.programme_lists.items) i.programme_ranks.items;
+      resident_ranks : AreRankTables (map (λ v. v.items) i.resident_lists.items) i.resident_ranks.items;
+    } };
 }
 
 impl Instance {
@@ -81,13 +89,7 @@ impl Instance {
         requires { IsProgramme self.now programme }
         ensures { result ≡ rank (ranking_of_programme self.now programme) resident }
     {
-        let list = self.list_of_programme(programme);
-        for (place, other) in list.iter().enumerate() {
-            if *other == resident {
-                return Some(place as u32);
-            }
-        }
-        None
+        self.programme_ranks[programme.0 as usize].rank(resident.0)
     }
 
     /// The place from 0 of a programme in a resident's list, if the pair is acceptable. The resident is a member.
@@ -95,12 +97,6 @@ impl Instance {
         requires { IsResident self.now resident }
         ensures { result ≡ rank (ranking_of_resident self.now resident) programme }
     {
-        let list = self.list_of_resident(resident);
-        for (place, other) in list.iter().enumerate() {
-            if *other == programme {
-                return Some(place as u32);
-            }
-        }
-        None
+        self.resident_ranks[resident.0 as usize].rank(programme.0)
     }
 }

@@ -13,4 +13,5 @@ pub mod fault;
 pub mod instance;
 pub mod limits;
 pub mod member;
+mod rank_table;
 mod ranking;

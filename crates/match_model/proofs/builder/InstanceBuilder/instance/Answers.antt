@@ -3,10 +3,11 @@ use Rattle.std.specs.Global.{Vec}
 use Rattle.std.specs.Prelude.{Option}
 use Rattle.match_model.proofs.Mutual.{lists_of}
 use Rattle.match_model.specs.Instance.{Instance, IsKept, pair_count}
-use Rattle.std.specs.List.{sum_by}
+use Rattle.std.specs.List.{sum_by, All}
+use Rattle.match_model.specs.RankTable.{AreRankTables}
 use Rattle.match_model.specs.declared.limits.TheConstants.{MAX_PAIRS}
 use Rattle.match_model.specs.Draft.{Draft, instance_of, given_lists, mutual_lists, items_of}
-use Rattle.match_model.proofs.Kept.{IsKept-instance_of}
+use Rattle.match_model.proofs.Kept.{IsKept-instance_of, resident_lists_short}
 use Rattle.match_model.proofs.builder.InstanceBuilder.instance.Goals as goal
 
 -- the mutual lists of what two vectors give
@@ -18,27 +19,38 @@ same_instance : (qs qs' : List ℕ) (ps ps' rs rs' : List (List ℕ)) → qs ≡
     (let a : Instance = record { quotas = qs; programme_lists = ps; resident_lists = rs } in let b : Instance = record { quotas = qs'; programme_lists = ps'; resident_lists = rs' } in a ≡ b)
 same_instance qs qs' ps ps' rs rs' e f g = λ i. record { quotas = e i; programme_lists = f i; resident_lists = g i }
 
+pub rank_tables-requires-2 : goal.rank_tables-requires-2
+rank_tables-requires-2 c =
+    let residents : lists_of c.in_ok-residents.residents.items ≡ mutual_of c.self.inside.resident_lists.items c.self.inside.programme_lists.items =
+    c.in_ok-residents.ensures ∙ ap (λ (vs : List (Option (Vec ℕ))). mutual_of vs c.deref-4.result.now) c.deref-3.ensures.value ∙ ap (λ (vs : List (Option (Vec ℕ))). mutual_of c.self.inside.resident_lists.items vs) c.deref-4.ensures.value in
+    let d : Draft = record { quotas = c.self.inside.quotas.items; programme_lists = map items_of c.self.inside.programme_lists.items; resident_lists = map items_of c.self.inside.resident_lists.items } in
+    subst (All (λ (list : List ℕ). length list ≤ MAX_PAIRS)) (sym (ap lists_of c.deref-7.ensures.value ∙ residents)) (resident_lists_short d c.self.invariant)
+
 pub invariant_of-result : goal.invariant_of-result
 invariant_of-result c =
-    let quotas = c.in_ok-from_slice.ensures.items ∙ c.deref-6.ensures.value in
+    let quotas = c.in_ok-from_slice.ensures.items ∙ c.deref-8.ensures.value in
     let programmes : lists_of c.in_ok-programmes.programmes.items ≡ mutual_of c.self.inside.programme_lists.items c.self.inside.resident_lists.items =
     c.in_ok-programmes.ensures ∙ ap (λ (vs : List (Option (Vec ℕ))). mutual_of vs c.deref-2.result.now) c.deref.ensures.value ∙ ap (λ (vs : List (Option (Vec ℕ))). mutual_of c.self.inside.programme_lists.items vs) c.deref-2.ensures.value in
     let residents : lists_of c.in_ok-residents.residents.items ≡ mutual_of c.self.inside.resident_lists.items c.self.inside.programme_lists.items =
     c.in_ok-residents.ensures ∙ ap (λ (vs : List (Option (Vec ℕ))). mutual_of vs c.deref-4.result.now) c.deref-3.ensures.value ∙ ap (λ (vs : List (Option (Vec ℕ))). mutual_of c.self.inside.resident_lists.items vs) c.deref-4.ensures.value in
-    let ps = c.in_ok-residents_of.ensures ∙ ap lists_of c.deref-7.ensures.value ∙ programmes in
-    let rs = c.in_ok-programmes_of.ensures ∙ ap lists_of c.deref-8.ensures.value ∙ residents in
+    let ps = c.in_ok-residents_of.ensures ∙ ap lists_of c.deref-9.ensures.value ∙ programmes in
+    let rs = c.in_ok-programmes_of.ensures ∙ ap lists_of c.deref-10.ensures.value ∙ residents in
     let d : Draft = record { quotas = c.self.inside.quotas.items; programme_lists = map items_of c.self.inside.programme_lists.items; resident_lists = map items_of c.self.inside.resident_lists.items } in
     let counted : c.in-Some.pairs ≡ pair_count (instance_of d) = c.in-Some.ensures.counted.0 ∙ ap (λ (vs : List (Vec ℕ)). sum_by (length {A = ℕ}) (lists_of vs)) c.deref-5.ensures.value ∙ ap (sum_by (length {A = ℕ})) programmes in
     let few : pair_count (instance_of d) ≤ MAX_PAIRS = (let most = c.in-Some.ensures.counted.1 in omega arith) in
-    subst (λ (inst : Instance). IsKept inst c.in-Some.pairs) (sym (same_instance _ _ _ _ _ _ quotas ps rs)) (IsKept-instance_of d c.in-Some.pairs c.self.invariant few counted)
+    record {
+      rankings = subst (λ (inst : Instance). IsKept inst c.in-Some.pairs) (sym (same_instance _ _ _ _ _ _ quotas ps rs)) (IsKept-instance_of d c.in-Some.pairs c.self.invariant few counted);
+      programme_ranks = subst (λ (lists : List (List ℕ)). AreRankTables lists c.in_ok-programme_ranks.programme_ranks.items) (ap lists_of c.deref-6.ensures.value ∙ programmes ∙ sym ps) c.in_ok-programme_ranks.ensures;
+      resident_ranks = subst (λ (lists : List (List ℕ)). AreRankTables lists c.in_ok-resident_ranks.resident_ranks.items) (ap lists_of c.deref-7.ensures.value ∙ residents ∙ sym rs) c.in_ok-resident_ranks.ensures;
+    }
 
 pub returns-clause-made : goal.returns-clause-made
 returns-clause-made c =
-    let quotas = c.in_ok-from_slice.ensures.items ∙ c.deref-6.ensures.value in
+    let quotas = c.in_ok-from_slice.ensures.items ∙ c.deref-8.ensures.value in
     let programmes : lists_of c.in_ok-programmes.programmes.items ≡ mutual_of c.self.inside.programme_lists.items c.self.inside.resident_lists.items =
     c.in_ok-programmes.ensures ∙ ap (λ (vs : List (Option (Vec ℕ))). mutual_of vs c.deref-2.result.now) c.deref.ensures.value ∙ ap (λ (vs : List (Option (Vec ℕ))). mutual_of c.self.inside.programme_lists.items vs) c.deref-2.ensures.value in
     let residents : lists_of c.in_ok-residents.residents.items ≡ mutual_of c.self.inside.resident_lists.items c.self.inside.programme_lists.items =
     c.in_ok-residents.ensures ∙ ap (λ (vs : List (Option (Vec ℕ))). mutual_of vs c.deref-4.result.now) c.deref-3.ensures.value ∙ ap (λ (vs : List (Option (Vec ℕ))). mutual_of c.self.inside.resident_lists.items vs) c.deref-4.ensures.value in
-    let ps = c.in_ok-residents_of.ensures ∙ ap lists_of c.deref-7.ensures.value ∙ programmes in
-    let rs = c.in_ok-programmes_of.ensures ∙ ap lists_of c.deref-8.ensures.value ∙ residents in
+    let ps = c.in_ok-residents_of.ensures ∙ ap lists_of c.deref-9.ensures.value ∙ programmes in
+    let rs = c.in_ok-programmes_of.ensures ∙ ap lists_of c.deref-10.ensures.value ∙ residents in
     rw (← c.self.view_is) (same_instance _ _ _ _ _ _ quotas ps rs)

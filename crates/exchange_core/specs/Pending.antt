@@ -1,0 +1,20 @@
+-- What is pending at a desk, as the core counts it.
+use Rattle.std.specs.Prelude.{◌≡◌, not, Bool, []}
+use Rattle.exchange_core.specs.Left.{ResidentLeft, ProgrammeLeft}
+use Rattle.exchange_core.specs.Refusal.{is_nil}
+
+-- whether offers wait at the desk
+abbrev pub has_offers : ResidentLeft → Bool
+has_offers seat = not (is_nil seat.waiting)
+
+-- whether the desk owes an answer
+abbrev pub has_due : ResidentLeft → Bool
+has_due seat = not (is_nil seat.due)
+
+-- whether answers wait at the desk
+abbrev pub has_answers : ProgrammeLeft → Bool
+has_answers seat = not (is_nil seat.waiting)
+
+-- no offer waits at the desk, and it owes no answer
+abbrev pub IsQuiet : ResidentLeft → Type 0
+IsQuiet seat = (seat.waiting ≡ []) × (seat.due ≡ [])

@@ -1,0 +1,129 @@
+//! What the core keeps of the programmes' desks.
+ghost use Rattle.std.specs.Prelude.{◌≡◌, ◌+◌, ◌*◌, ◌^◌, ◌<◌, [], true, length, map, slice_get, slice_set, IfOk, not, nat_lt};
+ghost use Rattle.std.specs.List.{All, range_with_len};
+ghost use Rattle.exchange_core.specs.Legal.{programme_capacity};
+ghost use Rattle.exchange_core.specs.Seats.{opened_programme, seat_of_programme, made_offer, sent_answer, heard_answer};
+
+use crate::event::{AnswerKind, Capacity};
+use crate::seat::{ProgrammeSeat, room};
+use match_model::instance::Instance;
+use match_model::member::{ProgrammeNo, ResidentNo};
+use std::alloc::{AllocError, Global};
+use std::marker::Model;
+
+/// A seat for each programme, and how many of them have answers waiting.
+#[derive(Debug, Drop)]
+pub(crate) struct ProgrammeDesks {
+    seats: Vec<ProgrammeSeat>,
+    with_answers: usize,
+}
+
+impl Model for ProgrammeDesks {
+    ghost use Rattle.std.specs.Prelude.{◌≡◌, List};
+    ghost use Rattle.std.specs.List.{count_by};
+    ghost use Rattle.exchange_core.specs.Left.{ProgrammeLeft};
+    ghost use Rattle.exchange_core.specs.Pending.{has_answers};
+
+    ghost Value = { List ProgrammeLeft };
+
+    ghost view = { λ d. d.seats.items };
+
+    ghost invariant = { λ d. d.with_answers ≡ count_by has_answers d.seats.items };
+}
+
+impl ProgrammeDesks {
+    /// A desk for each programme, to which nothing was sent.
+    pub(crate) fn open(
+        alloc: Global,
+        inst: &Instance,
+        cap: Capacity,
+    ) -> Result<ProgrammeDesks, AllocError>
+        ensures { IfOk result (λ desks. desks ≡ map (λ p. opened_programme (programme_capacity inst.now cap p)) (range_with_len 0 (length inst.now.quotas))) }
+    {
+        let count = inst.programmes();
+        let mut seats = Vec::with_capacity(alloc, count as usize)?;
+        for p in 0..count {
+            let list = inst.list_of_programme(ProgrammeNo(p));
+            seats.push(ProgrammeSeat::open(alloc, room(cap, 2 * list.len()))?)?;
+        }
+        Ok(ProgrammeDesks {
+            seats,
+            with_answers: 0,
+        })
+    }
+
+    /// Whether no answer waits anywhere.
+    pub(crate) fn have_heard_all(&self) -> bool
+        ensures { result ≡ true → All (λ seat. seat.waiting ≡ []) self.now }
+    {
+        self.with_answers == 0
+    }
+
+    /// Whether as many answers wait as there is room for.
+    pub(crate) fn is_full(&self, programme: ProgrammeNo) -> bool
+        requires { programme < length self.now }
+        ensures { result ≡ not (nat_lt (length (seat_of_programme self.now programme).waiting) (seat_of_programme self.now programme).room) }
+    {
+        self.seats[programme.0 as usize].is_full()
+    }
+
+    /// The answer in front, with its resident.
+    pub(crate) fn first_waiting(&self, programme: ProgrammeNo) -> Option<(ResidentNo, AnswerKind)>
+        requires { programme < length self.now }
+        ensures { result ≡ slice_get (seat_of_programme self.now programme).waiting 0 }
+    {
+        self.seats[programme.0 as usize].first_waiting()
+    }
+
+    /// How many offers were made.
+    pub(crate) fn offered(&self, programme: ProgrammeNo) -> u32
+        requires { programme < length self.now }
+        ensures { result ≡ (seat_of_programme self.now programme).offered }
+    {
+        self.seats[programme.0 as usize].offered()
+    }
+
+    /// How many offers are out.
+    pub(crate) fn out(&self, programme: ProgrammeNo) -> u32
+        requires { programme < length self.now }
+        ensures { result ≡ (seat_of_programme self.now programme).out }
+    {
+        self.seats[programme.0 as usize].out()
+    }
+
+    /// One offer more is made, and is out.
+    pub(crate) fn offer(&mut self, programme: ProgrammeNo)
+        requires member { programme < length self.old }
+        requires offered { (seat_of_programme self.old programme).offered + 1 < 2 ^ 32 }
+        requires out { (seat_of_programme self.old programme).out + 1 < 2 ^ 32 }
+        ensures { self.new ≡ slice_set self.old programme (made_offer (seat_of_programme self.old programme)) }
+    {
+        self.seats[programme.0 as usize].offer();
+    }
+
+    /// An answer comes in.
+    pub(crate) fn receive(&mut self, programme: ProgrammeNo, resident: ResidentNo, kind: AnswerKind)
+        requires member { programme < length self.old }
+        requires room { length (seat_of_programme self.old programme).waiting < (seat_of_programme self.old programme).room }
+        ensures { self.new ≡ slice_set self.old programme (sent_answer (seat_of_programme self.old programme) (resident, kind)) }
+    {
+        let seat = &mut self.seats[programme.0 as usize];
+        if seat.first_waiting().is_none() {
+            self.with_answers += 1;
+        }
+        seat.receive(resident, kind);
+    }
+
+    /// The answer in front, which is this one, is heard; a rejection frees its place.
+    pub(crate) fn hear(&mut self, programme: ProgrammeNo, resident: ResidentNo, kind: AnswerKind)
+        requires { programme < length self.old }
+        ensures { self.new ≡ slice_set self.old programme (heard_answer (seat_of_programme self.old programme) (resident, kind)) }
+    {
+        let seat = &mut self.seats[programme.0 as usize];
+        let waited = seat.first_waiting().is_some();
+        seat.hear(resident, kind);
+        if waited && seat.first_waiting().is_none() {
+            self.with_answers -= 1;
+        }
+    }
+}
