@@ -7,7 +7,7 @@ use std::alloc::{AllocError, AllocFailed};
 use thiserror::Error;
 
 /// Why a run gave no result. A fault ends all workers, and all are joined before it is answered.
-#[derive(Debug, Drop, Error)]
+#[derive(Debug, Drop, PartialEq, Eq, Error)]
 pub enum RunFault {
     /// A number of workers that isn't admitted.
     #[error("bad number of workers")]

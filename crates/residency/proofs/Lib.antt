@@ -1,4 +1,3 @@
-pub mod Runs
 pub mod Outcomes
 pub mod Names
 pub mod Reports

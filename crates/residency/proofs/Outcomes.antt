@@ -1,33 +1,52 @@
--- What a run to the close gives.
-use Rattle.std.proofs.Common.{◌≡◌, ℕ, ◌<◌, inl, inr, List, [], length, Option, arith}
+-- What a run that closed gives, and what is written of it.
+use Rattle.std.proofs.Common.{◌≡◌, ℕ, suc, ◌<◌, inl, inr, List, [], ◌∷◌, ◌++◌, length, slice_get, Option, Some, None, refl, ap, ◌∙◌, append_assoc, arith}
+use Rattle.std.specs.List.{All}
+use Rattle.std.specs.Io.KnownBytes.{Appends}
 use Rattle.std.proofs.lemmas.List.{get_or_past}
 use Rattle.std.proofs.lemmas.Bool.{cases_lt}
 use Rattle.match_model.specs.Ranking.{place}
 use Rattle.match_model.specs.Instance.{Instance, IsInstance, IsProgramme, Acceptable}
 use Rattle.exchange_core.specs.declared.event.Event.{Event}
+use Rattle.exchange_core.specs.declared.event.Event.TheVariants.{Offer, Take, Answer, Hear, Close}
 use Rattle.exchange_core.specs.declared.event.Capacity.{Capacity}
-use Rattle.exchange_core.specs.Legal.{IsCapacity}
-use Rattle.exchange_core.specs.Left.{Left, given}
-use Rattle.exchange_core.specs.Shown.{Shows}
-use Rattle.settle_law.specs.SettledLaws.{SettledLaw, OneSettledLaw}
-use Rattle.residency.specs.Outcome.{RunsToClose, IsOutcome, IsOfMembers}
+use Rattle.exchange_core.specs.Legal.{IsLegal, IsClosed}
+use Rattle.exchange_core.specs.Left.{given}
+use Rattle.exchange_core.proofs.Members.{HasMembers, members_at}
+use Rattle.settle_law.specs.Stable.{IsStable, IsSettled}
+use Rattle.settle_law.specs.SettledLaws.{OneSettledLaw}
+use Rattle.docket.specs.Whole.{NamesMembers}
+use Rattle.residency.specs.Outcome.{IsOutcome, IsOfMembers}
 
--- the core tells what every list that leaves what it shows gives
-abbrev pub TellsGiven : Left → List (Option ℕ) → Type 0
-TellsGiven left m = (inst : Instance) (cap : Capacity) (j : List Event) → Shows inst cap j left → m ≡ given inst j
+-- what a closed legal list gives that is stable and settled is the outcome
+pub outcome_of : (inst : Instance) (cap : Capacity) (j : List Event) (m : List (Option ℕ)) → OneSettledLaw
+    → IsLegal inst cap j → IsClosed j → m ≡ given inst j → IsStable inst m → IsSettled inst m → IsOutcome inst cap m
+outcome_of inst cap j m one legal closed is_given stable settled = record {
+  exchanged = record { journal = j; legal = legal; closed = closed; is_given = is_given };
+  stable = stable;
+  settled = record { settled = settled; alone = λ other h. one inst other m h settled };
+}
 
-pub outcome_of_run : (inst : Instance) (room : Capacity) (first last : Left) (events : ℕ) (m : List (Option ℕ)) → IsInstance inst →
-    SettledLaw → OneSettledLaw → IsCapacity room → Shows inst room [] first → RunsToClose inst first last events → TellsGiven last m →
-    IsOutcome inst room m
-outcome_of_run inst room first last events m instance law one admitted shows runs tells =
-    let run = runs room admitted shows in
-    let is_given = tells inst room run.journal run.shows in
-    let settles = law inst room run.journal instance run.shows.legal run.closed in
-    record {
-      exchanged = record { journal = run.journal; legal = run.shows.legal; closed = run.closed; is_given = is_given };
-      stable = rw is_given settles.0;
-      settled = record { settled = rw is_given settles.1; alone = λ other h. one inst other m h (rw is_given settles.1) };
-    }
+-- each event of a legal list names members
+pub names_members : (inst : Instance) (cap : Capacity) (j : List Event) → IsLegal inst cap j → All (NamesMembers inst) j
+names_members inst cap j legal = all_from (NamesMembers inst) j (λ i e at. named e (members_at inst cap j i e legal at))
+  where
+    all_from : {X : Type 0} (P : X → Type 0) (xs : List X) → ((i : ℕ) (x : X) → slice_get xs i ≡ Some x → P x) → All P xs
+    all_from P [] h = tt
+    all_from P (x ∷ xs) h = (h 0 x refl, all_from P xs (λ i y at. h (suc i) y at))
+
+    named : (e : Event) → HasMembers inst e → NamesMembers inst e
+    named (Offer p r) h = record { programme = h.0; resident = h.1 }
+    named (Take r p) h = record { programme = h.0; resident = h.1 }
+    named (Answer r p k) h = record { programme = h.0; resident = h.1 }
+    named (Hear p r k) h = record { programme = h.0; resident = h.1 }
+    named Close h = tt
+
+-- one text is appended after another
+pub appends_both : (old mid new : Option (List ℕ)) (xs ys : List ℕ) → Appends old mid xs → Appends mid new ys → Appends old new (xs ++ ys)
+appends_both None mid new xs ys first second = tt
+appends_both (Some o) None new xs ys first second = absurd first
+appends_both (Some o) (Some m) None xs ys first second = absurd second
+appends_both (Some o) (Some m) (Some n) xs ys first second = second ∙ ap (λ (zs : List ℕ). zs ++ ys) first ∙ append_assoc o xs ys
 
 -- whoever has an acceptable resident is a programme
 pub programme_of_acceptable : (inst : Instance) (r p : ℕ) → IsInstance inst → Acceptable inst r p → IsProgramme inst p

@@ -6,7 +6,7 @@ use Rattle.clap.specs.declared.error.kind.ErrorKind.TheVariants.{DisplayHelp, Ou
 use Rattle.docket.specs.declared.fault.DocketFault.{DocketFault}
 use Rattle.docket.specs.declared.fault.DocketFault.TheVariants as docket
 use Rattle.residency.specs.declared.fault.ServeFault.{ServeFault}
-use Rattle.residency.specs.declared.fault.ServeFault.TheVariants.{Docket, NoSheet, NoJournal, Memory}
+use Rattle.residency.specs.declared.fault.ServeFault.TheVariants.{Docket, NoSheet, NoJournal, Run, Memory}
 use Rattle.residency.specs.declared.line.LineFault.{LineFault}
 use Rattle.residency.specs.declared.line.LineFault.TheVariants as line
 use Rattle.residency.specs.declared.status.Status.{Status}
@@ -36,11 +36,12 @@ docket_status_of (docket.Model place fault) = 3
 docket_status_of (docket.BadEvent place) = 3
 docket_status_of (docket.BadSheet place) = 3
 
--- 1 where memory, the reader or the writer failed, 3 where the docket is at fault, or lacks what was asked about
+-- 1 where memory, the run, the reader or the writer failed, 3 where the docket is at fault, or lacks what was asked about
 abbrev pub fault_status_of : ServeFault → ℕ
 fault_status_of (Docket fault) = docket_status_of fault
 fault_status_of NoSheet = 3
 fault_status_of NoJournal = 3
+fault_status_of (Run fault) = 1
 fault_status_of Memory = 1
 
 -- the status after a call
@@ -56,9 +57,11 @@ words_status_of _ = 2
 -- the status after a command line that orders nothing
 abbrev pub line_status_of : LineFault → ℕ
 line_status_of line.Memory = 1
+line_status_of line.BadCapacity = 2
 line_status_of (line.Line error) = words_status_of (kind_of error)
 
--- want of memory is told as such, and any other fault is the parser's
+-- want of memory and a bad capacity are told as such, and any other fault is the parser's
 abbrev pub IsLineFault : LineFault → Type 0
 IsLineFault line.Memory = Unit {0}
+IsLineFault line.BadCapacity = Unit {0}
 IsLineFault (line.Line error) = kind_of error ≡ OutOfMemory → ⊥

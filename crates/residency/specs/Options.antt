@@ -1,15 +1,14 @@
 -- The options of a match, and the order that a command line gives.
-use Rattle.std.specs.Prelude.{◌≡◌, false}
-use Rattle.exchange_core.specs.declared.event.Capacity.TheVariants.{Full}
+use Rattle.std.specs.Prelude.{◌≡◌, true}
+use Rattle.exchange_core.specs.Shown.{is_capacity}
 use Rattle.residency.specs.declared.options.MatchOptions.{MatchOptions}
 use Rattle.residency.specs.declared.options.Order.{Order}
 use Rattle.residency.specs.declared.options.Order.TheVariants.{Match, Audit, Replay}
 
--- two workers, full mailboxes and no journal: all that can be run for now
+-- two workers, and mailboxes that are full or have from 1 to 1,024 places
 pub record IsWithinLimits (o : MatchOptions) : Type 0 where
   pub workers : o.workers ≡ 2
-  pub capacity : o.capacity ≡ Full
-  pub journal : o.journal ≡ false
+  pub capacity : is_capacity o.capacity ≡ true
 
 -- where the order is a match, its options are within the limits
 abbrev pub IsOrder : Order → Type 0

@@ -1,25 +1,12 @@
 -- What an exchange gives that was run to its close.
-use Rattle.std.specs.Prelude.{◌≡◌, ℕ, Option, List, [], length}
+use Rattle.std.specs.Prelude.{◌≡◌, ℕ, Option, List, length}
 use Rattle.match_model.specs.Instance.{Instance, IsProgramme}
 use Rattle.match_model.specs.Placement.{IsMemberOf}
 use Rattle.exchange_core.specs.declared.event.Event.{Event}
 use Rattle.exchange_core.specs.declared.event.Capacity.{Capacity}
-use Rattle.exchange_core.specs.Legal.{IsLegal, IsClosed, IsCapacity}
-use Rattle.exchange_core.specs.Left.{Left, given}
-use Rattle.exchange_core.specs.Shown.{Shows}
+use Rattle.exchange_core.specs.Legal.{IsLegal, IsClosed}
+use Rattle.exchange_core.specs.Left.{given}
 use Rattle.settle_law.specs.Stable.{IsStable, IsSettled}
-
--- some closed legal list of this many events leaves this
-pub record IsRun (inst : Instance) (cap : Capacity) (left : Left) (events : ℕ) : Type 0 where
-  pub journal : List Event
-  pub shows : Shows inst cap journal left
-  pub closed : IsClosed journal
-  pub counted : events ≡ length journal
-
--- from a core that shows what the empty list leaves, a run to its close
-abbrev pub RunsToClose : Instance → Left → Left → ℕ → Type 0
-RunsToClose inst old new events =
-    (cap : Capacity) → IsCapacity cap → Shows inst cap [] old → IsRun inst cap new events
 
 -- some closed legal list gives the placement
 pub record IsGiven (inst : Instance) (cap : Capacity) (m : List (Option ℕ)) : Type 0 where

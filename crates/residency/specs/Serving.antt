@@ -1,13 +1,16 @@
 -- What a call wrote, and why another wrote nothing.
-use Rattle.std.specs.Prelude.{◌≡◌, ◌⊎◌, ◌↔◌, ℕ, Option, Some, None, Result, Ok, Err, List, IsSome}
+use Rattle.std.specs.Prelude.{◌≡◌, ◌⊎◌, ◌↔◌, ℕ, Bool, if◌then◌else◌, ◌++◌, Option, Some, None, Result, Ok, Err, List, IsSome}
 use Rattle.std.specs.Io.KnownBytes.{Appends}
 use Rattle.match_model.specs.Instance.{Instance}
 use Rattle.exchange_core.specs.declared.event.Capacity.{Capacity}
+use Rattle.exchange_core.specs.declared.event.Event.{Event}
 use Rattle.exchange_core.specs.Left.{given}
+use Rattle.match_pool.specs.Done.{IsRunFault}
+use Rattle.residency.specs.declared.options.MatchOptions.{MatchOptions}
 use Rattle.settle_law.specs.Stable.{IsStable}
 use Rattle.docket.specs.Contents.{Contents, JournalParts}
 use Rattle.docket.specs.Passes.{first_fault, docket_of}
-use Rattle.docket.specs.Texts.{sheet_text}
+use Rattle.docket.specs.Texts.{sheet_text, journal_text}
 use Rattle.docket.specs.declared.fault.DocketFault.{DocketFault}
 use Rattle.docket.specs.declared.fault.DocketFault.TheVariants as docket
 use Rattle.match_audit.specs.Report.{Reports}
@@ -16,18 +19,22 @@ use Rattle.match_audit.specs.declared.report.AuditReport.{AuditReport}
 use Rattle.match_audit.specs.declared.replay.Replayed.{Replayed}
 use Rattle.match_audit.specs.declared.replay.ReplayFault.{ReplayFault}
 use Rattle.residency.specs.declared.fault.ServeFault.{ServeFault}
-use Rattle.residency.specs.declared.fault.ServeFault.TheVariants.{Docket, NoSheet, NoJournal, Memory}
+use Rattle.residency.specs.declared.fault.ServeFault.TheVariants.{Docket, NoSheet, NoJournal, Run, Memory}
 use Rattle.residency.specs.declared.status.Status.{Status}
 use Rattle.residency.specs.declared.status.Status.TheVariants.{Stable, Unstable, ReplayGood, ReplayBad}
 use Rattle.residency.specs.Outcome.{IsOutcome}
 use Rattle.residency.specs.Report.{report_text}
 use Rattle.residency.specs.Replay.{replay_text}
 
--- what was appended, where it is known, is the sheet of what an exchange over the docket gives: its one settled assignment
-pub record WritesSettledSheet (d : Contents) (cap : Capacity) (old new : Option (List ℕ)) : Type 0 where
+-- the sheet, and after it the journal where it is wanted
+abbrev pub match_text : Contents → Capacity → Bool → List (Option ℕ) → List Event → List ℕ
+match_text d cap wanted m j = if wanted then (sheet_text d m ++ journal_text d cap j) else sheet_text d m
+
+-- what was appended, where it is known, is the sheet of what one exchange over the docket gives, its one settled assignment, and the journal of this exchange where it is wanted
+pub record WritesMatch (d : Contents) (cap : Capacity) (wanted : Bool) (old new : Option (List ℕ)) : Type 0 where
   pub assignment : List (Option ℕ)
   pub outcome : IsOutcome d.instance cap assignment
-  pub appended : Appends old new (sheet_text d assignment)
+  pub appended : Appends old new (match_text d cap wanted assignment outcome.exchanged.journal)
 
 -- the status tells whether the sheet is stable
 pub record TellsStable (inst : Instance) (sheet : List (Option ℕ)) (status : Status) : Type 0 where
@@ -70,17 +77,19 @@ abbrev pub IsWriteFault : DocketFault → Type 0
 IsWriteFault fault = (fault ≡ docket.Memory) ⊎ (fault ≡ docket.Write)
 
 -- why a match of the docket wrote no whole sheet
-abbrev pub IsMatchFault : Contents → ServeFault → Type 0
-IsMatchFault d (Docket fault) = IsWriteFault fault
-IsMatchFault d NoSheet = ⊥
-IsMatchFault d NoJournal = ⊥
-IsMatchFault d Memory = Unit {0}
+abbrev pub IsMatchFault : MatchOptions → Contents → ServeFault → Type 0
+IsMatchFault o d (Docket fault) = IsWriteFault fault
+IsMatchFault o d NoSheet = ⊥
+IsMatchFault o d NoJournal = ⊥
+IsMatchFault o d (Run fault) = IsRunFault d.instance o.capacity o.workers fault
+IsMatchFault o d Memory = ⊥
 
 -- why an audit of the docket wrote no whole report
 abbrev pub IsAuditFault : Contents → ServeFault → Type 0
 IsAuditFault d (Docket fault) = IsSome d.sheet × IsWriteFault fault
 IsAuditFault d NoSheet = d.sheet ≡ None
 IsAuditFault d NoJournal = ⊥
+IsAuditFault d (Run fault) = ⊥
 IsAuditFault d Memory = IsSome d.sheet
 
 -- why a replay of the docket wrote no whole answer
@@ -88,6 +97,7 @@ abbrev pub IsReplayFault : Contents → ServeFault → Type 0
 IsReplayFault d (Docket fault) = IsSome d.journal × IsWriteFault fault
 IsReplayFault d NoSheet = ⊥
 IsReplayFault d NoJournal = d.journal ≡ None
+IsReplayFault d (Run fault) = ⊥
 IsReplayFault d Memory = IsSome d.journal
 
 -- the bytes are a docket of which P holds
@@ -99,6 +109,7 @@ abbrev pub IsReadFault : List ℕ → ServeFault → Type 0
 IsReadFault bytes (Docket fault) = (fault ≡ docket.Memory) ⊎ (((place : ℕ) × (fault ≡ docket.Read place)) ⊎ (first_fault bytes ≡ Some fault))
 IsReadFault bytes NoSheet = ⊥
 IsReadFault bytes NoJournal = ⊥
+IsReadFault bytes (Run fault) = ⊥
 IsReadFault bytes Memory = ⊥
 
 -- the fault came in reading the bytes, or they are a docket of which it is a fault
@@ -110,4 +121,5 @@ abbrev pub IsBeforeWriting : ServeFault → Type 0
 IsBeforeWriting (Docket fault) = (fault ≡ docket.Memory → ⊥) × (fault ≡ docket.Write → ⊥)
 IsBeforeWriting NoSheet = Unit {0}
 IsBeforeWriting NoJournal = Unit {0}
+IsBeforeWriting (Run fault) = Unit {0}
 IsBeforeWriting Memory = Unit {0}

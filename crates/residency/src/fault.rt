@@ -1,10 +1,11 @@
 //! Why nothing, or not all, was written.
 
 use docket::fault::DocketFault;
+use match_pool::RunFault;
 use thiserror::Error;
 
 /// Why a docket wasn't served.
-#[derive(Clone, Copy, Debug, PartialEq, Eq, Error)]
+#[derive(Debug, Drop, PartialEq, Eq, Error)]
 pub enum ServeFault {
     /// The docket could not be read, or the answer could not be written.
     #[error(transparent)]
@@ -15,7 +16,10 @@ pub enum ServeFault {
     /// The docket has no journal.
     #[error("no journal in the docket")]
     NoJournal,
-    /// A growth was refused.
+    /// The exchange gave no result.
+    #[error(transparent)]
+    Run(RunFault),
+    /// A growth was refused in an audit or a replay.
     #[error("out of memory")]
     Memory,
 }

@@ -8,7 +8,6 @@
 #![tactic(auto)]
 
 pub mod answer;
-mod exchange;
 pub mod fault;
 pub mod line;
 pub mod options;

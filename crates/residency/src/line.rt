@@ -1,10 +1,11 @@
 //! The command line.
 ghost use Rattle.std.specs.Prelude.{IfOk, IfErr};
-ghost use Rattle.residency.specs.Options.{IsOrder};
+ghost use Rattle.residency.specs.Options.{IsOrder, IsWithinLimits};
 ghost use Rattle.residency.specs.Exits.{IsLineFault};
 
 use crate::options::{MatchOptions, Order};
-use clap::Command;
+use docket::words::capacity_of;
+use clap::{Arg, ArgAction, ArgMatches, Command};
 use clap::error::ErrorKind;
 use std::alloc::{AllocError, Global};
 use std::convert::AsStr;
@@ -16,6 +17,9 @@ pub enum LineFault {
     /// A growth was refused.
     #[error("out of memory")]
     Memory,
+    /// The capacity is neither `full` nor a number from 1 to 1,024.
+    #[error("bad capacity")]
+    BadCapacity,
     /// The words aren't those of a command, or help was asked for.
     #[error(transparent)]
     Line(clap::Error),
@@ -31,19 +35,63 @@ fn line_fault(error: clap::Error) -> LineFault
     }
 }
 
+// The command that runs a match, with its options.
+fn match_command<'a>(alloc: Global) -> Result<Command<'a>, AllocError> {
+    let workers = Arg::new(alloc, "workers")
+        .long("workers")
+        .value_name("N")
+        .help("How many threads work on it: 2")
+        .value_parser(clap::value_parser!(u64).range(2..=2))
+        .default_value("2");
+    let capacity = Arg::new(alloc, "capacity")
+        .long("capacity")
+        .value_name("full|N")
+        .help("The room of each mailbox: full, or from 1 to 1024 places")
+        .default_value("full");
+    let journal = Arg::new(alloc, "journal")
+        .long("journal")
+        .help("Writes the journal of every event after the sheet")
+        .action(ArgAction::SetTrue);
+    Command::new(alloc, "match")
+        .about("Writes the sheet of the settled match")
+        .arg(workers)?
+        .arg(capacity)?
+        .arg(journal)
+}
+
 // The commands of the program.
 fn commands<'a>(alloc: Global) -> Result<Command<'a>, AllocError> {
     Command::new(alloc, "residency")
         .about("Runs a residency match as an exchange of offers, over a docket on standard input")
         .no_binary_name(true)
         .subcommand_required(true)
-        .subcommand(Command::new(alloc, "match").about("Writes the sheet of the settled match"))?
+        .subcommand(match_command(alloc)?)?
         .subcommand(Command::new(alloc, "audit").about(
             "Says whether the docket's sheet is stable",
         ))?
         .subcommand(Command::new(alloc, "replay").about(
             "Says whether the docket's journal is a good exchange that gives its sheet",
         ))
+}
+
+// The options that the words of a match give.
+fn match_options(matches: &ArgMatches) -> Result<MatchOptions, LineFault>
+    ensures options { IfOk result IsWithinLimits }
+    ensures fault { IfErr result IsLineFault }
+{
+    let defaults = MatchOptions::default();
+    let capacity = match matches.get_str("capacity") {
+        None => defaults.capacity,
+        Some(text) => match capacity_of(text.as_bytes()) {
+            Some(capacity) => capacity,
+            None => return Err(LineFault::BadCapacity),
+        },
+    };
+    Ok(MatchOptions {
+        capacity,
+        journal: matches.get_flag("journal"),
+        ..defaults
+    })
 }
 
 /// The order that the words give, the program's own name left out.
@@ -58,10 +106,13 @@ pub fn read_line<'a, S: AsStr>(alloc: Global, words: &'a [S]) -> Result<Order, L
         Ok(matches) => matches,
         Err(error) => return Err(line_fault(error)),
     };
-    match matches.subcommand_name() {
-        Some("match") => Ok(Order::Match(MatchOptions::default())),
-        Some("audit") => Ok(Order::Audit),
-        Some("replay") => Ok(Order::Replay),
+    match matches.subcommand() {
+        Some(("match", options)) => match match_options(options) {
+            Ok(options) => Ok(Order::Match(options)),
+            Err(fault) => Err(fault),
+        },
+        Some(("audit", _)) => Ok(Order::Audit),
+        Some(("replay", _)) => Ok(Order::Replay),
         _ => match commands.error(ErrorKind::MissingSubcommand, "a command is wanted") {
             Ok(error) => Err(line_fault(error)),
             Err(_) => Err(LineFault::Memory),

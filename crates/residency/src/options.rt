@@ -5,11 +5,11 @@ use exchange_core::event::Capacity;
 /// How a match is run.
 #[derive(Clone, Copy, Debug, PartialEq, Eq)]
 pub struct MatchOptions {
-    /// How many threads work on it: 2 for now.
+    /// How many threads work on it: 2.
     pub workers: usize,
-    /// The capacity of the mailboxes: full for now.
+    /// The capacity of the mailboxes.
     pub capacity: Capacity,
-    /// Whether the journal is written after the sheet: not for now.
+    /// Whether the journal is written after the sheet.
     pub journal: bool,
 }
 

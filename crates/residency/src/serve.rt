@@ -1,39 +1,82 @@
 //! The calls from bytes to bytes.
-ghost use Rattle.std.specs.Prelude.{◌≡◌, ℕ, List, Some, IfOk, IfErr, OnOk};
-ghost use Rattle.exchange_core.specs.Legal.{IsCapacity};
-ghost use Rattle.residency.specs.Options.{IsWithinLimits};
-ghost use Rattle.residency.specs.Serving.{WritesSettledSheet, WritesReport, WritesReplay, IsMatchFault, IsAuditFault, IsReplayFault, AreDocket, IsFaultOf, IsBeforeWriting};
+ghost use Rattle.std.specs.Prelude.{◌≡◌, ℕ, List, Some, false, IfOk, IfErr, OnOk};
+ghost use Rattle.std.specs.List.{All};
+ghost use Rattle.std.specs.Io.KnownBytes.{Appends};
+ghost use Rattle.docket.specs.Whole.{IsSheetOf, NamesMembers};
+ghost use Rattle.residency.specs.Serving.{WritesMatch, match_text, IsWriteFault, WritesReport, WritesReplay, IsMatchFault, IsAuditFault, IsReplayFault, AreDocket, IsFaultOf, IsBeforeWriting};
 
 use crate::answer::write_replay;
-use crate::exchange::settle;
 use crate::fault::ServeFault;
 use crate::options::MatchOptions;
 use crate::report::write_report;
 use crate::status::Status;
 use docket::docket::Docket;
+use docket::fault::DocketFault;
 use docket::read::read_docket;
-use docket::write::write_sheet;
-use exchange_core::event::Capacity;
+use docket::write::{write_journal, write_sheet};
+use exchange_core::event::Event;
 use match_audit::audit::{AuditFault, audit};
 use match_audit::replay::{ReplayFault, check, replay};
+use match_model::assignment::Assignment;
+use match_pool::{Ending, Gate, run};
+use settle_law::settled::law_one_settled;
 use std::alloc::Global;
 use std::io::{Read, Write};
+use std::sync::Wait;
+use std::thread::Threads;
 
-// Runs the exchange over a docket to its close, and writes the sheet of what it gives.
-fn match_docket<W: Write>(
+// Writes the sheet of what a closed exchange over the docket gave, and its journal where that is wanted.
+fn write_match<W: Write>(
+    alloc: Global,
+    docket: &Docket,
+    assignment: &Assignment,
+    journal: &[Event],
+    options: &MatchOptions,
+    writer: &mut W,
+) -> Result<(), DocketFault>
+    requires sheet { IsSheetOf docket.now assignment.now }
+    requires journal { All (NamesMembers docket.now.instance) journal.now }
+    ensures text { OnOk result (Appends (W.contents writer.old) (W.contents writer.new) (match_text docket.now options.now.capacity options.now.journal assignment.now journal.now)) }
+    ensures fault { IfErr result IsWriteFault }
+{
+    write_sheet(alloc, docket, assignment, writer)?;
+    if options.journal {
+        write_journal(alloc, docket, options.capacity, journal, writer)?;
+    }
+    Ok(())
+}
+
+// Runs the exchange over a docket to its close, and writes the sheet of what it gives, and its journal where that is wanted.
+fn match_docket<W, G, H>(
+    rt: H,
     alloc: Global,
     docket: &Docket,
     writer: &mut W,
-    capacity: Capacity,
+    options: &MatchOptions,
+    gate: &G,
 ) -> Result<Status, ServeFault>
-    requires { IsCapacity capacity }
+where
+    W: Write,
+    G: Gate + Sync,
+    H: Threads + Wait + Sync + Send + Copy,
+    requires { G.MAY_STOP ≡ false }
     ensures status { IfOk result (λ status. status ≡ Status.Closed) }
-    ensures sheet { OnOk result (WritesSettledSheet docket.now capacity (W.contents writer.old) (W.contents writer.new)) }
-    ensures fault { IfErr result (IsMatchFault docket.now) }
+    ensures text { OnOk result (WritesMatch docket.now options.now.capacity options.now.journal (W.contents writer.old) (W.contents writer.new)) }
+    ensures fault { IfErr result (IsMatchFault options.now docket.now) }
     ensures before { IfErr result (λ fault. IsBeforeWriting fault → writer.new ≡ writer.old) }
 {
-    let assignment = settle(alloc, docket.instance(), capacity)?;
-    match write_sheet(alloc, docket, &assignment, writer) {
+    law_one_settled();
+    let inst = docket.instance();
+    let _members = inst.residents();
+    let done = match run(rt, alloc, inst, options.capacity, options.workers, gate) {
+        Ok(done) => done,
+        Err(fault) => return Err(ServeFault::Run(fault)),
+    };
+    match done.ending {
+        Ending::Closed => {}
+        Ending::Stopped => unreachable!("the gate may not stop a run"),
+    }
+    match write_match(alloc, docket, &done.assignment, &done.journal, options, writer) {
         Ok(()) => Ok(Status::Closed),
         Err(fault) => Err(ServeFault::Docket(fault)),
     }
@@ -94,28 +137,36 @@ fn replay_docket<W: Write>(
     }
 }
 
-/// Reads a docket, runs its exchange to the close, and writes the sheet of what it gives.
+/// Reads a docket, runs its exchange to the close by threads, and writes the sheet of what it gives and, where the
+/// options want it, the journal of this very run. The gate never stops a run.
 ///
 /// A sheet or a journal in the docket is read and must be well formed, and isn't used. Nothing is written before the
 /// exchange has closed.
-pub fn serve_match<R: Read + Drop, W: Write>(
+pub fn serve_match<R, W, G, H>(
+    rt: H,
     alloc: Global,
     reader: R,
     writer: &mut W,
     options: &MatchOptions,
+    gate: &G,
 ) -> Result<Status, ServeFault>
-    requires { IsWithinLimits options.now }
+where
+    R: Read + Drop,
+    W: Write,
+    G: Gate + Sync,
+    H: Threads + Wait + Sync + Send + Copy,
+    requires { G.MAY_STOP ≡ false }
     ensures status { IfOk result (λ status. status ≡ Status.Closed) }
-    ensures sheet { OnOk result ((bytes : List ℕ) → R.remaining reader ≡ Some bytes
-        → AreDocket (λ d. WritesSettledSheet d options.now.capacity (W.contents writer.old) (W.contents writer.new)) bytes) }
-    ensures fault { IfErr result (λ fault. (bytes : List ℕ) → R.remaining reader ≡ Some bytes → IsFaultOf IsMatchFault bytes fault) }
+    ensures text { OnOk result ((bytes : List ℕ) → R.remaining reader ≡ Some bytes
+        → AreDocket (λ d. WritesMatch d options.now.capacity options.now.journal (W.contents writer.old) (W.contents writer.new)) bytes) }
+    ensures fault { IfErr result (λ fault. (bytes : List ℕ) → R.remaining reader ≡ Some bytes → IsFaultOf (IsMatchFault options.now) bytes fault) }
     ensures before { IfErr result (λ fault. IsBeforeWriting fault → writer.new ≡ writer.old) }
 {
     let docket = match read_docket(alloc, reader) {
         Ok(docket) => docket,
         Err(fault) => return Err(ServeFault::Docket(fault)),
     };
-    match_docket(alloc, &docket, writer, options.capacity)
+    match_docket(rt, alloc, &docket, writer, options, gate)
 }
 
 /// Reads a docket, and writes what keeps its sheet from being stable.

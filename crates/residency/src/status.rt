@@ -26,13 +26,13 @@ pub enum Status {
 pub fn exit_status(answer: &Result<Status, ServeFault>) -> u8
     ensures { result ≡ exit_status_of answer.now }
 {
-    match *answer {
+    match answer {
         Ok(Status::Closed | Status::Stable | Status::ReplayGood) => 0,
         Ok(Status::Unstable | Status::ReplayBad) => 4,
         Err(
             ServeFault::Docket(DocketFault::Read { .. } | DocketFault::Memory | DocketFault::Write),
         ) => 1,
-        Err(ServeFault::Memory) => 1,
+        Err(ServeFault::Run(_) | ServeFault::Memory) => 1,
         Err(ServeFault::Docket(_) | ServeFault::NoSheet | ServeFault::NoJournal) => 3,
     }
 }
@@ -43,6 +43,7 @@ pub fn line_status(fault: &LineFault) -> u8
 {
     match fault {
         LineFault::Memory => 1,
+        LineFault::BadCapacity => 2,
         LineFault::Line(error) => match error.kind() {
             ErrorKind::DisplayHelp => 0,
             _ => 2,

@@ -4,6 +4,7 @@
 ghost use Rattle.std.specs.Prelude.{IfOk};
 ghost use Rattle.residency.specs.Options.{IsOrder};
 
+use match_pool::OpenGate;
 use residency::fault::ServeFault;
 use residency::line::{LineFault, read_line};
 use residency::options::Order;
@@ -46,7 +47,6 @@ fn order(rt: &HostRuntime) -> Result<Order, Unordered>
 
 // Does what is ordered.
 fn serve(rt: &HostRuntime, order: &Order) -> Result<Status, ServeFault>
-    requires { IsOrder order.now }
 {
     let alloc: Global = rt.alloc();
     let Ok(input) = BufReader::new(alloc, rt.reader()) else {
@@ -54,7 +54,9 @@ fn serve(rt: &HostRuntime, order: &Order) -> Result<Status, ServeFault>
     };
     let mut output = io::writer(rt);
     match order {
-        Order::Match(options) => serve_match(alloc, input, &mut output, options),
+        Order::Match(options) => {
+            serve_match(*rt, alloc, input, &mut output, options, &OpenGate)
+        }
         Order::Audit => serve_audit(alloc, input, &mut output),
         Order::Replay => serve_replay(alloc, input, &mut output),
     }
@@ -65,7 +67,7 @@ fn refuse(rt: &HostRuntime, fault: &Unordered) -> ExitCode {
     let _ = match fault {
         Unordered::NoText => eprintln!(rt; "residency: a word of the command line is no text"),
         Unordered::Line(LineFault::Line(error)) => error.print(rt),
-        Unordered::Line(LineFault::Memory) => eprintln!(rt; "residency: {}", LineFault::Memory),
+        Unordered::Line(fault) => eprintln!(rt; "residency: {fault}"),
     };
     ExitCode::from(match fault {
         Unordered::NoText => WRONG_WORDS,
