@@ -7,6 +7,7 @@ use crate::samples::{
 use docket::fault::DocketFault;
 use exchange_core::event::Capacity;
 use match_model::fault::ModelFault;
+use match_pool::{OpenGate, RunFault};
 use residency::fault::ServeFault;
 use residency::line::{LineFault, read_line};
 use residency::options::{MatchOptions, Order};
@@ -14,7 +15,9 @@ use residency::serve::{serve_audit, serve_match, serve_replay};
 use residency::status::{Status, exit_status, line_status};
 use std::alloc::{AllocError, Global};
 use std::io::{Read, Write};
+use std::sync::Wait;
 use std::test::Fail;
+use std::thread::Threads;
 
 const QUOTAS_SHEET: &str = "M,x,b\nM,y,a\nM,z,a\nF,a,2,2\nF,b,1,1\n";
 
@@ -31,22 +34,42 @@ const MATCH: Order = Order::Match(MatchOptions {
     journal: false,
 });
 
+const NARROW: Order = Order::Match(MatchOptions {
+    workers: 2,
+    capacity: Capacity::Each(1),
+    journal: false,
+});
+
+const NARROW_WITH_JOURNAL: Order = Order::Match(MatchOptions {
+    workers: 2,
+    capacity: Capacity::Each(1),
+    journal: true,
+});
+
+const WITH_JOURNAL: Order = Order::Match(MatchOptions {
+    workers: 2,
+    capacity: Capacity::Full,
+    journal: true,
+});
+
 // Does what is ordered over a reader and a writer.
-fn serve<R: Read + Drop, W: Write>(
+fn serve<R: Read + Drop, W: Write, H: Threads + Wait + Sync + Send + Copy>(
+    rt: H,
     alloc: Global,
     order: Order,
     reader: R,
     writer: &mut W,
 ) -> Result<Status, ServeFault> {
     match order {
-        Order::Match(_) => serve_match(alloc, reader, writer, &MatchOptions::default()),
+        Order::Match(options) => serve_match(rt, alloc, reader, writer, &options, &OpenGate),
         Order::Audit => serve_audit(alloc, reader, writer),
         Order::Replay => serve_replay(alloc, reader, writer),
     }
 }
 
 // Whether an order over these texts answers this, writes this text, and ends with this exit status.
-fn serves(
+fn serves<H: Threads + Wait + Sync + Send + Copy>(
+    rt: H,
     alloc: Global,
     order: Order,
     texts: &[&str],
@@ -55,7 +78,7 @@ fn serves(
     let (wanted, text, exit) = ending;
     let input = joined(alloc, texts)?;
     let mut output = Vec::new(alloc);
-    let answer = serve(alloc, order, input.as_bytes(), &mut output);
+    let answer = serve(rt, alloc, order, input.as_bytes(), &mut output);
     Ok(answer == wanted && output.as_slice() == text.as_bytes() && exit_status(&answer) == exit)
 }
 
@@ -83,7 +106,60 @@ fn matches(rt: HostRuntime) -> Result<(), Fail> {
     ];
     for (texts, sheet) in cases {
         let ending = (Ok(Status::Closed), sheet, 0);
-        assert!(rt; serves(rt.alloc(), MATCH, texts, ending)?, "{sheet}");
+        assert!(rt; serves(rt, rt.alloc(), MATCH, texts, ending)?, "{sheet}");
+    }
+    Ok(())
+}
+
+#[test]
+fn matches_through_narrow_mailboxes(rt: HostRuntime) -> Result<(), Fail> {
+    for (text, sheet) in [(QUOTAS, QUOTAS_SHEET), (SMALL, SMALL_SHEET)] {
+        let ending = (Ok(Status::Closed), sheet, 0);
+        assert!(rt; serves(rt, rt.alloc(), NARROW, &[text], ending)?, "{sheet}");
+    }
+    Ok(())
+}
+
+#[test]
+fn writes_the_journal_of_nothing(rt: HostRuntime) -> Result<(), Fail> {
+    let ending = (Ok(Status::Closed), "C,full\nE,close\n", 0);
+    assert!(rt; serves(rt, rt.alloc(), WITH_JOURNAL, &[], ending)?);
+    Ok(())
+}
+
+// What a match with its journal writes for a docket.
+fn matched<H: Threads + Wait + Sync + Send + Copy>(
+    rt: H,
+    alloc: Global,
+    order: Order,
+    text: &str,
+) -> Result<Vec<u8>, Fail> {
+    let mut output = Vec::new(alloc);
+    match serve(rt, alloc, order, text.as_bytes(), &mut output) {
+        Ok(Status::Closed) => Ok(output),
+        _ => Err(Fail::from("the match isn't closed")),
+    }
+}
+
+#[test]
+fn its_journal_is_good(rt: HostRuntime) -> Result<(), Fail> {
+    for order in [WITH_JOURNAL, NARROW_WITH_JOURNAL] {
+        for text in [QUOTAS, SMALL, CHAIN] {
+            let written = matched(rt, rt.alloc(), order, text)?;
+            let mut docket = text.as_bytes().to_vec(rt.alloc())?;
+            docket.extend_from_slice(&written)?;
+            let mut report = Vec::new(rt.alloc());
+            let stable = serve(rt, rt.alloc(), Order::Audit, docket.as_slice(), &mut report);
+            assert!(rt; stable == Ok(Status::Stable), "{text}");
+            let good = serve(
+                rt,
+                rt.alloc(),
+                Order::Replay,
+                docket.as_slice(),
+                &mut report,
+            );
+            assert!(rt; good == Ok(Status::ReplayGood), "{text}");
+        }
     }
     Ok(())
 }
@@ -120,7 +196,7 @@ fn audits(rt: HostRuntime) -> Result<(), Fail> {
     for (texts, status, report, exit) in cases {
         let ending = (Ok(status), report, exit);
         assert!(rt;
-            serves(rt.alloc(), Order::Audit, texts, ending)?,
+            serves(rt, rt.alloc(), Order::Audit, texts, ending)?,
             "{report}"
         );
     }
@@ -138,7 +214,10 @@ fn replays_good_journals(rt: HostRuntime) -> Result<(), Fail> {
     ];
     for (texts, row) in cases {
         let ending = (Ok(Status::ReplayGood), row, 0);
-        assert!(rt; serves(rt.alloc(), Order::Replay, texts, ending)?, "{row}");
+        assert!(rt;
+            serves(rt, rt.alloc(), Order::Replay, texts, ending)?,
+            "{row}"
+        );
     }
     Ok(())
 }
@@ -211,7 +290,10 @@ const REFUSED: [(&[&str], &str); 14] = [
 fn replays_bad_journals(rt: HostRuntime) -> Result<(), Fail> {
     for (texts, row) in REFUSED {
         let ending = (Ok(Status::ReplayBad), row, 4);
-        assert!(rt; serves(rt.alloc(), Order::Replay, texts, ending)?, "{row}");
+        assert!(rt;
+            serves(rt, rt.alloc(), Order::Replay, texts, ending)?,
+            "{row}"
+        );
     }
     Ok(())
 }
@@ -275,27 +357,28 @@ fn sees_forged_journals(rt: HostRuntime) -> Result<(), Fail> {
         let journal = journal_of(rt.alloc(), events)?;
         let texts = [SMALL, journal.as_str()];
         let ending = (Ok(status), row, exit);
-        assert!(rt; serves(rt.alloc(), Order::Replay, &texts, ending)?, "{row}");
+        assert!(rt;
+            serves(rt, rt.alloc(), Order::Replay, &texts, ending)?,
+            "{row}"
+        );
     }
     Ok(())
 }
 
 #[test]
 fn tells_what_a_docket_lacks(rt: HostRuntime) -> Result<(), Fail> {
-    let twice = ServeFault::Docket(DocketFault::Model {
+    let twice = DocketFault::Model {
         place: 2,
         fault: ModelFault::ListedTwice,
-    });
-    let faulty = "Q,a,1\nP,a,x,x\nR,x,a\n";
-    for (order, input, fault) in [
-        (MATCH, faulty, twice),
-        (Order::Audit, faulty, twice),
-        (Order::Replay, faulty, twice),
-        (Order::Audit, SMALL, ServeFault::NoSheet),
-        (Order::Replay, SMALL, ServeFault::NoJournal),
-    ] {
-        assert!(rt; serves(rt.alloc(), order, &[input], (Err(fault), "", 3))?);
+    };
+    for order in [MATCH, Order::Audit, Order::Replay] {
+        let ending = (Err(ServeFault::Docket(twice)), "", 3);
+        assert!(rt; serves(rt, rt.alloc(), order, &["Q,a,1\nP,a,x,x\nR,x,a\n"], ending)?);
     }
+    let no_sheet = (Err(ServeFault::NoSheet), "", 3);
+    assert!(rt; serves(rt, rt.alloc(), Order::Audit, &[SMALL], no_sheet)?);
+    let no_journal = (Err(ServeFault::NoJournal), "", 3);
+    assert!(rt; serves(rt, rt.alloc(), Order::Replay, &[SMALL], no_journal)?);
     Ok(())
 }
 
@@ -307,9 +390,17 @@ const ORDERS: [(Order, Status, &str); 3] = [
 ];
 
 // Whether a reader that fails after `cut` bytes is told of, at this record, with nothing written.
-fn tells_of_cut(alloc: Global, order: Order, text: &str, cut: usize, place: u32) -> bool {
+fn tells_of_cut<H: Threads + Wait + Sync + Send + Copy>(
+    rt: H,
+    alloc: Global,
+    order: Order,
+    text: &str,
+    cut: usize,
+    place: u32,
+) -> bool {
     let mut output = Vec::new(alloc);
     let answer = serve(
+        rt,
         alloc,
         order,
         CutReader::new(text.as_bytes(), cut),
@@ -321,17 +412,22 @@ fn tells_of_cut(alloc: Global, order: Order, text: &str, cut: usize, place: u32)
 }
 
 // The first count of bytes, up to all, after which a reader fails and this isn't told.
-fn first_untold_cut(alloc: Global, order: Order, text: &str) -> Option<usize> {
+fn first_untold_cut<H: Threads + Wait + Sync + Send + Copy>(
+    rt: H,
+    alloc: Global,
+    order: Order,
+    text: &str,
+) -> Option<usize> {
     let mut place = 1;
     for (cut, byte) in text.as_bytes().iter().enumerate() {
-        if !tells_of_cut(alloc, order, text, cut, place) {
+        if !tells_of_cut(rt, alloc, order, text, cut, place) {
             return Some(cut);
         }
         if *byte == b'\n' {
             place = place.saturating_add(1);
         }
     }
-    if tells_of_cut(alloc, order, text, text.len(), place) {
+    if tells_of_cut(rt, alloc, order, text, text.len(), place) {
         None
     } else {
         Some(text.len())
@@ -343,25 +439,33 @@ fn tells_of_broken_readers(rt: HostRuntime) -> Result<(), Fail> {
     let alloc = rt.alloc();
     let text = joined(alloc, &[SMALL, FULL, SMALL_JOURNAL, SMALL_SHEET])?;
     for (order, status, _) in ORDERS {
-        assert!(rt; first_untold_cut(alloc, order, text.as_str()) == None);
+        assert!(rt; first_untold_cut(rt, alloc, order, text.as_str()) == None);
         let reader = CutReader::new(text.as_bytes(), usize::MAX);
         let mut output = Vec::new(alloc);
-        assert!(rt; serve(alloc, order, reader, &mut output) == Ok(status));
+        assert!(rt; serve(rt, alloc, order, reader, &mut output) == Ok(status));
     }
     Ok(())
 }
 
 // Whether a writer that fails after `good` calls is told of, and got a part of the text.
-fn tells_of_cut_output(alloc: Global, order: Order, input: &str, text: &str, good: usize) -> bool {
+fn tells_of_cut_output<H: Threads + Wait + Sync + Send + Copy>(
+    rt: H,
+    alloc: Global,
+    order: Order,
+    input: &str,
+    text: &str,
+    good: usize,
+) -> bool {
     let mut writer = CutWriter::new(Vec::new(alloc), good);
-    let answer = serve(alloc, order, input.as_bytes(), &mut writer);
+    let answer = serve(rt, alloc, order, input.as_bytes(), &mut writer);
     answer == Err(ServeFault::Docket(DocketFault::Write))
         && exit_status(&answer) == 1
         && text.as_bytes().starts_with(writer.got())
 }
 
 // Whether a writer that takes all has the text.
-fn writes_all(
+fn writes_all<H: Threads + Wait + Sync + Send + Copy>(
+    rt: H,
     alloc: Global,
     order: Order,
     input: &str,
@@ -370,7 +474,7 @@ fn writes_all(
     good: usize,
 ) -> bool {
     let mut writer = CutWriter::new(Vec::new(alloc), good);
-    serve(alloc, order, input.as_bytes(), &mut writer) == Ok(wanted)
+    serve(rt, alloc, order, input.as_bytes(), &mut writer) == Ok(wanted)
         && writer.got() == text.as_bytes()
 }
 
@@ -382,11 +486,11 @@ fn tells_of_broken_writers(rt: HostRuntime) -> Result<(), Fail> {
         let calls = text.len().div_ceil(3);
         for good in 0..calls {
             assert!(rt;
-                tells_of_cut_output(alloc, order, input.as_str(), text, good),
+                tells_of_cut_output(rt, alloc, order, input.as_str(), text, good),
                 "{good}"
             );
         }
-        assert!(rt; writes_all(alloc, order, input.as_str(), text, status, calls));
+        assert!(rt; writes_all(rt, alloc, order, input.as_str(), text, status, calls));
     }
     Ok(())
 }
@@ -413,6 +517,10 @@ fn tells_faults(rt: HostRuntime) -> Result<(), Fail> {
     assert!(rt; LineFault::Memory.to_string(alloc)?.as_str() == "out of memory");
     assert!(rt; line_status(&LineFault::Memory) == 1);
     assert!(rt; exit_status(&Err(ServeFault::Memory)) == 1);
+    assert!(rt; LineFault::BadCapacity.to_string(alloc)?.as_str() == "bad capacity");
+    let run = ServeFault::Run(RunFault::Thread);
+    assert!(rt; run.to_string(alloc)?.as_str() == "a worker could not be started");
+    assert!(rt; exit_status(&Err(run)) == 1);
     Ok(())
 }
 
@@ -425,8 +533,17 @@ fn order_of(alloc: Global, words: &[&str]) -> Result<Order, u8> {
 }
 
 // Command lines, and what they order, or the status of their fault.
-const LINES: [(&[&str], Result<Order, u8>); 9] = [
+const LINES: [(&[&str], Result<Order, u8>); 15] = [
     (&["match"], Ok(MATCH)),
+    (&["match", "--workers", "2"], Ok(MATCH)),
+    (
+        &["match", "--capacity", "1", "--journal"],
+        Ok(NARROW_WITH_JOURNAL),
+    ),
+    (&["match", "--capacity", "0"], Err(2)),
+    (&["match", "--capacity", "1025"], Err(2)),
+    (&["match", "--workers", "1"], Err(2)),
+    (&["match", "--help"], Err(0)),
     (&["audit"], Ok(Order::Audit)),
     (&["replay"], Ok(Order::Replay)),
     (&[], Err(2)),

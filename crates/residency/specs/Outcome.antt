@@ -1,7 +1,6 @@
 -- What an exchange gives that was run to its close.
-use Rattle.std.specs.Prelude.{◌≡◌, ℕ, Option, List, length}
-use Rattle.match_model.specs.Instance.{Instance, IsProgramme}
-use Rattle.match_model.specs.Placement.{IsMemberOf}
+use Rattle.std.specs.Prelude.{◌≡◌, ℕ, Option, List}
+use Rattle.match_model.specs.Instance.{Instance}
 use Rattle.exchange_core.specs.declared.event.Event.{Event}
 use Rattle.exchange_core.specs.declared.event.Capacity.{Capacity}
 use Rattle.exchange_core.specs.Legal.{IsLegal, IsClosed}
@@ -25,8 +24,3 @@ pub record IsOutcome (inst : Instance) (cap : Capacity) (m : List (Option ℕ)) 
   pub exchanged : IsGiven inst cap m
   pub stable : IsStable inst m
   pub settled : IsTheSettled inst m
-
--- a place for each resident, and only programmes of the instance
-pub record IsOfMembers (inst : Instance) (m : List (Option ℕ)) : Type 0 where
-  pub one_place_each : length m ≡ length inst.resident_lists
-  pub programmes : (r p : ℕ) → IsMemberOf m r p → IsProgramme inst p

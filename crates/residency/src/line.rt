@@ -1,12 +1,14 @@
 //! The command line.
-ghost use Rattle.std.specs.Prelude.{IfOk, IfErr};
+ghost use Rattle.std.specs.Prelude.{◌≡◌, true, IfOk, IfErr};
+ghost use Rattle.exchange_core.specs.Shown.{is_capacity};
 ghost use Rattle.residency.specs.Options.{IsOrder, IsWithinLimits};
 ghost use Rattle.residency.specs.Exits.{IsLineFault};
 
 use crate::options::{MatchOptions, Order};
-use docket::words::capacity_of;
-use clap::{Arg, ArgAction, ArgMatches, Command};
 use clap::error::ErrorKind;
+use clap::{Arg, ArgAction, ArgMatches, Command};
+use docket::words::capacity_of;
+use exchange_core::event::Capacity;
 use std::alloc::{AllocError, Global};
 use std::convert::AsStr;
 use thiserror::Error;
@@ -74,24 +76,32 @@ fn commands<'a>(alloc: Global) -> Result<Command<'a>, AllocError> {
         ))
 }
 
+// The capacity that a text writes.
+fn capacity_given(text: &str) -> Result<Capacity, LineFault>
+    ensures capacity { IfOk result (λ capacity. is_capacity capacity ≡ true) }
+    ensures fault { IfErr result IsLineFault }
+{
+    match capacity_of(text.as_bytes()) {
+        Some(Capacity::Full) => Ok(Capacity::Full),
+        Some(Capacity::Each(n)) if 0 < n && n <= 1024 => Ok(Capacity::Each(n)),
+        _ => Err(LineFault::BadCapacity),
+    }
+}
+
 // The options that the words of a match give.
 fn match_options(matches: &ArgMatches) -> Result<MatchOptions, LineFault>
     ensures options { IfOk result IsWithinLimits }
     ensures fault { IfErr result IsLineFault }
 {
-    let defaults = MatchOptions::default();
-    let capacity = match matches.get_str("capacity") {
-        None => defaults.capacity,
-        Some(text) => match capacity_of(text.as_bytes()) {
-            Some(capacity) => capacity,
-            None => return Err(LineFault::BadCapacity),
-        },
-    };
-    Ok(MatchOptions {
-        capacity,
-        journal: matches.get_flag("journal"),
-        ..defaults
-    })
+    let mut options = MatchOptions::default();
+    if let Some(text) = matches.get_str("capacity") {
+        match capacity_given(text) {
+            Ok(capacity) => options.capacity = capacity,
+            Err(fault) => return Err(fault),
+        }
+    }
+    options.journal = matches.get_flag("journal");
+    Ok(options)
 }
 
 /// The order that the words give, the program's own name left out.

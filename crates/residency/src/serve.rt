@@ -76,7 +76,14 @@ where
         Ending::Closed => {}
         Ending::Stopped => unreachable!("the gate may not stop a run"),
     }
-    match write_match(alloc, docket, &done.assignment, &done.journal, options, writer) {
+    match write_match(
+        alloc,
+        docket,
+        &done.assignment,
+        &done.journal,
+        options,
+        writer,
+    ) {
         Ok(()) => Ok(Status::Closed),
         Err(fault) => Err(ServeFault::Docket(fault)),
     }

@@ -13,6 +13,8 @@ use residency::status::{Status, exit_status, line_status};
 use std::alloc::Global;
 use std::io::BufReader;
 use std::process::ExitCode;
+use std::sync::Wait;
+use std::thread::Threads;
 use std::{env, io};
 
 // The exit status after words that aren't text.
@@ -45,9 +47,12 @@ fn order(rt: &HostRuntime) -> Result<Order, Unordered>
     }
 }
 
-// Does what is ordered.
-fn serve(rt: &HostRuntime, order: &Order) -> Result<Status, ServeFault>
-{
+// Does what is ordered. The handle starts the threads of a match.
+fn serve<H: Threads + Wait + Sync + Send + Copy>(
+    rt: &HostRuntime,
+    handle: H,
+    order: &Order,
+) -> Result<Status, ServeFault> {
     let alloc: Global = rt.alloc();
     let Ok(input) = BufReader::new(alloc, rt.reader()) else {
         return Err(ServeFault::Memory);
@@ -55,7 +60,7 @@ fn serve(rt: &HostRuntime, order: &Order) -> Result<Status, ServeFault>
     let mut output = io::writer(rt);
     match order {
         Order::Match(options) => {
-            serve_match(*rt, alloc, input, &mut output, options, &OpenGate)
+            serve_match(handle, alloc, input, &mut output, options, &OpenGate)
         }
         Order::Audit => serve_audit(alloc, input, &mut output),
         Order::Replay => serve_replay(alloc, input, &mut output),
@@ -80,7 +85,7 @@ fn main(rt: HostRuntime) -> ExitCode {
         Ok(order) => order,
         Err(fault) => return refuse(&rt, &fault),
     };
-    let answer = serve(&rt, &order);
+    let answer = serve(&rt, rt, &order);
     if let Err(fault) = &answer {
         let _ = eprintln!(rt; "residency: {fault}");
     }
