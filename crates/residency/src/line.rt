@@ -13,6 +13,36 @@ use std::alloc::{AllocError, Global};
 use std::convert::AsStr;
 use thiserror::Error;
 
+// What the help of each command says of what it reads and writes, of the exit status, and of an example.
+const MATCH_HELP: &str =
+    "Reads a docket on standard input: Q, P and R records. A sheet or a journal in it is not used.
+Writes the sheet on standard output, and after it the journal where --journal asks for it.
+
+Exit status: 0 for a sheet; 1 where memory, a worker, reading or writing failed; 2 for a wrong
+command line; 3 for a docket at fault, whose record is named on standard error.
+
+Example: residency match --journal < examples/market.csv > result.csv";
+
+const AUDIT_HELP: &str =
+    "Reads a docket with a sheet on standard input: M, U and F records beside its own.
+Writes S,stable, or S,unstable and then every cause: X a pair that isn't acceptable, O a programme
+over its quota, B a blocking pair.
+
+Exit status: 0 for a stable sheet; 4 for an unstable one; 3 for a docket at fault or without a
+sheet; 2 for a wrong command line; 1 where memory, reading or writing failed.
+
+Example: cat examples/market.csv result.csv | residency audit";
+
+const REPLAY_HELP: &str =
+    "Reads a docket with a journal on standard input: C and E records beside its own, and maybe a sheet.
+Writes G and the number of events, or N and the first event that may not follow and why, or D and
+the first resident at whom the sheet differs.
+
+Exit status: 0 for a good journal; 4 for a bad one; 3 for a docket at fault or without a journal;
+2 for a wrong command line; 1 where memory, reading or writing failed.
+
+Example: cat examples/market.csv result.csv | residency replay";
+
 /// Why a command line orders nothing.
 #[derive(Debug, Drop, Error)]
 pub enum LineFault {
@@ -55,7 +85,9 @@ fn match_command<'a>(alloc: Global) -> Result<Command<'a>, AllocError> {
         .help("Writes the journal of every event after the sheet")
         .action(ArgAction::SetTrue);
     Command::new(alloc, "match")
+        .bin_name("residency match")?
         .about("Writes the sheet of the settled match")
+        .after_help(MATCH_HELP)
         .arg(workers)?
         .arg(capacity)?
         .arg(journal)
@@ -68,12 +100,18 @@ fn commands<'a>(alloc: Global) -> Result<Command<'a>, AllocError> {
         .no_binary_name(true)
         .subcommand_required(true)
         .subcommand(match_command(alloc)?)?
-        .subcommand(Command::new(alloc, "audit").about(
-            "Says whether the docket's sheet is stable",
-        ))?
-        .subcommand(Command::new(alloc, "replay").about(
-            "Says whether the docket's journal is a good exchange that gives its sheet",
-        ))
+        .subcommand(
+            Command::new(alloc, "audit")
+                .bin_name("residency audit")?
+                .about("Says whether the docket's sheet is stable")
+                .after_help(AUDIT_HELP),
+        )?
+        .subcommand(
+            Command::new(alloc, "replay")
+                .bin_name("residency replay")?
+                .about("Says whether the docket's journal is a good exchange that gives its sheet")
+                .after_help(REPLAY_HELP),
+        )
 }
 
 // The capacity that a text writes.
