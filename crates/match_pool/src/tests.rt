@@ -85,6 +85,7 @@ fn displaced(alloc: Global) -> Result<Instance, ModelFault> {
 /// Each resident holds what it is to hold.
 fn holds(rt: &impl Abort, assignment: &Assignment, residents: &[Resident<'_>]) {
     for (resident, _, held) in residents {
+        assert!(rt; resident.0 < assignment.len());
         assert_eq!(rt; assignment.get(*resident), *held);
     }
 }
