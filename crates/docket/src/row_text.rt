@@ -31,7 +31,9 @@ impl Model for RowText {
     ghost invariant = { λ a. AreWhole a.rows };
 }
 
-// A writer into memory that has written nothing.
+// A writer into memory that has written nothing. It has a buffer of its own, which is cleared where it is made, so it is
+// made nowhere else.
+#[inline(never)]
 fn empty_rows(alloc: Global) -> Writer<Vec<u8>>
     ensures whole { AreWhole result }
     ensures none { bytes_of result ≡ [] }
