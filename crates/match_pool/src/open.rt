@@ -7,6 +7,9 @@ ghost use Rattle.match_pool.specs.declared.fault.RunFault.TheVariants.{Memory};
 use crate::books::Books;
 use crate::desks::{ProgrammeSeat, ResidentSeat};
 use crate::fault::RunFault;
+use crate::floor::Floor;
+use crate::gate::Gate;
+use crate::hands::Hands;
 use crate::waits::Waits;
 use exchange_core::event::Capacity;
 use exchange_core::note::{AnswerNote, OfferNote};
@@ -20,10 +23,44 @@ use std::sync::ledger::Blank;
 use std::sync::{Mutex, Wait};
 
 /// By receiver, the sending ends of the mailboxes of one kind, and the locks of the desks.
-pub(crate) type Mailboxes<P, S> = (Vec<P>, Vec<Mutex<S>>);
+type Mailboxes<P, S> = (Vec<P>, Vec<Mutex<S>>);
 
-/// A mailbox for each resident: its sending end, and a lock with the resident's agent over its receiving end.
-pub(crate) fn offer_mailboxes<J: Naming, R: Wait + Copy>(
+/// The sending end of one mailbox, and the lock of its receiver's desk.
+type Desk<P, S> = (P, Mutex<S>);
+
+/// What the workers of a run over ruled mailboxes share.
+pub(crate) type RuledFloor<'a, J, R, G> = Floor<
+    'a,
+    J,
+    RuledPut<OfferNote, R>,
+    RuledPut<AnswerNote, R>,
+    RuledTake<OfferNote, R>,
+    RuledTake<AnswerNote, R>,
+    G,
+>;
+
+/// Everything that the workers share, before any event, and the tally of all parts.
+pub(crate) fn open_floor<'a, J: Naming, R: Wait + Copy, G: Gate>(
+    rt: R,
+    alloc: Global,
+    blank: Blank,
+    inst: &Instance,
+    cap: Capacity,
+) -> Result<(RuledFloor<'a, J, R, G>, Tally<J>), RunFault>
+    requires instance { inst.now ≡ J.inst }
+    requires capacity { cap ≡ J.cap }
+    requires blank { (blank.name ≡ J.name) × (blank.parts ≡ J.parts) × (J.parts ≡ 8) }
+    ensures { IfErr result (λ fault. fault ≡ Memory) }
+{
+    let hands = Hands::open(alloc, inst.residents(), inst.programmes())?;
+    let (offer_puts, residents) = offer_mailboxes::<J, R>(rt, alloc, inst, cap)?;
+    let (answer_puts, programmes) = answer_mailboxes::<J, R>(rt, alloc, inst, cap)?;
+    let (books, tally) = open_books(alloc, blank, inst, cap, offer_puts, answer_puts)?;
+    Ok((Floor::new(residents, programmes, books, hands), tally))
+}
+
+// A mailbox for each resident: its sending end, and a lock with the resident's agent over its receiving end.
+fn offer_mailboxes<J: Naming, R: Wait + Copy>(
     rt: R,
     alloc: Global,
     inst: &Instance,
@@ -37,18 +74,15 @@ pub(crate) fn offer_mailboxes<J: Naming, R: Wait + Copy>(
     let mut puts = Vec::with_capacity(alloc, count as usize)?;
     let mut seats = Vec::with_capacity(alloc, count as usize)?;
     for r in 0..count {
-        let most = inst.list_of_resident(ResidentNo(r)).len();
-        let Ok((put, take)) = mailbox(alloc, rt, room(cap, most)) else {
-            return Err(RunFault::Memory);
-        };
+        let (put, seat) = resident_desk(rt, alloc, inst, cap, ResidentNo(r))?;
         puts.push(put)?;
-        seats.push(resident_seat(alloc, inst, ResidentNo(r), take)?)?;
+        seats.push(seat)?;
     }
     Ok((puts, seats))
 }
 
-/// A mailbox for each programme: its sending end, and a lock with the programme's agent over its receiving end.
-pub(crate) fn answer_mailboxes<J: Naming, R: Wait + Copy>(
+// A mailbox for each programme: its sending end, and a lock with the programme's agent over its receiving end.
+fn answer_mailboxes<J: Naming, R: Wait + Copy>(
     rt: R,
     alloc: Global,
     inst: &Instance,
@@ -65,12 +99,9 @@ pub(crate) fn answer_mailboxes<J: Naming, R: Wait + Copy>(
     let mut puts = Vec::with_capacity(alloc, count as usize)?;
     let mut seats = Vec::with_capacity(alloc, count as usize)?;
     for p in 0..count {
-        let most = 2 * inst.list_of_programme(ProgrammeNo(p)).len();
-        let Ok((put, take)) = mailbox(alloc, rt, room(cap, most)) else {
-            return Err(RunFault::Memory);
-        };
+        let (put, seat) = programme_desk(rt, alloc, inst, cap, ProgrammeNo(p))?;
         puts.push(put)?;
-        seats.push(programme_seat(alloc, inst, ProgrammeNo(p), take)?)?;
+        seats.push(seat)?;
     }
     Ok((puts, seats))
 }
@@ -84,6 +115,48 @@ fn room(cap: Capacity, most: usize) -> u32
         Capacity::Full => full,
         Capacity::Each(n) => n.min(full),
     }
+}
+
+// A resident's mailbox: its sending end, and a lock with the resident's agent.
+fn resident_desk<J: Naming, R: Wait + Copy>(
+    rt: R,
+    alloc: Global,
+    inst: &Instance,
+    cap: Capacity,
+    resident: ResidentNo,
+) -> Result<Desk<RuledPut<OfferNote, R>, ResidentSeat<J, RuledTake<OfferNote, R>>>, RunFault>
+    requires instance { inst.now ≡ J.inst }
+    requires member { IsResident inst.now resident }
+    ensures unused { IfOk result (λ desk. desk.0.puts ≡ []) }
+    ensures fault { IfErr result (λ fault. fault ≡ Memory) }
+{
+    let most = inst.list_of_resident(resident).len();
+    let Ok((put, take)) = mailbox(alloc, rt, room(cap, most)) else {
+        return Err(RunFault::Memory);
+    };
+    let seat = resident_seat(alloc, inst, resident, take)?;
+    Ok((put, seat))
+}
+
+// A programme's mailbox: its sending end, and a lock with the programme's agent.
+fn programme_desk<J: Naming, R: Wait + Copy>(
+    rt: R,
+    alloc: Global,
+    inst: &Instance,
+    cap: Capacity,
+    programme: ProgrammeNo,
+) -> Result<Desk<RuledPut<AnswerNote, R>, ProgrammeSeat<J, RuledTake<AnswerNote, R>>>, RunFault>
+    requires instance { inst.now ≡ J.inst }
+    requires member { IsProgramme inst.now programme }
+    ensures unused { IfOk result (λ desk. desk.0.puts ≡ []) }
+    ensures fault { IfErr result (λ fault. fault ≡ Memory) }
+{
+    let most = 2 * inst.list_of_programme(programme).len();
+    let Ok((put, take)) = mailbox(alloc, rt, room(cap, most)) else {
+        return Err(RunFault::Memory);
+    };
+    let seat = programme_seat(alloc, inst, programme, take)?;
+    Ok((put, seat))
 }
 
 // A lock with a resident's agent, over an end that has taken nothing.
@@ -122,8 +195,8 @@ fn programme_seat<J: Naming, T: TakeEnd<AnswerNote> + Drop>(
     }
 }
 
-/// The ledger over these ends, which have put nothing, with nobody waiting for room; and the tally of all its parts.
-pub(crate) fn open_books<J: Naming, P: PutEnd<OfferNote> + Drop, Q: PutEnd<AnswerNote> + Drop>(
+// The ledger over these ends, which have put nothing, with nobody waiting for room; and the tally of all its parts.
+fn open_books<J: Naming, P: PutEnd<OfferNote> + Drop, Q: PutEnd<AnswerNote> + Drop>(
     alloc: Global,
     blank: Blank,
     inst: &Instance,

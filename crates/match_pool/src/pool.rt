@@ -9,10 +9,8 @@ ghost use Rattle.exchange_core.specs.Shown.{is_capacity};
 use crate::done::{Done, Ending};
 use crate::drive::drive;
 use crate::fault::RunFault;
-use crate::floor::Floor;
 use crate::gate::Gate;
-use crate::hands::Hands;
-use crate::open::{answer_mailboxes, cut, offer_mailboxes, open_books};
+use crate::open::{cut, open_floor};
 use crate::reserve::Reserve;
 use exchange_core::event::Capacity;
 use exchange_core::note::{AnswerNote, OfferNote};
@@ -92,13 +90,9 @@ fn run_named<J: Naming + Send + Sync, G: Gate + Sync, R: Threads + Wait + Sync +
     ensures settled { IfOk result (λ done. done.ending ≡ Ending.Closed → IsSettledRun inst.now done.journal.items done.assignment) }
     ensures fault { IfErr result (IsFault inst.now cap) }
 {
-    let (offer_puts, residents) = offer_mailboxes::<J, R>(rt, alloc, inst, cap)?;
-    let (answer_puts, programmes) = answer_mailboxes::<J, R>(rt, alloc, inst, cap)?;
     let reserve = Reserve::new(alloc, inst, workers)?;
-    let (books, tally) = open_books(alloc, blank, inst, cap, offer_puts, answer_puts)?;
+    let (floor, tally) = open_floor::<J, R, G>(rt, alloc, blank, inst, cap)?;
     let tallies = cut(alloc, tally, workers)?;
-    let hands = Hands::open(alloc, inst.residents(), inst.programmes())?;
-    let floor = Floor::new(residents, programmes, books, hands);
     let tallies = drive(&rt, alloc, inst, &floor, gate, tallies)?;
     reserve.finish(inst, floor, tallies, workers)
 }

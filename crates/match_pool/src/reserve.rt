@@ -13,6 +13,7 @@ use crate::done::{Done, Ending, Ends};
 use crate::fault::{RunFault, Trouble};
 use crate::floor::Floor;
 use crate::gate::Gate;
+use crate::hands::Hands;
 use exchange_core::event::{Desk, Event, Pending};
 use exchange_core::note::{AnswerNote, OfferNote};
 use mailbox_rule::{PutEnd, TakeEnd};
@@ -93,7 +94,7 @@ impl<T: TakeEnd<OfferNote> + Drop, U: TakeEnd<AnswerNote> + Drop> Reserve<T, U> 
         let Reserve {
             cursors,
             assignment,
-            mut entered,
+            entered,
             residents,
             programmes,
         } = self;
@@ -105,16 +106,18 @@ impl<T: TakeEnd<OfferNote> + Drop, U: TakeEnd<AnswerNote> + Drop> Reserve<T, U> 
             news: _,
             ending: _,
         } = floor;
-        let Books {
-            mut ledger,
-            waits: _,
-        } = books.into_inner();
-        let hands = hands.into_inner();
-        if let Some(trouble) = hands.trouble() {
-            return Err(fault_of(inst, ledger, trouble));
-        }
-        count(&mut ledger, tallies, &mut entered, workers)?;
-        let ending = ending_of(inst, &ledger, hands.is_stopped())?;
+        let Outcome {
+            ledger,
+            ending,
+            entered,
+        } = outcome_of(
+            inst,
+            books.into_inner(),
+            &hands.into_inner(),
+            tallies,
+            entered,
+            workers,
+        )?;
         let logs = Logs {
             cursors,
             residents: resident_agents(resident_seats, residents)?,
@@ -125,6 +128,48 @@ impl<T: TakeEnd<OfferNote> + Drop, U: TakeEnd<AnswerNote> + Drop> Reserve<T, U> 
             Err(fault) => Err(fault),
         }
     }
+}
+
+/// The ledger of a run that had no trouble, how it ended, and the count of each worker.
+#[derive(Drop)]
+struct Outcome<J: Naming, P: PutEnd<OfferNote>, Q: PutEnd<AnswerNote>> {
+    ledger: Ledger<J, P, Q>,
+    ending: Ending,
+    entered: Vec<u64>,
+}
+
+// How a run ended whose workers are joined, with these tallies by worker.
+fn outcome_of<J: Naming, P: PutEnd<OfferNote> + Drop, Q: PutEnd<AnswerNote> + Drop, G: Gate>(
+    inst: &Instance,
+    books: Books<J, P, Q>,
+    hands: &Hands<'_, G>,
+    tallies: Vec<Tally<J>>,
+    entered: Vec<u64>,
+    workers: usize,
+) -> Result<Outcome<J, P, Q>, RunFault>
+    requires instance { inst.now ≡ J.inst }
+    requires parts { J.parts ≡ 8 }
+    requires empty { entered.items ≡ [] }
+    ensures closed { IfOk result (λ outcome. (outcome.ending ≡ Ending.Closed) ↔ IsClosed outcome.ledger.journal) }
+    ensures stopped { IfOk result (λ outcome. outcome.ending ≡ Ending.Stopped → G.MAY_STOP ≡ true) }
+    ensures counts { IfOk result (λ outcome. (length outcome.entered.items ≡ workers) × (sum outcome.entered.items ≡ length outcome.ledger.journal)) }
+    ensures fault { IfErr result (IsFault inst.now J.cap) }
+{
+    let Books {
+        mut ledger,
+        waits: _,
+    } = books;
+    if let Some(trouble) = hands.trouble() {
+        return Err(fault_of(inst, ledger, trouble));
+    }
+    let mut entered = entered;
+    count(&mut ledger, tallies, &mut entered, workers)?;
+    let ending = ending_of(inst, &ledger, hands.is_stopped())?;
+    Ok(Outcome {
+        ledger,
+        ending,
+        entered,
+    })
 }
 
 // The agents out of their locks, by resident.

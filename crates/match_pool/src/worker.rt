@@ -38,6 +38,17 @@ enum Step {
     Leave { again: bool },
 }
 
+/// Why a look into a mailbox gave no message.
+#[derive(Clone, Copy)]
+enum Miss {
+    /// None waits, as far as the mailbox has it.
+    Empty,
+    /// Nobody can put one any more.
+    Gone,
+    /// The log has no room for one.
+    LogFull,
+}
+
 const LEAVE: Step = Step::Leave { again: false };
 
 impl<'a, J: Naming, G: Gate, R: Wait> Worker<'a, J, G, R> {
@@ -250,7 +261,7 @@ impl<'a, J: Naming, G: Gate, R: Wait> Worker<'a, J, G, R> {
         self.list_woken(floor);
         let programme = match seat.take() {
             Heard::Got(note) => note.programme,
-            heard => return self.after_no_receipt(floor, is_nothing(&heard), is_gone(&heard), desk),
+            heard => return self.after_miss(floor, miss_of(&heard), desk),
         };
         self.pass(floor, again);
         let entry = floor
@@ -286,7 +297,7 @@ impl<'a, J: Naming, G: Gate, R: Wait> Worker<'a, J, G, R> {
         self.list_woken(floor);
         let note = match seat.hear() {
             Heard::Got(note) => note,
-            heard => return self.after_no_receipt(floor, is_nothing(&heard), is_gone(&heard), desk),
+            heard => return self.after_miss(floor, miss_of(&heard), desk),
         };
         self.pass(floor, again);
         let AnswerNote { resident, kind } = note;
@@ -369,12 +380,11 @@ impl<'a, J: Naming, G: Gate, R: Wait> Worker<'a, J, G, R> {
         }
     }
 
-    // What a look into the mailbox leaves that found no message: nothing, nobody who can put, or no room in the log.
-    fn after_no_receipt<P, Q, T, U>(
+    // What a look into the mailbox leaves that gave no message.
+    fn after_miss<P, Q, T, U>(
         &mut self,
         floor: &Floor<'_, J, P, Q, T, U, G>,
-        nothing: bool,
-        gone: bool,
+        miss: Miss,
         desk: Desk,
     ) -> Step
     where
@@ -383,15 +393,17 @@ impl<'a, J: Naming, G: Gate, R: Wait> Worker<'a, J, G, R> {
         T: TakeEnd<OfferNote>,
         U: TakeEnd<AnswerNote>,
     {
-        if nothing {
-            return Step::Leave { again: true };
+        match miss {
+            Miss::Empty => Step::Leave { again: true },
+            Miss::Gone => {
+                floor.fail(self.rt, Trouble::MailGone(desk));
+                LEAVE
+            }
+            Miss::LogFull => {
+                floor.fail(self.rt, Trouble::Torn(desk));
+                LEAVE
+            }
         }
-        if gone {
-            floor.fail(self.rt, Trouble::MailGone(desk));
-        } else {
-            floor.fail(self.rt, Trouble::Torn(desk));
-        }
-        LEAVE
     }
 
     // An event was entered: the gate is told, and the desk that it woke is noted.
@@ -535,10 +547,11 @@ impl<'a, J: Naming, G: Gate, R: Wait> Worker<'a, J, G, R> {
     }
 }
 
-fn is_nothing<M>(heard: &Heard<M>) -> bool {
-    matches!(heard, Heard::Nothing)
-}
-
-fn is_gone<M>(heard: &Heard<M>) -> bool {
-    matches!(heard, Heard::Gone)
+// Why a look into a mailbox that gave nothing did so.
+fn miss_of<M>(heard: &Heard<M>) -> Miss {
+    match heard {
+        Heard::Gone => Miss::Gone,
+        Heard::LogFull => Miss::LogFull,
+        Heard::Nothing | Heard::Got(_) => Miss::Empty,
+    }
 }
