@@ -2,6 +2,7 @@
 use Rattle.std.specs.Prelude.{◌≡◌, ℕ, ◌<◌, ◌≤◌, nat_lt, nat_le, not, ◌&&◌, ◌⊎◌, if◌then◌else◌, Bool, true, Option, Some, None, Result, Ok, Err, List, [], ◌∷◌, ◌++◌, length, map, unwrap_or, slice_index_or, slice_set, is_some}
 use Rattle.std.specs.List.{filter, list_all, All, enumerate_from}
 use Rattle.std.specs.Global.{Vec}
+use Rattle.std.specs.Option.{option_or}
 use Rattle.std.specs.List.Sorted.{IsSorted, IsPermutation}
 use Rattle.std.specs.Ordering.{nat_cmp}
 use Rattle.match_model.specs.Ranking.{is_listed}
@@ -53,11 +54,6 @@ with_resident_list d r items = record d { resident_lists = slice_set d.resident_
 abbrev pub items_of : Option (Vec ℕ) → Option (List ℕ)
 items_of None = None
 items_of (Some v) = Some v.items
-
--- the first if there is one, else the second
-abbrev pub option_or : {X : Type 0} → Option X → Option X → Option X
-option_or (Some x) other = Some x
-option_or None other = other
 
 -- whether no item stands in the list twice
 abbrev pub has_no_repeats : List ℕ → Bool
