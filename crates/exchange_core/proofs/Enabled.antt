@@ -9,11 +9,11 @@ use Rattle.exchange_core.specs.declared.event.AnswerKind.{AnswerKind}
 use Rattle.exchange_core.specs.declared.event.Capacity.{Capacity}
 use Rattle.exchange_core.specs.declared.event.Refused.TheVariants.{Closed, NoSuchDesk, NoPlace, NotNext, AnswerDue, NothingWaiting, WrongFront, NotDue, MailboxFull}
 use Rattle.exchange_core.specs.Mail.{Answered}
-use Rattle.exchange_core.specs.Legal.{is_closed, IsCapacity, MayFollow}
+use Rattle.exchange_core.specs.Legal.{is_closed, MayFollow}
 use Rattle.exchange_core.specs.Left.{Left}
 use Rattle.exchange_core.specs.Refusal.{cause, is_number, is_answer, is_nil, strange_desk}
 use Rattle.exchange_core.specs.Steps.{resident_at, programme_at, event_fault_left, fault_left, next_offer_left, HasNoResidentEvent, HasNoProgrammeEvent}
-use Rattle.exchange_core.specs.Shown.{Shows}
+use Rattle.exchange_core.specs.Shown.{Shows, IsCapacity}
 use Rattle.exchange_core.proofs.Causes.{three_none, four_none, head_none, rest_none, cause_none, number_from, answer_from}
 use Rattle.exchange_core.proofs.Outcomes.{no_fault_from}
 use Rattle.exchange_core.proofs.NoJam.{next_event}
