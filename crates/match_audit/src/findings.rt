@@ -153,7 +153,7 @@ fn has_room_for(
     ensures { (m : List (Option ℕ)) → AreLoads inst.now m loads.now → IsTrue result ↔ HasRoomFor inst.now m programme resident }
 {
     let load = loads[programme.0 as usize];
-    if load.has_free_place(inst.quota(programme)) {
+    if load.has_fewer_than(inst.quota(programme)) {
         return true;
     }
     load.has_member_after(place_at(inst, programme, resident))

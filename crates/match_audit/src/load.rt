@@ -27,7 +27,7 @@ impl Load {
     }
 
     /// Whether there are fewer members than the quota.
-    pub(crate) fn has_free_place(&self, quota: u32) -> bool
+    pub(crate) fn has_fewer_than(&self, quota: u32) -> bool
         ensures { IsTrue result ↔ (self.now.members < quota) }
     {
         self.members < quota

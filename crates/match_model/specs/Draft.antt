@@ -10,6 +10,7 @@ use Rattle.match_model.specs.Instance.{Instance, list_at, pair_count}
 use Rattle.match_model.specs.declared.limits.TheConstants.{MAX_PROGRAMMES, MAX_RESIDENTS, MAX_QUOTA, MAX_PAIRS}
 use Rattle.match_model.specs.declared.fault.ModelFault.{ModelFault}
 use Rattle.match_model.specs.declared.fault.ModelFault.TheVariants.{TooManyProgrammes, TooManyResidents, QuotaTooLarge, NoSuchMember, ListGivenTwice, ListedTwice, TooManyPairs, Memory}
+use Rattle.match_model.specs.Fault.{Answers}
 
 -- by programme its quota, and by member the list that was given, if one was
 pub record Draft : Type 0 where
@@ -94,8 +95,7 @@ AnswersFirst None (Err e) = e ≡ Memory
 
 -- Ok comes only where there is no fault, and an error is that fault, or want of memory
 abbrev pub AnswersOrWantsMemory : {T : Type 0} → Option ModelFault → Result T ModelFault → Type 0
-AnswersOrWantsMemory fault (Ok v) = fault ≡ None
-AnswersOrWantsMemory fault (Err e) = (e ≡ Memory) ⊎ (fault ≡ Some e)
+AnswersOrWantsMemory fault r = Answers Memory fault r
 
 -- every item of every list that was given is below n, and stands there once
 pub record AreLists (lists : List (Option (List ℕ))) (n : ℕ) : Type 0 where
