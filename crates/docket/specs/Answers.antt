@@ -2,17 +2,17 @@
 use Rattle.std.specs.Prelude.{◌≡◌, ◌⊎◌, ℕ, Option, Some, None, Result, Ok, Err}
 use Rattle.docket.specs.declared.fault.DocketFault.{DocketFault}
 use Rattle.docket.specs.declared.fault.DocketFault.TheVariants.{Memory, Model}
+use Rattle.match_model.specs.Fault as answers
 use Rattle.match_model.specs.declared.fault.ModelFault.{ModelFault}
 use Rattle.match_model.specs.declared.fault.ModelFault.TheVariants as model
 
 -- the error is the fault, or want of memory
 abbrev pub Refuses : Option DocketFault → DocketFault → Type 0
-Refuses fault e = (e ≡ Memory) ⊎ (fault ≡ Some e)
+Refuses fault e = answers.Refuses Memory fault e
 
 -- Ok comes only where there is no fault, and an error is that fault, or want of memory
 abbrev pub Answers : {T : Type 0} → Option DocketFault → Result T DocketFault → Type 0
-Answers fault (Ok v) = fault ≡ None
-Answers fault (Err e) = Refuses fault e
+Answers fault r = answers.Answers Memory fault r
 
 -- the fault of a builder, at a record
 abbrev pub at_record : ℕ → ModelFault → DocketFault

@@ -1,6 +1,7 @@
 -- Each desk has one event at most that may follow, the one in front there.
 use Rattle.std.proofs.Common.{◌≡◌, ◌≢◌, ℕ, Bool, true, false, not, ltb, Option, Some, None, List, [], ◌∷◌, length, sym, ◌∙◌, subst}
 use Rattle.std.specs.Prelude.{is_none, slice_get, if◌then◌else◌}
+use Rattle.std.proofs.lemmas.Bool.{not-false}
 use Rattle.match_model.specs.Instance.{Instance, IsInstance, IsProgramme, IsResident, quota, list_of_programme}
 use Rattle.exchange_core.specs.declared.event.Event.{Event}
 use Rattle.exchange_core.specs.declared.event.Event.TheVariants.{Offer, Take, Answer, Hear, Close}
@@ -8,12 +9,12 @@ use Rattle.exchange_core.specs.declared.event.AnswerKind.{AnswerKind}
 use Rattle.exchange_core.specs.declared.event.Capacity.{Capacity}
 use Rattle.exchange_core.specs.declared.event.Refused.TheVariants.{Closed, NoSuchDesk, NoPlace, NotNext, AnswerDue, NothingWaiting, WrongFront, NotDue, MailboxFull}
 use Rattle.exchange_core.specs.Mail.{Answered}
-use Rattle.exchange_core.specs.Legal.{is_closed, IsCapacity, MayFollow}
+use Rattle.exchange_core.specs.Legal.{is_closed, MayFollow}
 use Rattle.exchange_core.specs.Left.{Left}
 use Rattle.exchange_core.specs.Refusal.{cause, is_number, is_answer, is_nil, strange_desk}
 use Rattle.exchange_core.specs.Steps.{resident_at, programme_at, event_fault_left, fault_left, next_offer_left, HasNoResidentEvent, HasNoProgrammeEvent}
-use Rattle.exchange_core.specs.Shown.{Shows}
-use Rattle.exchange_core.proofs.Causes.{three_none, four_none, head_none, rest_none, cause_none, not_false, number_from, answer_from}
+use Rattle.exchange_core.specs.Shown.{Shows, IsCapacity}
+use Rattle.exchange_core.proofs.Causes.{three_none, four_none, head_none, rest_none, cause_none, number_from, answer_from}
 use Rattle.exchange_core.proofs.Outcomes.{no_fault_from}
 use Rattle.exchange_core.proofs.NoJam.{next_event}
 
@@ -49,24 +50,24 @@ module _ (inst : Instance) (left : Left) where
   answer_front : (r p : ℕ) (k : AnswerKind) → fault_left inst left (Answer r p k) ≡ None → slice_get (resident_at left r).due 0 ≡ Some (p, k)
   answer_front r p k h =
       let first : Option Answered = slice_get (resident_at left r).due 0 in
-      answer_from first p k (not_false _ (three_none (strange_desk inst p r) (not (is_answer first p k)) (not (ltb (length (programme_at left p).waiting) (programme_at left p).room)) NoSuchDesk NotDue MailboxFull (own (Answer r p k) h)).1)
+      answer_from first p k (not-false _ (three_none (strange_desk inst p r) (not (is_answer first p k)) (not (ltb (length (programme_at left p).waiting) (programme_at left p).room)) NoSuchDesk NotDue MailboxFull (own (Answer r p k) h)).1)
 
   take_front : (r p : ℕ) → fault_left inst left (Take r p) ≡ None → slice_get (resident_at left r).waiting 0 ≡ Some p
   take_front r p h =
       let front : Option ℕ = slice_get (resident_at left r).waiting 0 in
-      number_from front p (not_false _ (four_none (strange_desk inst p r) (not (is_nil (resident_at left r).due)) (is_none front) (not (is_number front p)) NoSuchDesk AnswerDue NothingWaiting WrongFront (own (Take r p) h)).3)
+      number_from front p (not-false _ (four_none (strange_desk inst p r) (not (is_nil (resident_at left r).due)) (is_none front) (not (is_number front p)) NoSuchDesk AnswerDue NothingWaiting WrongFront (own (Take r p) h)).3)
 
   hear_front : (p r : ℕ) (k : AnswerKind) → fault_left inst left (Hear p r k) ≡ None → slice_get (programme_at left p).waiting 0 ≡ Some (r, k)
   hear_front p r k h =
       let front : Option Answered = slice_get (programme_at left p).waiting 0 in
-      answer_from front r k (not_false _ (three_none (strange_desk inst p r) (is_none front) (not (is_answer front r k)) NoSuchDesk NothingWaiting WrongFront (own (Hear p r k) h)).2)
+      answer_from front r k (not-false _ (three_none (strange_desk inst p r) (is_none front) (not (is_answer front r k)) NoSuchDesk NothingWaiting WrongFront (own (Hear p r k) h)).2)
 
   offer_next : (p r : ℕ) → fault_left inst left (Offer p r) ≡ None → next_offer_left inst left p ≡ Some r
   unfolding next_offer_left
   offer_next p r h =
       let next : Option ℕ = slice_get (list_of_programme inst p) (programme_at left p).offered in
       let free = four_none (strange_desk inst p r) (not (ltb (programme_at left p).out (quota inst p))) (not (is_number next r)) (not (ltb (length (resident_at left r).waiting) (resident_at left r).room)) NoSuchDesk NoPlace NotNext MailboxFull (own (Offer p r) h) in
-      pick left.closed (ltb (programme_at left p).out (quota inst p)) next (is_open (Offer p r) h) (not_false _ free.1) (number_from next r (not_false _ free.2))
+      pick left.closed (ltb (programme_at left p).out (quota inst p)) next (is_open (Offer p r) h) (not-false _ free.1) (number_from next r (not-false _ free.2))
     where
       pick : (shut place : Bool) (o : Option ℕ) → shut ≡ false → place ≡ true → o ≡ Some r → (if shut then None else (if place then o else None)) ≡ Some r
       pick true b o e f g = cc

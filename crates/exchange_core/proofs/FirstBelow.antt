@@ -31,3 +31,8 @@ first_below_found {X} f (suc n) i x h none here = split (cases_lt i n) (λ l. fi
 -- one number more
 pub first_below_more : {X : Type 0} (f : ℕ → Option X) (n : ℕ) → first_below f n ≡ None → f n ≡ None → first_below f (n + 1) ≡ None
 first_below_more f n none here = subst (λ (k : ℕ). first_below f k ≡ None) (sym (add-one n)) (first_of_none (first_below f n) (f n) none here)
+
+-- nothing is found where nothing is at any number
+pub none_below : {X : Type 0} (f : ℕ → Option X) (n : ℕ) → ((k : ℕ) → k < n → f k ≡ None) → first_below f n ≡ None
+none_below f zero none = refl
+none_below f (suc n) none = first_of_none (first_below f n) (f n) (none_below f n (λ k h. none k (omega arith))) (none n (omega arith))

@@ -1,21 +1,24 @@
 -- While a legal list isn't closed some event may follow.
-use Rattle.std.proofs.Common.{◌≡◌, ℕ, zero, suc, ◌*◌, ◌<◌, ◌≤◌, Bool, true, false, ◌&&◌, ◌⊎◌, inl, inr, List, [], length, ltb, refl, ap, ◌∙◌, subst, arith, eq-or-lt_of_le, le_of_suc-le-suc, le_antisymm}
-use Rattle.std.proofs.lemmas.Bool.{cases_lt, ltb-true, ltb-false, and_parts, and_cases}
-use Rattle.std.proofs.lemmas.List.{get_or_past, nil_from_length}
-use Rattle.match_model.specs.Ranking.{place, IsListed}
+use Rattle.std.proofs.Common.{◌≡◌, ℕ, zero, suc, ◌*◌, ◌<◌, ◌≤◌, Bool, true, false, ◌&&◌, ◌⊎◌, inl, inr, List, [], length, ltb, refl, ap, ◌∙◌, arith, eq-or-lt_of_le, le_of_suc-le-suc, le_antisymm}
+use Rattle.std.proofs.lemmas.Bool.{ltb-true, ltb-false, and_parts, and_cases}
+use Rattle.std.proofs.lemmas.List.{nil_from_length}
+use Rattle.std.specs.Prelude.{nat_le}
+use Rattle.match_model.specs.Ranking.{place}
 use Rattle.match_model.specs.Instance.{Instance, IsInstance, IsProgramme, IsResident, quota, list_of_programme, list_of_resident}
+use Rattle.match_model.proofs.Instances.{ranking_resident}
 use Rattle.exchange_core.specs.declared.event.Event.{Event}
 use Rattle.exchange_core.specs.declared.event.Event.TheVariants.{Offer, Take, Answer, Hear, Close}
 use Rattle.exchange_core.specs.declared.event.Capacity.{Capacity}
 use Rattle.exchange_core.specs.declared.event.Capacity.TheVariants.{Full, Each}
 use Rattle.exchange_core.specs.Mail.{offers_of, offers_to, takes, answers_of, answers_to, hears}
 use Rattle.exchange_core.specs.Calls.{due, out}
-use Rattle.exchange_core.specs.Legal.{is_closed, room_for, IsCapacity, OfferMayFollow, TakeMayFollow, AnswerMayFollow, HearMayFollow, IsAtRest, MayFollow, IsLegal}
+use Rattle.exchange_core.specs.Legal.{is_closed, room_for, OfferMayFollow, TakeMayFollow, AnswerMayFollow, HearMayFollow, IsAtRest, MayFollow, IsLegal}
 use Rattle.exchange_core.proofs.Rankings.{slice_get_place, listed_item}
 use Rattle.exchange_core.proofs.Prefixes.{item_at, prefix_whole}
 use Rattle.exchange_core.proofs.Members.{offers_to_members, takes_members, answers_to_members}
 use Rattle.exchange_core.proofs.InOrder.{next_call, offers_in_order, takes_in_order, hears_in_order}
 use Rattle.exchange_core.proofs.Rejections.{calls_item_listed, out_within_quota}
+use Rattle.exchange_core.specs.Shown.{IsCapacity}
 
 -- a number below n passes the test, or none does
 abbrev FoundOrNot : (ℕ → Bool) → ℕ → Type 0
@@ -37,14 +40,7 @@ find_below test (suc n) = step (test n) refl (find_below test n)
 -- a mailbox that takes any message at all has room when it is empty
 room_some : (cap : Capacity) (most : ℕ) → IsCapacity cap → 0 < room_for cap most
 room_some Full most h = omega arith
-room_some (Each n) most h = h.0
-
-ranked_is_resident : (inst : Instance) (r p : ℕ) → IsListed (list_of_resident inst r) p → IsResident inst r
-ranked_is_resident inst r p h = step (cases_lt r (length inst.resident_lists))
-  where
-    step : (r < length inst.resident_lists) ⊎ (length inst.resident_lists ≤ r) → r < length inst.resident_lists
-    step (inl l) = l
-    step (inr l) = let e : list_of_resident inst r ≡ [] = get_or_past inst.resident_lists r [] l in absurd (let k = subst (λ (t : List ℕ). IsListed t p) e h in omega (arith, k))
+room_some (Each n) most h = ltb-true 0 n (and_parts (ltb 0 n) (nat_le n 1024) h).0
 
 module _ (inst : Instance) (cap : Capacity) (j : List Event) (is_instance : IsInstance inst) (is_capacity : IsCapacity cap) (legal : IsLegal inst cap j) (still_open : is_closed j ≡ false) where
   -- no answer waits at p, nothing is due at r, no offer waits at r
@@ -119,7 +115,7 @@ module _ (inst : Instance) (cap : Capacity) (j : List Event) (is_instance : IsIn
       let next = item_at (list_of_programme inst p) (length (offers_of p j)) l in
       let r : ℕ = next.0 in
       let ranked = (is_instance.both_rank p r).0 (listed_item (list_of_programme inst p) (length (offers_of p j)) r next.1) in
-      let member = ranked_is_resident inst r p ranked in
+      let member = ranking_resident inst r p ranked in
       let room = room_some cap (length (list_of_resident inst r)) is_capacity in
       let empty : length (offers_to r j) ≤ length (takes r j) = taken r member in
       let allowed : OfferMayFollow inst cap j p r = record {

@@ -11,18 +11,13 @@ use Rattle.exchange_core.specs.Refusal.{first_of, cause, first_below, is_nil}
 use Rattle.exchange_core.specs.Pending.{IsQuiet}
 use Rattle.exchange_core.specs.Steps.{IsCoreOf, resident_at, programme_at, resident_pending_at, programme_pending_at, wishes, HasNoResidentEvent, HasNoProgrammeEvent, HaveNoEvent}
 use Rattle.std.proofs.lemmas.List.Sums.{sum_by-cons}
-use Rattle.exchange_core.proofs.FirstBelow.{first_of_none}
 use Rattle.exchange_core.proofs.Enabled.{take_none, answer_none}
+use Rattle.exchange_core.proofs.FirstBelow.{none_below}
 
 -- where each fails the test none is counted
 pub none_made : {X : Type 0} (p : X → Bool) (f : ℕ → X) → ((k : ℕ) → p (f k) ≡ false) → (a n : ℕ) → 0 ≡ count_by p (map f (range_with_len a n))
 none_made p f fails a zero = refl
 none_made p f fails a (suc n) = sym (sum_by-cons (λ x. cond (p x) 1 0) (f a) (map f (range_with_len (a + 1) n)) ∙ ap (λ (b : Bool). cond b 1 0 + count_by p (map f (range_with_len (a + 1) n))) (fails a) ∙ zero-add (count_by p (map f (range_with_len (a + 1) n))) ∙ sym (none_made p f fails (a + 1) n))
-
--- nothing is found where nothing is at any number
-pub none_below : {X : Type 0} (f : ℕ → Option X) (n : ℕ) → ((k : ℕ) → k < n → f k ≡ None) → first_below f n ≡ None
-none_below f zero none = refl
-none_below f (suc n) none = first_of_none (first_below f n) (f n) (none_below f n (λ k h. none k (omega arith))) (none n (omega arith))
 
 module _ (inst : Instance) (left : Left) where
   quiet_at : All IsQuiet left.residents → (r : ℕ) → r < length left.residents → IsQuiet (resident_at left r)

@@ -3,6 +3,7 @@ use Rattle.std.proofs.Common.{◌≡◌, ℕ, zero, suc, ◌+◌, ◌<◌, ◌�
 use Rattle.std.proofs.lemmas.Bool.{cases_Bool, cases_lt, cases_eq, eq-eqb, ne_eqb, ltb-true, ltb-false, lt-ltb, and_parts, and_cases, and_from}
 use Rattle.std.proofs.lemmas.Bool.Decides.{nat_tests}
 use Rattle.match_model.specs.Ranking.{place, IsListed, is_listed, IsBefore, HasNoRepeats}
+use Rattle.match_model.proofs.Rankings.{is_listed-true, is_listed-false, is_listed_from, is_listed_not, is_listed-cons, is_listed-append}
 use mathlib.Core.List.{IsPrefix}
 use Rattle.exchange_core.proofs.Prefixes.{prefix_item}
 use Rattle.std.specs.List.{list_all, sum_by}
@@ -10,37 +11,6 @@ use Rattle.std.proofs.lemmas.List.Sums.{sum_by-cons}
 use Rattle.exchange_core.specs.Calls.{beats_all, best_of}
 use Rattle.exchange_core.proofs.Counts.{sum_below, sum_below_zero, sum_below_same, sum_below_one, count_of, count_of-append, count_of_push, count_of_same}
 use Rattle.std.proofs.lemmas.Option.{get_or_from_slice_get, same_Some}
-
-pub place-le-length : (xs : List ℕ) (x : ℕ) → place xs x ≤ length xs
-place-le-length [] x = omega arith
-place-le-length (y ∷ ys) x = grind (arith, nat_tests, place-le-length ys x)
-
-pub is_listed-true : (xs : List ℕ) (x : ℕ) → is_listed xs x ≡ true → IsListed xs x
-is_listed-true xs x e = ltb-true _ _ e
-
-pub is_listed-false : (xs : List ℕ) (x : ℕ) → is_listed xs x ≡ false → IsListed xs x → ⊥
-is_listed-false xs x e h = let l : length xs ≤ place xs x = ltb-false _ _ e in omega arith
-
-pub is_listed_from : (xs : List ℕ) (x : ℕ) → IsListed xs x → is_listed xs x ≡ true
-is_listed_from xs x h = lt-ltb _ _ h
-
-pub is_listed_not : (xs : List ℕ) (x : ℕ) → (IsListed xs x → ⊥) → is_listed xs x ≡ false
-is_listed_not xs x h = grind (arith, nat_tests)
-
-pub is_listed-cons : (y : ℕ) (ys : List ℕ) (x : ℕ) → is_listed (y ∷ ys) x ≡ (eqb y x || is_listed ys x)
-is_listed-cons y ys x = grind (arith, nat_tests)
-
-pub is_listed-append : (xs ys : List ℕ) (x : ℕ) → is_listed (xs ++ ys) x ≡ (is_listed xs x || is_listed ys x)
-is_listed-append [] ys x = refl
-is_listed-append (z ∷ zs) ys x =
-    is_listed-cons z (zs ++ ys) x
-    ∙ ap (λ b. eqb z x || b) (is_listed-append zs ys x)
-    ∙ or_assoc (eqb z x) (is_listed zs x) (is_listed ys x)
-    ∙ sym (ap (λ b. b || is_listed ys x) (is_listed-cons z zs x))
-  where
-    or_assoc : (a b c : Bool) → (a || (b || c)) ≡ ((a || b) || c)
-    or_assoc true b c = refl
-    or_assoc false b c = refl
 
 pub is_listed_push : (xs : List ℕ) (y x : ℕ) → is_listed (xs ++ y ∷ []) x ≡ (is_listed xs x || eqb y x)
 is_listed_push xs y x = is_listed-append xs (y ∷ []) x ∙ ap (λ (b : Bool). is_listed xs x || b) (is_listed_one y x)

@@ -1,11 +1,12 @@
 -- How often a programme is rejected, by calls and by answers.
 use mathlib.Core.List.{IsPrefix}
 use Rattle.std.proofs.Common.{◌≡◌, ℕ, zero, suc, ◌+◌, ◌≤◌, Bool, true, false, cond, eqb, ◌&&◌, ◌⊎◌, inl, inr, List, [], ◌∷◌, ◌++◌, length, slice_get, Option, Some, None, refl, ap, sym, ◌∙◌, subst, arith, sum_by, count_by}
-use Rattle.std.proofs.lemmas.Bool.{cases_eq, cases_Bool, eq-eqb, ne_eqb, eqb-true, false_from_ne_true}
+use Rattle.std.proofs.lemmas.Bool.{cases_eq, cases_Bool, eq-eqb, ne_eqb, false_from_ne_true}
 use Rattle.std.proofs.lemmas.Option.{same_Some}
 use Rattle.std.proofs.lemmas.List.Sums.{sum_by-cons, sum_by-append, sum_by_push}
 use Rattle.match_model.specs.Ranking.{IsListed, is_listed, HasNoRepeats}
 use Rattle.match_model.specs.Instance.{Instance, IsInstance, IsResident, quota, list_of_resident}
+use Rattle.match_model.proofs.Rankings.{is_listed-true}
 use Rattle.exchange_core.specs.declared.event.Event.{Event}
 use Rattle.exchange_core.specs.declared.event.Event.TheVariants.{Offer, Take, Answer, Hear, Close}
 use Rattle.exchange_core.specs.declared.event.AnswerKind.{AnswerKind}
@@ -16,7 +17,7 @@ use Rattle.exchange_core.specs.Calls.{beats_all, best_of, release_of, called_by,
 use Rattle.exchange_core.specs.Legal.{MayFollow, IsLegal}
 use Rattle.exchange_core.specs.Refusal.{is_number}
 use Rattle.exchange_core.proofs.Counts.{count_of, count_of_push, sum_below_zero, sum_below-le, sum_below_counts, sum_by_same, sum_by-le, sum_by_one}
-use Rattle.exchange_core.proofs.Rankings.{sum_by_listed, prefix_count, is_listed-true, count_of_unlisted, listed_push_before, listed_push_last, count_of_listed, count_from_no_repeats, best_of_Some, best_of_push_better, best_of_push_same, prefix_listed}
+use Rattle.exchange_core.proofs.Rankings.{sum_by_listed, prefix_count, count_of_unlisted, listed_push_before, listed_push_last, count_of_listed, count_from_no_repeats, best_of_Some, best_of_push_better, best_of_push_same, prefix_listed}
 use Rattle.exchange_core.proofs.Prefixes.{push_induction}
 use Rattle.exchange_core.proofs.Events.{where_same_at, where_same_apart}
 use Rattle.exchange_core.proofs.CallsOf.{best_of_nothing, calls_nil, calls_push, called_by_better, called_by_other}
@@ -27,6 +28,7 @@ use Rattle.std.specs.List.{flat_map}
 use Rattle.exchange_core.proofs.Totals.{over_residents, sum_below-flat_map, sum_below-where_same}
 use Rattle.exchange_core.proofs.Members.{offers_of_members, HasMembers, members_at}
 use Rattle.exchange_core.proofs.InOrder.{offers_match, next_call, takes_in_order, answers_in_order, hears_in_order, listed_offer_of, offers_of_no_repeats, takes_no_repeats}
+use Rattle.exchange_core.proofs.Causes.{number_from, number_to}
 
 -- whether the answer gives the place of x back
 abbrev pub is_rejection_of : ℕ → Answered → Bool
@@ -76,13 +78,6 @@ rejections_of-other a l x p e = rw (called_by_other a l x e) (step (eqb x p) ref
     step true e = rw e refl
     step false e = rw e refl
 
-pub is_number-true : (o : Option ℕ) (p : ℕ) → is_number o p ≡ true → o ≡ Some p
-is_number-true None p e = absurd (cc)
-is_number-true (Some q) p e = ap Some (eqb-true q p e)
-
-pub is_number_from : (o : Option ℕ) (p : ℕ) → o ≡ Some p → is_number o p ≡ true
-is_number_from o p e = rw e (eq-eqb p p refl)
-
 -- whether p is held, as a number
 abbrev pub holds_one : Option ℕ → ℕ → ℕ
 holds_one o p = cond (is_number o p) 1 0
@@ -120,13 +115,13 @@ rejections_of-calls a l h p = step (is_listed l p) (is_number (best_of a l) p) r
 -- the best of the list is never rejected
 pub held_not_rejected : (a l : List ℕ) (p : ℕ) → HasNoRepeats l → best_of a l ≡ Some p → rejections_of p (calls a l) ≡ 0
 held_not_rejected a l p h e =
-    let held : holds_one (best_of a l) p ≡ 1 = ap (λ b. cond b 1 0) (is_number_from (best_of a l) p e) in
+    let held : holds_one (best_of a l) p ≡ 1 = ap (λ b. cond b 1 0) (number_to (best_of a l) p e) in
     omega (arith, held_or_rejected a l p, held, count_from_no_repeats l h p)
 
 -- every other one is, once
 pub others_rejected : (a l : List ℕ) (p : ℕ) → HasNoRepeats l → IsListed l p → (best_of a l ≡ Some p → ⊥) → rejections_of p (calls a l) ≡ 1
 others_rejected a l p h k n =
-    let other = false_from_ne_true (is_number (best_of a l) p) (λ e. n (is_number-true (best_of a l) p e)) in
+    let other = false_from_ne_true (is_number (best_of a l) p) (λ e. n (number_from (best_of a l) p e)) in
     let held : holds_one (best_of a l) p ≡ 0 = ap (λ b. cond b 1 0) other in
     omega (arith, held_or_rejected a l p, held, count_from_no_repeats l h p, count_of_listed l p k)
 
@@ -145,7 +140,7 @@ pub not_rejected_is_best : (a l : List ℕ) (p : ℕ) → HasNoRepeats l → IsL
 not_rejected_is_best a l p h k none = step (cases_Bool (is_number (best_of a l) p))
   where
     step : (is_number (best_of a l) p ≡ true) ⊎ (is_number (best_of a l) p ≡ false) → best_of a l ≡ Some p
-    step (inl e) = is_number-true (best_of a l) p e
+    step (inl e) = number_from (best_of a l) p e
     step (inr e) =
         let held : holds_one (best_of a l) p ≡ 0 = ap (λ b. cond b 1 0) e in
         absurd (omega (arith, held_or_rejected a l p, held, none, count_of_listed l p k))

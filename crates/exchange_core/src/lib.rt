@@ -12,3 +12,7 @@ mod residents;
 mod seat;
 #[cfg(test)]
 mod tests;
+
+pub use event::{AnswerKind, Capacity, Desk, Event, MAX_EACH, Pending, Refused};
+pub use exchange::{Core, CoreFault};
+pub use note::{AnswerNote, OfferNote};

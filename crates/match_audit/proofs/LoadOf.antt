@@ -143,6 +143,13 @@ room_from_load inst m p r load h = (
   ],
 )
 
+-- and so the load that stands in p's place
+pub room_at : (inst : Instance) (m : List (Option ℕ)) (p r i : ℕ) (loads : List Load) (load : Load) → AreLoads inst m loads → IsProgramme inst p → i ≡ p →
+    (((get_or loads i load).members < quota inst p) ⊎ (place (list_of_programme inst p) r < (get_or loads i load).worst)) ↔ HasRoomFor inst m p r
+room_at inst m p r i loads load h member e =
+    let within : i < length loads = (let l = h.one_each in omega arith) in
+    room_from_load inst m p r (get_or loads i load) (h.each p (get_or loads i load) (ap (slice_get loads) (sym e) ∙ slice_get-get_or loads i load within))
+
 -- a count of the front of a placement stays small
 pub member_count-take : (m : List (Option ℕ)) (n p : ℕ) → n ≤ length m → member_count (take n m) p ≤ n
 member_count-take m n p l = omega (arith, count_by-le-length (holds p) (take n m), length-take-le n m l)

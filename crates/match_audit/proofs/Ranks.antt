@@ -6,7 +6,8 @@ use Rattle.std.proofs.lemmas.List.{length-take-le}
 use Rattle.std.proofs.lemmas.Option.{same_Some}
 use Rattle.match_model.specs.Ranking.{place, IsListed, is_listed}
 use Rattle.match_model.specs.Instance.{rank}
-use Rattle.exchange_core.proofs.Rankings.{place-le-length, place-append, place-append_past, is_listed-true, is_listed-false, is_listed_not}
+use Rattle.match_model.proofs.Rankings.{place-le, is_listed-true, is_listed-false, is_listed_not}
+use Rattle.exchange_core.proofs.Rankings.{place-append, place-append_past}
 
 -- a rank is the place of somebody listed, and there is none for whoever isn't
 pub rank_parts : (xs : List ℕ) (x : ℕ) (o : Option ℕ) → o ≡ rank xs x → ((k : ℕ) × (o ≡ Some k) × IsListed xs x × (place xs x ≡ k)) ⊎ ((o ≡ None) × (IsListed xs x → ⊥))
@@ -21,7 +22,7 @@ place_unranked xs x e = elim (rank_parts xs x None e) [
   | inl c ↦ absurd (let h = c.1 in cc)
   | inr c ↦ elim (cases_lt (place xs x) (length xs)) [
     | inl d ↦ absurd (c.1 d)
-    | inr d ↦ let l = place-le-length xs x in omega arith
+    | inr d ↦ let l = place-le xs x in omega arith
   ]
 ]
 

@@ -3,11 +3,11 @@ use Rattle.std.proofs.Common.{◌≡◌, ℕ, suc, ◌+◌, ◌<◌, inl, inr, B
 use Rattle.std.specs.Prelude.{Option, ◌↔◌, IsTrue}
 use Rattle.std.specs.List.{Contains}
 use Rattle.std.proofs.lemmas.Bool.{cases_lt}
-use Rattle.std.proofs.lemmas.List.{get_or_past}
 use Rattle.std.proofs.lemmas.List.Sums.{sum_by-cons}
-use Rattle.match_model.specs.Ranking.{place, IsListed}
-use Rattle.match_model.specs.Instance.{Instance, IsInstance, IsProgramme, Acceptable, quota, list_of_programme}
+use Rattle.match_model.specs.Ranking.{place}
+use Rattle.match_model.specs.Instance.{Instance, Acceptable, quota, list_of_programme}
 use Rattle.match_model.specs.Placement.{IsMemberOf, holds, member_count}
+use Rattle.match_model.proofs.Instances.{acceptable_programme}
 use Rattle.settle_law.specs.Stable.{IsStable}
 use Rattle.settle_law.proofs.Placements.{same_from_holds}
 use Rattle.match_audit.specs.declared.report.AuditReport.{AuditReport}
@@ -33,15 +33,6 @@ member_from_count (o ∷ ms) p h = go (holds p o) refl (sum_by-cons (λ z. cond 
         let k : 0 < member_count ms p = omega (arith, subst (λ b. member_count (o ∷ ms) p ≡ cond b 1 0 + member_count ms p) e s) in
         let found = rest k in (suc found.0, found.1)
 
--- whoever isn't a programme ranks nobody
-pub listed_programme : (inst : Instance) → IsInstance inst → (r p : ℕ) → Acceptable inst r p → IsProgramme inst p
-listed_programme inst is r p a = elim (cases_lt p (length inst.quotas)) [
-  | inl c ↦ c
-  | inr c ↦
-      let e : list_of_programme inst p ≡ [] = get_or_past inst.programme_lists p [] (let l = is.one_list_each in omega arith) in
-      let b : IsListed [] r = subst (λ (xs : List ℕ). IsListed xs r) e a in absurd (omega arith)
-]
-
 pub record FindsNothing (report : AuditReport) : Type 0 where
   pub unacceptable : report.unacceptable.items ≡ []
   pub over : report.over.items ≡ []
@@ -57,7 +48,7 @@ stable_from_nothing inst m report h nothing = record {
       | inr c ↦ c
       | inl c ↦
           let s = member_from_count m p (omega arith) in
-          let member = listed_programme inst h.is_instance s.0 p (acceptable s.0 p s.1) in
+          let member = acceptable_programme inst h.is_instance s.0 p (acceptable s.0 p s.1) in
           absurd (none_from_nil report.over.items nothing.over (p, member_count m p) ((h.over.each p (member_count m p)).1 (member, refl, c)))
     ];
   };

@@ -21,6 +21,7 @@ pub(crate) fn unacceptable_pairs(
     inst: &Instance,
     assignment: &Assignment,
 ) -> Result<Vec<(ResidentNo, ProgrammeNo)>, AllocError>
+    requires { length assignment.now ≡ length inst.now.resident_lists }
     ensures { IfOk result (λ pairs. Lists (IsUnacceptable inst.now assignment.now) pairs.items) }
 {
     let mut pairs = Vec::new(alloc);
@@ -36,11 +37,13 @@ pub(crate) fn unacceptable_pairs(
     Ok(pairs)
 }
 
-/// Whether the two rank one another.
+/// Whether the two rank one another, told by the resident's table, which is mostly the shorter one.
 fn is_acceptable(inst: &Instance, resident: ResidentNo, programme: ProgrammeNo) -> bool
+    requires { IsResident inst.now resident }
     ensures { IsTrue result ↔ Acceptable inst.now resident programme }
 {
-    programme.0 < inst.programmes() && inst.rank_at_programme(programme, resident).is_some()
+    let _residents = inst.residents();
+    inst.rank_at_resident(resident, programme).is_some()
 }
 
 /// The programmes that have more members than their quota, by number, each with how many it has.
@@ -149,6 +152,9 @@ fn has_room_for(
     requires loads { length loads.now ≡ length inst.now.quotas }
     ensures { (m : List (Option ℕ)) → AreLoads inst.now m loads.now → IsTrue result ↔ HasRoomFor inst.now m programme resident }
 {
-    let place = place_at(inst, programme, resident);
-    loads[programme.0 as usize].has_room(inst.quota(programme), place)
+    let load = loads[programme.0 as usize];
+    if load.has_fewer_than(inst.quota(programme)) {
+        return true;
+    }
+    load.has_member_after(place_at(inst, programme, resident))
 }

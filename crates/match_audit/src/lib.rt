@@ -9,3 +9,7 @@ mod findings;
 mod load;
 pub mod replay;
 pub mod report;
+
+pub use audit::AuditFault;
+pub use replay::{ReplayFault, Replayed, check};
+pub use report::AuditReport;

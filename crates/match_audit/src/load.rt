@@ -26,11 +26,18 @@ impl Load {
         self.worst = self.worst.max(place);
     }
 
-    /// Whether there is a free place, or a member with a later place in the list.
-    pub(crate) fn has_room(&self, quota: u32, place: u32) -> bool
-        ensures { IsTrue result ↔ ((self.now.members < quota) ⊎ (place < self.now.worst)) }
+    /// Whether there are fewer members than the quota.
+    pub(crate) fn has_fewer_than(&self, quota: u32) -> bool
+        ensures { IsTrue result ↔ (self.now.members < quota) }
     {
-        self.members < quota || place < self.worst
+        self.members < quota
+    }
+
+    /// Whether some member has a later place in the list.
+    pub(crate) fn has_member_after(&self, place: u32) -> bool
+        ensures { IsTrue result ↔ (place < self.now.worst) }
+    {
+        place < self.worst
     }
 }
 

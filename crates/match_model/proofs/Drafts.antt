@@ -1,5 +1,5 @@
 -- Lemmas on what a builder keeps.
-use Rattle.std.proofs.Common.{◌≡◌, ℕ, ◌+◌, ◌<◌, ◌≤◌, Bool, true, false, ltb, List, [], ◌∷◌, ◌++◌, length, set, Option, Some, None, unwrap_or, refl, sym, ap, ◌∙◌, subst, arith, ◌&&◌}
+use Rattle.std.proofs.Common.{◌≡◌, ℕ, ◌+◌, ◌<◌, ◌≤◌, Bool, true, false, ltb, List, [], ◌∷◌, ◌++◌, length, set, Option, Some, None, unwrap_or, refl, sym, ap, ◌∙◌, subst, arith}
 use Rattle.std.proofs.lemmas.List.{map_push, map-set, length_push, length-set}
 use Rattle.std.proofs.lemmas.List.Elements.{All-push, All-set, All-weaker, All-same}
 use Rattle.std.specs.List.{list_all}
@@ -7,22 +7,15 @@ use Rattle.match_model.specs.Draft.{Draft, IsDraft, AreLists, given_lists, has_n
 use Rattle.match_model.specs.declared.limits.TheConstants.{MAX_PROGRAMMES, MAX_RESIDENTS, MAX_QUOTA}
 use Rattle.match_model.specs.declared.fault.ModelFault.TheVariants.{NoSuchMember, ListedTwice}
 use Rattle.std.specs.Prelude.{if◌then◌else◌, not}
+use Rattle.std.proofs.lemmas.Bool.{and_parts, and_from, ltb-true, lt-ltb}
 
 -- a bound holds of what a smaller one holds of
 pub list_all_below_more : (n m : ℕ) (xs : List ℕ) → n ≤ m → list_all (λ x. ltb x n) xs ≡ true → list_all (λ x. ltb x m) xs ≡ true
 list_all_below_more n m [] h e = refl
 list_all_below_more n m (x ∷ xs) h e =
-    let part : (ltb x n ≡ true) × (list_all (λ y. ltb y n) xs ≡ true) = both (ltb x n) (list_all (λ y. ltb y n) xs) e in
-    join (ltb x m) (list_all (λ y. ltb y m) xs) (more part.0) (list_all_below_more n m xs h part.1)
-  where
-    both : (a b : Bool) → a && b ≡ true → (a ≡ true) × (b ≡ true)
-    both a b e = grind arith
-
-    join : (a b : Bool) → a ≡ true → b ≡ true → a && b ≡ true
-    join a b e f = grind arith
-
-    more : ltb x n ≡ true → ltb x m ≡ true
-    more f = grind arith
+    let part = and_parts (ltb x n) (list_all (λ y. ltb y n) xs) e in
+    let below = ltb-true x n part.0 in
+    and_from (ltb x m) (list_all (λ y. ltb y m) xs) (lt-ltb x m (omega arith)) (list_all_below_more n m xs h part.1)
 
 -- the lists that were given still are lists where there are more members
 pub AreLists-weaker : (lists : List (Option (List ℕ))) (n m : ℕ) → n ≤ m → AreLists lists n → AreLists lists m

@@ -8,7 +8,7 @@ use Rattle.match_model.specs.Ranking.{is_listed, IsListed}
 use Rattle.match_model.specs.Instance.{IsKept, list_at, pair_count}
 use Rattle.match_model.specs.Draft.{Draft, IsDraft, given_lists, instance_of, mutual_lists, has_no_repeats}
 use Rattle.match_model.specs.declared.limits.TheConstants.{MAX_RESIDENTS, MAX_QUOTA, MAX_PAIRS}
-use Rattle.match_model.proofs.Rankings.{is_listed-filter, has_no_repeats-filter, HasNoRepeats-from_test, length-le_below}
+use Rattle.match_model.proofs.Rankings.{is_listed-filter, has_no_repeats-filter, HasNoRepeats-from_test, length-le_below, is_listed-true, is_listed_from}
 use Rattle.match_model.proofs.Mutual.{length-mutual_lists, get_or-mutual_lists}
 
 -- a fact of each list that was given holds of the empty list too
@@ -31,13 +31,6 @@ no_repeats_at : (mine theirs : List (List ℕ)) (i : ℕ) → All (λ list. has_
 no_repeats_at mine theirs i all =
     ap has_no_repeats (mutual_list_at mine theirs i) ∙ has_no_repeats-filter (λ x. is_listed (list_at theirs x) i) (list_at mine i) (at_list (λ list. has_no_repeats list ≡ true) mine i refl all)
 
--- listed, as a fact and as a test
-listed_from : (xs : List ℕ) (x : ℕ) → is_listed xs x ≡ true → IsListed xs x
-listed_from xs x h = grind arith
-
-listed_to : (xs : List ℕ) (x : ℕ) → IsListed xs x → is_listed xs x ≡ true
-listed_to xs x h = grind arith
-
 and_comm : (a b : Bool) → a && b ≡ b && a
 and_comm true true = refl
 and_comm true false = refl
@@ -46,7 +39,7 @@ and_comm false false = refl
 
 turned : (mine theirs : List (List ℕ)) (i x : ℕ) → IsListed (list_at (mutual_lists mine theirs) i) x → IsListed (list_at (mutual_lists theirs mine) x) i
 turned mine theirs i x h =
-    listed_from _ i (listed_both theirs mine x i ∙ and_comm (is_listed (list_at theirs x) i) (is_listed (list_at mine i) x) ∙ sym (listed_both mine theirs i x) ∙ listed_to _ x h)
+    is_listed-true _ i (listed_both theirs mine x i ∙ and_comm (is_listed (list_at theirs x) i) (is_listed (list_at mine i) x) ∙ sym (listed_both mine theirs i x) ∙ is_listed_from _ x h)
 
 fewer_kept : (q : ℕ → Bool) (xs : List ℕ) → length (filter q xs) ≤ length xs
 fewer_kept q [] = omega arith

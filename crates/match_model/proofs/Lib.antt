@@ -3,3 +3,4 @@ pub mod RankTables
 pub mod Drafts
 pub mod Mutual
 pub mod Kept
+pub mod Instances

@@ -5,13 +5,13 @@ use Rattle.std.specs.List.Sorted.{IsPermutation, IsSorted, IsBinarySearchResult}
 use Rattle.std.specs.Ordering.{nat_cmp}
 use Rattle.std.specs.Prelude.{Result, Ok, Err, is_ok}
 use Rattle.std.proofs.Common.{⊎_elim}
-use Rattle.std.proofs.lemmas.Bool.{cases_lt}
+use Rattle.std.proofs.lemmas.Bool.{cases_lt, and_parts, or_parts, not-true, eqb-true, eq-eqb, ltb-true, ltb-false, lt-ltb}
 use Rattle.std.proofs.lemmas.List.Sorted.{IsNonDecreasingBy-from_sort, searched}
 use Rattle.std.proofs.lemmas.List.Sorted.{list_any-IsPermutation}
 use Rattle.std.proofs.lemmas.Map.Made.{AllPairs-from_IsDistinct}
 use Rattle.std.proofs.lemmas.Map.Steps.{length-le_from_distinct_below}
-use Rattle.std.proofs.lemmas.Bool.Decides.{Decides-eqb}
-use Rattle.match_model.specs.Ranking.{place, is_listed, HasNoRepeats}
+use Rattle.std.proofs.lemmas.Bool.Decides.{Decides-eqb, nat_tests}
+use Rattle.match_model.specs.Ranking.{place, is_listed, HasNoRepeats, IsListed}
 use Rattle.match_model.specs.Instance.{rank}
 use Rattle.match_model.specs.Draft.{has_no_repeats}
 
@@ -50,6 +50,19 @@ place-le (y ∷ ys) x = let h : place ys x ≤ length ys = place-le ys x in plac
     place-le_cons : (y x : ℕ) (ys : List ℕ) → place ys x ≤ length ys → place (y ∷ ys) x ≤ length (y ∷ ys)
     place-le_cons y x ys h = grind arith
 
+-- listed, as a fact and as a test
+pub is_listed-true : (xs : List ℕ) (x : ℕ) → is_listed xs x ≡ true → IsListed xs x
+is_listed-true xs x e = ltb-true _ _ e
+
+pub is_listed-false : (xs : List ℕ) (x : ℕ) → is_listed xs x ≡ false → IsListed xs x → ⊥
+is_listed-false xs x e h = let l : length xs ≤ place xs x = ltb-false _ _ e in omega arith
+
+pub is_listed_from : (xs : List ℕ) (x : ℕ) → IsListed xs x → is_listed xs x ≡ true
+is_listed_from xs x h = lt-ltb _ _ h
+
+pub is_listed_not : (xs : List ℕ) (x : ℕ) → (IsListed xs x → ⊥) → is_listed xs x ≡ false
+is_listed_not xs x h = grind (arith, nat_tests)
+
 -- listed, as a walk over the items tells it
 pub is_listed-any : (xs : List ℕ) (x : ℕ) → is_listed xs x ≡ list_any (λ y. eqb y x) xs
 is_listed-any [] x = refl
@@ -59,14 +72,14 @@ is_listed-any (y ∷ ys) x = step y x ys (is_listed-any ys x)
     step y x ys h = grind arith
 
 -- listed, at one item more in front or at the end
-pub is_listed-cons : (ys : List ℕ) (y x : ℕ) → is_listed (y ∷ ys) x ≡ eqb y x || is_listed ys x
-is_listed-cons ys y x = is_listed-any (y ∷ ys) x ∙ ap (λ b. eqb y x || b) (sym (is_listed-any ys x))
+pub is_listed-cons : (y : ℕ) (ys : List ℕ) (x : ℕ) → is_listed (y ∷ ys) x ≡ eqb y x || is_listed ys x
+is_listed-cons y ys x = is_listed-any (y ∷ ys) x ∙ ap (λ b. eqb y x || b) (sym (is_listed-any ys x))
 
 pub is_listed-append : (xs ys : List ℕ) (x : ℕ) → is_listed (xs ++ ys) x ≡ is_listed xs x || is_listed ys x
 is_listed-append [] ys x = refl
 is_listed-append (z ∷ xs) ys x =
-    is_listed-cons (xs ++ ys) z x ∙ ap (λ b. eqb z x || b) (is_listed-append xs ys x) ∙ regroup (eqb z x) (is_listed xs x) (is_listed ys x)
-    ∙ ap (λ b. b || is_listed ys x) (sym (is_listed-cons xs z x))
+    is_listed-cons z (xs ++ ys) x ∙ ap (λ b. eqb z x || b) (is_listed-append xs ys x) ∙ regroup (eqb z x) (is_listed xs x) (is_listed ys x)
+    ∙ ap (λ b. b || is_listed ys x) (sym (is_listed-cons z xs x))
   where
     regroup : (a b c : Bool) → a || (b || c) ≡ (a || b) || c
     regroup true b c = refl
@@ -87,7 +100,7 @@ has_no_repeats-push (x ∷ xs) y =
     ∙ ap (λ b. not (is_listed xs x || eqb y x) && b) (has_no_repeats-push xs y)
     ∙ regroup (is_listed xs x) (eqb y x) (has_no_repeats xs) (is_listed xs y)
     ∙ ap (λ b. (not (is_listed xs x) && has_no_repeats xs) && not (b || is_listed xs y)) (eqb_comm y x)
-    ∙ ap (λ b. (not (is_listed xs x) && has_no_repeats xs) && not b) (sym (is_listed-cons xs x y))
+    ∙ ap (λ b. (not (is_listed xs x) && has_no_repeats xs) && not b) (sym (is_listed-cons x xs y))
   where
     absorb : (n : Bool) → false ≡ n && false
     absorb true = refl
@@ -110,35 +123,33 @@ has_no_repeats-append (x ∷ xs) ys h =
     step : (a b n m l : Bool) → l ≡ a || b → not a && n ≡ false → (n ≡ false → m ≡ false) → not l && m ≡ false
     step a b n m l e h f = grind arith
 
+-- a list without repeats, at its head
+no_repeats_parts : (y : ℕ) (ys : List ℕ) → has_no_repeats (y ∷ ys) ≡ true → (is_listed ys y ≡ false) × (has_no_repeats ys ≡ true)
+no_repeats_parts y ys h = let part = and_parts (not (is_listed ys y)) (has_no_repeats ys) h in (not-true (is_listed ys y) part.0, part.1)
+
 -- what a filter keeps is listed where it was and passes
 pub is_listed-filter : (q : ℕ → Bool) (xs : List ℕ) (x : ℕ) → is_listed (filter q xs) x ≡ is_listed xs x && q x
 is_listed-filter q [] x = refl
 is_listed-filter q (y ∷ ys) x = step (q y) refl (is_listed-filter q ys x)
   where
-    eq_from : (a b : ℕ) → eqb a b ≡ true → a ≡ b
-    eq_from a b e = grind arith
-
     same : (b c : Bool) → eqb y x ≡ b → q y ≡ c → c ≡ cond b (q x) c
-    same true c e h = sym h ∙ ap q (eq_from y x e)
+    same true c e h = sym h ∙ ap q (eqb-true y x e)
     same false c e h = refl
 
     join : (b l c d : Bool) → c ≡ cond b d c → cond c (b || (l && d)) (l && d) ≡ (b || l) && d
     join b l c d e = grind arith
 
     step : (c : Bool) → q y ≡ c → is_listed (filter q ys) x ≡ is_listed ys x && q x → is_listed (cond c (y ∷ filter q ys) (filter q ys)) x ≡ is_listed (y ∷ ys) x && q x
-    step true h ih = is_listed-cons (filter q ys) y x ∙ ap (λ b. eqb y x || b) ih ∙ join (eqb y x) (is_listed ys x) true (q x) (same (eqb y x) true refl h) ∙ ap (λ b. b && q x) (sym (is_listed-cons ys y x))
-    step false h ih = ih ∙ join (eqb y x) (is_listed ys x) false (q x) (same (eqb y x) false refl h) ∙ ap (λ b. b && q x) (sym (is_listed-cons ys y x))
+    step true h ih = is_listed-cons y (filter q ys) x ∙ ap (λ b. eqb y x || b) ih ∙ join (eqb y x) (is_listed ys x) true (q x) (same (eqb y x) true refl h) ∙ ap (λ b. b && q x) (sym (is_listed-cons y ys x))
+    step false h ih = ih ∙ join (eqb y x) (is_listed ys x) false (q x) (same (eqb y x) false refl h) ∙ ap (λ b. b && q x) (sym (is_listed-cons y ys x))
 
 -- a filter makes no repeats
 pub has_no_repeats-filter : (q : ℕ → Bool) (xs : List ℕ) → has_no_repeats xs ≡ true → has_no_repeats (filter q xs) ≡ true
 has_no_repeats-filter q [] h = refl
 has_no_repeats-filter q (y ∷ ys) h = step (q y) (has_no_repeats-filter q ys (part.1)) (is_listed-filter q ys y)
   where
-    both : (a n : Bool) → not a && n ≡ true → (a ≡ false) × (n ≡ true)
-    both a n e = grind arith
-
     part : (is_listed ys y ≡ false) × (has_no_repeats ys ≡ true)
-    part = both (is_listed ys y) (has_no_repeats ys) h
+    part = no_repeats_parts y ys h
 
     keep : (a b n : Bool) (c : Bool) → a ≡ b && c → b ≡ false → n ≡ true → not a && n ≡ true
     keep a b n c e f g = grind arith
@@ -151,18 +162,12 @@ has_no_repeats-filter q (y ∷ ys) h = step (q y) (has_no_repeats-filter q ys (p
 pub IsDistinct-from_test : (xs : List ℕ) → has_no_repeats xs ≡ true → IsDistinct eqb xs
 unfolding IsDistinct
 IsDistinct-from_test [] h = tt
-IsDistinct-from_test (x ∷ xs) h = (apart xs x (both (is_listed xs x) (has_no_repeats xs) h).0, IsDistinct-from_test xs (both (is_listed xs x) (has_no_repeats xs) h).1)
+IsDistinct-from_test (x ∷ xs) h = let part = no_repeats_parts x xs h in (apart xs x part.0, IsDistinct-from_test xs part.1)
   where
-    both : (a n : Bool) → not a && n ≡ true → (a ≡ false) × (n ≡ true)
-    both a n e = grind arith
-
-    neither : (a b : Bool) → a || b ≡ false → (a ≡ false) × (b ≡ false)
-    neither a b e = grind arith
-
     apart : (ys : List ℕ) (x : ℕ) → is_listed ys x ≡ false → AllByRecursion (λ y. eqb x y ≡ false) ys
     apart [] x e = tt
     apart (y ∷ ys) x e =
-        let part : (eqb y x ≡ false) × (is_listed ys x ≡ false) = neither (eqb y x) (is_listed ys x) (sym (is_listed-cons ys y x) ∙ e) in
+        let part : (eqb y x ≡ false) × (is_listed ys x ≡ false) = or_parts (eqb y x) (is_listed ys x) (sym (is_listed-cons y ys x) ∙ e) in
         (eqb_comm x y ∙ part.0, apart ys x part.1)
 
 pub HasNoRepeats-from_test : (xs : List ℕ) → has_no_repeats xs ≡ true → HasNoRepeats xs
@@ -175,12 +180,9 @@ listed_below n q [] b e = absurd (false≢true e)
     false≢true : false ≡ true → ⊥
     false≢true e = cc
 listed_below n q (y ∷ ys) b e =
-    let part : (ltb y n ≡ true) × (list_all (λ x. ltb x n) ys ≡ true) = both (ltb y n) (list_all (λ x. ltb x n) ys) b in
+    let part = and_parts (ltb y n) (list_all (λ x. ltb x n) ys) b in
     step (eqb q y) (list_any (eqb q) ys) refl e part.0 (listed_below n q ys part.1)
   where
-    both : (a c : Bool) → a && c ≡ true → (a ≡ true) × (c ≡ true)
-    both a c e = grind arith
-
     here : eqb q y ≡ true → ltb y n ≡ true → q < n
     here h k = grind arith
 
@@ -198,11 +200,8 @@ is_listed-IsPermutation xs ys x h = is_listed-any xs x ∙ list_any-IsPermutatio
 -- an item that is found is listed, and one that is nowhere isn't
 pub is_listed_at : (xs : List ℕ) (x i : ℕ) → i < length xs → get_or xs i 0 ≡ x → is_listed xs x ≡ true
 is_listed_at [] x i h e = absurd (omega arith)
-is_listed_at (y ∷ ys) x zero h e = is_listed-cons ys y x ∙ ap (λ b. b || is_listed ys x) (eqb_same y x e)
-  where
-    eqb_same : (a b : ℕ) → a ≡ b → eqb a b ≡ true
-    eqb_same a b e = grind arith
-is_listed_at (y ∷ ys) x (suc i) h e = is_listed-cons ys y x ∙ ap (λ b. eqb y x || b) (is_listed_at ys x i (omega arith) e) ∙ absorb (eqb y x)
+is_listed_at (y ∷ ys) x zero h e = is_listed-cons y ys x ∙ ap (λ b. b || is_listed ys x) (eq-eqb y x e)
+is_listed_at (y ∷ ys) x (suc i) h e = is_listed-cons y ys x ∙ ap (λ b. eqb y x || b) (is_listed_at ys x i (omega arith) e) ∙ absorb (eqb y x)
   where
     absorb : (b : Bool) → b || true ≡ true
     absorb true = refl

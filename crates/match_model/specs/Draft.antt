@@ -2,6 +2,7 @@
 use Rattle.std.specs.Prelude.{◌≡◌, ℕ, ◌<◌, ◌≤◌, nat_lt, nat_le, not, ◌&&◌, ◌⊎◌, if◌then◌else◌, Bool, true, Option, Some, None, Result, Ok, Err, List, [], ◌∷◌, ◌++◌, length, map, unwrap_or, slice_index_or, slice_set, is_some}
 use Rattle.std.specs.List.{filter, list_all, All, enumerate_from}
 use Rattle.std.specs.Global.{Vec}
+use Rattle.std.specs.Option.{option_or}
 use Rattle.std.specs.List.Sorted.{IsSorted, IsPermutation}
 use Rattle.std.specs.Ordering.{nat_cmp}
 use Rattle.match_model.specs.Ranking.{is_listed}
@@ -9,6 +10,7 @@ use Rattle.match_model.specs.Instance.{Instance, list_at, pair_count}
 use Rattle.match_model.specs.declared.limits.TheConstants.{MAX_PROGRAMMES, MAX_RESIDENTS, MAX_QUOTA, MAX_PAIRS}
 use Rattle.match_model.specs.declared.fault.ModelFault.{ModelFault}
 use Rattle.match_model.specs.declared.fault.ModelFault.TheVariants.{TooManyProgrammes, TooManyResidents, QuotaTooLarge, NoSuchMember, ListGivenTwice, ListedTwice, TooManyPairs, Memory}
+use Rattle.match_model.specs.Fault.{Answers}
 
 -- by programme its quota, and by member the list that was given, if one was
 pub record Draft : Type 0 where
@@ -54,11 +56,6 @@ abbrev pub items_of : Option (Vec ℕ) → Option (List ℕ)
 items_of None = None
 items_of (Some v) = Some v.items
 
--- the first if there is one, else the second
-abbrev pub option_or : {X : Type 0} → Option X → Option X → Option X
-option_or (Some x) other = Some x
-option_or None other = other
-
 -- whether no item stands in the list twice
 abbrev pub has_no_repeats : List ℕ → Bool
 has_no_repeats [] = true
@@ -98,8 +95,7 @@ AnswersFirst None (Err e) = e ≡ Memory
 
 -- Ok comes only where there is no fault, and an error is that fault, or want of memory
 abbrev pub AnswersOrWantsMemory : {T : Type 0} → Option ModelFault → Result T ModelFault → Type 0
-AnswersOrWantsMemory fault (Ok v) = fault ≡ None
-AnswersOrWantsMemory fault (Err e) = (e ≡ Memory) ⊎ (fault ≡ Some e)
+AnswersOrWantsMemory fault r = Answers Memory fault r
 
 -- every item of every list that was given is below n, and stands there once
 pub record AreLists (lists : List (Option (List ℕ))) (n : ℕ) : Type 0 where

@@ -3,3 +3,4 @@ pub mod Instance
 pub mod RankTable
 pub mod Draft
 pub mod Placement
+pub mod Fault

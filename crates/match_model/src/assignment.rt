@@ -26,10 +26,9 @@ impl Assignment {
         ensures nobody { IfOk result (λ a. a ≡ replicate residents None) }
         ensures err { IsOkUnless result ModelFault.Memory }
     {
-        let Ok(places) = vec![in alloc; None; residents as usize] else {
-            return Err(ModelFault::Memory);
-        };
-        Ok(Assignment { places })
+        Ok(Assignment {
+            places: vec![in alloc; None; residents as usize]?,
+        })
     }
 
     /// How many residents there are.

@@ -69,9 +69,7 @@ impl InstanceBuilder {
         if quota > MAX_QUOTA {
             return Err(ModelFault::QuotaTooLarge);
         }
-        let Ok(()) = self.quotas.push(quota) else {
-            return Err(ModelFault::Memory);
-        };
+        self.quotas.push(quota)?;
         let Ok(()) = self.programme_lists.push(None) else {
             self.quotas.truncate(number);
             return Err(ModelFault::Memory);
@@ -90,9 +88,7 @@ impl InstanceBuilder {
         if number >= MAX_RESIDENTS {
             return Err(ModelFault::TooManyResidents);
         }
-        let Ok(()) = self.resident_lists.push(None) else {
-            return Err(ModelFault::Memory);
-        };
+        self.resident_lists.push(None)?;
         Ok(ResidentNo(number as u32))
     }
 
@@ -110,9 +106,7 @@ impl InstanceBuilder {
     {
         let owner = programme.0 as usize;
         ranking::test_owner(&self.programme_lists, owner)?;
-        let Ok(items) = ranking::numbers_of_residents(self.alloc, residents) else {
-            return Err(ModelFault::Memory);
-        };
+        let items = ranking::numbers_of_residents(self.alloc, residents)?;
         ranking::test_items(self.alloc, self.resident_lists.len(), &items)?;
         self.programme_lists[owner] = Some(items);
         Ok(())
@@ -131,9 +125,7 @@ impl InstanceBuilder {
     {
         let owner = resident.0 as usize;
         ranking::test_owner(&self.resident_lists, owner)?;
-        let Ok(items) = ranking::numbers_of_programmes(self.alloc, programmes) else {
-            return Err(ModelFault::Memory);
-        };
+        let items = ranking::numbers_of_programmes(self.alloc, programmes)?;
         ranking::test_items(self.alloc, self.quotas.len(), &items)?;
         self.resident_lists[owner] = Some(items);
         Ok(())

@@ -15,3 +15,10 @@ pub mod limits;
 pub mod member;
 mod rank_table;
 mod ranking;
+
+pub use assignment::Assignment;
+pub use builder::{FinishRefused, InstanceBuilder};
+pub use fault::ModelFault;
+pub use instance::Instance;
+pub use limits::{MAX_PAIRS, MAX_PROGRAMMES, MAX_QUOTA, MAX_RESIDENTS};
+pub use member::{ProgrammeNo, ResidentNo};

@@ -1,3 +1,5 @@
+ghost use Rattle.std.specs.Prelude.{◌≡◌};
+
 /// The largest number of programmes of an instance.
 pub const MAX_PROGRAMMES: usize = 2_000;
 
@@ -9,3 +11,11 @@ pub const MAX_PAIRS: usize = 200_000;
 
 /// The largest quota of a programme.
 pub const MAX_QUOTA: u32 = 10_000;
+
+/// What definitions name by a constant is this, whatever the constant says.
+pub fn law_limits()
+    ensures programmes { MAX_PROGRAMMES ≡ 2000 }
+    ensures residents { MAX_RESIDENTS ≡ 20000 }
+    ensures pairs { MAX_PAIRS ≡ 200000 }
+    ensures quota { MAX_QUOTA ≡ 10000 }
+{}

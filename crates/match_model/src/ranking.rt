@@ -32,11 +32,10 @@ pub(crate) fn test_items(alloc: Global, others: usize, items: &[u32]) -> Result<
     if !are_below(items, others) {
         return Err(ModelFault::NoSuchMember);
     }
-    match is_distinct(alloc, items) {
-        Err(_) => Err(ModelFault::Memory),
-        Ok(false) => Err(ModelFault::ListedTwice),
-        Ok(true) => Ok(()),
+    if !is_distinct(alloc, items)? {
+        return Err(ModelFault::ListedTwice);
     }
+    Ok(())
 }
 
 /// Whether each item is below `others`.

@@ -8,6 +8,7 @@ use Rattle.std.proofs.lemmas.List.Sums.{get_or-le-sum_by}
 use Rattle.match_model.specs.Ranking.{IsListed, is_listed}
 use Rattle.match_model.specs.Instance.{Instance, IsInstance, IsResident, quota, list_of_programme, list_of_resident}
 use Rattle.match_model.specs.Placement.{holds}
+use Rattle.match_model.proofs.Instances.{acceptable_resident}
 use Rattle.exchange_core.specs.declared.event.Event.{Event}
 use Rattle.exchange_core.specs.declared.event.Event.TheVariants.{Offer, Take, Answer, Hear, Close}
 use Rattle.exchange_core.specs.declared.event.Capacity.{Capacity}
@@ -25,7 +26,6 @@ use Rattle.exchange_core.proofs.Closing.{closed_is_at_rest, length-given, given_
 use Rattle.exchange_core.proofs.Rejections.{is_rejection_of, rejections_of, rejections_of-calls, heard_rejections_within, out_and_rejections, out_within_quota}
 use Rattle.settle_law.specs.Stable.{IsAchievable}
 use Rattle.settle_law.specs.SettledLaws.{SparesAchievable}
-use Rattle.settle_law.proofs.Places.{IsListed-nil}
 use Rattle.settle_law.proofs.Counting.{one_if, sum_by-same, sum_by-le_listed}
 use Rattle.settle_law.proofs.NeverRejects.{has_turned_down, Standing, SparesAll, spares_one}
 use Rattle.settle_law.proofs.AtClose.{Closing}
@@ -131,12 +131,7 @@ module _ (inst : Instance) (cap : Capacity) (good : IsInstance inst) where
   -- a resident that a programme offered a place is one of the instance's
   offered_is_resident : (j : List Event) → IsLegal inst cap j → (p r : ℕ) → IsListed (offers_of p j) r →
       IsResident inst r
-  offered_is_resident j legal p r l = elim (cases_lt r (length inst.resident_lists)) [
-    | inl c ↦ c
-    | inr c ↦
-        let ranked = (good.both_rank p r).0 (offer_acceptable inst cap good j legal p r l) in
-        absurd (IsListed-nil p (subst (λ xs. IsListed xs p) (get_or_past inst.resident_lists r [] c) ranked))
-  ]
+  offered_is_resident j legal p r l = acceptable_resident inst good r p (offer_acceptable inst cap good j legal p r l)
 
   -- a legal list at rest shows all that the argument at the close asks for
   pub closing : (j : List Event) → IsLegal inst cap j → IsAtRest inst j →

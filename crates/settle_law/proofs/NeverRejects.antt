@@ -7,8 +7,9 @@ use Rattle.std.proofs.lemmas.Option.{same_Some}
 use Rattle.match_model.specs.Ranking.{place, IsListed, is_listed, IsBefore, HasNoRepeats}
 use Rattle.match_model.specs.Instance.{Instance, IsInstance, Acceptable, quota, list_of_programme, list_of_resident}
 use Rattle.match_model.specs.Placement.{programme_of, IsMemberOf, holds, member_count}
+use Rattle.match_model.proofs.Rankings.{is_listed-true}
 use Rattle.exchange_core.specs.Calls.{best_of}
-use Rattle.exchange_core.proofs.Rankings.{best_of_Some, best_of_None, same_from_place, place-append, is_listed-true}
+use Rattle.exchange_core.proofs.Rankings.{best_of_Some, best_of_None, same_from_place, place-append}
 use Rattle.settle_law.specs.Stable.{Prefers, IsStable, IsAchievable}
 use Rattle.settle_law.proofs.Places.{listed_cases, before_from_not_after, place-append_other, IsListed-cons_cases, HasNoRepeats-cons}
 use Rattle.settle_law.proofs.Counting.{different_pass, count_by-not}

@@ -1,17 +1,17 @@
 -- Why every stable assignment has the same residents matched, and gives each resident no worse than what is held.
-use Rattle.std.proofs.Common.{◌≡◌, ℕ, ◌≤◌, ◌↔◌, Bool, true, false, List, [], length, arith, refl, sym, ap, ◌∙◌, inl, inr, subst}
+use Rattle.std.proofs.Common.{◌≡◌, ℕ, ◌≤◌, ◌↔◌, Bool, true, false, List, length, arith, refl, sym, ap, ◌∙◌, inl, inr, subst}
 use Rattle.std.specs.Prelude.{Option, Some, None, is_some, IsSome}
 use Rattle.std.specs.List.{count_by, sum_by, range_with_len}
-use Rattle.std.proofs.lemmas.List.{get_or_past}
 use Rattle.std.proofs.lemmas.List.Sums.{count_by-le-length}
 use Rattle.std.proofs.lemmas.Bool.{cases_lt, cases_eq, false_from_ne_true}
 use Rattle.std.proofs.lemmas.Option.{same_Some}
 use Rattle.match_model.specs.Ranking.{place, IsListed, is_listed, IsBefore}
 use Rattle.match_model.specs.Instance.{Instance, IsInstance, IsProgramme, IsResident, quota, list_of_resident}
 use Rattle.match_model.specs.Placement.{programme_of, IsMemberOf, member_count, IsAssignment}
+use Rattle.match_model.proofs.Instances.{acceptable_programme}
 use Rattle.exchange_core.proofs.Rankings.{same_from_place}
 use Rattle.settle_law.specs.Stable.{Prefers, IsStable, IsAchievable, ComesFirst, IsWorst, IsSettled}
-use Rattle.settle_law.proofs.Places.{range_has, IsListed-nil}
+use Rattle.settle_law.proofs.Places.{range_has}
 use Rattle.settle_law.proofs.Counting.{one_if, one_if_le, sum_by-le_listed, different_among, count_by-le_listed, same_terms}
 use Rattle.settle_law.proofs.Placements.{members_of, length-members_of, members_differ, member_from_listed, member_listed, members_add_up, count_by-numbers}
 use Rattle.settle_law.proofs.NeverRejects.{has_turned_down, full_of_better}
@@ -20,12 +20,7 @@ use Rattle.settle_law.proofs.AtClose.{Closing, all_listed, given_is_stable, give
 -- a programme that an assignment gives is one of the instance's
 pub given_is_programme : (inst : Instance) → IsInstance inst → (m : List (Option ℕ)) → IsAssignment inst m → (r p : ℕ) →
     IsMemberOf m r p → IsProgramme inst p
-given_is_programme inst good m a r p e = elim (cases_lt p (length inst.quotas)) [
-  | inl c ↦ c
-  | inr c ↦
-      let long : length inst.programme_lists ≤ p = omega (arith, good.one_list_each) in
-      absurd (IsListed-nil r (subst (λ xs. IsListed xs r) (get_or_past inst.programme_lists p [] long) (a.pairs_acceptable r p e)))
-]
+given_is_programme inst good m a r p e = acceptable_programme inst good r p (a.pairs_acceptable r p e)
 
 -- two tests that count alike, as numbers, are one
 same_tests : (b c : Bool) → one_if b ≡ one_if c → b ≡ c

@@ -3,7 +3,8 @@ use Rattle.std.specs.Prelude.{◌≡◌, ◌+◌, ◌*◌, ◌≤◌, false, Lis
 use Rattle.match_model.specs.Instance.{Instance, IsInstance, pair_count}
 use Rattle.exchange_core.specs.declared.event.Event.{Event}
 use Rattle.exchange_core.specs.declared.event.Capacity.{Capacity}
-use Rattle.exchange_core.specs.Legal.{is_closed, MayFollow, IsLegal, IsCapacity}
+use Rattle.exchange_core.specs.Legal.{is_closed, MayFollow, IsLegal}
+use Rattle.exchange_core.specs.Shown.{IsCapacity}
 use Rattle.settle_law.specs.Orderly.{IsOrderly}
 
 -- every legal list is orderly

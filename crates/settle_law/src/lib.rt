@@ -3,3 +3,6 @@
 
 pub mod lists;
 pub mod settled;
+
+pub use lists::{law_bound, law_no_jam, law_orderly};
+pub use settled::{law_never_rejects, law_one_settled, law_same_residents, law_settled};

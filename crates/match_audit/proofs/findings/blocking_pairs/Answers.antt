@@ -1,7 +1,7 @@
 use Rattle.std.proofs.Common.{◌++◌, ℕ, List, map, ap, ◌∙◌, arith}
+use Rattle.match_model.proofs.Instances.{acceptable_resident}
 use Rattle.settle_law.specs.Stable.{Blocks}
 use Rattle.match_audit.proofs.Listings.{Lists_all, Lists_more_row, pair_of}
-use Rattle.match_audit.proofs.Blocking.{blocking_resident}
 use Rattle.match_audit.proofs.findings.blocking_pairs.Goals as goal
 
 pub loop-r-preserved : goal.loop-r-preserved
@@ -13,5 +13,5 @@ loop-r-preserved c =
 
 pub returns : goal.returns
 returns c = Lists_all (Blocks c.args.inst.now c.args.assignment.now) c.loop-r.r c.loop-r.pairs.items c.loop-r.invariant
-    (λ r p b. let w = blocking_resident c.args.inst.now c.residents-r-end.ensures.instance c.args.assignment.now r p b in
+    (λ r p b. let w = acceptable_resident c.args.inst.now c.residents-r-end.ensures.instance r p b.acceptable in
     let e = c.residents-r-end.ensures.count in let l = c.loop-r-test.false in omega arith)

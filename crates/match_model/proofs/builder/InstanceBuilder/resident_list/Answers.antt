@@ -9,8 +9,8 @@ invariant_of-self c =
     let n_is : c.len.result ≡ length c.self.inside.quotas.items = omega arith in
     let fault : items_fault c.len.result c.deref-2.result.now ≡ None = c.in_ok-test_items.ensures in
     let fine = no_items_fault c.len.result c.deref-2.result.now fault in
-    rw map-set (IsDraft-with_resident_list _ c.resident.inside.0 c.in-Ok.items.items c.self.invariant
+    rw map-set (IsDraft-with_resident_list _ c.resident.inside.0 c.in_ok-items.items.items c.self.invariant
     (rw (← n_is, ← c.deref-2.ensures.value) fine.0) (rw (← c.deref-2.ensures.value) fine.1))
 
 pub returns-clause-given : goal.returns-clause-given
-returns-clause-given c = rw (← c.self.view_is, ← c.resident.view_is, ← c.in-Ok.ensures) (rw map-set refl)
+returns-clause-given c = rw (← c.self.view_is, ← c.resident.view_is, ← c.in_ok-items.ensures) (rw map-set refl)
