@@ -54,20 +54,10 @@ pub fn run<G: Gate + Sync, R: Threads + Wait + Sync + Send + Copy>(
     if workers != WORKERS {
         return Err(RunFault::BadWorkers);
     }
-    if !is_admitted(cap) {
+    if !cap.is_admitted() {
         return Err(RunFault::BadCapacity);
     }
     run_named::<Brand, G, R>(rt, alloc, Blank::new(PARTS), inst, cap, workers, gate)
-}
-
-/// Whether a capacity is full or from 1 to 1,024.
-fn is_admitted(cap: Capacity) -> bool
-    ensures { result ≡ is_capacity cap }
-{
-    match cap {
-        Capacity::Full => true,
-        Capacity::Each(n) => 0 < n && n <= 1024,
-    }
 }
 
 // The run of the exchange that the type names.
