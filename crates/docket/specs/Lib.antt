@@ -12,3 +12,4 @@ pub mod Marked
 pub mod Whole
 pub mod Rows
 pub mod Texts
+pub mod Retrying

@@ -5,7 +5,7 @@ use thiserror::Error;
 /// Why a docket could not be read or written. `place` is the number of a record, from 1.
 #[derive(Clone, Copy, Debug, PartialEq, Eq, Hash, Error)]
 pub enum DocketFault {
-    /// The reader answered a fault.
+    /// The reader answered a fault other than that it was interrupted.
     #[error("record {place}: the input could not be read")]
     Read { place: u32 },
     /// There are more than 2,000,000 records.

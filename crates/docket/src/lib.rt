@@ -15,6 +15,7 @@ mod long_record;
 mod names;
 mod ranking;
 pub mod read;
+mod retrying;
 mod row;
 pub mod row_text;
 mod rows;
