@@ -6,19 +6,23 @@ use Rattle.docket.specs.Fields.{Fields, field, is_kind, or_else}
 use Rattle.docket.specs.Contents.{Contents, contents_of, programmes_of, residents_of, rows_of, events_of, journal_of, JournalParts, has_sheet, declares_member}
 use Rattle.docket.specs.Passes.{first_from, reading_fault, later_fault, first_fault, docket_of, rows_in, sheet_fault, mark_fault, missing_fault, filled_fault, ranking_fault, pairs_fault, event_fault}
 use Rattle.docket.specs.Answers.{Refuses}
-use Rattle.docket.specs.Source.{AreAll, Explains}
-use Rattle.docket.specs.Kept.{AreTables, IsRanked}
+use Rattle.docket.specs.Texts.{programme_name, resident_name}
+use Rattle.std.proofs.lemmas.Option.{get_or_from_slice_get}
+use Rattle.std.proofs.Common.{slice_get}
+use Rattle.docket.specs.Read.{AreAll, Explains}
+use Rattle.docket.specs.Ranking.{IsRanked}
+use Rattle.docket.specs.Tables.{AreTables}
 use Rattle.std.specs.Prelude.{find, unwrap_or}
 use Rattle.exchange_core.specs.declared.event.Capacity.{Capacity}
 use Rattle.exchange_core.specs.declared.event.Capacity.TheVariants.{Full}
 use Rattle.exchange_core.specs.declared.event.Event.{Event}
 use Rattle.docket.specs.Words.{capacity_of}
-use Rattle.docket.specs.Collected.{IsDeclared, capacity_in}
-use Rattle.docket.specs.declared.declared.Declared.{Declared}
+use Rattle.docket.specs.Declarations.{IsDeclared, capacity_in}
+use Rattle.docket.specs.declared.declarations.Declarations.{Declarations}
 use Rattle.docket.specs.declared.kind.TheConstants.{QUOTA, PROGRAMME_LIST, RESIDENT_LIST, CAPACITY, MAX_RECORDS}
 use Rattle.docket.specs.declared.fault.DocketFault.{DocketFault}
-use Rattle.docket.proofs.CollectedFacts.{refuses_first, refuses_second, no_fault}
-use Rattle.docket.proofs.RankFacts.{lists_of-none}
+use Rattle.docket.proofs.DeclarationFacts.{refuses_first, refuses_second, no_fault}
+use Rattle.docket.proofs.RankingFacts.{lists_of-none}
 
 -- a list with an item isn't empty
 not_empty : {A : Type 0} (x : A) (xs : List A) → nat_eq (length (x ∷ xs)) 0 ≡ false
@@ -45,20 +49,20 @@ no_members (r ∷ rows) = by (is_kind QUOTA r) (is_kind RESIDENT_LIST r) (no_mem
     by false false more = more
 
 -- whether there is a sheet, by what is declared
-pub sheet_is : (d : Declared) (rows : List Fields) → IsDeclared d rows
+pub sheet_is : (d : Declarations) (rows : List Fields) → IsDeclared d rows
     → (d.has_sheet_row || (nat_eq (length d.programmes) 0 && nat_eq (length d.residents) 0)) ≡ has_sheet rows
 unfolding has_sheet
 sheet_is d rows h = rw (h.sheet_rows, h.programmes, h.residents, no_members rows) refl
 
 -- before the second pass
-pub ranked_start : (d : Declared) (rows : List Fields) → IsDeclared d rows → IsRanked d.builder rows []
+pub ranked_start : (d : Declarations) (rows : List Fields) → IsDeclared d rows → IsRanked d.builder rows []
 ranked_start d rows h = record {
   quotas = h.quotas;
   programme_lists = h.programme_lists ∙ sym (lists_of-none PROGRAMME_LIST (programmes_of rows) (residents_of rows));
   resident_lists = h.resident_lists ∙ sym (lists_of-none RESIDENT_LIST (residents_of rows) (programmes_of rows));
 }
 
-pub tables_start : (d : Declared) (rows : List Fields) → IsDeclared d rows → first_from reading_fault [] rows ≡ None → length rows ≤ MAX_RECORDS
+pub tables_start : (d : Declarations) (rows : List Fields) → IsDeclared d rows → first_from reading_fault [] rows ≡ None → length rows ≤ MAX_RECORDS
     → AreTables rows d.programmes d.residents
 tables_start d rows h sound few = record { programmes_are = h.programmes; residents_are = h.residents; sound = sound; few = few }
 
@@ -103,6 +107,16 @@ later_is rows = by (first_from (ranking_fault rows) [] rows)
         ≡ or_else (or_else a (pairs_fault rows)) (or_else (sheet_fault rows) (first_from (event_fault rows) [] rows))
     by None = refl
     by (Some f) = refl
+
+-- the name of a programme, as the docket gives it
+pub programme_name-is : (d : Contents) (p : ℕ) (name : List ℕ) → slice_get d.programmes p ≡ Some name → programme_name d p ≡ name
+unfolding programme_name
+programme_name-is d p name h = get_or_from_slice_get d.programmes p name [] h
+
+-- the name of a resident, as the docket gives it
+pub resident_name-is : (d : Contents) (r : ℕ) (name : List ℕ) → slice_get d.residents r ≡ Some name → resident_name d r ≡ name
+unfolding resident_name
+resident_name-is d r name h = get_or_from_slice_get d.residents r name [] h
 
 -- contents of the same parts
 pub same_contents : {a b : Contents} → a.programmes ≡ b.programmes → a.residents ≡ b.residents → a.instance ≡ b.instance → a.sheet ≡ b.sheet → a.journal ≡ b.journal → a ≡ b

@@ -5,19 +5,19 @@ use Rattle.std.specs.List.{list_any, list_all}
 use Rattle.std.proofs.lemmas.List.{take_more, length-map}
 use Rattle.std.proofs.lemmas.List.Sums.{count_by-le-length, sum_by-append}
 use Rattle.docket.specs.Fields.{Fields, field, kind_of, is_kind, is_row_of, unless}
-use Rattle.docket.specs.Stored.{row_at}
-use Rattle.docket.specs.Contents.{number_in, programmes_of, residents_of, is_mark_of, is_matched_with, places_of, quotas_of}
+use Rattle.docket.specs.Rows.{row_at}
+use Rattle.docket.specs.Contents.{number_in, programmes_of, residents_of, is_mark_of, is_matched_with, placement_of, quotas_of}
 use Rattle.docket.specs.Words.{number_of}
-use Rattle.docket.specs.Marked.{IsMarked, placed_in}
+use Rattle.docket.specs.Marks.{IsMarked, placed_in}
 use Rattle.docket.specs.Passes.{first_from, reading_fault, mark_fault, missing_fault, filled_fault, next_place}
 use Rattle.docket.specs.Answers.{Refuses}
 use Rattle.docket.specs.declared.sheet.Marks.{Marks}
 use Rattle.docket.specs.declared.kind.TheConstants.{MATCHED, UNMATCHED, FILLED, MAX_RECORDS}
 use Rattle.docket.specs.declared.fault.DocketFault.{DocketFault}
 use Rattle.docket.specs.declared.fault.DocketFault.TheVariants.{UnknownName, BadSheet}
-use Rattle.docket.proofs.CollectedFacts.{list_any-if}
+use Rattle.docket.proofs.DeclarationFacts.{list_any-if}
 use Rattle.docket.proofs.NumberFacts.{distinct, number_below, at_number, map_at, bytes_eq-same}
-use Rattle.docket.proofs.RankFacts.{clean_at, bytes_eq-swap, map-same, find_none, find-push, option_or-nothing, distinct_programmes, distinct_residents}
+use Rattle.docket.proofs.RankingFacts.{clean_at, bytes_eq-swap, map-same, find_none, find-push, option_or-nothing, distinct_programmes, distinct_residents}
 
 -- by name whether some row passes that name's test, with a row more that passes one name's
 any_at : (p : List ℕ → Fields → Bool) (names : List (List ℕ)) (done : List Fields) (row : Fields) (name : List ℕ) (i : ℕ) → distinct names ≡ true
@@ -298,6 +298,6 @@ marks_none m rows s k f c = record {
 }
 
 -- the sheet, with every row done
-pub sheet_all : (m : Marks) (rows : List Fields) → IsMarked m rows rows → m.sheet ≡ places_of rows
-unfolding places_of
+pub sheet_all : (m : Marks) (rows : List Fields) → IsMarked m rows rows → m.sheet ≡ placement_of rows
+unfolding placement_of
 sheet_all m rows h = h.sheet

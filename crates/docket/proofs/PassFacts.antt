@@ -3,9 +3,9 @@ use Rattle.std.proofs.Common.{◌≡◌, ◌≤◌, ◌<◌, ◌+◌, ◌-◌, �
 use Rattle.std.specs.Prelude.{nat_le, if◌then◌else◌}
 use Rattle.std.proofs.lemmas.List.{take_more, take_all, take-append-drop, length-append}
 use Rattle.docket.specs.Fields.{Fields, or_else, row_fault}
-use Rattle.docket.specs.Stored.{row_at}
+use Rattle.docket.specs.Rows.{row_at}
 use Rattle.docket.specs.Answers.{Refuses}
-use Rattle.docket.specs.Source.{GivesRow, IsSplit, Explains, AreAll}
+use Rattle.docket.specs.Read.{GivesRow, IsSplit, Explains, AreAll}
 use Rattle.docket.specs.Passes.{first_from, reading_fault, repeat_fault, limit_fault, next_place}
 use Rattle.docket.specs.declared.kind.TheConstants.{MAX_RECORDS}
 use Rattle.docket.specs.declared.fault.DocketFault.{DocketFault}

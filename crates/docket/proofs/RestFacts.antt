@@ -2,14 +2,14 @@
 use Rattle.std.proofs.Common.{◌≡◌, ◌≤◌, ◌<◌, ℕ, List, [], false, length, take, arith, sym, None}
 use Rattle.match_model.specs.Draft.{Draft}
 use Rattle.docket.specs.Fields.{Fields, is_kind}
-use Rattle.docket.specs.Stored.{row_at, AreEventsFrom}
-use Rattle.docket.specs.Kept.{IsRanked}
-use Rattle.docket.specs.Marked.{IsMarked}
+use Rattle.docket.specs.Rows.{row_at, AreEventsFrom}
+use Rattle.docket.specs.Ranking.{IsRanked}
+use Rattle.docket.specs.Marks.{IsMarked}
 use Rattle.docket.specs.Passes.{first_from, ranking_fault, mark_fault, filled_fault}
 use Rattle.docket.specs.declared.sheet.Marks.{Marks}
 use Rattle.docket.specs.declared.kind.TheConstants.{PROGRAMME_LIST, RESIDENT_LIST, MATCHED, UNMATCHED, FILLED, EVENT}
 use Rattle.docket.proofs.PassFacts.{pass_more, pass_rest}
-use Rattle.docket.proofs.RankFacts.{not_kind, ranked_other, ranking_fault-other}
+use Rattle.docket.proofs.RankingFacts.{not_kind, ranked_other, ranking_fault-other}
 use Rattle.docket.proofs.MarkFacts.{marks_other, mark_fault-other, filled_other}
 
 -- an event is of no other kind

@@ -1,16 +1,19 @@
 -- What a record without a fault by itself holds.
 use Rattle.std.proofs.Common.{◌≡◌, ◌<◌, ℕ, List, [], ◌∷◌, ◌++◌, Bool, true, false, length, drop, arith, refl, Option, Some, None, inl, inr, rules}
-use Rattle.std.specs.Prelude.{◌==◌, ◌⊎◌, is_some, nat_lt}
+use Rattle.std.specs.Prelude.{◌==◌, ◌⊎◌, ◌&&◌, is_some, nat_lt, unwrap_or, IsSome}
 use Rattle.std.specs.List.{list_all}
-use Rattle.docket.specs.Words.{is_name, number_of}
-use Rattle.docket.specs.Fields.{Fields, field, kind_of, is_kind, or_else, unless, counted, row_fault, quota_row_fault, list_row_fault, lists_names}
+use Rattle.docket.specs.Words.{is_name, number_of, capacity_of, answer_of}
+use Rattle.docket.specs.Fields.{Fields, field, kind_of, is_kind, or_else, unless, counted, row_fault, quota_row_fault, list_row_fault, lists_names, filled_row_fault, capacity_row_fault, event_row_fault, worded_row_fault, event_names_fault, answer_fault, event_word, width_of}
 use Rattle.docket.specs.declared.kind.TheConstants.{QUOTA, PROGRAMME_LIST, RESIDENT_LIST, MATCHED, UNMATCHED, FILLED, CAPACITY, EVENT}
+use Rattle.docket.specs.declared.kind.EventWord.{EventWord}
+use Rattle.docket.specs.declared.kind.EventWord.TheVariants.{Offer, Take, Answer, Hear, Close}
+use Rattle.docket.specs.Contents.{word_in}
 use Rattle.docket.specs.declared.fault.DocketFault.{DocketFault}
-use Rattle.docket.specs.declared.fault.DocketFault.TheVariants.{FieldCount, BadName, BadQuota, UnknownKind}
+use Rattle.docket.specs.declared.fault.DocketFault.TheVariants.{FieldCount, BadName, BadQuota, BadEvent, BadSheet, UnknownKind}
 use Rattle.docket.specs.Passes.{repeat_fault, limit_fault}
-use Rattle.docket.specs.Collected.{IsDeclared}
-use Rattle.docket.specs.declared.declared.Declared.{Declared}
-use Rattle.docket.proofs.CollectedFacts.{declared_push, option_or-none}
+use Rattle.docket.specs.Declarations.{IsDeclared}
+use Rattle.docket.specs.declared.declarations.Declarations.{Declarations}
+use Rattle.docket.proofs.DeclarationFacts.{declared_push, option_or-none}
 use Rattle.docket.proofs.WordFacts.{list_all_true_at}
 use Rattle.docket.proofs.FieldFacts.{field-get_or}
 
@@ -23,6 +26,11 @@ pub unless_none : (test : Bool) (fault : DocketFault) → unless test fault ≡ 
 unless_none true fault e = refl
 unless_none false fault e = absurd (cc e)
 
+-- what a test found is there
+pub is_some-some : {A : Type 0} (o : Option A) → is_some o ≡ true → IsSome o
+is_some-some (Some x) e = search rules
+is_some-some None e = absurd (cc e)
+
 -- a Q row has a name and a number
 pub quota_row_sound : (n : ℕ) (row : Fields) → row_fault n row ≡ None → kind_of row ≡ QUOTA
     → (is_name (field row 1) ≡ true) × (is_some (number_of (field row 2)) ≡ true)
@@ -32,6 +40,53 @@ quota_row_sound n row h kind =
     let rest = both_none (counted n 3 row) (or_else (unless (is_name (field row 1)) (BadName n)) (unless (is_some (number_of (field row 2))) (BadQuota n))) own in
     let last = both_none (unless (is_name (field row 1)) (BadName n)) (unless (is_some (number_of (field row 2))) (BadQuota n)) rest.1 in
     (unless_none (is_name (field row 1)) (BadName n) last.0, unless_none (is_some (number_of (field row 2))) (BadQuota n) last.1)
+
+-- a C row has a capacity
+pub capacity_row_sound : (n : ℕ) (row : Fields) → row_fault n row ≡ None → kind_of row ≡ CAPACITY → is_some (capacity_of (field row 1)) ≡ true
+unfolding row_fault
+capacity_row_sound n row h kind =
+    let own : capacity_row_fault n row ≡ None = rw kind at h in
+    unless_none (is_some (capacity_of (field row 1))) (BadEvent n) (both_none (counted n 2 row) (unless (is_some (capacity_of (field row 1))) (BadEvent n)) own).1
+
+-- an F row has two numbers
+pub filled_row_sound : (n : ℕ) (row : Fields) → row_fault n row ≡ None → kind_of row ≡ FILLED
+    → (is_some (number_of (field row 2)) ≡ true) × (is_some (number_of (field row 3)) ≡ true)
+unfolding row_fault
+filled_row_sound n row h kind =
+    let own : filled_row_fault n row ≡ None = rw kind at h in
+    let numbers = unless (is_some (number_of (field row 2)) && is_some (number_of (field row 3))) (BadSheet n) in
+    let rest = both_none (counted n 4 row) (or_else (unless (is_name (field row 1)) (BadName n)) numbers) own in
+    let last = both_none (unless (is_name (field row 1)) (BadName n)) numbers rest.1 in
+    both_true (is_some (number_of (field row 2))) (is_some (number_of (field row 3))) (unless_none (is_some (number_of (field row 2)) && is_some (number_of (field row 3))) (BadSheet n) last.1)
+  where
+    both_true : (a b : Bool) → (a && b) ≡ true → (a ≡ true) × (b ≡ true)
+    both_true true b h = (refl, h)
+    both_true false b h = absurd (cc h)
+
+-- an event that is given or heard has the kind of an answer
+pub answer_row_sound : (n : ℕ) (row : Fields) → row_fault n row ≡ None → kind_of row ≡ EVENT
+    → (word_in row ≡ Answer) ⊎ (word_in row ≡ Hear) → is_some (answer_of (field row 4)) ≡ true
+unfolding row_fault word_in
+answer_row_sound n row h kind word =
+    let own : event_row_fault n row ≡ None = rw kind at h in
+    let known = (both_none (unless (nat_lt 1 (length row)) (FieldCount n)) (worded_row_fault n row (event_word (field row 1))) own).1 in
+    by (event_word (field row 1)) known word
+  where
+    answered : (w : EventWord) → or_else (counted n (width_of w) row) (answer_fault n row) ≡ None → is_some (answer_of (field row 4)) ≡ true
+    answered w e =
+        let fields = (both_none (counted n (width_of w) row) (answer_fault n row) e).1 in
+        unless_none (is_some (answer_of (field row 4))) (BadEvent n) (both_none (event_names_fault n row) (unless (is_some (answer_of (field row 4))) (BadEvent n)) fields).1
+
+    by : (o : Option EventWord) → worded_row_fault n row o ≡ None → (unwrap_or o Close ≡ Answer) ⊎ (unwrap_or o Close ≡ Hear) → is_some (answer_of (field row 4)) ≡ true
+    by None e w = absurd (cc e)
+    by (Some Answer) e w = answered Answer e
+    by (Some Hear) e w = answered Hear e
+    by (Some Offer) e (inl w) = absurd (cc w)
+    by (Some Offer) e (inr w) = absurd (cc w)
+    by (Some Take) e (inl w) = absurd (cc w)
+    by (Some Take) e (inr w) = absurd (cc w)
+    by (Some Close) e (inl w) = absurd (cc w)
+    by (Some Close) e (inr w) = absurd (cc w)
 
 -- a P or R row has names from field 1 on
 list_row_sound : (n : ℕ) (row : Fields) → list_row_fault n row ≡ None → is_name (field row 1) ≡ true
@@ -84,12 +139,12 @@ unfolding repeat_fault limit_fault
 sheet_row_free before row k kind q p r c e = rw (kind, q, p, r, c, e) refl
 
 -- a row of a sheet more
-pub sheet_row_declared : (d : Declared) (rows : List Fields) (row : Fields)
+pub sheet_row_declared : (d : Declarations) (rows : List Fields) (row : Fields)
     → (kind_of row ≡ MATCHED) ⊎ ((kind_of row ≡ UNMATCHED) ⊎ (kind_of row ≡ FILLED)) → IsDeclared d rows
     → IsDeclared (record d { has_sheet_row = true }) (rows ++ row ∷ []) × (or_else (repeat_fault rows row) (limit_fault rows row) ≡ None)
 sheet_row_declared d rows row (inl m) h =
-    (declared_push d _ rows row MATCHED m h refl refl refl refl refl refl (option_or-none d.capacity) refl refl, sheet_row_free rows row MATCHED m refl refl refl refl refl)
+    (declared_push d _ rows row MATCHED m h refl refl refl refl refl refl (option_or-none d.capacity) (λ e. cc e) refl, sheet_row_free rows row MATCHED m refl refl refl refl refl)
 sheet_row_declared d rows row (inr (inl u)) h =
-    (declared_push d _ rows row UNMATCHED u h refl refl refl refl refl refl (option_or-none d.capacity) refl refl, sheet_row_free rows row UNMATCHED u refl refl refl refl refl)
+    (declared_push d _ rows row UNMATCHED u h refl refl refl refl refl refl (option_or-none d.capacity) (λ e. cc e) refl, sheet_row_free rows row UNMATCHED u refl refl refl refl refl)
 sheet_row_declared d rows row (inr (inr f)) h =
-    (declared_push d _ rows row FILLED f h refl refl refl refl refl refl (option_or-none d.capacity) refl refl, sheet_row_free rows row FILLED f refl refl refl refl refl)
+    (declared_push d _ rows row FILLED f h refl refl refl refl refl refl (option_or-none d.capacity) (λ e. cc e) refl, sheet_row_free rows row FILLED f refl refl refl refl refl)

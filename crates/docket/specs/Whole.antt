@@ -7,9 +7,9 @@ use Rattle.exchange_core.specs.declared.event.Event.{Event}
 use Rattle.exchange_core.specs.declared.event.Event.TheVariants.{Offer, Take, Answer, Hear, Close}
 use Rattle.docket.specs.Contents.{Contents, JournalParts}
 
--- one place for each resident, and only programmes of the docket
+-- one entry for each resident, and only programmes of the docket
 pub record IsSheetOf (d : Contents) (m : List (Option ℕ)) : Type 0 where
-  pub one_place_each : length m ≡ length d.residents
+  pub one_entry_each : length m ≡ length d.residents
   pub members : (r p : ℕ) → IsMemberOf m r p → p < length d.programmes
 
 -- a programme and a resident of the instance

@@ -1,5 +1,7 @@
 //! A docket: names, an instance, and maybe a sheet and a journal.
-ghost use Rattle.std.specs.Prelude.{◌≡◌, ◌<◌, Some, slice_get, length, option_copied};
+ghost use Rattle.std.specs.Prelude.{◌≡◌, option_copied};
+ghost use Rattle.match_model.specs.Instance.{IsProgramme, IsResident};
+ghost use Rattle.docket.specs.Texts as texts;
 ghost use Rattle.docket.specs.Whole.{IsWhole};
 
 use crate::names::Names;
@@ -56,18 +58,18 @@ impl Docket {
         &self.instance
     }
 
-    /// The name of a programme. The programme is a member.
+    /// The name of a programme of the docket's instance.
     pub fn programme_name(&self, programme: ProgrammeNo) -> &str
-        requires { programme < length self.now.programmes }
-        ensures { slice_get self.now.programmes programme ≡ Some result.now }
+        requires { IsProgramme self.now.instance programme }
+        ensures { result.now ≡ texts.programme_name self.now programme }
     {
         self.programmes.name(programme.0 as usize)
     }
 
-    /// The name of a resident. The resident is a member.
+    /// The name of a resident of the docket's instance.
     pub fn resident_name(&self, resident: ResidentNo) -> &str
-        requires { resident < length self.now.residents }
-        ensures { slice_get self.now.residents resident ≡ Some result.now }
+        requires { IsResident self.now.instance resident }
+        ensures { result.now ≡ texts.resident_name self.now resident }
     {
         self.residents.name(resident.0 as usize)
     }

@@ -1,11 +1,15 @@
 //! Why a docket could not be read or written.
+ghost use Rattle.std.specs.Prelude.{◌≡◌};
+ghost use Rattle.docket.specs.declared.fault.DocketFault.TheVariants.{Memory};
+
 use match_model::fault::ModelFault;
+use std::alloc::{AllocError, AllocFailed};
 use thiserror::Error;
 
-/// Why a docket could not be read or written. `place` is the number of a record, from 1.
+/// Why a docket could not be read or written. `place` is the number, from 1, of the record at fault.
 #[derive(Clone, Copy, Debug, PartialEq, Eq, Hash, Error)]
 pub enum DocketFault {
-    /// The reader answered a fault.
+    /// The reader answered a fault other than that it was interrupted.
     #[error("record {place}: the input could not be read")]
     Read { place: u32 },
     /// There are more than 2,000,000 records.
@@ -44,4 +48,20 @@ pub enum DocketFault {
     /// The writer answered a fault.
     #[error("the output could not be written")]
     Write,
+}
+
+impl From<AllocError> for DocketFault {
+    ghost from_gives = { λ _ e. e ≡ Memory };
+
+    fn from(_error: AllocError) -> DocketFault {
+        DocketFault::Memory
+    }
+}
+
+impl<T: Drop> From<AllocFailed<T>> for DocketFault {
+    ghost from_gives = { λ _ e. e ≡ Memory };
+
+    fn from(_error: AllocFailed<T>) -> DocketFault {
+        DocketFault::Memory
+    }
 }

@@ -15,7 +15,7 @@ pub const MATCHED: u8 = b'M';
 /// `U,resident`: unmatched, of a sheet.
 pub const UNMATCHED: u8 = b'U';
 
-/// `F,programme,filled,quota`: places filled, of a sheet.
+/// `F,programme,filled,quota`: how many residents a programme has, of a sheet.
 pub const FILLED: u8 = b'F';
 
 /// `C,full` or `C,n`: the capacity, of a journal.

@@ -2,11 +2,12 @@
 //!
 //! A docket is read exactly: what it says is what its rows say, and what is wrong with it is the first of its faults.
 //!
-//! Bodies that no contract refuses: one that only answers `Memory` or a device's fault, which tests refuse; `word_of`
-//! that answers none for each row, and `Declared::add` and `Rows::push` without the word, since that word is a hint.
+//! What only tests refuse: a body that only answers `Memory`, or a device's fault (`Read`, `Write`); one that tells an
+//! interrupted read as a fault; other texts of faults. What nothing refuses: `word_of` that answers none for each row, and
+//! `Declarations::add` and `Rows::push` without the word, since that word is a hint.
 #![tactic(auto)]
 
-mod declared;
+mod declarations;
 pub mod docket;
 pub mod fault;
 mod journal;
@@ -15,6 +16,7 @@ mod long_record;
 mod names;
 mod ranking;
 pub mod read;
+mod retrying;
 mod row;
 pub mod row_text;
 mod rows;
@@ -22,3 +24,10 @@ mod sheet;
 mod tables;
 pub mod words;
 pub mod write;
+
+pub use crate::docket::{Docket, Journal};
+pub use fault::DocketFault;
+pub use read::read_docket;
+pub use row_text::RowText;
+pub use words::capacity_of;
+pub use write::{write_journal, write_sheet};

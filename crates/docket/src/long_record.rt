@@ -1,21 +1,21 @@
-//! Texts and rows, one after another in one place, and where each of them ends.
+//! Texts and rows, one after another, and where each of them ends.
 ghost use Rattle.std.specs.Prelude.{◌≡◌, ◌<◌, ◌++◌, ◌∷◌, [], length, drop, slice_index_or, OnOk};
 ghost use Rattle.csv.specs.Records.{fields_of, prev};
 ghost use Rattle.docket.specs.Fields as fields;
-ghost use Rattle.docket.specs.Stored.{row_at};
+ghost use Rattle.docket.specs.Rows.{row_at};
 
 use csv::ByteRecord;
 use std::alloc::{AllocError, Global};
 use std::marker::Model;
 
-// Places, in order: those below 2^32 in half the room, and from the first larger one on all the others.
+// Where items end, in order: the ends below 2^32 in half the room, and from the first larger one on all the others.
 #[derive(Drop)]
-struct Places {
+struct Ends {
     small: Vec<u32>,
     large: Vec<usize>,
 }
 
-impl Model for Places {
+impl Model for Ends {
     ghost use Rattle.std.specs.Prelude.{List, ℕ, ◌++◌};
 
     ghost Value = { List ℕ };
@@ -23,25 +23,25 @@ impl Model for Places {
     ghost view = { λ a. a.small.items ++ a.large.items };
 }
 
-impl Places {
-    // No places yet.
-    fn new(alloc: Global) -> Places
+impl Ends {
+    // No ends yet.
+    fn new(alloc: Global) -> Ends
         ensures { result ≡ [] }
     {
-        Places {
+        Ends {
             small: Vec::new(alloc),
             large: Vec::new(alloc),
         }
     }
 
-    // How many places there are.
+    // How many ends there are.
     fn len(&self) -> usize
         ensures { result ≡ length self.now }
     {
         self.small.len() + self.large.len()
     }
 
-    // Takes every place away.
+    // Takes every end away.
     fn clear(&mut self)
         ensures { self.new ≡ [] }
     {
@@ -49,23 +49,19 @@ impl Places {
         self.large.clear();
     }
 
-    // Adds a place.
-    fn push(&mut self, place: usize) -> Result<(), AllocError>
-        ensures { OnOk result (self.new ≡ self.old ++ place ∷ []) }
+    // Adds an end.
+    fn push(&mut self, end: usize) -> Result<(), AllocError>
+        ensures { OnOk result (self.new ≡ self.old ++ end ∷ []) }
     {
-        if self.large.is_empty() && place <= u32::MAX as usize {
-            let Ok(()) = self.small.push(place as u32) else {
-                return Err(AllocError);
-            };
+        if self.large.is_empty() && end <= u32::MAX as usize {
+            self.small.push(end as u32)?;
             return Ok(());
         }
-        let Ok(()) = self.large.push(place) else {
-            return Err(AllocError);
-        };
+        self.large.push(end)?;
         Ok(())
     }
 
-    // The place with this number, from 0.
+    // The end with this number, from 0.
     fn get(&self, k: usize) -> usize
         requires { k < length self.now }
         ensures { result ≡ slice_index_or self.now k 0 }
@@ -79,8 +75,8 @@ impl Places {
     }
 }
 
-// Where item `k` starts of those that end at these places.
-fn start_of(ends: &Places, k: usize) -> usize
+// Where item `k` starts of those that end there.
+fn start_of(ends: &Ends, k: usize) -> usize
     requires { k < length ends.now }
     ensures { result ≡ prev 0 ends.now k }
 {
@@ -91,12 +87,12 @@ fn start_of(ends: &Places, k: usize) -> usize
 #[derive(Drop)]
 struct Texts {
     bytes: Vec<u8>,
-    ends: Places,
+    ends: Ends,
 }
 
 impl Model for Texts {
     ghost use Rattle.docket.specs.Fields.{Fields};
-    ghost use Rattle.docket.specs.Stored.{cut, AreCuts};
+    ghost use Rattle.docket.specs.LongRecord.{cut, AreCuts};
 
     ghost Value = { Fields };
 
@@ -112,7 +108,7 @@ impl Texts {
     {
         Texts {
             bytes: Vec::new(alloc),
-            ends: Places::new(alloc),
+            ends: Ends::new(alloc),
         }
     }
 
@@ -162,13 +158,13 @@ impl Texts {
 #[derive(Drop)]
 pub struct LongRecord {
     fields: Texts,
-    ends: Places,
+    ends: Ends,
 }
 
 impl Model for LongRecord {
     ghost use Rattle.std.specs.Prelude.{List};
     ghost use Rattle.docket.specs.Fields.{Fields};
-    ghost use Rattle.docket.specs.Stored.{cut, AreCuts};
+    ghost use Rattle.docket.specs.LongRecord.{cut, AreCuts};
 
     ghost Value = { List Fields };
 
@@ -177,7 +173,7 @@ impl Model for LongRecord {
     ghost invariant = { λ a. AreCuts a.ends a.fields };
 }
 
-// Adds the fields of a row from place `from` on.
+// Adds the fields of a row from field `from` on.
 fn append(fields: &mut Texts, row: &ByteRecord, from: usize) -> Result<(), AllocError>
     ensures { OnOk result (fields.new ≡ fields.old ++ drop from (fields_of row.now)) }
 {
@@ -196,7 +192,7 @@ impl LongRecord {
     {
         LongRecord {
             fields: Texts::new(alloc),
-            ends: Places::new(alloc),
+            ends: Ends::new(alloc),
         }
     }
 
@@ -208,7 +204,7 @@ impl LongRecord {
         self.ends.clear();
     }
 
-    /// Adds the fields of a row from place `from` on, as a row. Where memory is wanting no row is kept.
+    /// Adds the fields of a row from field `from` on, as a row. Where memory is wanting no row is kept.
     pub fn push(&mut self, row: &ByteRecord, from: usize) -> Result<(), AllocError>
         ensures { OnOk result (self.new ≡ self.old ++ drop from (fields_of row.now) ∷ []) }
     {

@@ -60,10 +60,7 @@ impl Names {
         ensures err { OnErr result (self.new ≡ self.old) }
     {
         let key = Vec::from_slice(alloc, name)?;
-        let Ok(fresh) = self.seen.insert(key) else {
-            return Err(AllocError);
-        };
-        Ok(fresh)
+        Ok(self.seen.insert(key)?)
     }
 
     /// The name of a number. The number was given to a name.
@@ -74,9 +71,9 @@ impl Names {
         match self.seen.get_index(number) {
             Some(name) => match str::from_utf8(name.as_slice()) {
                 Ok(text) => text,
-                Err(_) => "",
+                Err(_) => unreachable!("a name is ASCII"),
             },
-            None => "",
+            None => unreachable!("the number was given to a name"),
         }
     }
 }

@@ -1,15 +1,15 @@
 //! The second pass: the lists, by number.
 ghost use Rattle.std.specs.Prelude.{◌≡◌, ◌<◌, ◌≤◌, ◌+◌, [], true, length, take, drop, OnOk, IfOk};
-ghost use Rattle.match_model.specs.Draft.{instance_of};
+ghost use Rattle.match_model.specs.Draft.{instance_of as made_of};
 ghost use Rattle.std.specs.List.{list_all};
-ghost use Rattle.docket.specs.Fields.{field as field_of, kind_of, unless};
+ghost use Rattle.docket.specs.Fields.{field as field_of, kind_of, or_else, unless};
 ghost use Rattle.docket.specs.Contents.{is_declared, listed_in, draft_of, programmes_of, residents_of};
 ghost use Rattle.docket.specs.Passes.{first_from, ranking_fault, pairs_fault};
 ghost use Rattle.docket.specs.Answers.{Answers};
-ghost use Rattle.docket.specs.Stored.{row_at};
-ghost use Rattle.docket.specs.Kept.{IsRanked};
+ghost use Rattle.docket.specs.Rows.{row_at};
+ghost use Rattle.docket.specs.Ranking.{IsRanked};
 
-use crate::declared::model_fault;
+use crate::declarations::model_fault;
 use crate::fault::DocketFault;
 use crate::kind::{PROGRAMME_LIST, RESIDENT_LIST};
 use crate::tables::Tables;
@@ -35,9 +35,7 @@ fn listed_residents(
                 place: tables.place(k),
             });
         };
-        let Ok(()) = listed.push(resident) else {
-            return Err(DocketFault::Memory);
-        };
+        listed.push(resident)?;
     }
     Ok(())
 }
@@ -59,9 +57,7 @@ fn listed_programmes(
                 place: tables.place(k),
             });
         };
-        let Ok(()) = listed.push(programme) else {
-            return Err(DocketFault::Memory);
-        };
+        listed.push(programme)?;
     }
     Ok(())
 }
@@ -105,7 +101,7 @@ fn rank_programmes(
 {
     let place = tables.place(k);
     let Some(owner) = tables.resident(k, 1) else {
-        return Err(DocketFault::UnknownName { place });
+        unreachable!("the row declares its owner");
     };
     listed_programmes(tables, k, listed)?;
     match builder.resident_list(owner, listed.as_slice()) {
@@ -137,12 +133,8 @@ fn rank_row(
     Ok(())
 }
 
-/// Hands the lists in to the builder, in the order of the rows.
-pub fn rank(
-    alloc: Global,
-    tables: &Tables,
-    builder: &mut InstanceBuilder,
-) -> Result<(), DocketFault>
+// Hands the lists in to the builder, in the order of the rows.
+fn rank(alloc: Global, tables: &Tables, builder: &mut InstanceBuilder) -> Result<(), DocketFault>
     requires { IsRanked builder.old tables.now [] }
     ensures ranked { OnOk result (IsRanked builder.new tables.now tables.now) }
     ensures fault { Answers (first_from (ranking_fault tables.now) [] tables.now) result }
@@ -155,10 +147,10 @@ pub fn rank(
     Ok(())
 }
 
-/// The instance of the builder, after the last record.
-pub fn finished(builder: InstanceBuilder, tables: &Tables) -> Result<Instance, DocketFault>
+// The instance of the builder, after the last record.
+fn finished(builder: InstanceBuilder, tables: &Tables) -> Result<Instance, DocketFault>
     requires { IsRanked builder tables.now tables.now }
-    ensures instance { IfOk result (λ instance. instance ≡ instance_of (draft_of tables.now)) }
+    ensures instance { IfOk result (λ instance. instance ≡ made_of (draft_of tables.now)) }
     ensures fault { Answers (pairs_fault tables.now) result }
 {
     let place = tables.len() as u32;
@@ -166,4 +158,18 @@ pub fn finished(builder: InstanceBuilder, tables: &Tables) -> Result<Instance, D
         Ok(instance) => Ok(instance),
         Err(refused) => Err(model_fault(place, refused.fault)),
     }
+}
+
+/// The instance of the lists.
+pub fn instance_of(
+    alloc: Global,
+    tables: &Tables,
+    mut builder: InstanceBuilder,
+) -> Result<Instance, DocketFault>
+    requires { IsRanked builder tables.now [] }
+    ensures instance { IfOk result (λ instance. instance ≡ made_of (draft_of tables.now)) }
+    ensures fault { Answers (or_else (first_from (ranking_fault tables.now) [] tables.now) (pairs_fault tables.now)) result }
+{
+    rank(alloc, tables, &mut builder)?;
+    finished(builder, tables)
 }

@@ -2,7 +2,7 @@
 ghost use Rattle.std.specs.Prelude.{◌≡◌, ◌++◌, ◌⊎◌, [], map, OnOk, OnErr, IfErr};
 ghost use Rattle.std.specs.Io.KnownBytes.{Appends};
 ghost use Rattle.match_model.specs.Instance.{IsProgramme};
-ghost use Rattle.docket.specs.Rows.{AreWhole, bytes_of, row};
+ghost use Rattle.docket.specs.RowText.{AreWhole, bytes_of, row};
 ghost use Rattle.docket.specs.Texts.{programme_row};
 
 use crate::docket::Docket;
@@ -22,7 +22,7 @@ pub struct RowText {
 
 impl Model for RowText {
     ghost use Rattle.std.specs.Prelude.{List, ℕ};
-    ghost use Rattle.docket.specs.Rows.{AreWhole, bytes_of};
+    ghost use Rattle.docket.specs.RowText.{AreWhole, bytes_of};
 
     ghost Value = { List ℕ };
 
@@ -67,7 +67,7 @@ impl RowText {
         Ok(())
     }
 
-    /// Adds the row of a programme after its kind: its name, how many of its places are filled, and its quota.
+    /// Adds the row of a programme after its kind: its name, how many residents it has, and its quota.
     ///
     /// The programme is a member. The one fault is `Memory`, and then no rows are left.
     pub fn push_programme(

@@ -2,10 +2,10 @@
 ghost use Rattle.std.specs.Prelude.{◌≡◌, ◌<◌, ◌+◌, ◌&&◌, [], false, None, replicate, length, take, IfOk, IfErr, OnOk};
 ghost use Rattle.std.specs.List.{list_all};
 ghost use Rattle.docket.specs.Fields.{kind_of, or_else, unless};
-ghost use Rattle.docket.specs.Contents.{places_of, quotas_of};
+ghost use Rattle.docket.specs.Contents.{placement_of, quotas_of};
 ghost use Rattle.docket.specs.Passes.{first_from, mark_fault, missing_fault, filled_fault};
 ghost use Rattle.docket.specs.Answers.{Answers};
-ghost use Rattle.docket.specs.Stored.{row_at};
+ghost use Rattle.docket.specs.Rows.{row_at};
 
 use crate::fault::DocketFault;
 use crate::kind::{FILLED, MATCHED, UNMATCHED};
@@ -37,23 +37,23 @@ fn all_set(flags: &[bool]) -> bool
     flags.iter().all(|flag| *flag)
 }
 
-/// The sheet as far as its rows were read.
+// The sheet as far as its rows were read.
 #[derive(Drop)]
-pub struct Marks {
-    pub sheet: Assignment,
+struct Marks {
+    sheet: Assignment,
     // By resident whether it has an M or U row.
-    pub marked: Vec<bool>,
+    marked: Vec<bool>,
     // By programme whether it has an F row.
-    pub filled: Vec<bool>,
+    filled: Vec<bool>,
     // By programme how many M rows have it.
-    pub counts: Vec<u32>,
+    counts: Vec<u32>,
 }
 
 impl Marks {
-    ghost use Rattle.docket.specs.Marked.{IsMarked};
+    ghost use Rattle.docket.specs.Marks.{IsMarked};
 
-    /// No row was read yet.
-    pub fn new(alloc: Global, tables: &Tables) -> Result<Marks, DocketFault>
+    // No row was read yet.
+    fn new(alloc: Global, tables: &Tables) -> Result<Marks, DocketFault>
         ensures marked { IfOk result (λ marks. IsMarked marks tables.now []) }
         ensures memory { IfErr result (λ e. e ≡ DocketFault.Memory) }
     {
@@ -62,15 +62,9 @@ impl Marks {
         let Ok(sheet) = Assignment::new(alloc, residents as u32) else {
             return Err(DocketFault::Memory);
         };
-        let Ok(marked) = flags(alloc, residents) else {
-            return Err(DocketFault::Memory);
-        };
-        let Ok(filled) = flags(alloc, programmes) else {
-            return Err(DocketFault::Memory);
-        };
-        let Ok(counts) = zeros(alloc, programmes) else {
-            return Err(DocketFault::Memory);
-        };
+        let marked = flags(alloc, residents)?;
+        let filled = flags(alloc, programmes)?;
+        let counts = zeros(alloc, programmes)?;
         Ok(Marks {
             sheet,
             marked,
@@ -189,11 +183,13 @@ impl Marks {
         requires known { first_from (mark_fault tables.now) [] tables.now ≡ None }
         ensures { filled_fault tables.now (take k tables.now) (row_at tables.now k) ≡ unless result (DocketFault.BadSheet (k + 1)) }
     {
+        // For the proof alone: rows of the first pass have no fault.
+        let _sound = tables.place(k);
         let Some(programme) = tables.programme(k, 1) else {
-            return false;
+            unreachable!("the first walk knew the programme");
         };
-        let filled = number_of(tables.field(k, 2)).unwrap_or(0);
-        let quota = number_of(tables.field(k, 3)).unwrap_or(0);
+        let filled = number_of(tables.field(k, 2)).unwrap();
+        let quota = number_of(tables.field(k, 3)).unwrap();
         filled == self.counts[programme.0 as usize] && quota == instance.quota(programme)
     }
 
@@ -224,7 +220,7 @@ pub fn sheet_of(
     instance: &Instance,
 ) -> Result<Assignment, DocketFault>
     requires { instance.now.quotas ≡ quotas_of tables.now }
-    ensures sheet { IfOk result (λ sheet. sheet ≡ places_of tables.now) }
+    ensures sheet { IfOk result (λ sheet. sheet ≡ placement_of tables.now) }
     ensures fault { Answers (or_else (first_from (mark_fault tables.now) [] tables.now) (or_else (missing_fault tables.now) (first_from (filled_fault tables.now) [] tables.now))) result }
 {
     let mut marks = Marks::new(alloc, tables)?;

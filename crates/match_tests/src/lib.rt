@@ -11,6 +11,8 @@ mod devices;
 #[cfg(test)]
 mod dockets;
 #[cfg(test)]
+mod interrupted;
+#[cfg(test)]
 mod models;
 #[cfg(test)]
 mod samples;

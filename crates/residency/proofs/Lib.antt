@@ -1,4 +1,3 @@
 pub mod Outcomes
-pub mod Names
 pub mod Reports
 pub mod Audits

@@ -47,6 +47,6 @@ programme_of_acceptable inst r p instance listed = elim (cases_lt p (length inst
 -- a sheet for the docket
 pub sheet_of : (d : Contents) (m : List (Option ℕ)) → IsWhole d → IsInstance d.instance → IsStable d.instance m → IsSheetOf d m
 sheet_of d m whole instance stable = record {
-  one_place_each = stable.is_assignment.one_place_each ∙ sym whole.residents;
+  one_entry_each = stable.is_assignment.one_place_each ∙ sym whole.residents;
   members = λ r p h. rw whole.programmes (programme_of_acceptable d.instance r p instance (stable.is_assignment.pairs_acceptable r p h));
 }

@@ -3,7 +3,7 @@ use Rattle.std.proofs.Common.{◌≡◌, ℕ, ◌==◌, ◌&&◌, Bool, true, fa
 use Rattle.std.specs.List.{flat_map}
 use Rattle.std.proofs.lemmas.Bool.{eqb-true}
 use Rattle.docket.specs.Contents.{Contents}
-use Rattle.docket.specs.Rows.{row}
+use Rattle.docket.specs.RowText.{row}
 use Rattle.match_audit.specs.declared.report.AuditReport.{AuditReport}
 use Rattle.residency.specs.Report.{finds_nothing, stability_row, pair_row, over_row, report_text}
 

@@ -1,6 +1,7 @@
 pub mod Options
-pub mod Exits
+pub mod Status
 pub mod Outcome
 pub mod Report
-pub mod Replay
+pub mod Answer
 pub mod Serving
+pub mod Program

@@ -7,6 +7,8 @@ use Rattle.exchange_core.specs.declared.event.Event.{Event}
 use Rattle.exchange_core.specs.Left.{given}
 use Rattle.match_pool.specs.Done.{IsRunFault}
 use Rattle.residency.specs.declared.options.MatchOptions.{MatchOptions}
+use Rattle.residency.specs.declared.options.Order.{Order}
+use Rattle.residency.specs.declared.options.Order.TheVariants.{Match, Audit, Replay}
 use Rattle.settle_law.specs.Stable.{IsStable}
 use Rattle.docket.specs.Contents.{Contents, JournalParts}
 use Rattle.docket.specs.Passes.{first_fault, docket_of}
@@ -21,10 +23,10 @@ use Rattle.match_audit.specs.declared.replay.ReplayFault.{ReplayFault}
 use Rattle.residency.specs.declared.fault.ServeFault.{ServeFault}
 use Rattle.residency.specs.declared.fault.ServeFault.TheVariants.{Docket, NoSheet, NoJournal, Run, Memory}
 use Rattle.residency.specs.declared.status.Status.{Status}
-use Rattle.residency.specs.declared.status.Status.TheVariants.{Stable, Unstable, ReplayGood, ReplayBad}
+use Rattle.residency.specs.declared.status.Status.TheVariants.{Closed, Stable, Unstable, ReplayGood, ReplayBad}
 use Rattle.residency.specs.Outcome.{IsOutcome}
 use Rattle.residency.specs.Report.{report_text}
-use Rattle.residency.specs.Replay.{replay_text}
+use Rattle.residency.specs.Answer.{replay_text}
 
 -- the sheet, and after it the journal where it is wanted
 abbrev pub match_text : Contents → Capacity → Bool → List (Option ℕ) → List Event → List ℕ
@@ -116,10 +118,28 @@ IsReadFault bytes Memory = ⊥
 abbrev pub IsFaultOf : (Contents → ServeFault → Type 0) → List ℕ → ServeFault → Type 0
 IsFaultOf IsFault bytes fault = IsReadFault bytes fault ⊎ AreDocket (λ d. IsFault d fault) bytes
 
--- whether this fault is known to have come before anything was written
+-- whether this fault is known to have come before anything was written: it isn't the writer's, nor want of memory, which
+-- may come in reading the docket or in writing the answer
 abbrev pub IsBeforeWriting : ServeFault → Type 0
 IsBeforeWriting (Docket fault) = (fault ≡ docket.Memory → ⊥) × (fault ≡ docket.Write → ⊥)
 IsBeforeWriting NoSheet = Unit {0}
 IsBeforeWriting NoJournal = Unit {0}
 IsBeforeWriting (Run fault) = Unit {0}
 IsBeforeWriting Memory = Unit {0}
+
+-- what was served of an order over a docket, with which status, and what was appended
+abbrev pub Serves : Order → Contents → Status → Option (List ℕ) → Option (List ℕ) → Type 0
+Serves (Match o) d status old new = (status ≡ Closed) × WritesMatch d o.capacity o.journal old new
+Serves Audit d status old new = WritesReport d status old new
+Serves Replay d status old new = WritesReplay d status old new
+
+-- why an order over a docket wasn't served
+abbrev pub IsOrderFault : Order → Contents → ServeFault → Type 0
+IsOrderFault (Match o) = IsMatchFault o
+IsOrderFault Audit = IsAuditFault
+IsOrderFault Replay = IsReplayFault
+
+-- the answer to an order over these bytes: what was served of their docket, or why not, and then mostly that nothing was written
+abbrev pub IsAnswerTo : Order → List ℕ → Option (List ℕ) → Option (List ℕ) → Result Status ServeFault → Type 0
+IsAnswerTo order bytes old new (Ok status) = AreDocket (λ d. Serves order d status old new) bytes
+IsAnswerTo order bytes old new (Err fault) = IsFaultOf (IsOrderFault order) bytes fault × (IsBeforeWriting fault → new ≡ old)

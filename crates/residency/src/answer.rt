@@ -1,14 +1,12 @@
 //! Writing what a replay answered.
 ghost use Rattle.std.specs.Prelude.{◌≡◌, ◌++◌, ◌∷◌, [], ◌+◌, ◌<◌, ◌^◌, codes, decimal, OnOk, IfErr};
 ghost use Rattle.std.specs.Io.KnownBytes.{Appends};
-ghost use Rattle.docket.specs.Rows.{row};
+ghost use Rattle.docket.specs.RowText.{row};
 ghost use Rattle.match_audit.specs.Replay.{NamesMember, RefusesMember, IsPendingMember};
-ghost use Rattle.residency.specs.Replay.{replay_text, refusal_word as word_of, refusal_fields, pending_word as kind_of, pending_name as name_of, event_count as count_of, fault_fields, IsAnswerOf};
+ghost use Rattle.residency.specs.Answer.{replay_text, refusal_word as word_of, refusal_fields, pending_word as kind_of, pending_name as name_of, event_count as count_of, fault_fields, IsAnswerOf};
 ghost use Rattle.residency.specs.Serving.{IsWriteFault};
 
-use docket::docket::Docket;
-use docket::fault::DocketFault;
-use docket::row_text::RowText;
+use docket::{Docket, DocketFault, RowText};
 use exchange_core::event::{Pending, Refused};
 use match_audit::replay::{ReplayFault, Replayed};
 use std::alloc::Global;
@@ -49,7 +47,6 @@ fn pending_name<'a>(docket: &'a Docket, what: &Pending) -> &'a str
     requires { IsPendingMember docket.now.instance what.now }
     ensures { result.now ≡ name_of docket.now what.now }
 {
-    let _members = docket.instance();
     match what {
         Pending::Offers(resident) | Pending::Due(resident) => docket.resident_name(*resident),
         Pending::Answers(programme) | Pending::Wish(programme) => {
@@ -125,19 +122,14 @@ fn push_fault(
         ReplayFault::BadCapacity => push_word(rows, b"0", "bad-capacity"),
         ReplayFault::Memory => push_word(rows, b"0", "memory"),
         ReplayFault::At { place, refused } => {
-            let Ok(place) = place.to_string(alloc) else {
-                return Err(DocketFault::Memory);
-            };
+            let place = place.to_string(alloc)?;
             push_refused(rows, docket, place.as_bytes(), refused)
         }
         ReplayFault::NotClosed => {
-            let Ok(place) = (event_count(docket) + 1).to_string(alloc) else {
-                return Err(DocketFault::Memory);
-            };
+            let place = (event_count(docket) + 1).to_string(alloc)?;
             push_word(rows, place.as_bytes(), "not-closed")
         }
         ReplayFault::SheetDiffers(resident) => {
-            let _members = docket.instance();
             rows.push(&[b"D", docket.resident_name(*resident).as_bytes()])
         }
     }
@@ -148,13 +140,11 @@ fn push_good(alloc: Global, rows: &mut RowText, events: usize) -> Result<(), Doc
     ensures row { OnOk result (rows.new ≡ rows.old ++ row (codes "G" ∷ decimal events ∷ [])) }
     ensures err { IfErr result (λ fault. fault ≡ DocketFault.Memory) }
 {
-    let Ok(events) = events.to_string(alloc) else {
-        return Err(DocketFault::Memory);
-    };
+    let events = events.to_string(alloc)?;
     rows.push(&[b"G", events.as_bytes()])
 }
 
-#[tactic(auto, unfolding(crate::specs::Replay::replay_text))]
+#[tactic(auto, unfolding(crate::specs::Answer::replay_text))]
 // Adds the row of an answer.
 fn push_answer(
     alloc: Global,

@@ -1,6 +1,6 @@
 //! Why nothing, or not all, was written.
 
-use docket::fault::DocketFault;
+use docket::DocketFault;
 use match_pool::RunFault;
 use thiserror::Error;
 

@@ -1,16 +1,23 @@
 //! From bytes to bytes: a docket from any reader is matched, audited or replayed, and the answer goes to any writer.
 //!
-//! The program is a thin shell over this crate: it reads its words by `read_line`, does what they order, and ends with
-//! `exit_status` or `line_status`.
+//! The program is `serve_words` over the words and the streams that it is given.
 //!
-//! Which order `read_line` gives for which words is shown by tests alone: its contract says what every order keeps, so a
-//! body that always orders an audit keeps it. The texts of faults are shown by tests too.
+//! What only tests refuse: a `read_line` that gives another order for the words, since its contract says what every order
+//! keeps and not which it is; other texts of faults, of help and of the version.
 #![tactic(auto)]
 
 pub mod answer;
 pub mod fault;
 pub mod line;
 pub mod options;
+mod program;
 pub mod report;
 pub mod serve;
 pub mod status;
+
+pub use fault::ServeFault;
+pub use line::{LineFault, read_line};
+pub use options::{MatchOptions, Order};
+pub use program::serve_words;
+pub use serve::{serve_audit, serve_match, serve_replay};
+pub use status::{Status, exit_status, line_status};

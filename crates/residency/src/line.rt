@@ -2,16 +2,19 @@
 ghost use Rattle.std.specs.Prelude.{◌≡◌, true, IfOk, IfErr};
 ghost use Rattle.exchange_core.specs.Shown.{is_capacity};
 ghost use Rattle.residency.specs.Options.{IsOrder, IsWithinLimits};
-ghost use Rattle.residency.specs.Exits.{IsLineFault};
+ghost use Rattle.residency.specs.Status.{IsLineFault};
 
 use crate::options::{MatchOptions, Order};
 use clap::error::ErrorKind;
 use clap::{Arg, ArgAction, ArgMatches, Command};
-use docket::words::capacity_of;
+use docket::capacity_of;
 use exchange_core::event::Capacity;
 use std::alloc::{AllocError, Global};
 use std::convert::AsStr;
 use thiserror::Error;
+
+// The version of the program.
+const VERSION: &str = "1.0.0";
 
 // What the help of each command says of what it reads and writes, of the exit status, and of an example.
 const MATCH_HELP: &str =
@@ -52,7 +55,10 @@ pub enum LineFault {
     /// The capacity is neither `full` nor a number from 1 to 1,024.
     #[error("bad capacity")]
     BadCapacity,
-    /// The words aren't those of a command, or help was asked for.
+    /// A word is no text.
+    #[error("a word of the command line is no text")]
+    NoText,
+    /// The words aren't those of a command, or help or the version was asked for.
     #[error(transparent)]
     Line(clap::Error),
 }
@@ -97,6 +103,7 @@ fn match_command<'a>(alloc: Global) -> Result<Command<'a>, AllocError> {
 fn commands<'a>(alloc: Global) -> Result<Command<'a>, AllocError> {
     Command::new(alloc, "residency")
         .about("Runs a residency match as an exchange of offers, over a docket on standard input")
+        .version(VERSION)
         .no_binary_name(true)
         .subcommand_required(true)
         .subcommand(match_command(alloc)?)?

@@ -6,9 +6,7 @@ ghost use Rattle.match_model.specs.Instance.{IsProgramme};
 ghost use Rattle.residency.specs.Report.{report_text, stability_row, pair_row, over_row, IsPairOf, IsReportOf};
 ghost use Rattle.residency.specs.Serving.{IsWriteFault};
 
-use docket::docket::Docket;
-use docket::fault::DocketFault;
-use docket::row_text::RowText;
+use docket::{Docket, DocketFault, RowText};
 use match_audit::report::AuditReport;
 use match_model::member::{ProgrammeNo, ResidentNo};
 use std::alloc::Global;
@@ -26,7 +24,6 @@ fn push_pair(
     ensures row { OnOk result (rows.new ≡ rows.old ++ pair_row docket.now kind.now (resident, programme)) }
     ensures err { IfErr result (λ fault. fault ≡ DocketFault.Memory) }
 {
-    let _members = docket.instance();
     let resident = docket.resident_name(resident).as_bytes();
     let programme = docket.programme_name(programme).as_bytes();
     rows.push(&[kind, resident, programme])

@@ -3,17 +3,14 @@ ghost use Rattle.std.specs.Prelude.{◌≡◌, ℕ, List, Some, false, IfOk, IfE
 ghost use Rattle.std.specs.List.{All};
 ghost use Rattle.std.specs.Io.KnownBytes.{Appends};
 ghost use Rattle.docket.specs.Whole.{IsSheetOf, NamesMembers};
-ghost use Rattle.residency.specs.Serving.{WritesMatch, match_text, IsWriteFault, WritesReport, WritesReplay, IsMatchFault, IsAuditFault, IsReplayFault, AreDocket, IsFaultOf, IsBeforeWriting};
+ghost use Rattle.residency.specs.Serving.{WritesMatch, match_text, IsWriteFault, WritesReport, WritesReplay, IsMatchFault, IsAuditFault, IsReplayFault, AreDocket, IsFaultOf, IsBeforeWriting, IsAnswerTo};
 
 use crate::answer::write_replay;
 use crate::fault::ServeFault;
-use crate::options::MatchOptions;
+use crate::options::{MatchOptions, Order};
 use crate::report::write_report;
 use crate::status::Status;
-use docket::docket::Docket;
-use docket::fault::DocketFault;
-use docket::read::read_docket;
-use docket::write::{write_journal, write_sheet};
+use docket::{Docket, DocketFault, read_docket, write_journal, write_sheet};
 use exchange_core::event::Event;
 use match_audit::audit::{AuditFault, audit};
 use match_audit::replay::{ReplayFault, check, replay};
@@ -67,7 +64,8 @@ where
 {
     law_one_settled();
     let inst = docket.instance();
-    let _members = inst.residents();
+    // For the proof alone: the instance is one.
+    let _instance = inst.residents();
     let done = match run(rt, alloc, inst, options.capacity, options.workers, gate) {
         Ok(done) => done,
         Err(fault) => return Err(ServeFault::Run(fault)),
@@ -103,7 +101,8 @@ fn audit_docket<W: Write>(
         return Err(ServeFault::NoSheet);
     };
     let inst = docket.instance();
-    let _residents = inst.residents();
+    // For the proof alone: the instance is one.
+    let _instance = inst.residents();
     let report = match audit(alloc, inst, sheet) {
         Ok(report) => report,
         Err(AuditFault::Memory) => return Err(ServeFault::Memory),
@@ -210,5 +209,29 @@ pub fn serve_replay<R: Read + Drop, W: Write>(
     match read_docket(alloc, reader) {
         Ok(docket) => replay_docket(alloc, &docket, writer),
         Err(fault) => Err(ServeFault::Docket(fault)),
+    }
+}
+
+/// Serves an order. The gate never stops a run.
+pub fn serve<R, W, G, H>(
+    rt: H,
+    alloc: Global,
+    order: &Order,
+    reader: R,
+    writer: &mut W,
+    gate: &G,
+) -> Result<Status, ServeFault>
+where
+    R: Read + Drop,
+    W: Write,
+    G: Gate + Sync,
+    H: Threads + Wait + Sync + Send + Copy,
+    requires { G.MAY_STOP ≡ false }
+    ensures answer { (bytes : List ℕ) → R.remaining reader ≡ Some bytes → IsAnswerTo order.now bytes (W.contents writer.old) (W.contents writer.new) result }
+{
+    match order {
+        Order::Match(options) => serve_match(rt, alloc, reader, writer, options, gate),
+        Order::Audit => serve_audit(alloc, reader, writer),
+        Order::Replay => serve_replay(alloc, reader, writer),
     }
 }

@@ -1,11 +1,11 @@
 //! How a call ended, and with which status the program ends.
 ghost use Rattle.std.specs.Prelude.{◌≡◌};
-ghost use Rattle.residency.specs.Exits.{exit_status_of, line_status_of};
+ghost use Rattle.residency.specs.Status.{exit_status_of, line_status_of};
 
 use crate::fault::ServeFault;
 use crate::line::LineFault;
 use clap::error::ErrorKind;
-use docket::fault::DocketFault;
+use docket::DocketFault;
 
 /// How a call ended that wrote all it was asked for.
 #[derive(Clone, Copy, Debug, PartialEq, Eq)]
@@ -43,9 +43,9 @@ pub fn line_status(fault: &LineFault) -> u8
 {
     match fault {
         LineFault::Memory => 1,
-        LineFault::BadCapacity => 2,
+        LineFault::BadCapacity | LineFault::NoText => 2,
         LineFault::Line(error) => match error.kind() {
-            ErrorKind::DisplayHelp => 0,
+            ErrorKind::DisplayHelp | ErrorKind::DisplayVersion => 0,
             _ => 2,
         },
     }

@@ -1,6 +1,6 @@
 use Rattle.std.proofs.Common.{◌∙◌, sym, inr, arith, refl}
 use Rattle.docket.specs.Contents.{residents_of}
-use Rattle.docket.specs.Stored.{row_at}
+use Rattle.docket.specs.Rows.{row_at}
 use Rattle.docket.proofs.NumberFacts.{listed_step, listed_fail, listed_all, listed_sound}
 use Rattle.docket.proofs.ranking.listed_residents.Goals as goal
 
@@ -12,7 +12,7 @@ returns-in_default-clause-fault c =
 pub loop-i-preserved : goal.loop-i-preserved
 loop-i-preserved c =
     listed_step (residents_of c.args.tables.now) (row_at c.args.tables.now c.args.k) c.loop-i.i c.in-Some.resident c.loop-i.listed.items c.push.new.self.items (omega arith)
-    c.loop-i.invariant.0 c.loop-i.invariant.1 (sym c.resident.ensures ∙ c.in-Some.is) c.in-Ok.ensures.items
+    c.loop-i.invariant.0 c.loop-i.invariant.1 (sym c.resident.ensures ∙ c.in-Some.is) c.in_ok-push.ensures.items
 
 pub returns-clause-listed : goal.returns-clause-listed
 returns-clause-listed c =

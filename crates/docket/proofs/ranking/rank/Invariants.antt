@@ -1,6 +1,6 @@
 use Rattle.std.proofs.Common.{◌≡◌, take, [], None}
 use Rattle.docket.specs.Passes.{first_from, ranking_fault}
-use Rattle.docket.specs.Kept.{IsRanked}
+use Rattle.docket.specs.Ranking.{IsRanked}
 use Rattle.docket.proofs.ranking.rank.Given as goal
 
 abbrev pub invariant-loop-k : goal.invariant-loop-k

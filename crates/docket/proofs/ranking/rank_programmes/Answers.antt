@@ -4,16 +4,15 @@ use Rattle.match_model.specs.Draft.{has_no_repeats}
 use Rattle.docket.specs.Fields.{unless}
 use Rattle.std.specs.List.{list_all}
 use Rattle.docket.specs.declared.fault.DocketFault.TheVariants.{UnknownName}
-use Rattle.docket.specs.Stored.{row_at}
+use Rattle.docket.specs.Rows.{row_at}
 use Rattle.docket.specs.Contents.{programmes_of, listed_in, is_declared}
 use Rattle.docket.proofs.SoundFacts.{unless_none}
-use Rattle.docket.proofs.CollectedFacts.{refuses_first, refuses_second, no_fault}
-use Rattle.docket.proofs.RankFacts.{place_at, ranking_fault-resident, resident_declared, ranked_resident, resident_list_fault, listed_answer, listed_fine}
+use Rattle.docket.proofs.DeclarationFacts.{refuses_first, refuses_second, no_fault}
+use Rattle.docket.proofs.RankingFacts.{place_at, ranking_fault-resident, resident_declared, ranked_resident, resident_list_fault, listed_answer, listed_fine}
 use Rattle.docket.proofs.ranking.rank_programmes.Goals as goal
 
-pub returns-in_default-clause-fault : goal.returns-in_default-clause-fault
-returns-in_default-clause-fault c =
-    absurd (resident_declared c.args.tables.now c.args.k c.requires.place c.requires.kind (sym c.resident.ensures ∙ c.in_default.is))
+pub unreachable-requires : goal.unreachable-requires
+unreachable-requires c = resident_declared c.args.tables.now c.args.k c.requires.place c.requires.kind (sym c.resident.ensures ∙ c.in_default.is)
 
 pub returns-in_err-listed_programmes-clause-fault : goal.returns-in_err-listed_programmes-clause-fault
 returns-in_err-listed_programmes-clause-fault c =

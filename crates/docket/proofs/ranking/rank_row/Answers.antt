@@ -1,6 +1,6 @@
-use Rattle.docket.specs.Stored.{row_at}
+use Rattle.docket.specs.Rows.{row_at}
 use Rattle.docket.specs.declared.kind.TheConstants.{PROGRAMME_LIST, RESIDENT_LIST}
-use Rattle.docket.proofs.RankFacts.{not_kind, ranked_other, ranking_fault-other}
+use Rattle.docket.proofs.RankingFacts.{not_kind, ranked_other, ranking_fault-other}
 use Rattle.docket.proofs.ranking.rank_row.Goals as goal
 
 pub returns-clause-ranked : goal.returns-clause-ranked

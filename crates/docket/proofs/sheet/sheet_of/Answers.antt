@@ -1,6 +1,6 @@
 use Rattle.std.proofs.Common.{refl, inr, length}
 use Rattle.std.proofs.lemmas.Result.{err_from_is_err_and}
-use Rattle.docket.proofs.CollectedFacts.{refuses_first, refuses_second, no_fault}
+use Rattle.docket.proofs.DeclarationFacts.{refuses_first, refuses_second, no_fault}
 use Rattle.docket.proofs.MarkFacts.{missing_is, sheet_all}
 use Rattle.docket.proofs.sheet.sheet_of.Goals as goal
 

@@ -1,13 +1,12 @@
-use Rattle.std.proofs.Common.{sym, inl, inr}
-use Rattle.residency.proofs.Names.{programme_name-is, resident_name-is}
+use Rattle.std.proofs.Common.{inl, inr}
 use Rattle.residency.proofs.answer.pending_name.Goals as goal
 
 pub returns-in-Answers : goal.returns-in-Answers
 returns-in-Answers c =
-    let name = sym (programme_name-is c.args.docket.now c.in-Answers.programme _ c.programme_name.ensures) in
+    let name = c.programme_name.ensures in
     elim c.in-Answers.is [ inl e ↦ rw e name | inr e ↦ rw e name ]
 
 pub returns-in-Offers : goal.returns-in-Offers
 returns-in-Offers c =
-    let name = sym (resident_name-is c.args.docket.now c.in-Offers.resident _ c.resident_name.ensures) in
+    let name = c.resident_name.ensures in
     elim c.in-Offers.is [ inl e ↦ rw e name | inr e ↦ rw e name ]

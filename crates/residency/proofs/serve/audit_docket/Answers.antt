@@ -5,7 +5,7 @@ use Rattle.residency.proofs.serve.audit_docket.Goals as goal
 pub write_report-requires : goal.write_report-requires
 write_report-requires g c =
     report_of_docket _ c.in-Some.sheet.now _ c.instance-inst.ensures.whole (sym c.in-Some.ensures.sheet)
-    (rw c.instance-inst.ensures.instance at c.residents-residents.ensures.instance) (rw c.instance-inst.ensures.instance at c.in-Ok.ensures.report)
+    (rw c.instance-inst.ensures.instance at c.residents-instance.ensures.instance) (rw c.instance-inst.ensures.instance at c.in-Ok.ensures.report)
 
 pub returns-in-Ok-write_report-clause-report : goal.returns-in-Ok-write_report-clause-report
 returns-in-Ok-write_report-clause-report g c =

@@ -11,7 +11,7 @@ pub write_match-requires-clause-sheet : goal.write_match-requires-clause-sheet
 write_match-requires-clause-sheet g c =
     let inst = c.instance-inst.ensures.instance in
     let run = c.in-Ok.ensures.settled c.in-Closed.is in
-    sheet_of c.args.docket.now c.in-Ok.done.assignment c.instance-inst.ensures.whole (rw inst at c.residents-members.ensures.instance) (rw inst at run.stable)
+    sheet_of c.args.docket.now c.in-Ok.done.assignment c.instance-inst.ensures.whole (rw inst at c.residents-instance.ensures.instance) (rw inst at run.stable)
 
 pub write_match-requires-clause-journal : goal.write_match-requires-clause-journal
 write_match-requires-clause-journal g c =

@@ -1,7 +1,7 @@
 use Rattle.std.proofs.Common.{◌≢◌}
 use Rattle.csv.specs.Writing.{writer_setup}
 use Rattle.csv.specs.declared.writer.QuoteStyle.TheVariants as style
-use Rattle.docket.specs.Rows.{row}
+use Rattle.docket.specs.RowText.{row}
 use Rattle.docket.proofs.row_text.RowText.push.Goals as goal
 
 pub returns-clause-row : goal.returns-clause-row

@@ -3,13 +3,12 @@ use Rattle.std.specs.Prelude.{decimal}
 use Rattle.std.proofs.lemmas.Result.{on_ok_weaker}
 use Rattle.match_model.specs.Instance.{quota}
 use Rattle.docket.specs.Texts.{programme_row}
-use Rattle.docket.proofs.WriteFacts.{programme_name-is}
 use Rattle.docket.proofs.row_text.RowText.push_programme.Goals as goal
 
 pub returns-clause-row : goal.returns-clause-row
 unfolding programme_row
 returns-clause-row c =
-    let name = programme_name-is c.args.docket.now c.args.programme _ c.programme_name.ensures ∙ sym c.as_bytes-name.ensures.value in
+    let name = sym (c.as_bytes-name.ensures.value ∙ c.programme_name.ensures) in
     let filled = sym (c.as_bytes.ensures.value ∙ c.in-Ok-Ok.ensures.ok) in
     let places = sym (c.as_bytes-2.ensures.value ∙ (c.in-Ok-Ok.ensures'.ok ∙ ap decimal (c.quota-quota.ensures ∙ ap (λ i. quota i c.args.programme) c.instance.ensures.instance))) in
     on_ok_weaker c.push.result (λ h. rw (name, filled, places) h) c.push.ensures.row

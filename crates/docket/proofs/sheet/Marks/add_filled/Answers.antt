@@ -1,7 +1,7 @@
 use Rattle.std.proofs.Common.{◌∙◌, sym, ap, inr, refl, arith, take, Some}
-use Rattle.docket.specs.Stored.{row_at}
+use Rattle.docket.specs.Rows.{row_at}
 use Rattle.docket.specs.Fields.{field}
-use Rattle.docket.proofs.RankFacts.{place_at}
+use Rattle.docket.proofs.RankingFacts.{place_at}
 use Rattle.docket.proofs.MarkFacts.{filled_at, filled_below, mark_fault-unknown_filled, mark_fault-filled, second_row, first_row, marks_filled}
 use Rattle.docket.proofs.sheet.Marks.add_filled.Goals as goal
 

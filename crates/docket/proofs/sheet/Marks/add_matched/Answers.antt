@@ -2,9 +2,9 @@ use Rattle.std.proofs.Common.{◌∙◌, ◌+◌, sym, ap, inr, refl, arith, tak
 use Rattle.std.specs.Prelude.{slice_set}
 use Rattle.std.proofs.lemmas.List.{length-take}
 use Rattle.docket.specs.Contents.{is_matched_with}
-use Rattle.docket.specs.Stored.{row_at}
+use Rattle.docket.specs.Rows.{row_at}
 use Rattle.docket.specs.Fields.{field}
-use Rattle.docket.proofs.RankFacts.{place_at}
+use Rattle.docket.proofs.RankingFacts.{place_at}
 use Rattle.docket.proofs.MarkFacts.{marked_at, counts_at, marked_below, counts_below, placed_below, count_few, mark_fault-unknown_resident, mark_fault-unknown_programme, mark_fault-matched, second_row, first_row, marks_matched}
 use Rattle.docket.proofs.sheet.Marks.add_matched.Goals as goal
 

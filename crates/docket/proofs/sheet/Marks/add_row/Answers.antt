@@ -1,6 +1,6 @@
-use Rattle.docket.specs.Stored.{row_at}
+use Rattle.docket.specs.Rows.{row_at}
 use Rattle.docket.specs.declared.kind.TheConstants.{MATCHED, UNMATCHED, FILLED}
-use Rattle.docket.proofs.RankFacts.{not_kind}
+use Rattle.docket.proofs.RankingFacts.{not_kind}
 use Rattle.docket.proofs.MarkFacts.{mark_fault-other, marks_other}
 use Rattle.docket.proofs.sheet.Marks.add_row.Goals as goal
 

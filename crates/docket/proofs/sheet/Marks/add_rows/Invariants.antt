@@ -1,6 +1,6 @@
 use Rattle.std.proofs.Common.{◌≡◌, take, [], None}
 use Rattle.docket.specs.Passes.{first_from, mark_fault}
-use Rattle.docket.specs.Marked.{IsMarked}
+use Rattle.docket.specs.Marks.{IsMarked}
 use Rattle.docket.proofs.sheet.Marks.add_rows.Given as goal
 
 abbrev pub invariant-loop-k : goal.invariant-loop-k

@@ -1,9 +1,9 @@
 use Rattle.std.proofs.Common.{◌≡◌, inr, arith, take}
-use Rattle.docket.specs.Stored.{row_at}
+use Rattle.docket.specs.Rows.{row_at}
 use Rattle.docket.specs.Passes.{filled_fault}
 use Rattle.docket.specs.declared.kind.TheConstants.{FILLED}
 use Rattle.docket.proofs.PassFacts.{pass_start, pass_more, pass_fault}
-use Rattle.docket.proofs.RankFacts.{not_kind}
+use Rattle.docket.proofs.RankingFacts.{not_kind}
 use Rattle.docket.proofs.MarkFacts.{filled_other}
 use Rattle.docket.proofs.RestFacts.{filled_rest}
 use Rattle.docket.proofs.sheet.Marks.check_filled.Goals as goal

@@ -1,0 +1,275 @@
+-- What one row more declares.
+use Rattle.std.proofs.Common.{◌≡◌, ℕ, List, [], ◌∷◌, ◌++◌, Bool, true, false, length, sym, ◌∙◌, refl, ap, Option, Some, None, map, find, filter, is_some, inl, inr, append-nil}
+use Rattle.std.specs.Prelude.{◌==◌, ◌&&◌, ◌||◌, not, if◌then◌else◌, option_map, unwrap_or, bytes_eq, Ok, Err, nat_le, nat_lt}
+use Rattle.std.specs.List.{list_any}
+use Rattle.std.specs.Option.{option_or}
+use Rattle.std.proofs.lemmas.List.{map-append, length-map}
+use Rattle.std.proofs.lemmas.List.Elements.{filter-append}
+use Rattle.std.proofs.lemmas.List.Folds.{list_any-append, find-append}
+use Rattle.exchange_core.specs.declared.event.Capacity.{Capacity}
+use Rattle.exchange_core.specs.declared.event.Capacity.TheVariants.{Full}
+use Rattle.match_model.specs.Draft.{Draft, AnswersFirst, programme_fault, resident_fault}
+use Rattle.match_model.specs.declared.limits.TheConstants.{MAX_PROGRAMMES, MAX_RESIDENTS, MAX_QUOTA}
+use Rattle.match_model.specs.declared.fault.ModelFault.{ModelFault}
+use Rattle.match_model.specs.declared.fault.ModelFault.TheVariants as model
+use Rattle.docket.specs.Words.{number_of, capacity_of}
+use Rattle.docket.specs.Fields.{Fields, field, kind_of, is_kind, is_row_of, or_else, unless}
+use Rattle.docket.specs.Contents.{rows_of, names_of, programmes_of, residents_of, quotas_of, is_sheet_row, is_declared}
+use Rattle.docket.specs.Passes.{repeat_fault, limit_fault, next_place}
+use Rattle.docket.specs.Answers.{Refuses, at_record}
+use Rattle.docket.specs.Declarations.{IsDeclared, capacity_in}
+use Rattle.docket.specs.declared.declarations.Declarations.{Declarations}
+use Rattle.docket.specs.declared.kind.TheConstants.{QUOTA, PROGRAMME_LIST, RESIDENT_LIST, MATCHED, UNMATCHED, FILLED, CAPACITY, EVENT}
+use Rattle.docket.specs.declared.fault.DocketFault.{DocketFault}
+use Rattle.docket.specs.declared.fault.DocketFault.TheVariants.{DeclaredTwice, Model, BadEvent}
+use Rattle.docket.proofs.NameFacts.{is_declared-map}
+
+-- the images of the rows of a kind, with one row more
+pub images-if : {A : Type 0} (f : Fields → A) (kind : ℕ) (rows : List Fields) (row : Fields)
+    → map f (rows_of kind (rows ++ row ∷ [])) ≡ (if is_kind kind row then map f (rows_of kind rows) ++ f row ∷ [] else map f (rows_of kind rows))
+images-if f kind rows row =
+    ap (map f) (filter-append (is_kind kind) rows (row ∷ [])) ∙ map-append f (rows_of kind rows) (filter (is_kind kind) (row ∷ [])) ∙ by (is_kind kind row)
+  where
+    by : (b : Bool) → map f (rows_of kind rows) ++ map f (if b then row ∷ [] else []) ≡ (if b then map f (rows_of kind rows) ++ f row ∷ [] else map f (rows_of kind rows))
+    by true = refl
+    by false = append-nil (map f (rows_of kind rows))
+
+pub names_of-if : (kind : ℕ) (rows : List Fields) (row : Fields)
+    → names_of kind (rows ++ row ∷ []) ≡ (if is_kind kind row then names_of kind rows ++ field row 1 ∷ [] else names_of kind rows)
+names_of-if kind rows row = images-if (λ r. field r 1) kind rows row
+
+pub programmes_of-if : (rows : List Fields) (row : Fields)
+    → programmes_of (rows ++ row ∷ []) ≡ (if is_kind QUOTA row then programmes_of rows ++ field row 1 ∷ [] else programmes_of rows)
+unfolding programmes_of
+programmes_of-if rows row = names_of-if QUOTA rows row
+
+pub residents_of-if : (rows : List Fields) (row : Fields)
+    → residents_of (rows ++ row ∷ []) ≡ (if is_kind RESIDENT_LIST row then residents_of rows ++ field row 1 ∷ [] else residents_of rows)
+unfolding residents_of
+residents_of-if rows row = names_of-if RESIDENT_LIST rows row
+
+pub quotas_of-if : (rows : List Fields) (row : Fields)
+    → quotas_of (rows ++ row ∷ []) ≡ (if is_kind QUOTA row then quotas_of rows ++ unwrap_or (number_of (field row 2)) 0 ∷ [] else quotas_of rows)
+unfolding quotas_of
+quotas_of-if rows row = images-if (λ r. unwrap_or (number_of (field r 2)) 0) QUOTA rows row
+
+-- no list
+abbrev none : Option (List ℕ)
+none = None
+
+-- the lists that nobody was given, with one owner more
+nones-if : (owners : List (List ℕ)) (name : List ℕ) (b : Bool)
+    → map (λ (n : List ℕ). none) (if b then owners ++ name ∷ [] else owners)
+    ≡ (if b then map (λ (n : List ℕ). none) owners ++ none ∷ [] else map (λ (n : List ℕ). none) owners)
+nones-if owners name true = map-append (λ (n : List ℕ). none) owners (name ∷ [])
+nones-if owners name false = refl
+
+-- the capacity, with one row more
+pub capacity_in-if : (rows : List Fields) (row : Fields)
+    → capacity_in (rows ++ row ∷ []) ≡ option_or (capacity_in rows) (if is_kind CAPACITY row then Some (unwrap_or (capacity_of (field row 1)) Full) else None)
+unfolding capacity_in
+capacity_in-if rows row =
+    ap (option_map (λ (r : Fields). unwrap_or (capacity_of (field r 1)) Full)) (find-append (is_kind CAPACITY) rows (row ∷ []))
+    ∙ by (find (is_kind CAPACITY) rows) (is_kind CAPACITY row)
+  where
+    by : (o : Option Fields) (b : Bool)
+        → option_map (λ (r : Fields). unwrap_or (capacity_of (field r 1)) Full) (option_or o (if b then Some row else None))
+        ≡ option_or (option_map (λ (r : Fields). unwrap_or (capacity_of (field r 1)) Full) o) (if b then Some (unwrap_or (capacity_of (field row 1)) Full) else None)
+    by None true = refl
+    by None false = refl
+    by (Some r) b = refl
+
+-- a test of some row, with one row more
+pub list_any-if : (p : Fields → Bool) (rows : List Fields) (row : Fields) → list_any p (rows ++ row ∷ []) ≡ (if p row then true else list_any p rows)
+list_any-if p rows row = list_any-append p rows (row ∷ []) ∙ by (list_any p rows) (p row)
+  where
+    by : (a b : Bool) → (a || (b || false)) ≡ (if b then true else a)
+    by true true = refl
+    by true false = refl
+    by false true = refl
+    by false false = refl
+
+-- one row more of kind k
+pub declared_push : (d e : Declarations) (rows : List Fields) (row : Fields) (k : ℕ) → kind_of row ≡ k → IsDeclared d rows
+    → e.builder.quotas ≡ (if k == QUOTA then d.builder.quotas ++ unwrap_or (number_of (field row 2)) 0 ∷ [] else d.builder.quotas)
+    → e.builder.programme_lists ≡ (if k == QUOTA then d.builder.programme_lists ++ None ∷ [] else d.builder.programme_lists)
+    → e.builder.resident_lists ≡ (if k == RESIDENT_LIST then d.builder.resident_lists ++ None ∷ [] else d.builder.resident_lists)
+    → e.programmes ≡ (if k == QUOTA then d.programmes ++ field row 1 ∷ [] else d.programmes)
+    → e.residents ≡ (if k == RESIDENT_LIST then d.residents ++ field row 1 ∷ [] else d.residents)
+    → e.ranked ≡ (if k == PROGRAMME_LIST then d.ranked ++ field row 1 ∷ [] else d.ranked)
+    → e.capacity ≡ option_or d.capacity (if k == CAPACITY then Some (unwrap_or (capacity_of (field row 1)) Full) else None)
+    → ((k == EVENT) ≡ true → is_some d.capacity ≡ true)
+    → e.has_sheet_row ≡ (if (k == MATCHED) || (k == UNMATCHED) || (k == FILLED) then true else d.has_sheet_row)
+    → IsDeclared e (rows ++ row ∷ [])
+declared_push d e rows row k kind h q pl rl p r ra c ev sh = record {
+  quotas = rw (quotas_of-if rows row, kind, ← h.quotas) q;
+  programme_lists = rw (programmes_of-if rows row, kind, nones-if (programmes_of rows) (field row 1) (k == QUOTA), ← h.programme_lists) pl;
+  resident_lists = rw (residents_of-if rows row, kind, nones-if (residents_of rows) (field row 1) (k == RESIDENT_LIST), ← h.resident_lists) rl;
+  programmes = rw (programmes_of-if rows row, kind, ← h.programmes) p;
+  residents = rw (residents_of-if rows row, kind, ← h.residents) r;
+  ranked = rw (names_of-if PROGRAMME_LIST rows row, kind, ← h.ranked) ra;
+  capacity = rw (capacity_in-if rows row, kind, ← h.capacity) c;
+  no_events = λ none. rw (list_any-if (is_kind EVENT) rows row, kind) (no_event (k == EVENT) d.capacity (if k == CAPACITY then Some (unwrap_or (capacity_of (field row 1)) Full) else None) ev h.no_events (sym c ∙ none));
+  sheet_rows = rw (list_any-if is_sheet_row rows row, kind, ← h.sheet_rows) sh;
+}
+  where
+    no_event : (b : Bool) (o more : Option Capacity) → (b ≡ true → is_some o ≡ true) → (o ≡ None → list_any (is_kind EVENT) rows ≡ false)
+        → option_or o more ≡ None → (if b then true else list_any (is_kind EVENT) rows) ≡ false
+    no_event true None more has was none = absurd (cc (has refl))
+    no_event false None more has was none = was refl
+    no_event b (Some x) more has was none = absurd (cc none)
+
+-- a name is declared exactly where some row of the kind has it
+pub is_declared-rows : (kind : ℕ) (rows : List Fields) (name : List ℕ) → is_declared (names_of kind rows) name ≡ list_any (is_row_of kind name) rows
+is_declared-rows kind rows name = is_declared-map (λ (r : Fields). field r 1) (rows_of kind rows) name ∙ kept rows
+  where
+    kept : (rs : List Fields) → list_any (λ (r : Fields). bytes_eq name (field r 1)) (filter (is_kind kind) rs) ≡ list_any (is_row_of kind name) rs
+    kept [] = refl
+    kept (r ∷ rs) = by (is_kind kind r) (kept rs)
+      where
+        by : (b : Bool) → list_any (λ (r : Fields). bytes_eq name (field r 1)) (filter (is_kind kind) rs) ≡ list_any (is_row_of kind name) rs
+            → list_any (λ (r : Fields). bytes_eq name (field r 1)) (if b then r ∷ filter (is_kind kind) rs else filter (is_kind kind) rs)
+            ≡ ((b && bytes_eq name (field r 1)) || list_any (is_row_of kind name) rs)
+        by true e = ap (λ x. bytes_eq name (field r 1) || x) e
+        by false e = e
+
+-- the error of a first test, and of a second
+pub refuses_first : (first second : Option DocketFault) (e : DocketFault) → Refuses first e → Refuses (or_else first second) e
+refuses_first first second e (inl memory) = inl memory
+refuses_first None second e (inr some) = absurd (cc some)
+refuses_first (Some f) second e (inr some) = inr some
+
+pub refuses_second : (first second : Option DocketFault) (e : DocketFault) → first ≡ None → Refuses second e → Refuses (or_else first second) e
+refuses_second first second e none h = rw none h
+
+-- what a builder answered, as a fault at a record
+pub refuses_builder : (T : Type 0) (n : ℕ) (f : Option ModelFault) (fault : ModelFault) → AnswersFirst {T = T} f (Err fault)
+    → Refuses (option_map (at_record n) f) (at_record n fault)
+refuses_builder T n None fault e = inl (ap (at_record n) e)
+refuses_builder T n (Some g) fault e = let same : fault ≡ g = cc e in inr (ap (λ x. Some (at_record n x)) (sym same))
+
+pub answers_built : {T : Type 0} (n : ℕ) (f : Option ModelFault) (v : T) → AnswersFirst f (Ok v) → option_map (at_record n) f ≡ None
+answers_built n None v e = refl
+answers_built n (Some g) v e = absurd (cc e)
+
+-- the limits are those of the builder
+pub limit_fault-quota : (d : Draft) (before : List Fields) (row : Fields) → kind_of row ≡ QUOTA → d.quotas ≡ quotas_of before
+    → limit_fault before row ≡ option_map (at_record (next_place before)) (programme_fault d (unwrap_or (number_of (field row 2)) 0))
+unfolding limit_fault quotas_of programmes_of
+limit_fault-quota d before row kind quotas = rw (kind, quotas, same_length) (by (nat_le MAX_PROGRAMMES (length (programmes_of before))) (nat_lt MAX_QUOTA (unwrap_or (number_of (field row 2)) 0)))
+  where
+    same_length : length (quotas_of before) ≡ length (programmes_of before)
+    same_length = length-map (rows_of QUOTA before) (λ (r : Fields). unwrap_or (number_of (field r 2)) 0) ∙ sym (length-map (rows_of QUOTA before) (λ (r : Fields). field r 1))
+
+    by : (a b : Bool) → (if a then Some (Model (next_place before) model.TooManyProgrammes) else if b then Some (Model (next_place before) model.QuotaTooLarge) else None)
+        ≡ option_map (at_record (next_place before)) (if a then Some model.TooManyProgrammes else (if b then Some model.QuotaTooLarge else None))
+    by true b = refl
+    by false true = refl
+    by false false = refl
+
+pub limit_fault-resident : (d : Draft) (before : List Fields) (row : Fields) → kind_of row ≡ RESIDENT_LIST → d.resident_lists ≡ map (λ name. None) (residents_of before)
+    → limit_fault before row ≡ option_map (at_record (next_place before)) (resident_fault d)
+unfolding limit_fault
+limit_fault-resident d before row kind lists = rw (kind, lists, length-map (residents_of before) (λ (n : List ℕ). none)) (by (nat_le MAX_RESIDENTS (length (residents_of before))))
+  where
+    by : (a : Bool) → (if a then Some (Model (next_place before) model.TooManyResidents) else None)
+        ≡ option_map (at_record (next_place before)) (if a then Some model.TooManyResidents else None)
+    by true = refl
+    by false = refl
+
+-- what is asked of the names, of a Q, P or R row
+pub repeat_fault-quota : (before : List Fields) (row : Fields) → kind_of row ≡ QUOTA
+    → repeat_fault before row ≡ unless (not (is_declared (programmes_of before) (field row 1))) (DeclaredTwice (next_place before))
+unfolding repeat_fault programmes_of
+repeat_fault-quota before row kind = rw (kind, is_declared-rows QUOTA before (field row 1)) refl
+
+pub repeat_fault-list : (before : List Fields) (row : Fields) → kind_of row ≡ PROGRAMME_LIST
+    → repeat_fault before row ≡ unless (not (is_declared (names_of PROGRAMME_LIST before) (field row 1))) (DeclaredTwice (next_place before))
+unfolding repeat_fault
+repeat_fault-list before row kind = rw (kind, is_declared-rows PROGRAMME_LIST before (field row 1)) refl
+
+pub repeat_fault-resident : (before : List Fields) (row : Fields) → kind_of row ≡ RESIDENT_LIST
+    → repeat_fault before row ≡ unless (not (is_declared (residents_of before) (field row 1))) (DeclaredTwice (next_place before))
+unfolding repeat_fault residents_of
+repeat_fault-resident before row kind = rw (kind, is_declared-rows RESIDENT_LIST before (field row 1)) refl
+
+pub limit_fault-other : (before : List Fields) (row : Fields) (k : ℕ) → kind_of row ≡ k → (k == QUOTA) ≡ false → (k == RESIDENT_LIST) ≡ false → limit_fault before row ≡ None
+unfolding limit_fault
+limit_fault-other before row k kind a b = rw (kind, a, b) refl
+
+-- a second choice of none
+pub option_or-none : {A : Type 0} (o : Option A) → o ≡ option_or o None
+option_or-none None = refl
+option_or-none (Some x) = refl
+
+-- what was asked of a name, in the words of the call that asked it
+pub quota_asked : (before : List Fields) (row : Fields) (names : List (List ℕ)) (name : List ℕ) (n : ℕ) → kind_of row ≡ QUOTA
+    → names ≡ programmes_of before → name ≡ field row 1 → n ≡ next_place before
+    → repeat_fault before row ≡ unless (not (is_declared names name)) (DeclaredTwice n)
+quota_asked before row names name n kind e f g = rw (repeat_fault-quota before row kind, e, f, g) refl
+
+pub list_asked : (before : List Fields) (row : Fields) (names : List (List ℕ)) (name : List ℕ) (n : ℕ) → kind_of row ≡ PROGRAMME_LIST
+    → names ≡ names_of PROGRAMME_LIST before → name ≡ field row 1 → n ≡ next_place before
+    → repeat_fault before row ≡ unless (not (is_declared names name)) (DeclaredTwice n)
+list_asked before row names name n kind e f g = rw (repeat_fault-list before row kind, e, f, g) refl
+
+pub resident_asked : (before : List Fields) (row : Fields) (names : List (List ℕ)) (name : List ℕ) (n : ℕ) → kind_of row ≡ RESIDENT_LIST
+    → names ≡ residents_of before → name ≡ field row 1 → n ≡ next_place before
+    → repeat_fault before row ≡ unless (not (is_declared names name)) (DeclaredTwice n)
+resident_asked before row names name n kind e f g = rw (repeat_fault-resident before row kind, e, f, g) refl
+
+-- what was asked of the limits, in the words of the builder
+pub quota_limited : (d : Draft) (before : List Fields) (row : Fields) (q n : ℕ) → kind_of row ≡ QUOTA → d.quotas ≡ quotas_of before
+    → q ≡ unwrap_or (number_of (field row 2)) 0 → n ≡ next_place before
+    → limit_fault before row ≡ option_map (at_record n) (programme_fault d q)
+quota_limited d before row q n kind e f g = rw (limit_fault-quota d before row kind e, f, g) refl
+
+pub resident_limited : (d : Draft) (before : List Fields) (row : Fields) (n : ℕ) → kind_of row ≡ RESIDENT_LIST
+    → d.resident_lists ≡ map (λ name. None) (residents_of before) → n ≡ next_place before
+    → limit_fault before row ≡ option_map (at_record n) (resident_fault d)
+resident_limited d before row n kind e g = rw (limit_fault-resident d before row kind e, g) refl
+
+-- two tests without a fault
+pub no_fault : (first second : Option DocketFault) → first ≡ None → second ≡ None → or_else first second ≡ None
+no_fault first second e f = rw (e, f) refl
+
+-- there is a capacity exactly where there is a C row
+pub is_some-capacity_in : (rows : List Fields) → is_some (capacity_in rows) ≡ list_any (is_kind CAPACITY) rows
+unfolding capacity_in
+is_some-capacity_in [] = refl
+is_some-capacity_in (r ∷ rows) = by (is_kind CAPACITY r) (is_some-capacity_in rows)
+  where
+    worth : Fields → Capacity
+    worth row = unwrap_or (capacity_of (field row 1)) Full
+
+    by : (b : Bool) → is_some (option_map (λ (row : Fields). unwrap_or (capacity_of (field row 1)) Full) (find (is_kind CAPACITY) rows)) ≡ list_any (is_kind CAPACITY) rows
+        → is_some (option_map (λ (row : Fields). unwrap_or (capacity_of (field row 1)) Full) (if b then Some r else find (is_kind CAPACITY) rows)) ≡ (b || list_any (is_kind CAPACITY) rows)
+    by true e = refl
+    by false e = e
+
+-- what is asked of a C row, and of an E row
+pub capacity_asked : (before : List Fields) (row : Fields) (cap : Option Capacity) (n : ℕ) → kind_of row ≡ CAPACITY
+    → cap ≡ capacity_in before → (cap ≡ None → list_any (is_kind EVENT) before ≡ false) → n ≡ next_place before
+    → repeat_fault before row ≡ unless (not (is_some cap)) (BadEvent n)
+unfolding repeat_fault
+capacity_asked before row None n kind e f g = rw (kind, ← is_some-capacity_in before, ← e, f refl) refl
+capacity_asked before row (Some room) n kind e f g = rw (kind, ← is_some-capacity_in before, ← e, g) refl
+
+pub event_asked : (before : List Fields) (row : Fields) (cap : Option Capacity) (n : ℕ) → kind_of row ≡ EVENT
+    → cap ≡ capacity_in before → n ≡ next_place before → repeat_fault before row ≡ unless (is_some cap) (BadEvent n)
+unfolding repeat_fault
+event_asked before row cap n kind e g = rw (kind, e, g, is_some-capacity_in before) refl
+
+-- the answer to such a test
+pub test_refused : (before : List Fields) (row : Fields) (test : Bool) (fault : DocketFault) → repeat_fault before row ≡ unless test fault → test ≡ false
+    → Refuses (or_else (repeat_fault before row) (limit_fault before row)) fault
+test_refused before row test fault e f = rw (e, f) (inr refl)
+
+pub test_passed : (before : List Fields) (row : Fields) (test : Bool) (fault : DocketFault) → repeat_fault before row ≡ unless test fault → test ≡ true
+    → limit_fault before row ≡ None → or_else (repeat_fault before row) (limit_fault before row) ≡ None
+test_passed before row test fault e f g = rw (e, f, g) refl
+
+-- no choice before
+pub option_or-first : {A : Type 0} (o p : Option A) → is_some o ≡ false → p ≡ option_or o p
+option_or-first None p e = refl
+option_or-first (Some x) p e = cc e

@@ -1,7 +1,0 @@
-use Rattle.docket.specs.Texts.{place_row}
-use Rattle.docket.proofs.WriteFacts.{rows_next}
-use Rattle.docket.proofs.write.push_places.Goals as goal
-
-pub loop-r-preserved : goal.loop-r-preserved
-loop-r-preserved c =
-    rows_next (place_row c.args.docket.now c.args.assignment.now) _ _ _ c.loop-r.r c.loop-r.invariant (rw c.get.ensures at c.in_ok-push_mark.ensures.row)

@@ -1,8 +1,0 @@
-use Rattle.std.proofs.Common.{◌≡◌, ◌++◌}
-use Rattle.std.specs.List.{flat_map, range_with_len}
-use Rattle.docket.specs.Texts.{place_row}
-use Rattle.docket.proofs.write.push_places.Given as goal
-
-abbrev pub invariant-loop-r : goal.invariant-loop-r
-invariant-loop-r l =
-    l.rows ≡ l.fn.rows ++ flat_map (place_row l.docket l.assignment) (range_with_len 0 l.r)

@@ -1,0 +1,80 @@
+-- The row that a replay writes.
+use Rattle.std.specs.Prelude.{ℕ, ◌+◌, Option, Some, None, Result, Ok, Err, List, [], ◌∷◌, length, codes, decimal}
+use Rattle.exchange_core.specs.declared.event.Pending.{Pending}
+use Rattle.exchange_core.specs.declared.event.Pending.TheVariants.{Offers, Due, Answers, Wish}
+use Rattle.exchange_core.specs.declared.event.Refused.{Refused}
+use Rattle.exchange_core.specs.declared.event.Refused.TheVariants.{Closed, NoSuchDesk, NoPlace, NotNext, AnswerDue, NothingWaiting, WrongFront, NotDue, MailboxFull, StillPending}
+use Rattle.docket.specs.Contents.{Contents, JournalParts}
+use Rattle.docket.specs.RowText.{row}
+use Rattle.docket.specs.Texts.{programme_name, resident_name}
+use Rattle.match_audit.specs.declared.replay.Replayed.{Replayed}
+use Rattle.match_audit.specs.declared.replay.ReplayFault.{ReplayFault}
+use Rattle.match_audit.specs.declared.replay.ReplayFault.TheVariants.{BadCapacity, Memory, At, NotClosed, SheetDiffers}
+use Rattle.match_audit.specs.Replay.{NamesMember}
+
+-- the word of a refusal
+abbrev pub refusal_word : Refused → List ℕ
+refusal_word Closed = codes "closed"
+refusal_word NoSuchDesk = codes "no-such-desk"
+refusal_word NoPlace = codes "no-place"
+refusal_word NotNext = codes "not-next"
+refusal_word AnswerDue = codes "answer-due"
+refusal_word NothingWaiting = codes "nothing-waiting"
+refusal_word WrongFront = codes "wrong-front"
+refusal_word NotDue = codes "not-due"
+refusal_word MailboxFull = codes "mailbox-full"
+refusal_word (StillPending what) = codes "still-pending"
+
+-- what is pending
+abbrev pub pending_word : Pending → List ℕ
+pending_word (Offers r) = codes "offers"
+pending_word (Due r) = codes "due"
+pending_word (Answers p) = codes "answers"
+pending_word (Wish p) = codes "wish"
+
+-- the name of the desk where it is pending
+abbrev pub pending_name : Contents → Pending → List ℕ
+pending_name d (Offers r) = resident_name d r
+pending_name d (Due r) = resident_name d r
+pending_name d (Answers p) = programme_name d p
+pending_name d (Wish p) = programme_name d p
+
+-- what follows the word of a refusal: of a close, what is pending
+abbrev pub refusal_fields : Contents → Refused → List (List ℕ)
+refusal_fields d Closed = []
+refusal_fields d NoSuchDesk = []
+refusal_fields d NoPlace = []
+refusal_fields d NotNext = []
+refusal_fields d AnswerDue = []
+refusal_fields d NothingWaiting = []
+refusal_fields d WrongFront = []
+refusal_fields d NotDue = []
+refusal_fields d MailboxFull = []
+refusal_fields d (StillPending what) = pending_word what ∷ pending_name d what ∷ []
+
+-- how many events the journal has, or 0 where there is none
+abbrev pub event_count : Option JournalParts → ℕ
+event_count (Some journal) = length journal.events
+event_count None = 0
+
+-- the fields of a fault's row: of a refused event its place from 1, of an open list the place after its last event
+abbrev pub fault_fields : Contents → ReplayFault → List (List ℕ)
+fault_fields d BadCapacity = codes "N" ∷ codes "0" ∷ codes "bad-capacity" ∷ []
+fault_fields d Memory = codes "N" ∷ codes "0" ∷ codes "memory" ∷ []
+fault_fields d (At place refused) = codes "N" ∷ decimal place ∷ refusal_word refused ∷ refusal_fields d refused
+fault_fields d NotClosed = codes "N" ∷ decimal (event_count d.journal + 1) ∷ codes "not-closed" ∷ []
+fault_fields d (SheetDiffers r) = codes "D" ∷ resident_name d r ∷ []
+
+-- the fields of an answer's row
+abbrev pub answer_fields : Contents → Result Replayed ReplayFault → List (List ℕ)
+answer_fields d (Ok replayed) = codes "G" ∷ decimal replayed.events ∷ []
+answer_fields d (Err fault) = fault_fields d fault
+
+-- the row of an answer
+unfoldable pub replay_text : Contents → Result Replayed ReplayFault → List ℕ
+replay_text d answer = row (answer_fields d answer)
+
+-- whoever the answer names is a member of the docket
+abbrev pub IsAnswerOf : Contents → Result Replayed ReplayFault → Type 0
+IsAnswerOf d (Ok replayed) = Unit {0}
+IsAnswerOf d (Err fault) = NamesMember d.instance fault

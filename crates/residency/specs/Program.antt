@@ -1,0 +1,26 @@
+-- How the program ends, by what it was given and what it wrote.
+use Rattle.std.specs.Prelude.{◌≡◌, ◌⊎◌, ℕ, Option, Some, Result, Ok, Err, List}
+use Rattle.residency.specs.declared.fault.ServeFault.{ServeFault}
+use Rattle.residency.specs.declared.line.LineFault.{LineFault}
+use Rattle.residency.specs.declared.options.Order.{Order}
+use Rattle.residency.specs.declared.status.Status.{Status}
+use Rattle.residency.specs.Options.{IsOrder}
+use Rattle.residency.specs.Serving.{IsAnswerTo}
+use Rattle.residency.specs.Status.{exit_status_of, line_status_of}
+
+-- an order was served over an input whose bytes are these, where they are known, and the status is that of the answer
+pub record EndsServing (order : Order) (input old new : Option (List ℕ)) (status : ℕ) : Type 0 where
+  pub answer : Result Status ServeFault
+  pub answers : (bytes : List ℕ) → input ≡ Some bytes → IsAnswerTo order bytes old new answer
+  pub tells : status ≡ exit_status_of answer
+
+-- the words order nothing: nothing was written, and the status tells why
+pub record EndsRefused (old new : Option (List ℕ)) (status : ℕ) : Type 0 where
+  pub fault : LineFault
+  pub nothing : new ≡ old
+  pub tells : status ≡ line_status_of fault
+
+-- the words order nothing, or what they order was served
+abbrev pub Ends : Option (List ℕ) → Option (List ℕ) → Option (List ℕ) → ℕ → Type 0
+Ends input old new status =
+    EndsRefused old new status ⊎ ((order : Order) × IsOrder order × EndsServing order input old new status)
