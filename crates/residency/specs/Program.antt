@@ -1,7 +1,8 @@
 -- How the program ends, by what it was given and what it wrote.
 use Rattle.std.specs.Prelude.{◌≡◌, ◌⊎◌, ℕ, Option, Some, Result, Ok, Err, List}
 use Rattle.residency.specs.declared.fault.ServeFault.{ServeFault}
-use Rattle.residency.specs.declared.line.LineFault.{LineFault}
+use Rattle.residency.specs.declared.program.Unordered.{Unordered}
+use Rattle.residency.specs.declared.program.Unordered.TheVariants.{NoText, Line}
 use Rattle.residency.specs.declared.options.Order.{Order}
 use Rattle.residency.specs.declared.status.Status.{Status}
 use Rattle.residency.specs.Options.{IsOrder}
@@ -14,11 +15,16 @@ pub record EndsServing (order : Order) (input old new : Option (List ℕ)) (stat
   pub answers : (bytes : List ℕ) → input ≡ Some bytes → IsAnswerTo order bytes old new answer
   pub tells : status ≡ exit_status_of answer
 
+-- the status after words that order nothing: 2 where one of them is no text
+abbrev pub unordered_status_of : Unordered → ℕ
+unordered_status_of NoText = 2
+unordered_status_of (Line fault) = line_status_of fault
+
 -- the words order nothing: nothing was written, and the status tells why
 pub record EndsRefused (old new : Option (List ℕ)) (status : ℕ) : Type 0 where
-  pub fault : LineFault
+  pub fault : Unordered
   pub nothing : new ≡ old
-  pub tells : status ≡ line_status_of fault
+  pub tells : status ≡ unordered_status_of fault
 
 -- the words order nothing, or what they order was served
 abbrev pub Ends : Option (List ℕ) → Option (List ℕ) → Option (List ℕ) → ℕ → Type 0

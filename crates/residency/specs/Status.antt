@@ -59,12 +59,10 @@ words_status_of _ = 2
 abbrev pub line_status_of : LineFault → ℕ
 line_status_of line.Memory = 1
 line_status_of line.BadCapacity = 2
-line_status_of line.NoText = 2
 line_status_of (line.Line error) = words_status_of (kind_of error)
 
--- want of memory, a bad capacity and a word that is no text are told as such, and any other fault is the parser's
+-- want of memory and a bad capacity are told as such, and any other fault is the parser's
 abbrev pub IsLineFault : LineFault → Type 0
 IsLineFault line.Memory = Unit {0}
 IsLineFault line.BadCapacity = Unit {0}
-IsLineFault line.NoText = Unit {0}
 IsLineFault (line.Line error) = kind_of error ≡ OutOfMemory → ⊥

@@ -55,9 +55,6 @@ pub enum LineFault {
     /// The capacity is neither `full` nor a number from 1 to 1,024.
     #[error("bad capacity")]
     BadCapacity,
-    /// A word is no text.
-    #[error("a word of the command line is no text")]
-    NoText,
     /// The words aren't those of a command, or help or the version was asked for.
     #[error(transparent)]
     Line(clap::Error),
@@ -127,8 +124,7 @@ fn capacity_given(text: &str) -> Result<Capacity, LineFault>
     ensures fault { IfErr result IsLineFault }
 {
     match capacity_of(text.as_bytes()) {
-        Some(Capacity::Full) => Ok(Capacity::Full),
-        Some(Capacity::Each(n)) if 0 < n && n <= 1024 => Ok(Capacity::Each(n)),
+        Some(capacity) if capacity.is_admitted() => Ok(capacity),
         _ => Err(LineFault::BadCapacity),
     }
 }

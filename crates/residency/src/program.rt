@@ -1,9 +1,8 @@
 //! The program, over any streams: it serves what its words order, and its exit status tells how that ended.
-ghost use Rattle.std.specs.Prelude.{◌≡◌, IfOk, IfErr};
+ghost use Rattle.std.specs.Prelude.{◌≡◌, IfOk};
 ghost use Rattle.std.specs.Process.{exit_status as exit_status_in};
 ghost use Rattle.residency.specs.Options.{IsOrder};
-ghost use Rattle.residency.specs.Program.{Ends, EndsServing};
-ghost use Rattle.residency.specs.Status.{line_status_of, IsLineFault};
+ghost use Rattle.residency.specs.Program.{Ends, EndsServing, unordered_status_of};
 
 use crate::line::{LineFault, read_line};
 use crate::options::Order;
@@ -16,28 +15,54 @@ use std::io::{Read, Write};
 use std::process::ExitCode;
 use std::sync::Wait;
 use std::thread::Threads;
+use thiserror::Error;
+
+/// Why the words after the program's name order nothing.
+#[derive(Debug, Drop, Error)]
+pub enum Unordered {
+    /// A word is no text.
+    #[error("a word of the command line is no text")]
+    NoText,
+    /// The words are no command line, or help or the version was asked for.
+    #[error(transparent)]
+    Line(LineFault),
+}
 
 // What the words order, the program's own name left out.
-fn order_of(alloc: Global, words: io::Result<Vec<String>>) -> Result<Order, LineFault>
-    ensures order { IfOk result IsOrder }
-    ensures fault { IfErr result IsLineFault }
+fn order_of(alloc: Global, words: io::Result<Vec<String>>) -> Result<Order, Unordered>
+    ensures { IfOk result IsOrder }
 {
     match words {
-        Ok(words) => read_line(alloc, words.as_slice()),
-        Err(error) if error.kind() == io::ErrorKind::OutOfMemory => Err(LineFault::Memory),
-        Err(_) => Err(LineFault::NoText),
+        Ok(words) => match read_line(alloc, words.as_slice()) {
+            Ok(order) => Ok(order),
+            Err(fault) => Err(Unordered::Line(fault)),
+        },
+        Err(error) if error.kind() == io::ErrorKind::OutOfMemory => {
+            Err(Unordered::Line(LineFault::Memory))
+        }
+        Err(_) => Err(Unordered::NoText),
+    }
+}
+
+// The exit status after words that order nothing.
+fn unordered_status(fault: &Unordered) -> u8
+    ensures { result ≡ unordered_status_of fault.now }
+{
+    match fault {
+        Unordered::NoText => 2,
+        Unordered::Line(fault) => line_status(fault),
     }
 }
 
 // Tells why the words order nothing. A text that can't be written changes no exit status.
-fn refuse<T: Print + Eprint>(told: &T, fault: &LineFault) -> ExitCode
-    ensures { exit_status_in result ≡ line_status_of fault.now }
+fn refuse<T: Print + Eprint>(told: &T, fault: &Unordered) -> ExitCode
+    ensures { exit_status_in result ≡ unordered_status_of fault.now }
 {
     let _ = match fault {
-        LineFault::Line(error) => error.print(told),
+        Unordered::Line(LineFault::Line(error)) => error.print(told),
         fault => eprintln!(told; "residency: {fault}"),
     };
-    ExitCode::from(line_status(fault))
+    ExitCode::from(unordered_status(fault))
 }
 
 // Serves an order, and tells why it couldn't. A text that can't be written changes no exit status.

@@ -43,7 +43,7 @@ pub fn line_status(fault: &LineFault) -> u8
 {
     match fault {
         LineFault::Memory => 1,
-        LineFault::BadCapacity | LineFault::NoText => 2,
+        LineFault::BadCapacity => 2,
         LineFault::Line(error) => match error.kind() {
             ErrorKind::DisplayHelp | ErrorKind::DisplayVersion => 0,
             _ => 2,
