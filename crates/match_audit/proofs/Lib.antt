@@ -1,8 +1,8 @@
 mod Listings
-mod Stability
-mod LoadOf
+mod Reports
+mod Loads
 mod Ranks
 mod Kept
 mod Blocking
-mod Verdicts
+mod Replays
 mod Named

@@ -45,13 +45,7 @@ same_terms f g (y ∷ ys) h t x l =
       | inr c ↦ same_terms f g ys (λ z m. h z (IsListed-cons y ys z m)) (omega arith) x c
     ]
 
--- equal terms, and terms that are all 0
-pub sum_by-same : (f g : ℕ → ℕ) (xs : List ℕ) → ((x : ℕ) → f x ≡ g x) → sum_by f xs ≡ sum_by g xs
-sum_by-same f g xs h =
-    let a = sum_by-le_listed f g xs (λ x l. omega (arith, h x)) in
-    let b = sum_by-le_listed g f xs (λ x l. omega (arith, h x)) in
-    omega arith
-
+-- terms that are all 0
 pub sum_by_zeros : (f : ℕ → ℕ) (xs : List ℕ) → ((x : ℕ) → f x ≡ 0) → sum_by f xs ≡ 0
 sum_by_zeros f [] h = refl
 sum_by_zeros f (x ∷ xs) h = omega (arith, sum_by-cons f x xs, h x, sum_by_zeros f xs h)

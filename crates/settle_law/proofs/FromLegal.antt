@@ -24,9 +24,10 @@ use Rattle.exchange_core.proofs.InOrder.{offers_in_order, takes_in_order, listed
 use Rattle.exchange_core.proofs.Prefixes.{prefix_whole}
 use Rattle.exchange_core.proofs.Closing.{closed_is_at_rest, length-given, given_at, given_past, rest_taken, rest_answered, rest_held, rest_out}
 use Rattle.exchange_core.proofs.Rejections.{is_rejection_of, rejections_of, rejections_of-calls, heard_rejections_within, out_and_rejections, out_within_quota}
+use Rattle.exchange_core.proofs.Counts.{sum_by_same}
 use Rattle.settle_law.specs.Stable.{IsAchievable}
 use Rattle.settle_law.specs.SettledLaws.{SparesAchievable}
-use Rattle.settle_law.proofs.Counting.{one_if, sum_by-same, sum_by-le_listed}
+use Rattle.settle_law.proofs.Counting.{one_if, sum_by-le_listed}
 use Rattle.settle_law.proofs.NeverRejects.{has_turned_down, Standing, SparesAll, spares_one}
 use Rattle.settle_law.proofs.AtClose.{Closing}
 
@@ -76,7 +77,7 @@ module _ (inst : Instance) (cap : Capacity) (good : IsInstance inst) where
 
   pub turned_down_in_all : (j : List Event) → IsLegal inst cap j → (p : ℕ) →
       sum_by (called_to_reject inst j p) (offers_of p j) ≡ count_by (has_turned_down inst (taken j) p) (offers_of p j)
-  turned_down_in_all j legal p = sum_by-same (called_to_reject inst j p) (λ r. one_if (has_turned_down inst (taken j) p r)) (offers_of p j) (λ r. called_rejections j legal r p)
+  turned_down_in_all j legal p = sum_by_same (called_to_reject inst j p) (λ r. one_if (has_turned_down inst (taken j) p r)) (offers_of p j) (λ i r e. called_rejections j legal r p)
 
   pub standing : (j : List Event) → IsLegal inst cap j → Standing inst (offered j) (taken j)
   standing j legal = record {

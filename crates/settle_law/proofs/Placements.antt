@@ -8,8 +8,9 @@ use Rattle.std.proofs.lemmas.Option.{same_Some}
 use Rattle.std.proofs.lemmas.Bool.{cases_lt}
 use Rattle.match_model.specs.Ranking.{IsListed, HasNoRepeats}
 use Rattle.match_model.specs.Placement.{programme_of, IsMemberOf, holds, member_count}
+use Rattle.exchange_core.proofs.Counts.{sum_by_same}
 use Rattle.settle_law.proofs.Places.{range_has, HasNoRepeats-range, HasNoRepeats-filter, IsListed-filter, filter_keeps}
-use Rattle.settle_law.proofs.Counting.{one_if, sum_by-same, sum_by_zeros, sum_by-plus, count_by-range_same}
+use Rattle.settle_law.proofs.Counting.{one_if, sum_by_zeros, sum_by-plus, count_by-range_same}
 
 -- the test for p and what it tests
 pub holds_true : (p : ℕ) (o : Option ℕ) → o ≡ Some p → holds p o ≡ true
@@ -74,7 +75,7 @@ members_add_up n [] h = sum_by_zeros (member_count []) (range_with_len 0 n) (λ 
 members_add_up n (o ∷ ms) h =
     let rest = members_add_up n ms (λ r p e. h (suc r) p e) in
     let first = placed_once n o (λ p e. h 0 p e) in
-    let apart = sum_by-same (member_count (o ∷ ms)) (λ p. one_if (holds p o) + member_count ms p) (range_with_len 0 n) (λ p. sum_by-cons (λ z. one_if (holds p z)) o ms) in
+    let apart = sum_by_same (member_count (o ∷ ms)) (λ p. one_if (holds p o) + member_count ms p) (range_with_len 0 n) (λ i p e. sum_by-cons (λ z. one_if (holds p z)) o ms) in
     let sums = sum_by-plus (λ p. one_if (holds p o)) (member_count ms) (range_with_len 0 n) in
     let all = sum_by-cons (λ z. one_if (is_some z)) o ms in
     omega arith

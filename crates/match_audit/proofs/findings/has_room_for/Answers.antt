@@ -1,5 +1,5 @@
 use Rattle.std.proofs.Common.{inl, inr, arith, refl}
-use Rattle.match_audit.proofs.LoadOf.{room_at}
+use Rattle.match_audit.proofs.Loads.{room_at}
 use Rattle.match_audit.proofs.findings.has_room_for.Goals as goal
 
 pub returns-then-has_fewer_than : goal.returns-then-has_fewer_than

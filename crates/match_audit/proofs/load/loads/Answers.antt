@@ -7,7 +7,7 @@ use Rattle.std.specs.Global.{Vec}
 use Rattle.match_model.specs.Ranking.{place}
 use Rattle.match_model.specs.Instance.{list_of_programme}
 use Rattle.match_audit.specs.Loads.{AreLoads}
-use Rattle.match_audit.proofs.LoadOf.{AreLoads-other, AreLoads-more, loaded, member_count-take}
+use Rattle.match_audit.proofs.Loads.{AreLoads-other, AreLoads-more, loaded, member_count-take}
 use Rattle.match_audit.proofs.load.loads.Goals.{then-programme-programmes, else-programme-programmes}
 use Rattle.match_audit.proofs.load.loads.Goals as goal
 

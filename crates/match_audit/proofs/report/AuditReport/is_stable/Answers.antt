@@ -1,6 +1,6 @@
 use Rattle.std.proofs.Common.{arith}
 use Rattle.std.proofs.lemmas.Grind.{common_steps}
-use Rattle.match_audit.proofs.Stability.{tells_stability}
+use Rattle.match_audit.proofs.Reports.{tells_stability}
 use Rattle.match_audit.proofs.report.AuditReport.is_stable.Goals as goal
 
 pub returns-then-is_empty-2-clause-stable : goal.returns-then-is_empty-2-clause-stable
