@@ -10,5 +10,3 @@ pub mod note;
 mod programmes;
 mod residents;
 mod seat;
-#[cfg(test)]
-mod tests;
