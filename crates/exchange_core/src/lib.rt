@@ -10,8 +10,6 @@ pub mod note;
 mod programmes;
 mod residents;
 mod seat;
-#[cfg(test)]
-mod tests;
 
 pub use event::{AnswerKind, Capacity, Desk, Event, MAX_EACH, Pending, Refused};
 pub use exchange::{Core, CoreFault};

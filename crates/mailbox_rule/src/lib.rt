@@ -6,8 +6,6 @@ mod fault;
 mod lists;
 mod rule;
 mod ruled;
-#[cfg(test)]
-mod tests;
 
 pub use ends::{PutEnd, PutReply, TakeEnd, TakeReply};
 pub use fault::MailFault;

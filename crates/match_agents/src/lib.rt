@@ -4,8 +4,6 @@
 mod heard;
 mod programme;
 mod resident;
-#[cfg(test)]
-mod tests;
 
 pub use heard::{AgentRefused, Heard};
 pub use programme::ProgrammeAgent;

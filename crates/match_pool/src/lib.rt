@@ -14,8 +14,6 @@ mod hands;
 mod open;
 mod pool;
 mod reserve;
-#[cfg(test)]
-mod tests;
 mod waits;
 mod woken;
 mod worker;

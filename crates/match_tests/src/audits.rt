@@ -1,69 +1,17 @@
 //! Sheets and lists of events with known answers: programme 0 is `A`, 1 is `B`, and residents 0 to 2 are `X`, `Y` and `Z`.
-use crate::samples::{A, B, X, Y, Z, answer, hear, nine_events, nineteen_events, offer, take};
+use crate::samples::{
+    A, B, Members, TWO_BY_TWO, TWO_PLACES, X, Y, Z, answer, hear, made, nine_events,
+    nineteen_events, offer, take,
+};
 use exchange_core::event::{AnswerKind, Capacity, Event, Pending, Refused};
 use match_audit::audit::{AuditFault, audit};
 use match_audit::replay::{ReplayFault, check, replay};
 use match_audit::report::AuditReport;
 use match_model::assignment::Assignment;
-use match_model::builder::InstanceBuilder;
 use match_model::fault::ModelFault;
-use match_model::instance::Instance;
 use match_model::member::{ProgrammeNo, ResidentNo};
 use std::alloc::{AllocError, Global};
 use std::test::Fail;
-
-// The quotas and the lists of the programmes, and then the lists of the residents, by number.
-type Members<'a> = (&'a [(u32, &'a [u32])], &'a [&'a [u32]]);
-
-const TWO_BY_TWO: Members = (&[(1, &[0, 1]), (1, &[1, 0])], &[&[1, 0], &[0, 1]]);
-
-const TWO_PLACES: Members = (&[(2, &[0, 1, 2]), (1, &[0])], &[&[1, 0], &[0], &[0]]);
-
-fn residents(alloc: Global, numbers: &[u32]) -> Result<Vec<ResidentNo>, ModelFault> {
-    let mut list = Vec::new(alloc);
-    for n in numbers {
-        let Ok(()) = list.push(ResidentNo(*n)) else {
-            return Err(ModelFault::Memory);
-        };
-    }
-    Ok(list)
-}
-
-fn programmes(alloc: Global, numbers: &[u32]) -> Result<Vec<ProgrammeNo>, ModelFault> {
-    let mut list = Vec::new(alloc);
-    for n in numbers {
-        let Ok(()) = list.push(ProgrammeNo(*n)) else {
-            return Err(ModelFault::Memory);
-        };
-    }
-    Ok(list)
-}
-
-fn add_members(
-    alloc: Global,
-    builder: &mut InstanceBuilder,
-    members: Members,
-) -> Result<(), ModelFault> {
-    for _ in members.1 {
-        builder.add_resident()?;
-    }
-    for (quota, list) in members.0 {
-        let programme = builder.add_programme(*quota)?;
-        let list = residents(alloc, list)?;
-        builder.programme_list(programme, list.as_slice())?;
-    }
-    for (r, list) in (0..20_000).zip(members.1) {
-        let list = programmes(alloc, list)?;
-        builder.resident_list(ResidentNo(r), list.as_slice())?;
-    }
-    Ok(())
-}
-
-fn made(alloc: Global, members: Members) -> Result<Instance, ModelFault> {
-    let mut builder = InstanceBuilder::new(alloc);
-    add_members(alloc, &mut builder, members)?;
-    builder.finish().map_err(|refused| refused.fault)
-}
 
 // For each resident its place.
 fn sheet(alloc: Global, places: &[Option<u32>]) -> Result<Assignment, ModelFault> {
@@ -229,8 +177,11 @@ fn replays_lists(rt: HostRuntime) {
 fn replays_under_a_capacity(rt: HostRuntime) {
     let good = nineteen_events();
     let twice = [offer(A, X), offer(B, X)];
-    let lists: [(u32, &[Event], Result<usize, ReplayFault>); 3] = [
+    let lists: [(u32, &[Event], Result<usize, ReplayFault>); 6] = [
         (1, &twice, refused(2, Refused::MailboxFull)),
+        (2, &good, refused(10, Refused::MailboxFull)),
+        (3, &good, Ok(19)),
+        (1024, &good, Ok(19)),
         (0, &good, Err(ReplayFault::BadCapacity)),
         (1025, &good, Err(ReplayFault::BadCapacity)),
     ];

@@ -5,15 +5,29 @@
 #![tactic(auto)]
 
 #[cfg(test)]
+mod agents;
+#[cfg(test)]
 mod audits;
+#[cfg(test)]
+mod cores;
 #[cfg(test)]
 mod devices;
 #[cfg(test)]
 mod dockets;
 #[cfg(test)]
+mod gates;
+#[cfg(test)]
 mod interrupted;
 #[cfg(test)]
+mod ledger;
+#[cfg(test)]
+mod mailboxes;
+#[cfg(test)]
+mod markets;
+#[cfg(test)]
 mod models;
+#[cfg(test)]
+mod pool;
 #[cfg(test)]
 mod samples;
 #[cfg(test)]

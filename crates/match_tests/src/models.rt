@@ -1,4 +1,5 @@
 //! Instances and assignments by hand.
+use crate::markets::{TEN, all_residents, made_in_one_order};
 use crate::samples::{A, B, X, Y, Z, is_programme, is_resident};
 use match_model::assignment::Assignment;
 use match_model::builder::InstanceBuilder;
@@ -31,7 +32,8 @@ fn refuses_in_order(rt: HostRuntime) -> Result<(), Fail> {
     for (list, wanted) in of_programme {
         assert!(rt; builder.programme_list(A, list) == wanted);
     }
-    let of_resident: [(&[ProgrammeNo], Result<(), ModelFault>); 2] = [
+    let of_resident: [(&[ProgrammeNo], Result<(), ModelFault>); 3] = [
+        (&[B], Err(ModelFault::NoSuchMember)),
         (&[A, A], Err(ModelFault::ListedTwice)),
         (&[A], Ok(())),
     ];
@@ -104,6 +106,24 @@ fn keeps_the_mutual_parts(rt: HostRuntime) -> Result<(), Fail> {
     ] {
         assert!(rt; are_ranked(&instance, A, resident, ranks));
     }
+    Ok(())
+}
+
+#[test]
+fn takes_as_many_pairs_as_there_may_be(rt: HostRuntime) -> Result<(), Fail> {
+    let instance = made_in_one_order(rt.alloc())?;
+    let residents = all_residents(rt.alloc())?;
+    assert!(rt; instance.pairs() == 200_000);
+    assert!(rt; is_programme(&instance, ProgrammeNo(9), 2_000, residents.as_slice()));
+    assert!(rt; is_resident(&instance, ResidentNo(19_999), &TEN));
+    assert!(rt;
+        are_ranked(
+            &instance,
+            ProgrammeNo(9),
+            ResidentNo(19_999),
+            (Some(19_999), Some(9))
+        )
+    );
     Ok(())
 }
 

@@ -1,4 +1,7 @@
 //! Worked dockets by their bytes, faulty devices, and what the program tells.
+mod journals;
+mod large;
+
 use crate::devices::{CutReader, CutWriter};
 use crate::samples::{
     CLOSE, ELEVEN, FULL, OTHER_SHEET, QUOTAS, SMALL, SMALL_JOURNAL, SMALL_SHEET, TO_EIGHTEEN,
@@ -127,43 +130,6 @@ fn writes_the_journal_of_nothing(rt: HostRuntime) -> Result<(), Fail> {
     Ok(())
 }
 
-// What a match with its journal writes for a docket.
-fn matched<H: Threads + Wait + Sync + Send + Copy>(
-    rt: H,
-    alloc: Global,
-    order: Order,
-    text: &str,
-) -> Result<Vec<u8>, Fail> {
-    let mut output = Vec::new(alloc);
-    match serve(rt, alloc, order, text.as_bytes(), &mut output) {
-        Ok(Status::Closed) => Ok(output),
-        _ => Err(Fail::from("the match isn't closed")),
-    }
-}
-
-#[test]
-fn its_journal_is_good(rt: HostRuntime) -> Result<(), Fail> {
-    for order in [WITH_JOURNAL, NARROW_WITH_JOURNAL] {
-        for text in [QUOTAS, SMALL, CHAIN] {
-            let written = matched(rt, rt.alloc(), order, text)?;
-            let mut docket = text.as_bytes().to_vec(rt.alloc())?;
-            docket.extend_from_slice(&written)?;
-            let mut report = Vec::new(rt.alloc());
-            let stable = serve(rt, rt.alloc(), Order::Audit, docket.as_slice(), &mut report);
-            assert!(rt; stable == Ok(Status::Stable), "{text}");
-            let good = serve(
-                rt,
-                rt.alloc(),
-                Order::Replay,
-                docket.as_slice(),
-                &mut report,
-            );
-            assert!(rt; good == Ok(Status::ReplayGood), "{text}");
-        }
-    }
-    Ok(())
-}
-
 #[test]
 fn audits(rt: HostRuntime) -> Result<(), Fail> {
     let cases: [(&[&str], Status, &str, u8); 5] = [
@@ -205,12 +171,18 @@ fn audits(rt: HostRuntime) -> Result<(), Fail> {
 
 #[test]
 fn replays_good_journals(rt: HostRuntime) -> Result<(), Fail> {
-    let cases: [(&[&str], &str); 2] = [
+    let cases: [(&[&str], &str); 5] = [
         (
             &[QUOTAS, FULL, ELEVEN, TO_THIRTEEN, TO_EIGHTEEN, CLOSE],
             "G,19\n",
         ),
+        (
+            &[QUOTAS, "C,3\n", ELEVEN, TO_THIRTEEN, TO_EIGHTEEN, CLOSE],
+            "G,19\n",
+        ),
         (&[SMALL, FULL, SMALL_JOURNAL, SMALL_SHEET], "G,9\n"),
+        (&[SMALL, "C,1\n", SMALL_JOURNAL, SMALL_SHEET], "G,9\n"),
+        (&[SMALL, "C,1024\n", SMALL_JOURNAL], "G,9\n"),
     ];
     for (texts, row) in cases {
         let ending = (Ok(Status::ReplayGood), row, 0);
@@ -223,7 +195,7 @@ fn replays_good_journals(rt: HostRuntime) -> Result<(), Fail> {
 }
 
 // Journals that are refused, each with what is told of it.
-const REFUSED: [(&[&str], &str); 14] = [
+const REFUSED: [(&[&str], &str); 15] = [
     (&[QUOTAS, FULL, "E,take,x,a\n"], "N,1,nothing-waiting\n"),
     (
         &[QUOTAS, FULL, ELEVEN, TO_THIRTEEN, CLOSE],
@@ -249,6 +221,7 @@ const REFUSED: [(&[&str], &str); 14] = [
         &[QUOTAS, "C,1\nE,offer,a,x\nE,offer,b,x\n"],
         "N,2,mailbox-full\n",
     ),
+    (&[QUOTAS, "C,2\n", ELEVEN], "N,10,mailbox-full\n"),
     (
         &[
             QUOTAS,
@@ -365,20 +338,45 @@ fn sees_forged_journals(rt: HostRuntime) -> Result<(), Fail> {
     Ok(())
 }
 
+// A fault of each pass of reading.
+const FAULTS: [(&[&str], DocketFault); 4] = [
+    (&["Q,a,1\nQ,b,x\n"], DocketFault::BadQuota { place: 2 }),
+    (
+        &["Q,a,1\nP,a,x,x\nR,x,a\n"],
+        DocketFault::Model {
+            place: 2,
+            fault: ModelFault::ListedTwice,
+        },
+    ),
+    (
+        &[SMALL, "M,x,a\nM,y,b\nF,a,2,1\nF,b,1,1\n"],
+        DocketFault::BadSheet { place: 9 },
+    ),
+    (
+        &[SMALL, SMALL_SHEET, FULL, "E,offer,a,z\n"],
+        DocketFault::UnknownName { place: 12 },
+    ),
+];
+
+#[test]
+fn tells_faults_of_reading(rt: HostRuntime) -> Result<(), Fail> {
+    for (texts, fault) in FAULTS {
+        for order in [MATCH, Order::Audit, Order::Replay] {
+            let ending = (Err(ServeFault::Docket(fault)), "", 3);
+            assert!(rt; serves(rt, rt.alloc(), order, texts, ending)?, "{fault}");
+        }
+    }
+    Ok(())
+}
+
 #[test]
 fn tells_what_a_docket_lacks(rt: HostRuntime) -> Result<(), Fail> {
-    let twice = DocketFault::Model {
-        place: 2,
-        fault: ModelFault::ListedTwice,
-    };
-    for order in [MATCH, Order::Audit, Order::Replay] {
-        let ending = (Err(ServeFault::Docket(twice)), "", 3);
-        assert!(rt; serves(rt, rt.alloc(), order, &["Q,a,1\nP,a,x,x\nR,x,a\n"], ending)?);
+    for (order, fault) in [
+        (Order::Audit, ServeFault::NoSheet),
+        (Order::Replay, ServeFault::NoJournal),
+    ] {
+        assert!(rt; serves(rt, rt.alloc(), order, &[SMALL], (Err(fault), "", 3))?);
     }
-    let no_sheet = (Err(ServeFault::NoSheet), "", 3);
-    assert!(rt; serves(rt, rt.alloc(), Order::Audit, &[SMALL], no_sheet)?);
-    let no_journal = (Err(ServeFault::NoJournal), "", 3);
-    assert!(rt; serves(rt, rt.alloc(), Order::Replay, &[SMALL], no_journal)?);
     Ok(())
 }
 

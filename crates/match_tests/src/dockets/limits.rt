@@ -1,47 +1,11 @@
 //! Each limit, and one more.
 use super::{read, tells};
+use crate::markets::{push_all, push_lists};
 use std::alloc::{AllocError, Global};
 use std::test::Fail;
 
 // The list of a resident who ranks all of ten programmes, last first.
 const TEN: &str = ",p9,p8,p7,p6,p5,p4,p3,p2,p1,p0\n";
-
-// Adds `start`, a number and `end`.
-fn push_numbered(
-    text: &mut String,
-    alloc: Global,
-    start: &str,
-    n: u32,
-    end: &str,
-) -> Result<(), AllocError> {
-    text.push_str(start)?;
-    text.push_str(n.to_string(alloc)?.as_str())?;
-    text.push_str(end)
-}
-
-// Adds the same for each number below `count`.
-fn push_all(
-    text: &mut String,
-    alloc: Global,
-    start: &str,
-    count: u32,
-    end: &str,
-) -> Result<(), AllocError> {
-    for n in 0..count {
-        push_numbered(text, alloc, start, n, end)?;
-    }
-    Ok(())
-}
-
-// Adds the lists of ten programmes, each of 20,000 residents.
-fn push_lists(text: &mut String, alloc: Global) -> Result<(), AllocError> {
-    for p in 0..10u32 {
-        push_numbered(text, alloc, "P,p", p, "")?;
-        push_all(text, alloc, ",r", 20_000, "")?;
-        text.push_str("\n")?;
-    }
-    Ok(())
-}
 
 // A docket of numbered records.
 fn numbered(alloc: Global, start: &str, count: u32, end: &str) -> Result<String, AllocError> {

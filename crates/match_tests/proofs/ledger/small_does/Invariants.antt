@@ -1,0 +1,7 @@
+use Rattle.match_tests.proofs.ledger.small_does.Given as goal
+
+abbrev pub ghosts-does-J-Ledger : goal.ghosts-does-J-Ledger
+ghosts-does-J-Ledger a = record { name = a.blank.name; parts = a.blank.parts }
+
+abbrev pub ghosts-does-J-Naming : goal.ghosts-does-J-Naming
+ghosts-does-J-Naming a = record { inst = a.inst.now; cap = a.cap }

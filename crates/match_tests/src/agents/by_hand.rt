@@ -1,0 +1,302 @@
+//! One exchange on one thread, through ruled mailboxes, ledger and agents.
+mod desks;
+
+ghost use Rattle.std.specs.Prelude.{◌≡◌, ℕ, ◌<◌, [], slice_get, Some, IfOk};
+ghost use Rattle.std.specs.List.{All};
+ghost use Rattle.exchange_core.specs.declared.event.Capacity.TheVariants.{Full};
+
+use crate::samples::{TWO_PLACES, made};
+use desks::{Programme, Resident};
+use exchange_core::event::{Capacity, Event};
+use exchange_core::note::{AnswerNote, OfferNote};
+use mailbox_rule::{MailFault, PutEnd, RuledPut, RuledTake, TakeEnd, mailbox};
+use match_model::instance::Instance;
+use match_model::member::{ProgrammeNo, ResidentNo};
+use offer_ledger::{EntryRefused, Ledger, Naming, PARTS, Tally};
+use std::alloc::{AllocError, Global};
+use std::marker::Brand;
+use std::sync::Wait;
+use std::sync::ledger::Blank;
+use std::test::Fail;
+
+/// More than there are turns to take.
+const TURNS: u32 = 20;
+
+/// Takes what waits at a resident's desk, and gives what is due.
+fn serve_resident<
+    J: Naming,
+    P: PutEnd<OfferNote>,
+    Q: PutEnd<AnswerNote>,
+    T: TakeEnd<OfferNote> + Drop,
+>(
+    inst: &Instance,
+    ledger: &mut Ledger<J, P, Q>,
+    tally: &mut Tally<J>,
+    desk: &mut Resident<J, T>,
+    resident: ResidentNo,
+) -> Result<(), EntryRefused>
+    requires { inst.now ≡ J.inst }
+{
+    for _ in 0..TURNS {
+        let Some(programme) = desk.take(inst) else {
+            break;
+        };
+        ledger.enter_take(inst, tally, resident, programme)?;
+        for _ in 0..TURNS {
+            let Some((programme, kind)) = desk.give() else {
+                break;
+            };
+            ledger.enter_answer(inst, tally, resident, programme, kind)?;
+        }
+    }
+    Ok(())
+}
+
+/// Hears what waits at a programme's desk, and offers where it wishes.
+fn serve_programme<
+    J: Naming,
+    P: PutEnd<OfferNote>,
+    Q: PutEnd<AnswerNote>,
+    T: TakeEnd<AnswerNote> + Drop,
+>(
+    inst: &Instance,
+    ledger: &mut Ledger<J, P, Q>,
+    tally: &mut Tally<J>,
+    desk: &mut Programme<J, T>,
+    programme: ProgrammeNo,
+) -> Result<(), EntryRefused>
+    requires { inst.now ≡ J.inst }
+{
+    for _ in 0..TURNS {
+        let Some(answer) = desk.hear() else {
+            break;
+        };
+        ledger.enter_hear(inst, tally, programme, answer.resident, answer.kind)?;
+    }
+    for _ in 0..TURNS {
+        let Some(resident) = desk.offer(inst) else {
+            break;
+        };
+        ledger.enter_offer(inst, tally, programme, resident)?;
+    }
+    Ok(())
+}
+
+/// Serves each programme's desk, and then each resident's.
+fn serve_all<
+    J: Naming,
+    P: PutEnd<OfferNote>,
+    Q: PutEnd<AnswerNote>,
+    T: TakeEnd<OfferNote> + Drop,
+    U: TakeEnd<AnswerNote> + Drop,
+>(
+    inst: &Instance,
+    ledger: &mut Ledger<J, P, Q>,
+    tally: &mut Tally<J>,
+    residents: &mut [Resident<J, T>],
+    programmes: &mut [Programme<J, U>],
+) -> Result<(), EntryRefused>
+    requires { inst.now ≡ J.inst }
+{
+    for p in 0..inst.programmes() {
+        if let Some(desk) = programmes.get_mut(p as usize) {
+            serve_programme(inst, ledger, tally, desk, ProgrammeNo(p))?;
+        }
+    }
+    for r in 0..inst.residents() {
+        if let Some(desk) = residents.get_mut(r as usize) {
+            serve_resident(inst, ledger, tally, desk, ResidentNo(r))?;
+        }
+    }
+    Ok(())
+}
+
+/// A mailbox with room for all that can be sent and an agent, for each resident.
+fn open_residents<J: Naming, R: Wait + Copy>(
+    alloc: Global,
+    rt: R,
+    inst: &Instance,
+) -> Result<
+    (
+        Vec<RuledPut<OfferNote, R>>,
+        Vec<Resident<J, RuledTake<OfferNote, R>>>,
+    ),
+    MailFault,
+>
+    requires { inst.now ≡ J.inst }
+    ensures { IfOk result (λ both. All (λ end. end.puts ≡ []) both.0.items) }
+{
+    let mut puts = Vec::new(alloc);
+    let mut desks = Vec::new(alloc);
+    for r in 0..inst.residents() {
+        let resident = ResidentNo(r);
+        let room = inst.list_of_resident(resident).len().max(1);
+        let (put, take) = mailbox(alloc, rt, room as u32)?;
+        let desk = Resident::open(alloc, inst, resident, take).ok_or(MailFault::Memory)?;
+        let (Ok(()), Ok(())) = (puts.push(put), desks.push(desk)) else {
+            return Err(MailFault::Memory);
+        };
+    }
+    Ok((puts, desks))
+}
+
+/// A mailbox with room for all that can be sent and an agent, for each programme.
+fn open_programmes<J: Naming, R: Wait + Copy>(
+    alloc: Global,
+    rt: R,
+    inst: &Instance,
+) -> Result<
+    (
+        Vec<RuledPut<AnswerNote, R>>,
+        Vec<Programme<J, RuledTake<AnswerNote, R>>>,
+    ),
+    MailFault,
+>
+    requires { inst.now ≡ J.inst }
+    ensures { IfOk result (λ both. All (λ end. end.puts ≡ []) both.0.items) }
+{
+    let mut puts = Vec::new(alloc);
+    let mut desks = Vec::new(alloc);
+    for p in 0..inst.programmes() {
+        let programme = ProgrammeNo(p);
+        let room = (2 * inst.list_of_programme(programme).len()).max(1);
+        let (put, take) = mailbox(alloc, rt, room as u32)?;
+        let desk = Programme::open(alloc, inst, programme, take).ok_or(MailFault::Memory)?;
+        let (Ok(()), Ok(())) = (puts.push(put), desks.push(desk)) else {
+            return Err(MailFault::Memory);
+        };
+    }
+    Ok((puts, desks))
+}
+
+/// The programmes of the takes by a resident.
+fn takes(alloc: Global, journal: &[Event], by: ResidentNo) -> Result<Vec<OfferNote>, AllocError> {
+    let mut notes = Vec::new(alloc);
+    for event in journal {
+        if let Event::Take {
+            resident,
+            programme,
+        } = *event
+            && resident == by
+        {
+            notes.push(OfferNote { programme })?;
+        }
+    }
+    Ok(notes)
+}
+
+/// The residents and kinds of the hears by a programme.
+fn hears(alloc: Global, journal: &[Event], by: ProgrammeNo) -> Result<Vec<AnswerNote>, AllocError> {
+    let mut notes = Vec::new(alloc);
+    for event in journal {
+        if let Event::Hear {
+            programme,
+            resident,
+            kind,
+        } = *event
+            && programme == by
+        {
+            notes.push(AnswerNote { resident, kind })?;
+        }
+    }
+    Ok(notes)
+}
+
+/// Whether each resident's log is its takes of the journal.
+fn have_taken<J: Naming, T: TakeEnd<OfferNote> + Drop>(
+    alloc: Global,
+    journal: &[Event],
+    residents: &[Resident<J, T>],
+) -> Result<bool, AllocError> {
+    for (r, desk) in (0..20_000).zip(residents) {
+        let takes = takes(alloc, journal, ResidentNo(r))?;
+        if desk.log() != takes.as_slice() {
+            return Ok(false);
+        }
+    }
+    Ok(true)
+}
+
+/// Whether each programme's log is its hears of the journal.
+fn have_heard<J: Naming, U: TakeEnd<AnswerNote> + Drop>(
+    alloc: Global,
+    journal: &[Event],
+    programmes: &[Programme<J, U>],
+) -> Result<bool, AllocError> {
+    for (p, desk) in (0..2_000).zip(programmes) {
+        let hears = hears(alloc, journal, ProgrammeNo(p))?;
+        if desk.log() != hears.as_slice() {
+            return Ok(false);
+        }
+    }
+    Ok(true)
+}
+
+/// Serves all desks as long as there is anything to do, and closes.
+fn serve_to_close<
+    J: Naming,
+    P: PutEnd<OfferNote>,
+    Q: PutEnd<AnswerNote>,
+    T: TakeEnd<OfferNote> + Drop,
+    U: TakeEnd<AnswerNote> + Drop,
+>(
+    inst: &Instance,
+    ledger: &mut Ledger<J, P, Q>,
+    tally: &mut Tally<J>,
+    residents: &mut [Resident<J, T>],
+    programmes: &mut [Programme<J, U>],
+) -> Result<(), EntryRefused>
+    requires { inst.now ≡ J.inst }
+{
+    for _ in 0..TURNS {
+        serve_all(inst, ledger, tally, residents, programmes)?;
+    }
+    ledger.close(inst, tally)
+}
+
+/// How many events an exchange from its beginning to its close has, in which each desk's log is its list of the journal.
+fn exchange<J: Naming, R: Wait + Copy>(
+    rt: R,
+    alloc: Global,
+    blank: Blank,
+    inst: &Instance,
+) -> Result<Option<usize>, MailFault>
+    requires instance { inst.now ≡ J.inst }
+    requires capacity { J.cap ≡ Full }
+    requires blank { (blank.name ≡ J.name) × (blank.parts ≡ J.parts) × (J.parts ≡ 8) }
+{
+    let (offers, mut residents) = open_residents::<J, R>(alloc, rt, inst)?;
+    let (answers, mut programmes) = open_programmes::<J, R>(alloc, rt, inst)?;
+    let Ok((mut ledger, mut tally)) = Ledger::open(
+        alloc,
+        blank,
+        inst,
+        Capacity::Full,
+        offers,
+        answers,
+    ) else {
+        return Ok(None);
+    };
+    let served = serve_to_close(
+        inst,
+        &mut ledger,
+        &mut tally,
+        &mut residents,
+        &mut programmes,
+    );
+    let journal = ledger.journal();
+    let have_taken = have_taken(alloc, journal, &residents);
+    let have_heard = have_heard(alloc, journal, &programmes);
+    if served == Ok(()) && have_taken == Ok(true) && have_heard == Ok(true) {
+        return Ok(Some(journal.len()));
+    }
+    Ok(None)
+}
+
+#[test]
+fn by_hand(rt: HostRuntime) -> Result<(), Fail> {
+    let inst = made(rt.alloc(), TWO_PLACES)?;
+    let events = exchange::<Brand, HostRuntime>(rt, rt.alloc(), Blank::new(PARTS), &inst);
+    assert!(rt; events == Ok(Some(17)) || events == Ok(Some(19)));
+    Ok(())
+}

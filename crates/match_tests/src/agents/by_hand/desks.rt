@@ -1,0 +1,115 @@
+//! The desks of a named exchange.
+ghost use Rattle.std.specs.Prelude.{◌≡◌, []};
+ghost use Rattle.match_model.specs.Instance.{IsProgramme, IsResident};
+ghost use Rattle.match_agents.specs.Programmes.{IsProgrammeAgentOf};
+ghost use Rattle.match_agents.specs.Residents.{IsResidentAgentOf};
+
+use exchange_core::event::AnswerKind;
+use exchange_core::note::{AnswerNote, OfferNote};
+use mailbox_rule::TakeEnd;
+use match_agents::{Heard, ProgrammeAgent, ResidentAgent};
+use match_model::instance::Instance;
+use match_model::member::{ProgrammeNo, ResidentNo};
+use offer_ledger::Naming;
+use std::alloc::Global;
+use std::marker::PhantomData;
+
+/// A resident's agent of the named exchange.
+#[derive(Drop)]
+pub(super) struct Resident<J: Naming, T: TakeEnd<OfferNote>> {
+    agent: ResidentAgent<T>,
+    named: PhantomData<J>,
+    ghost agent_of: { IsResidentAgentOf J.inst agent },
+}
+
+impl<J: Naming, T: TakeEnd<OfferNote> + Drop> Resident<J, T> {
+    pub(super) fn open(
+        alloc: Global,
+        inst: &Instance,
+        resident: ResidentNo,
+        end: T,
+    ) -> Option<Resident<J, T>>
+        requires instance { inst.now ≡ J.inst }
+        requires member { IsResident inst.now resident }
+        requires unused { T.taken end ≡ [] }
+    {
+        let agent = ResidentAgent::open(alloc, inst, resident, end).ok()?;
+        Some(Resident {
+            agent,
+            named: PhantomData,
+        })
+    }
+
+    /// Takes an offer and decides it, where the agent is ready and one waits.
+    pub(super) fn take(&mut self, inst: &Instance) -> Option<ProgrammeNo>
+        requires { inst.now ≡ J.inst }
+    {
+        if !self.agent.ready() {
+            return None;
+        }
+        let Heard::Got(offer) = self.agent.take() else {
+            return None;
+        };
+        self.agent.decide(inst);
+        Some(offer.programme)
+    }
+
+    /// Gives the first answer due.
+    pub(super) fn give(&mut self) -> Option<(ProgrammeNo, AnswerKind)> {
+        let due = self.agent.due()?;
+        self.agent.answered();
+        Some(due)
+    }
+
+    pub(super) fn log(&self) -> &[OfferNote] {
+        self.agent.taken_log()
+    }
+}
+
+/// A programme's agent of the named exchange.
+#[derive(Drop)]
+pub(super) struct Programme<J: Naming, T: TakeEnd<AnswerNote>> {
+    agent: ProgrammeAgent<T>,
+    named: PhantomData<J>,
+    ghost agent_of: { IsProgrammeAgentOf J.inst agent },
+}
+
+impl<J: Naming, T: TakeEnd<AnswerNote> + Drop> Programme<J, T> {
+    pub(super) fn open(
+        alloc: Global,
+        inst: &Instance,
+        programme: ProgrammeNo,
+        end: T,
+    ) -> Option<Programme<J, T>>
+        requires instance { inst.now ≡ J.inst }
+        requires member { IsProgramme inst.now programme }
+        requires unused { T.taken end ≡ [] }
+    {
+        let agent = ProgrammeAgent::open(alloc, inst, programme, end).ok()?;
+        Some(Programme {
+            agent,
+            named: PhantomData,
+        })
+    }
+
+    /// Takes an answer, where one waits.
+    pub(super) fn hear(&mut self) -> Option<AnswerNote> {
+        match self.agent.hear() {
+            Heard::Got(answer) => Some(answer),
+            _ => None,
+        }
+    }
+
+    /// Counts an offer to the resident that is wished for, if there is one.
+    pub(super) fn offer(&mut self, inst: &Instance) -> Option<ResidentNo>
+        requires { inst.now ≡ J.inst }
+    {
+        let wish = self.agent.wish(inst)?;
+        self.agent.offered(inst);
+        Some(wish)
+    }
+
+    pub(super) fn log(&self) -> &[AnswerNote] {
+        self.agent.heard_log()
+    }
+}

@@ -1,0 +1,109 @@
+//! One desk beside its instance.
+ghost use Rattle.std.specs.Prelude.{◌≡◌, []};
+ghost use Rattle.match_agents.specs.Programmes.{IsProgrammeAgentOf};
+ghost use Rattle.match_agents.specs.Residents.{IsResidentAgentOf};
+
+use exchange_core::event::AnswerKind;
+use exchange_core::note::{AnswerNote, OfferNote};
+use mailbox_rule::TakeEnd;
+use match_agents::{Heard, ProgrammeAgent, ResidentAgent};
+use match_model::instance::Instance;
+use match_model::member::{ProgrammeNo, ResidentNo};
+use std::alloc::Global;
+
+/// A resident's agent beside its instance.
+#[derive(Drop)]
+pub(super) struct ResidentRun<T: TakeEnd<OfferNote>> {
+    inst: Instance,
+    agent: ResidentAgent<T>,
+    ghost agent_of: { IsResidentAgentOf inst agent },
+}
+
+impl<T: TakeEnd<OfferNote> + Drop> ResidentRun<T> {
+    /// None for a resident that is no member, or where memory is refused.
+    pub(super) fn open(
+        alloc: Global,
+        inst: Instance,
+        resident: ResidentNo,
+        end: T,
+    ) -> Option<ResidentRun<T>>
+        requires { T.taken end ≡ [] }
+    {
+        if resident.0 >= inst.residents() {
+            return None;
+        }
+        let agent = ResidentAgent::open(alloc, &inst, resident, end).ok()?;
+        Some(ResidentRun { inst, agent })
+    }
+
+    /// Takes an offer and decides it, where the agent is ready.
+    pub(super) fn take(&mut self) -> Option<Heard<OfferNote>> {
+        if !self.agent.ready() {
+            return None;
+        }
+        let heard = self.agent.take();
+        if let Heard::Got(_) = heard {
+            self.agent.decide(&self.inst);
+        }
+        Some(heard)
+    }
+
+    /// Gives the first answer due.
+    pub(super) fn give(&mut self) -> Option<(ProgrammeNo, AnswerKind)> {
+        let due = self.agent.due()?;
+        self.agent.answered();
+        Some(due)
+    }
+
+    /// Gives the first two answers due.
+    pub(super) fn give_two(&mut self) -> [Option<(ProgrammeNo, AnswerKind)>; 2] {
+        let first = self.give();
+        let second = self.give();
+        [first, second]
+    }
+
+    pub(super) fn log(&self) -> &[OfferNote] {
+        self.agent.taken_log()
+    }
+}
+
+/// A programme's agent beside its instance.
+#[derive(Drop)]
+pub(super) struct ProgrammeRun<T: TakeEnd<AnswerNote>> {
+    inst: Instance,
+    agent: ProgrammeAgent<T>,
+    ghost agent_of: { IsProgrammeAgentOf inst agent },
+}
+
+impl<T: TakeEnd<AnswerNote> + Drop> ProgrammeRun<T> {
+    /// None for a programme that is no member, or where memory is refused.
+    pub(super) fn open(
+        alloc: Global,
+        inst: Instance,
+        programme: ProgrammeNo,
+        end: T,
+    ) -> Option<ProgrammeRun<T>>
+        requires { T.taken end ≡ [] }
+    {
+        if programme.0 >= inst.programmes() {
+            return None;
+        }
+        let agent = ProgrammeAgent::open(alloc, &inst, programme, end).ok()?;
+        Some(ProgrammeRun { inst, agent })
+    }
+
+    /// Offers to the resident that is wished for, if there is one.
+    pub(super) fn offer(&mut self) -> Option<ResidentNo> {
+        let wish = self.agent.wish(&self.inst)?;
+        self.agent.offered(&self.inst);
+        Some(wish)
+    }
+
+    pub(super) fn hear(&mut self) -> Heard<AnswerNote> {
+        self.agent.hear()
+    }
+
+    pub(super) fn log(&self) -> &[AnswerNote] {
+        self.agent.heard_log()
+    }
+}

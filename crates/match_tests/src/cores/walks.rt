@@ -1,0 +1,173 @@
+//! Random walks: the core beside the filters over the list, on random instances.
+ghost use Rattle.std.specs.Prelude.{◌<◌};
+
+use super::run::Run;
+use super::slow;
+use exchange_core::event::{AnswerKind, Capacity, Event};
+use match_model::builder::InstanceBuilder;
+use match_model::fault::ModelFault;
+use match_model::instance::Instance;
+use match_model::member::{ProgrammeNo, ResidentNo};
+use std::alloc::{AllocError, Global};
+
+const PROGRAMMES: u32 = 3;
+
+const RESIDENTS: u32 = 5;
+
+/// Random numbers, each made of the last by shifts and exclusive ors.
+#[derive(Drop)]
+struct Numbers {
+    last: u32,
+}
+
+impl Numbers {
+    /// The next number below a bound that isn't 0.
+    fn below(&mut self, bound: u32) -> u32
+        requires { 0 < bound }
+        ensures { result < bound }
+    {
+        self.last ^= self.last << 13;
+        self.last ^= self.last >> 17;
+        self.last ^= self.last << 5;
+        self.last % bound
+    }
+}
+
+/// Most of the numbers below a prime, in random steps.
+fn some_below(numbers: &mut Numbers, alloc: Global, prime: u32) -> Result<Vec<u32>, AllocError>
+    requires { 1 < prime }
+{
+    let mut some = Vec::new(alloc);
+    let mut number = numbers.below(prime);
+    let step = numbers.below(prime - 1).saturating_add(1);
+    for _ in 0..prime {
+        if numbers.below(5) > 0 {
+            some.push(number)?;
+        }
+        number = number.saturating_add(step) % prime;
+    }
+    Ok(some)
+}
+
+fn some_residents(numbers: &mut Numbers, alloc: Global) -> Result<Vec<ResidentNo>, AllocError> {
+    let mut residents = Vec::new(alloc);
+    for r in some_below(numbers, alloc, RESIDENTS)? {
+        residents.push(ResidentNo(r))?;
+    }
+    Ok(residents)
+}
+
+fn some_programmes(numbers: &mut Numbers, alloc: Global) -> Result<Vec<ProgrammeNo>, AllocError> {
+    let mut programmes = Vec::new(alloc);
+    for p in some_below(numbers, alloc, PROGRAMMES)? {
+        programmes.push(ProgrammeNo(p))?;
+    }
+    Ok(programmes)
+}
+
+/// Quotas up to 3, and lists of most members.
+fn random_instance(numbers: &mut Numbers, alloc: Global) -> Result<Instance, ModelFault> {
+    let mut builder = InstanceBuilder::new(alloc);
+    for _ in 0..PROGRAMMES {
+        builder.add_programme(numbers.below(4))?;
+    }
+    for _ in 0..RESIDENTS {
+        builder.add_resident()?;
+    }
+    for p in 0..PROGRAMMES {
+        let residents = some_residents(numbers, alloc)?;
+        builder.programme_list(ProgrammeNo(p), &residents)?;
+    }
+    for r in 0..RESIDENTS {
+        let programmes = some_programmes(numbers, alloc)?;
+        builder.resident_list(ResidentNo(r), &programmes)?;
+    }
+    builder.finish().map_err(|refused| refused.fault)
+}
+
+/// An event over the members, or seldom over one who is none.
+fn random_event(numbers: &mut Numbers) -> Event {
+    let programme = ProgrammeNo(numbers.below(PROGRAMMES + 1).min(numbers.below(30)));
+    let resident = ResidentNo(numbers.below(RESIDENTS));
+    let kind = match numbers.below(3) {
+        0 => AnswerKind::Hold,
+        1 => AnswerKind::Decline,
+        _ => AnswerKind::Release,
+    };
+    match numbers.below(9) {
+        0 => Event::Close,
+        1 | 2 => Event::Offer {
+            programme,
+            resident,
+        },
+        3 | 4 => Event::Take {
+            resident,
+            programme,
+        },
+        5 | 6 => Event::Answer {
+            resident,
+            programme,
+            kind,
+        },
+        _ => Event::Hear {
+            programme,
+            resident,
+            kind,
+        },
+    }
+}
+
+/// A random event, or every third time one that may follow.
+fn next_event(numbers: &mut Numbers, run: &Run) -> Event {
+    if numbers.below(3) > 0 {
+        return random_event(numbers);
+    }
+    run.some_enabled().unwrap_or(Event::Close)
+}
+
+/// Whether the core and the filters agree on an event, which is done and added to the list where it may follow.
+fn agrees_once(run: &mut Run, cap: Capacity, list: &mut Vec<Event>, event: Event) -> bool {
+    let again = event;
+    let more = event;
+    let slow = slow::refusal(&run.inst, cap, list.as_slice(), event);
+    let is_free = slow.is_none();
+    if !slow::is_same(run.step(again), slow) {
+        return false;
+    }
+    if is_free {
+        let Ok(()) = list.push(more) else {
+            return false;
+        };
+    }
+    true
+}
+
+/// Whether they agree on each of so many events that are tried.
+fn agrees_along(
+    numbers: &mut Numbers,
+    alloc: Global,
+    run: &mut Run,
+    cap: Capacity,
+    turns: u32,
+) -> bool {
+    let mut list = Vec::new(alloc);
+    for _ in 0..turns {
+        let event = next_event(numbers, run);
+        if !agrees_once(run, cap, &mut list, event) {
+            return false;
+        }
+    }
+    true
+}
+
+/// Whether they agree on each of so many events that are tried on a random instance.
+pub(super) fn agrees(alloc: Global, seed: u32, cap: Capacity, turns: u32) -> bool {
+    let mut numbers = Numbers { last: seed };
+    let Ok(inst) = random_instance(&mut numbers, alloc) else {
+        return false;
+    };
+    match Run::new(alloc, inst, cap) {
+        Ok(mut run) => agrees_along(&mut numbers, alloc, &mut run, cap, turns),
+        Err(_) => false,
+    }
+}

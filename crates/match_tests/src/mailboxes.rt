@@ -1,0 +1,301 @@
+//! Small mailboxes on one thread, and mailboxes between two threads.
+ghost use Rattle.std.specs.Prelude.{◌≡◌, ◌++◌, [], ◌∷◌};
+ghost use Rattle.std.specs.Bool.{OnTrue};
+
+use mailbox_rule::{
+    ListPut, ListTake, MailFault, PutEnd, PutReply, RuledPut, RuledTake, TakeEnd, TakeReply, agree,
+    mailbox,
+};
+use std::alloc::Global;
+use std::marker::Model;
+use std::sync::Wait;
+use std::test::*;
+use std::thread;
+use std::thread::Threads;
+
+const TURNS: u32 = 10_000_000;
+
+// Puts 5, 6 and 7, and then takes three times.
+fn three_each<P: PutEnd<u32>, T: TakeEnd<u32>>(
+    mut put: P,
+    mut take: T,
+) -> ([PutReply<u32>; 3], [TakeReply<u32>; 3], P, T) {
+    let first = put.put(5);
+    let second = put.put(6);
+    let third = put.put(7);
+    let put_replies = [first, second, third];
+    let first = take.take();
+    let second = take.take();
+    let third = take.take();
+    (put_replies, [first, second, third], put, take)
+}
+
+const PUT: [PutReply<u32>; 3] = [PutReply::Done, PutReply::Done, PutReply::Full(7)];
+
+const TAKEN: [TakeReply<u32>; 3] = [TakeReply::Got(5), TakeReply::Got(6), TakeReply::Nothing];
+
+#[test]
+fn two_places(rt: HostRuntime) -> Result<(), Fail> {
+    let (put, take) = mailbox(rt.alloc(), rt, 2)?;
+    let (puts, takes, _put, _take) = three_each(put, take);
+    assert!(rt; puts == PUT);
+    assert!(rt; takes == TAKEN);
+    Ok(())
+}
+
+#[test]
+fn two_places_in_memory(rt: HostRuntime) -> Result<(), Fail> {
+    let put = ListPut::with_room(rt.alloc(), 2)?;
+    let take = ListTake::of([5, 6].to_vec(rt.alloc())?);
+    let (puts, takes, _put, _take) = three_each(put, take);
+    assert!(rt; puts == PUT);
+    assert!(rt; takes == TAKEN);
+    Ok(())
+}
+
+#[test]
+fn capacities(rt: HostRuntime) {
+    // twice as many as there are pairs at most is what can be sent to one desk
+    for (capacity, wanted) in [(0, Some(MailFault::NoCapacity)), (1, None), (400_000, None)] {
+        let fault = mailbox::<u32, HostRuntime>(rt.alloc(), rt, capacity).err();
+        assert!(rt; fault == wanted, "{capacity}");
+    }
+}
+
+#[test]
+fn no_room(rt: HostRuntime) -> Result<(), Fail> {
+    let mut put = ListPut::with_room(rt.alloc(), 0)?;
+    assert!(rt; put.put(5) == PutReply::Full(5));
+    Ok(())
+}
+
+#[test]
+fn texts(rt: HostRuntime) -> Result<(), Fail> {
+    for (fault, text) in [
+        (MailFault::NoCapacity, "a mailbox needs a capacity above 0"),
+        (MailFault::Memory, "out of memory"),
+    ] {
+        assert!(rt; fault.to_string(rt.alloc())?.as_str() == text, "{text}");
+    }
+    Ok(())
+}
+
+#[test]
+fn nobody_takes(rt: HostRuntime) -> Result<(), Fail> {
+    let (mut put, take) = mailbox(rt.alloc(), rt, 2)?;
+    drop(take);
+    assert!(rt; put.put(5) == PutReply::Gone(5));
+    Ok(())
+}
+
+#[test]
+fn nobody_puts(rt: HostRuntime) -> Result<(), Fail> {
+    let (mut put, mut take) = mailbox(rt.alloc(), rt, 2)?;
+    assert!(rt; put.put(5) == PutReply::Done);
+    drop(put);
+    for reply in [TakeReply::Got(5), TakeReply::Gone] {
+        assert!(rt; take.take() == reply);
+    }
+    Ok(())
+}
+
+// A message that contracts see as a number.
+#[derive(Clone, Copy, PartialEq, Eq, Debug)]
+struct Note {
+    number: u32,
+}
+
+impl Model for Note {
+    ghost use Rattle.std.specs.Prelude.{ℕ};
+
+    ghost Value = { ℕ };
+
+    ghost view = { λ n. n.number };
+
+    ghost inverse = { λ n. record { number = n } };
+}
+
+fn post<P: PutEnd<Note>>(put: &mut P, number: u32) -> bool
+    ensures { OnTrue result (P.puts put.new ≡ P.puts put.old ++ number ∷ []) }
+{
+    matches!(put.put(Note { number }), PutReply::Done)
+}
+
+#[test]
+fn notes(rt: HostRuntime) -> Result<(), Fail> {
+    let (mut put, mut take) = mailbox(rt.alloc(), rt, 1)?;
+    assert!(rt; post(&mut put, 7));
+    assert!(rt; !post(&mut put, 8));
+    for reply in [TakeReply::Got(Note { number: 7 }), TakeReply::Nothing] {
+        assert!(rt; take.take() == reply);
+    }
+    Ok(())
+}
+
+// Puts the numbers below `count`, in order.
+fn put_all<R: Wait + Copy>(mut put: RuledPut<u32, R>, count: u32) -> RuledPut<u32, R>
+    ensures { result.mailbox ≡ put.mailbox }
+{
+    let mut next = 0;
+    for _ in 0..TURNS {
+        if next >= count {
+            break;
+        }
+        match put.put(next) {
+            PutReply::Done => next += 1,
+            PutReply::Full(_) | PutReply::Gone(_) => thread::yield_now(),
+        }
+    }
+    put
+}
+
+// Takes until `into` has `count` numbers.
+fn take_all<R: Wait + Copy>(
+    mut take: RuledTake<u32, R>,
+    mut into: Vec<u32>,
+    count: usize,
+) -> (RuledTake<u32, R>, Vec<u32>)
+    ensures { result.0.mailbox ≡ take.mailbox }
+{
+    for _ in 0..TURNS {
+        if into.len() >= count {
+            break;
+        }
+        match take.take() {
+            TakeReply::Got(number) => {
+                let Ok(()) = into.push(number) else {
+                    break;
+                };
+            }
+            TakeReply::Nothing | TakeReply::Gone => thread::yield_now(),
+        }
+    }
+    (take, into)
+}
+
+// Puts the numbers below `count`, in order, and takes as many.
+fn exchange<R: Wait + Copy>(
+    mut put: RuledPut<u32, R>,
+    mut take: RuledTake<u32, R>,
+    mut into: Vec<u32>,
+    count: u32,
+) -> (RuledPut<u32, R>, RuledTake<u32, R>, Vec<u32>)
+    ensures { (result.0.mailbox ≡ put.mailbox) × (result.1.mailbox ≡ take.mailbox) }
+{
+    let mut next = 0;
+    for _ in 0..TURNS {
+        if next < count && matches!(put.put(next), PutReply::Done) {
+            next += 1;
+        }
+        match take.take() {
+            TakeReply::Got(number) => {
+                let Ok(()) = into.push(number) else {
+                    break;
+                };
+            }
+            TakeReply::Nothing | TakeReply::Gone => thread::yield_now(),
+        }
+        if into.len() >= count as usize {
+            break;
+        }
+    }
+    (put, take, into)
+}
+
+// Puts each of `count` numbers that it takes into the other mailbox.
+fn pass_on<R: Wait + Copy>(
+    mut take: RuledTake<u32, R>,
+    mut put: RuledPut<u32, R>,
+    count: u32,
+) -> (RuledTake<u32, R>, RuledPut<u32, R>)
+    ensures { (result.0.mailbox ≡ take.mailbox) × (result.1.mailbox ≡ put.mailbox) }
+{
+    let mut passed = 0;
+    let mut held = None;
+    for _ in 0..TURNS {
+        if passed >= count {
+            break;
+        }
+        if held.is_none()
+            && let TakeReply::Got(number) = take.take()
+        {
+            held = Some(number);
+        }
+        match held {
+            Some(number) if matches!(put.put(number), PutReply::Done) => {
+                held = None;
+                passed += 1;
+            }
+            _ => thread::yield_now(),
+        }
+    }
+    (take, put)
+}
+
+// The numbers that went from one thread to another.
+fn relayed<R: Threads + Wait + Sync + Send + Copy>(
+    rt: R,
+    alloc: Global,
+    capacity: u32,
+    count: u32,
+) -> Result<Vec<u32>, Fail> {
+    let (put, take) = mailbox(alloc, rt, capacity)?;
+    let into = Vec::with_capacity(alloc, count as usize)?;
+    let (put, (take, numbers)) = thread::join(
+        &rt,
+        move || put_all(put, count),
+        move || take_all(take, into, count as usize),
+    );
+    let (_put, _take) = agree(put, take);
+    Ok(numbers)
+}
+
+// Whether the numbers are those below `count`, in order.
+fn is_counted(numbers: &[u32], count: u32) -> bool {
+    numbers.len() == count as usize
+        && numbers
+            .iter()
+            .zip(0..count)
+            .all(|(n, expected)| *n == expected)
+}
+
+#[test]
+fn relay(rt: HostRuntime) -> Result<(), Fail> {
+    let numbers = relayed(rt, rt.alloc(), 8, 10_000)?;
+    assert!(rt; is_counted(numbers.as_slice(), 10_000));
+    Ok(())
+}
+
+#[test]
+fn relay_one_by_one(rt: HostRuntime) -> Result<(), Fail> {
+    let numbers = relayed(rt, rt.alloc(), 1, 10_000)?;
+    assert!(rt; is_counted(numbers.as_slice(), 10_000));
+    Ok(())
+}
+
+// The numbers that went through one mailbox to another thread, and came back through another.
+fn returned<R: Threads + Wait + Sync + Send + Copy>(
+    rt: R,
+    alloc: Global,
+    capacity: u32,
+    count: u32,
+) -> Result<Vec<u32>, Fail> {
+    let (there, here) = mailbox(alloc, rt, capacity)?;
+    let (back, home) = mailbox(alloc, rt, capacity)?;
+    let into = Vec::with_capacity(alloc, count as usize)?;
+    let ((there, home, numbers), (here, back)) = thread::join(
+        &rt,
+        move || exchange(there, home, into, count),
+        move || pass_on(here, back, count),
+    );
+    let (_there, _here) = agree(there, here);
+    let (_back, _home) = agree(back, home);
+    Ok(numbers)
+}
+
+#[test]
+fn there_and_back(rt: HostRuntime) -> Result<(), Fail> {
+    let numbers = returned(rt, rt.alloc(), 8, 10_000)?;
+    assert!(rt; is_counted(numbers.as_slice(), 10_000));
+    Ok(())
+}
