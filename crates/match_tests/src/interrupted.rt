@@ -67,7 +67,10 @@ fn reads_on_after_an_interruption(rt: HostRuntime) {
         for every in [1, 2, 7] {
             let mut output = Vec::new(rt.alloc());
             let answer = audit(rt.alloc(), text, every, &mut output);
-            assert!(rt; answer == wanted && output.as_slice() == report.as_bytes(), "{report}");
+            assert!(rt;
+                answer == wanted && output.as_slice() == report.as_bytes(),
+                "{report}"
+            );
         }
     }
 }
