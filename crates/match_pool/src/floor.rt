@@ -9,8 +9,47 @@ use crate::hands::Hands;
 use exchange_core::note::{AnswerNote, OfferNote};
 use mailbox_rule::{PutEnd, TakeEnd};
 use offer_ledger::Naming;
+use std::hint::spin_loop;
 use std::sync::atomic::{AtomicBool, Ordering};
-use std::sync::{Condvar, Mutex, Wait};
+use std::sync::{Condvar, Mutex, MutexGuard, Wait};
+use std::thread::Parker;
+use std::time::Duration;
+
+/// How often a lock is tried before a worker naps, and how long it pauses after each time.
+const TRIES: u32 = 10;
+
+const PAUSES: u32 = 4;
+
+/// How often a worker naps before it waits for a lock, and for how many microseconds.
+const NAPS: u32 = 20;
+
+const NAP_MICROS: u64 = 100;
+
+// Tries a lock some times.
+fn try_soon<T>(lock: &Mutex<T>) -> Option<MutexGuard<'_, T>> {
+    for _ in 0..TRIES {
+        if let Some(guard) = lock.try_lock() {
+            return Some(guard);
+        }
+        for _ in 0..PAUSES {
+            spin_loop();
+        }
+    }
+    None
+}
+
+// The value under a lock that each worker wants for each event. Where another has it a worker steps back for a while, so
+// that the other works on alone: a lock that changes hands for each event makes both slower than one.
+fn lock_soon<'a, T, R: Wait>(rt: &R, lock: &'a Mutex<T>) -> MutexGuard<'a, T> {
+    let parker = Parker::new();
+    for _ in 0..NAPS {
+        if let Some(guard) = try_soon(lock) {
+            return guard;
+        }
+        parker.park_timeout(rt, Duration::from_micros(NAP_MICROS));
+    }
+    lock.lock(rt)
+}
 
 /// The locks of a run. They are taken in the order desk, ledger; `hands` is never held while another is taken.
 #[derive(Drop)]
@@ -57,6 +96,16 @@ where
         }
     }
 
+    /// The ledger and those who wait for room, under their lock.
+    pub(crate) fn lock_books<R: Wait>(&self, rt: &R) -> MutexGuard<'_, Books<J, P, Q>> {
+        lock_soon(rt, &self.books)
+    }
+
+    /// The desks in hands and the list, under their lock.
+    pub(crate) fn lock_hands<R: Wait>(&self, rt: &R) -> MutexGuard<'_, Hands<'a, G>> {
+        lock_soon(rt, &self.hands)
+    }
+
     /// Whether the run ends.
     pub(crate) fn is_ending(&self) -> bool {
         self.ending.load(Ordering::SeqCst)
@@ -65,7 +114,7 @@ where
     /// Ends the run: the workers leave once what they have begun is entered.
     pub(crate) fn end<R: Wait>(&self, rt: &R) {
         self.ending.store(true, Ordering::SeqCst);
-        self.hands.lock(rt).ended = true;
+        self.lock_hands(rt).ended = true;
         self.news.notify_all();
     }
 
@@ -73,13 +122,13 @@ where
     pub(crate) fn stop<R: Wait>(&self, rt: &R)
         requires { G.MAY_STOP ≡ true }
     {
-        self.hands.lock(rt).stop();
+        self.lock_hands(rt).stop();
         self.end(rt);
     }
 
     /// Ends the run for a trouble, of which the first one is kept.
     pub(crate) fn fail<R: Wait>(&self, rt: &R, trouble: Trouble) {
-        self.hands.lock(rt).trouble.get_or_insert(trouble);
+        self.lock_hands(rt).trouble.get_or_insert(trouble);
         self.end(rt);
     }
 }

@@ -130,7 +130,7 @@ impl<'a, J: Naming, G: Gate, R: Wait> Worker<'a, J, G, R> {
         T: TakeEnd<OfferNote>,
         U: TakeEnd<AnswerNote>,
     {
-        let mut more = floor.books.lock(self.rt).offers_wait(self.inst, resident);
+        let mut more = floor.lock_books(self.rt).offers_wait(self.inst, resident);
         for _ in self.rt.forever() {
             if floor.is_ending() {
                 return false;
@@ -161,7 +161,7 @@ impl<'a, J: Naming, G: Gate, R: Wait> Worker<'a, J, G, R> {
         T: TakeEnd<OfferNote>,
         U: TakeEnd<AnswerNote>,
     {
-        let mut more = floor.books.lock(self.rt).answers_wait(self.inst, programme);
+        let mut more = floor.lock_books(self.rt).answers_wait(self.inst, programme);
         for _ in self.rt.forever() {
             if floor.is_ending() {
                 return false;
@@ -199,8 +199,7 @@ impl<'a, J: Naming, G: Gate, R: Wait> Worker<'a, J, G, R> {
         requires { slice_get seat.old.due 0 ≢ None }
     {
         let entry = floor
-            .books
-            .lock(self.rt)
+            .lock_books(self.rt)
             .answer(self.inst, &mut self.tally, resident, programme, kind);
         if let Entry::Made { .. } = entry {
             seat.answered();
@@ -229,8 +228,7 @@ impl<'a, J: Naming, G: Gate, R: Wait> Worker<'a, J, G, R> {
         requires { wish_of J.inst seat.old ≢ None }
     {
         let entry = floor
-            .books
-            .lock(self.rt)
+            .lock_books(self.rt)
             .offer(self.inst, &mut self.tally, programme, resident);
         if let Entry::Made { .. } = entry {
             seat.offered(self.inst);
@@ -265,8 +263,7 @@ impl<'a, J: Naming, G: Gate, R: Wait> Worker<'a, J, G, R> {
         };
         self.pass(floor, again);
         let entry = floor
-            .books
-            .lock(self.rt)
+            .lock_books(self.rt)
             .take(self.inst, &mut self.tally, resident, programme);
         seat.decide(self.inst);
         self.after_receipt(
@@ -302,8 +299,7 @@ impl<'a, J: Naming, G: Gate, R: Wait> Worker<'a, J, G, R> {
         self.pass(floor, again);
         let AnswerNote { resident, kind } = note;
         let entry = floor
-            .books
-            .lock(self.rt)
+            .lock_books(self.rt)
             .hear(self.inst, &mut self.tally, programme, resident, kind);
         self.after_receipt(
             floor,
@@ -441,7 +437,7 @@ impl<'a, J: Naming, G: Gate, R: Wait> Worker<'a, J, G, R> {
             return;
         }
         let wakes = {
-            let mut hands = floor.hands.lock(self.rt);
+            let mut hands = floor.lock_hands(self.rt);
             hands.list_all(self.woken.desks());
             hands.wakes_one()
         };
@@ -465,7 +461,7 @@ impl<'a, J: Naming, G: Gate, R: Wait> Worker<'a, J, G, R> {
         U: TakeEnd<AnswerNote>,
     {
         let (next, wakes, ended) = {
-            let mut hands = floor.hands.lock(self.rt);
+            let mut hands = floor.lock_hands(self.rt);
             hands.list_all(self.woken.desks());
             hands.let_go(desk, again);
             (hands.take(), hands.wakes_one(), hands.ended)
@@ -491,7 +487,7 @@ impl<'a, J: Naming, G: Gate, R: Wait> Worker<'a, J, G, R> {
         T: TakeEnd<OfferNote>,
         U: TakeEnd<AnswerNote>,
     {
-        let next = floor.hands.lock(self.rt).take();
+        let next = floor.lock_hands(self.rt).take();
         match next {
             Some(desk) => Some(desk),
             None => self.search(floor),
@@ -508,8 +504,7 @@ impl<'a, J: Naming, G: Gate, R: Wait> Worker<'a, J, G, R> {
     {
         for _ in self.rt.forever() {
             let found = floor
-                .books
-                .lock(self.rt)
+                .lock_books(self.rt)
                 .close_or_find(self.inst, &mut self.tally);
             match found {
                 Found::Closed => {
@@ -522,7 +517,7 @@ impl<'a, J: Naming, G: Gate, R: Wait> Worker<'a, J, G, R> {
                     return None;
                 }
                 Found::Desk(desk) => {
-                    let mut hands = floor.hands.lock(self.rt);
+                    let mut hands = floor.lock_hands(self.rt);
                     if hands.ended {
                         return None;
                     }
