@@ -1,11 +1,10 @@
 //! Which desks are in a worker's hands, and which may have work.
-ghost use Rattle.std.specs.Prelude.{◌≡◌, ◌≤◌, true};
-ghost use Rattle.std.specs.VecDeque.{deque_capacity};
+ghost use Rattle.std.specs.Prelude.{◌≡◌, true};
 
 use crate::fault::Trouble;
 use crate::gate::Gate;
+use crate::ready::Ready;
 use std::alloc::{AllocError, Global};
-use std::collections::VecDeque;
 use std::marker::PhantomData;
 
 /// Where a desk is.
@@ -25,38 +24,36 @@ enum Place {
 #[derive(Debug, Drop)]
 pub(crate) struct Hands<'a, G: Gate> {
     places: Vec<Place>,
-    ready: VecDeque<u32>,
-    room: usize,
+    ready: Ready,
     waiting: usize,
     pub(crate) ended: bool,
     stopped: bool,
     gate: PhantomData<&'a G>,
     pub(crate) trouble: Option<Trouble>,
-    ghost reserved: { room ≤ deque_capacity ready },
     ghost heeded: { stopped ≡ true → G.MAY_STOP ≡ true },
 }
 
 impl<'a, G: Gate> Hands<'a, G> {
-    /// No desk is in a hand, and every programme's desk may have work; residents' desks come first.
+    /// No desk is in a hand, and every programme's desk may have work, the first on top; residents' desks have the
+    /// lower numbers.
     pub(crate) fn open(
         alloc: Global,
         residents: u32,
         programmes: u32,
     ) -> Result<Hands<'a, G>, AllocError> {
-        let desks = residents as usize + programmes as usize;
-        let mut hands = Hands::idle(alloc, desks)?;
-        for p in 0..programmes {
+        let mut hands = Hands::idle(alloc, residents, programmes)?;
+        for p in (0..programmes).rev() {
             hands.list(residents.saturating_add(p));
         }
         Ok(hands)
     }
 
-    // This many desks, with nobody and with no work.
-    fn idle(alloc: Global, desks: usize) -> Result<Hands<'a, G>, AllocError> {
+    // Desks with nobody and with no work.
+    fn idle(alloc: Global, residents: u32, programmes: u32) -> Result<Hands<'a, G>, AllocError> {
+        let desks = residents as usize + programmes as usize;
         Ok(Hands {
             places: vec![in alloc; Place::Idle; desks]?,
-            ready: VecDeque::with_capacity(alloc, desks)?,
-            room: desks,
+            ready: Ready::with_desks(alloc, residents, programmes)?,
             waiting: 0,
             ended: false,
             stopped: false,
@@ -73,7 +70,7 @@ impl<'a, G: Gate> Hands<'a, G> {
         match *place {
             Place::Idle => {
                 *place = Place::Listed;
-                self.push(desk);
+                self.ready.push(desk);
             }
             Place::InHand => *place = Place::InHandAgain,
             Place::Listed | Place::InHandAgain => {}
@@ -94,15 +91,15 @@ impl<'a, G: Gate> Hands<'a, G> {
         };
         if again || *place == Place::InHandAgain {
             *place = Place::Listed;
-            self.push(desk);
+            self.ready.push(desk);
         } else {
             *place = Place::Idle;
         }
     }
 
-    /// The next desk that may have work comes into a hand.
+    /// A desk that may have work comes into a hand.
     pub(crate) fn take(&mut self) -> Option<u32> {
-        let desk = self.ready.pop_front()?;
+        let desk = self.ready.pop()?;
         *self.places.get_mut(desk as usize)? = Place::InHand;
         Some(desk)
     }
@@ -155,11 +152,5 @@ impl<'a, G: Gate> Hands<'a, G> {
     /// A worker waits no more.
     pub(crate) fn wait_ends(&mut self) {
         self.waiting = self.waiting.saturating_sub(1);
-    }
-
-    fn push(&mut self, desk: u32) {
-        if self.ready.len() < self.room {
-            self.ready.push_back_reserved(desk);
-        }
     }
 }

@@ -13,6 +13,7 @@ mod gate;
 mod hands;
 mod open;
 mod pool;
+mod ready;
 mod reserve;
 mod waits;
 mod woken;

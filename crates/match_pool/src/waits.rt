@@ -2,13 +2,15 @@
 use std::alloc::{AllocError, Global};
 
 /// For each mailbox the first and the last of the desks whose put was refused as full, and for each desk whether it
-/// waits and who waits behind it. Mailboxes and desks go by the number of the desk. Each desk waits at most once.
+/// waits and who waits behind it; and how many wait in all, so that nothing is looked up while nobody does. Mailboxes
+/// and desks go by the number of the desk. Each desk waits at most once.
 #[derive(Debug, Drop)]
 pub(crate) struct Waits {
     first: Vec<Option<u32>>,
     last: Vec<Option<u32>>,
     behind: Vec<Option<u32>>,
     waits: Vec<bool>,
+    count: usize,
 }
 
 impl Waits {
@@ -19,6 +21,7 @@ impl Waits {
             last: vec![in alloc; None; desks]?,
             behind: vec![in alloc; None; desks]?,
             waits: vec![in alloc; false; desks]?,
+            count: 0,
         })
     }
 
@@ -28,6 +31,7 @@ impl Waits {
             return;
         }
         mark(&mut self.waits, desk, true);
+        self.count = self.count.saturating_add(1);
         match linked(&self.last, mailbox) {
             Some(before) => link(&mut self.behind, before, Some(desk)),
             None => link(&mut self.first, mailbox, Some(desk)),
@@ -37,6 +41,9 @@ impl Waits {
 
     /// The desk that has waited longest for room in a mailbox waits no more.
     pub(crate) fn leave(&mut self, mailbox: u32) -> Option<u32> {
+        if self.count == 0 {
+            return None;
+        }
         let desk = linked(&self.first, mailbox)?;
         let behind = linked(&self.behind, desk);
         link(&mut self.first, mailbox, behind);
@@ -45,6 +52,7 @@ impl Waits {
             link(&mut self.last, mailbox, None);
         }
         mark(&mut self.waits, desk, false);
+        self.count = self.count.saturating_sub(1);
         Some(desk)
     }
 }
