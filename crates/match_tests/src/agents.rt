@@ -5,13 +5,14 @@ mod desk;
 ghost use Rattle.std.specs.Prelude.{◌≡◌, []};
 ghost use Rattle.mailbox_rule.specs.Replies.{MatchTake};
 
-use crate::samples::{A, B, HOLD, RELEASE, TWO_PLACES, X, Y, Z, made};
+use crate::instances::{TWO_PLACES, made};
 use desk::{ProgrammeRun, ResidentRun};
 use exchange_core::event::AnswerKind;
 use exchange_core::note::{AnswerNote, OfferNote};
 use mailbox_rule::{ListTake, TakeEnd, TakeReply};
 use match_agents::Heard;
 use match_model::member::{ProgrammeNo, ResidentNo};
+use samples::events::{A, B, HOLD, RELEASE, X, Y, Z};
 use std::alloc::Global;
 use std::test::Fail;
 

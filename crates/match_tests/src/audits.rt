@@ -1,8 +1,5 @@
 //! Sheets and lists of events with known answers: programme 0 is `A`, 1 is `B`, and residents 0 to 2 are `X`, `Y` and `Z`.
-use crate::samples::{
-    A, B, Members, TWO_BY_TWO, TWO_PLACES, X, Y, Z, answer, hear, made, nine_events,
-    nineteen_events, offer, take,
-};
+use crate::instances::{Members, TWO_BY_TWO, TWO_PLACES, made};
 use exchange_core::event::{AnswerKind, Capacity, Event, Pending, Refused};
 use match_audit::audit::{AuditFault, audit};
 use match_audit::replay::{ReplayFault, check, replay};
@@ -10,6 +7,7 @@ use match_audit::report::AuditReport;
 use match_model::assignment::Assignment;
 use match_model::fault::ModelFault;
 use match_model::member::{ProgrammeNo, ResidentNo};
+use samples::events::{A, B, X, Y, Z, answer, hear, nine_events, nineteen_events, offer, take};
 use std::alloc::{AllocError, Global};
 use std::test::Fail;
 

@@ -3,15 +3,15 @@ mod run;
 mod slow;
 mod walks;
 
-use crate::samples::{
-    A, B, DECLINE, HOLD, Members, RELEASE, TWO_BY_TWO, TWO_PLACES, X, Y, Z, answer, has_places,
-    hear, made, nine_events, nineteen_events, offer, take,
-};
+use crate::instances::{Members, TWO_BY_TWO, TWO_PLACES, has_places, made};
 use exchange_core::event::{Capacity, Event, Pending, Refused};
 use exchange_core::exchange::CoreFault;
 use match_model::instance::Instance;
 use match_model::member::{ProgrammeNo, ResidentNo};
 use run::{Run, Seen};
+use samples::events::{
+    A, B, DECLINE, HOLD, RELEASE, X, Y, Z, answer, hear, nine_events, nineteen_events, offer, take,
+};
 use std::alloc::{AllocError, Global};
 use std::test::Fail;
 
@@ -174,12 +174,10 @@ fn shows(run: &Run, other: &(Event, Option<Refused>), seen: &Seen, is_closed: bo
 
 // The first of the nineteen events that isn't accepted, or after which the core doesn't show what it should.
 fn first_wrong(run: &mut Run) -> Option<usize> {
-    let others = others();
-    let mut place = 0_usize;
-    for (event, (other, seen)) in nineteen_events().iter().zip(others.iter().zip(&SEEN)) {
-        place = place.saturating_add(1);
-        if run.step(*event).is_err() || !shows(run, other, seen, place == 19) {
-            return Some(place);
+    let (events, others) = (nineteen_events(), others());
+    for at in 0..19_usize {
+        if run.step(events[at]).is_err() || !shows(run, &others[at], &SEEN[at], at == 18) {
+            return Some(at + 1);
         }
     }
     None

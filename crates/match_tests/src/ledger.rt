@@ -3,7 +3,7 @@ ghost use Rattle.std.specs.Prelude.{◌≡◌, ℕ, [], Some, slice_get, IfOk};
 ghost use Rattle.mailbox_rule.specs.Lists.{PutList};
 ghost use Rattle.mailbox_rule.specs.Mail.{PutSide};
 
-use crate::samples::{A, TWO_BY_TWO, TWO_PLACES, X, made, nine_events, nineteen_events};
+use crate::instances::{TWO_BY_TWO, TWO_PLACES, made};
 use exchange_core::event::{Capacity, Event, Pending, Refused};
 use exchange_core::note::{AnswerNote, OfferNote};
 use mailbox_rule::{ListPut, MailFault, PutEnd, RuledPut, RuledTake, mailbox};
@@ -11,6 +11,7 @@ use match_model::instance::Instance;
 use offer_ledger::{
     EntryRefused, Ledger, LedgerFault, LedgerRefused, Naming, PARTS, PutRefusal, Tally,
 };
+use samples::events::{A, X, nine_events, nineteen_events};
 use std::alloc::Global;
 use std::marker::Brand;
 use std::sync::Wait;

@@ -1,7 +1,8 @@
-//! Worked instances, lists of events, sheets and dockets, and what the libraries below answer to them.
+//! Worked instances and lists of events, and what the model, the core, the mailboxes, the ledger, the agents, the pool and
+//! the audit answer to them.
 //!
 //! A crate with tests is proved once with them and once without, so the tests of several crates stand in this one, which
-//! has nothing else.
+//! has nothing else. Those that go by the bytes of a docket stand in `serving_tests`.
 #![tactic(auto)]
 
 #[cfg(test)]
@@ -11,13 +12,7 @@ mod audits;
 #[cfg(test)]
 mod cores;
 #[cfg(test)]
-mod devices;
-#[cfg(test)]
-mod dockets;
-#[cfg(test)]
-mod gates;
-#[cfg(test)]
-mod interrupted;
+mod instances;
 #[cfg(test)]
 mod ledger;
 #[cfg(test)]
@@ -28,7 +23,3 @@ mod markets;
 mod models;
 #[cfg(test)]
 mod pool;
-#[cfg(test)]
-mod samples;
-#[cfg(test)]
-mod serving;

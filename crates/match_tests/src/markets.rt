@@ -1,142 +1,9 @@
-//! Dockets whose rows are made by arithmetic.
+//! An instance as large as there may be.
 use match_model::builder::InstanceBuilder;
 use match_model::fault::ModelFault;
 use match_model::instance::Instance;
 use match_model::member::{ProgrammeNo, ResidentNo};
-use std::alloc::{AllocError, Global};
-
-/// Adds `start`, a number and `end`.
-pub(super) fn push_numbered(
-    text: &mut String,
-    alloc: Global,
-    start: &str,
-    n: u32,
-    end: &str,
-) -> Result<(), AllocError> {
-    text.push_str(start)?;
-    text.push_str(n.to_string(alloc)?.as_str())?;
-    text.push_str(end)
-}
-
-/// Adds the same for each number below `count`.
-pub(super) fn push_all(
-    text: &mut String,
-    alloc: Global,
-    start: &str,
-    count: u32,
-    end: &str,
-) -> Result<(), AllocError> {
-    for n in 0..count {
-        push_numbered(text, alloc, start, n, end)?;
-    }
-    Ok(())
-}
-
-/// Adds the lists of ten programmes, each of 20,000 residents.
-pub(super) fn push_lists(text: &mut String, alloc: Global) -> Result<(), AllocError> {
-    for p in 0..10u32 {
-        push_numbered(text, alloc, "P,p", p, "")?;
-        push_all(text, alloc, ",r", 20_000, "")?;
-        text.push_str("\n")?;
-    }
-    Ok(())
-}
-
-// A step, taken this often around so many numbers.
-type Round = (u32, u32, u32);
-
-// Adds a comma, a letter and a number, for each number that the round reaches from `first`, and for each `base` more.
-fn push_round(
-    text: &mut String,
-    alloc: Global,
-    start: &str,
-    first: u32,
-    round: Round,
-    base: u32,
-) -> Result<(), AllocError> {
-    let (step, count, size) = round;
-    let mut n = first;
-    for _ in 0..count {
-        n = n.saturating_add(step) % size.max(1);
-        push_numbered(text, alloc, start, n.saturating_add(base), "")?;
-    }
-    Ok(())
-}
-
-// Steps that reach every one of forty numbers, and every one of twelve.
-const STEPS: [(u32, u32); 4] = [(3, 1), (7, 5), (11, 7), (13, 11)];
-
-/// Twelve programmes with one to four places, each of which ranks all forty residents, and residents who rank ten
-/// programmes each: 400 pairs, and thirty places.
-pub(super) fn hundreds(alloc: Global) -> Result<String, AllocError> {
-    let mut text = String::new(alloc);
-    for p in 0..12u32 {
-        let (step, _) = STEPS[(p % 4) as usize];
-        push_numbered(&mut text, alloc, "Q,p", p, "")?;
-        push_numbered(&mut text, alloc, ",", p % 4 + 1, "\n")?;
-        push_numbered(&mut text, alloc, "P,p", p, "")?;
-        push_round(&mut text, alloc, ",r", p, (step, 40, 40), 0)?;
-        text.push_str("\n")?;
-    }
-    for r in 0..40u32 {
-        let (_, step) = STEPS[(r % 4) as usize];
-        push_numbered(&mut text, alloc, "R,r", r, "")?;
-        push_round(&mut text, alloc, ",p", r, (step, 10, 12), 0)?;
-        text.push_str("\n")?;
-    }
-    Ok(text)
-}
-
-// Adds the residents who list a programme of `widest`: of each 2,000 residents ten.
-fn push_widest_list(text: &mut String, alloc: Global, p: u32) -> Result<(), AllocError> {
-    push_numbered(text, alloc, "P,p", p, "")?;
-    for thousands in 0..10u32 {
-        push_round(text, alloc, ",r", p, (1_801, 10, 2_000), thousands * 2_000)?;
-    }
-    text.push_str("\n")
-}
-
-/// As many programmes, residents and pairs as there may be: each of 2,000 programmes has ten places and ranks a hundred
-/// residents, each of 20,000 residents ranks ten programmes, and whoever ranks another is ranked by it.
-pub(super) fn widest(alloc: Global) -> Result<String, AllocError> {
-    let mut text = String::new(alloc);
-    push_all(&mut text, alloc, "Q,p", 2_000, ",10\n")?;
-    for p in 0..2_000u32 {
-        push_widest_list(&mut text, alloc, p)?;
-    }
-    for r in 0..20_000u32 {
-        push_numbered(&mut text, alloc, "R,r", r, "")?;
-        push_round(&mut text, alloc, ",p", r, (199, 10, 2_000), 0)?;
-        text.push_str("\n")?;
-    }
-    Ok(text)
-}
-
-/// Ten programmes with 2,000 places each, and 20,000 residents, all ranked by number on both sides.
-pub(super) fn in_one_order(alloc: Global) -> Result<String, AllocError> {
-    let mut text = String::new(alloc);
-    push_all(&mut text, alloc, "Q,p", 10, ",2000\n")?;
-    push_lists(&mut text, alloc)?;
-    push_all(
-        &mut text,
-        alloc,
-        "R,r",
-        20_000,
-        ",p0,p1,p2,p3,p4,p5,p6,p7,p8,p9\n",
-    )?;
-    Ok(text)
-}
-
-/// Its sheet: the first 2,000 residents are at the first programme, and so on.
-pub(super) fn sheet_in_one_order(alloc: Global) -> Result<String, AllocError> {
-    let mut text = String::new(alloc);
-    for r in 0..20_000u32 {
-        push_numbered(&mut text, alloc, "M,r", r, "")?;
-        push_numbered(&mut text, alloc, ",p", r / 2_000, "\n")?;
-    }
-    push_all(&mut text, alloc, "F,p", 10, ",2000,2000\n")?;
-    Ok(text)
-}
+use std::alloc::Global;
 
 /// The residents below 20,000.
 pub(super) fn all_residents(alloc: Global) -> Result<Vec<ResidentNo>, ModelFault> {
@@ -180,7 +47,7 @@ fn add_in_one_order(
     Ok(())
 }
 
-/// The instance of `in_one_order`.
+/// Ten programmes with 2,000 places each, and 20,000 residents, all ranked by number on both sides.
 pub(super) fn made_in_one_order(alloc: Global) -> Result<Instance, ModelFault> {
     let mut builder = InstanceBuilder::new(alloc);
     let residents = all_residents(alloc)?;

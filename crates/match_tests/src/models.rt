@@ -1,11 +1,12 @@
 //! Instances and assignments by hand.
 use crate::markets::{TEN, all_residents, made_in_one_order};
-use crate::samples::{A, B, X, Y, Z, is_programme, is_resident};
 use match_model::assignment::Assignment;
 use match_model::builder::InstanceBuilder;
 use match_model::fault::ModelFault;
 use match_model::instance::Instance;
 use match_model::member::{ProgrammeNo, ResidentNo};
+use samples::events::{A, B, X, Y, Z};
+use samples::members::{is_programme, is_resident};
 use std::alloc::Global;
 use std::test::Fail;
 

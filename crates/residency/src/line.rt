@@ -1,5 +1,5 @@
 //! The command line.
-ghost use Rattle.std.specs.Prelude.{◌≡◌, true, IfOk, IfErr};
+ghost use Rattle.std.specs.Prelude.{◌≡◌, true, IfOk, IfErr, IfSome};
 ghost use Rattle.exchange_core.specs.Shown.{is_capacity};
 ghost use Rattle.residency.specs.Options.{IsOrder, IsWithinLimits};
 ghost use Rattle.residency.specs.Status.{IsLineFault};
@@ -70,52 +70,85 @@ fn line_fault(error: clap::Error) -> LineFault
     }
 }
 
-// The command that runs a match, with its options.
-fn match_command<'a>(alloc: Global) -> Result<Command<'a>, AllocError> {
-    let workers = Arg::new(alloc, "workers")
+// A command with what its help says of it.
+fn described<'a>(
+    alloc: Global,
+    name: &'a str,
+    call: &str,
+    about: &'a str,
+    help: &'a str,
+) -> Result<Command<'a>, AllocError> {
+    let command = Command::new(alloc, name).bin_name(call)?;
+    Ok(command.about(about).after_help(help))
+}
+
+// How many threads work on a match.
+fn workers_option<'a>(alloc: Global) -> Arg<'a> {
+    Arg::new(alloc, "workers")
         .long("workers")
         .value_name("N")
         .help("How many threads work on it: 2")
         .value_parser(clap::value_parser!(u64).range(2..=2))
-        .default_value("2");
-    let capacity = Arg::new(alloc, "capacity")
+        .default_value("2")
+}
+
+// The room of each mailbox of a match.
+fn capacity_option<'a>(alloc: Global) -> Arg<'a> {
+    Arg::new(alloc, "capacity")
         .long("capacity")
         .value_name("full|N")
         .help("The room of each mailbox: full, or from 1 to 1024 places")
-        .default_value("full");
-    let journal = Arg::new(alloc, "journal")
-        .long("journal")
-        .help("Writes the journal of every event after the sheet")
-        .action(ArgAction::SetTrue);
-    Command::new(alloc, "match")
-        .bin_name("residency match")?
-        .about("Writes the sheet of the settled match")
-        .after_help(MATCH_HELP)
-        .arg(workers)?
-        .arg(capacity)?
-        .arg(journal)
+        .default_value("full")
 }
 
-// The commands of the program.
-fn commands<'a>(alloc: Global) -> Result<Command<'a>, AllocError> {
+// Whether a match writes its journal.
+fn journal_option<'a>(alloc: Global) -> Arg<'a> {
+    Arg::new(alloc, "journal")
+        .long("journal")
+        .help("Writes the journal of every event after the sheet")
+        .action(ArgAction::SetTrue)
+}
+
+// The command that runs a match, with its options.
+fn match_command<'a>(alloc: Global) -> Result<Command<'a>, AllocError> {
+    let about = "Writes the sheet of the settled match";
+    let command = described(alloc, "match", "residency match", about, MATCH_HELP)?;
+    let command = command.arg(workers_option(alloc))?;
+    let command = command.arg(capacity_option(alloc))?;
+    command.arg(journal_option(alloc))
+}
+
+// The command that audits a sheet.
+fn audit_command<'a>(alloc: Global) -> Result<Command<'a>, AllocError> {
+    let about = "Says whether the docket's sheet is stable";
+    described(alloc, "audit", "residency audit", about, AUDIT_HELP)
+}
+
+// The command that replays a journal.
+fn replay_command<'a>(alloc: Global) -> Result<Command<'a>, AllocError> {
+    let about = "Says whether the docket's journal is a good exchange that gives its sheet";
+    described(alloc, "replay", "residency replay", about, REPLAY_HELP)
+}
+
+// The program, without its commands.
+fn program<'a>(alloc: Global) -> Command<'a> {
     Command::new(alloc, "residency")
         .about("Runs a residency match as an exchange of offers, over a docket on standard input")
         .version(VERSION)
         .no_binary_name(true)
         .subcommand_required(true)
-        .subcommand(match_command(alloc)?)?
-        .subcommand(
-            Command::new(alloc, "audit")
-                .bin_name("residency audit")?
-                .about("Says whether the docket's sheet is stable")
-                .after_help(AUDIT_HELP),
-        )?
-        .subcommand(
-            Command::new(alloc, "replay")
-                .bin_name("residency replay")?
-                .about("Says whether the docket's journal is a good exchange that gives its sheet")
-                .after_help(REPLAY_HELP),
-        )
+}
+
+// A program with one command more.
+fn with_command<'a>(program: Command<'a>, command: Command<'a>) -> Result<Command<'a>, AllocError> {
+    program.subcommand(command)
+}
+
+// The program with its commands.
+fn commands<'a>(alloc: Global) -> Result<Command<'a>, AllocError> {
+    let matching = with_command(program(alloc), match_command(alloc)?)?;
+    let auditing = with_command(matching, audit_command(alloc)?)?;
+    with_command(auditing, replay_command(alloc)?)
 }
 
 // The capacity that a text writes.
@@ -145,6 +178,40 @@ fn match_options(matches: &ArgMatches) -> Result<MatchOptions, LineFault>
     Ok(options)
 }
 
+// What the words are by these commands.
+fn matches_of<'a, S: AsStr>(
+    commands: &mut Command<'a>,
+    words: &'a [S],
+) -> Result<ArgMatches<'a>, clap::Error> {
+    commands.try_get_matches_from_mut(words)
+}
+
+// The order that these matches name, if they name a command.
+fn order_named(matches: &ArgMatches) -> Result<Option<Order>, LineFault>
+    ensures order { IfOk result (λ named. IfSome named IsOrder) }
+    ensures fault { IfErr result IsLineFault }
+{
+    match matches.subcommand() {
+        Some(("match", options)) => match match_options(options) {
+            Ok(options) => Ok(Some(Order::Match(options))),
+            Err(fault) => Err(fault),
+        },
+        Some(("audit", _)) => Ok(Some(Order::Audit)),
+        Some(("replay", _)) => Ok(Some(Order::Replay)),
+        _ => Ok(None),
+    }
+}
+
+// What is told where no command is named.
+fn nothing_named(commands: &mut Command) -> LineFault
+    ensures { IsLineFault result }
+{
+    match commands.error(ErrorKind::MissingSubcommand, "a command is wanted") {
+        Ok(error) => line_fault(error),
+        Err(_) => LineFault::Memory,
+    }
+}
+
 /// The order that the words give, the program's own name left out.
 pub fn read_line<'a, S: AsStr>(alloc: Global, words: &'a [S]) -> Result<Order, LineFault>
     ensures order { IfOk result IsOrder }
@@ -153,20 +220,13 @@ pub fn read_line<'a, S: AsStr>(alloc: Global, words: &'a [S]) -> Result<Order, L
     let Ok(mut commands) = commands(alloc) else {
         return Err(LineFault::Memory);
     };
-    let matches = match commands.try_get_matches_from_mut(words) {
+    let matches = match matches_of(&mut commands, words) {
         Ok(matches) => matches,
         Err(error) => return Err(line_fault(error)),
     };
-    match matches.subcommand() {
-        Some(("match", options)) => match match_options(options) {
-            Ok(options) => Ok(Order::Match(options)),
-            Err(fault) => Err(fault),
-        },
-        Some(("audit", _)) => Ok(Order::Audit),
-        Some(("replay", _)) => Ok(Order::Replay),
-        _ => match commands.error(ErrorKind::MissingSubcommand, "a command is wanted") {
-            Ok(error) => Err(line_fault(error)),
-            Err(_) => Err(LineFault::Memory),
-        },
+    match order_named(&matches) {
+        Ok(Some(order)) => Ok(order),
+        Ok(None) => Err(nothing_named(&mut commands)),
+        Err(fault) => Err(fault),
     }
 }

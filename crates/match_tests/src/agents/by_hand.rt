@@ -3,9 +3,10 @@ mod desks;
 
 ghost use Rattle.std.specs.Prelude.{◌≡◌, ℕ, ◌<◌, [], slice_get, Some, IfOk};
 ghost use Rattle.std.specs.List.{All};
+ghost use Rattle.match_model.specs.Instance.{IsProgramme, IsResident};
 ghost use Rattle.exchange_core.specs.declared.event.Capacity.TheVariants.{Full};
 
-use crate::samples::{TWO_PLACES, made};
+use crate::instances::{TWO_PLACES, made};
 use desks::{Programme, Resident};
 use exchange_core::event::{Capacity, Event};
 use exchange_core::note::{AnswerNote, OfferNote};
@@ -111,7 +112,26 @@ fn serve_all<
     Ok(())
 }
 
-/// A mailbox with room for all that can be sent and an agent, for each resident.
+/// A mailbox with room for all that can be sent to a resident, and its agent.
+fn resident_desk<J: Naming, R: Wait + Copy>(
+    alloc: Global,
+    rt: R,
+    inst: &Instance,
+    resident: ResidentNo,
+) -> Result<(RuledPut<OfferNote, R>, Resident<J, RuledTake<OfferNote, R>>), MailFault>
+    requires instance { inst.now ≡ J.inst }
+    requires member { IsResident inst.now resident }
+    ensures { IfOk result (λ both. both.0.puts ≡ []) }
+{
+    let room = inst.list_of_resident(resident).len().max(1);
+    let (put, take) = mailbox(alloc, rt, room as u32)?;
+    match Resident::open(alloc, inst, resident, take) {
+        Some(desk) => Ok((put, desk)),
+        None => Err(MailFault::Memory),
+    }
+}
+
+/// The mailbox and the agent of each resident.
 fn open_residents<J: Naming, R: Wait + Copy>(
     alloc: Global,
     rt: R,
@@ -129,10 +149,7 @@ fn open_residents<J: Naming, R: Wait + Copy>(
     let mut puts = Vec::new(alloc);
     let mut desks = Vec::new(alloc);
     for r in 0..inst.residents() {
-        let resident = ResidentNo(r);
-        let room = inst.list_of_resident(resident).len().max(1);
-        let (put, take) = mailbox(alloc, rt, room as u32)?;
-        let desk = Resident::open(alloc, inst, resident, take).ok_or(MailFault::Memory)?;
+        let (put, desk) = resident_desk::<J, R>(alloc, rt, inst, ResidentNo(r))?;
         let (Ok(()), Ok(())) = (puts.push(put), desks.push(desk)) else {
             return Err(MailFault::Memory);
         };
@@ -140,7 +157,32 @@ fn open_residents<J: Naming, R: Wait + Copy>(
     Ok((puts, desks))
 }
 
-/// A mailbox with room for all that can be sent and an agent, for each programme.
+/// A mailbox with room for all that can be sent to a programme, and its agent.
+fn programme_desk<J: Naming, R: Wait + Copy>(
+    alloc: Global,
+    rt: R,
+    inst: &Instance,
+    programme: ProgrammeNo,
+) -> Result<
+    (
+        RuledPut<AnswerNote, R>,
+        Programme<J, RuledTake<AnswerNote, R>>,
+    ),
+    MailFault,
+>
+    requires instance { inst.now ≡ J.inst }
+    requires member { IsProgramme inst.now programme }
+    ensures { IfOk result (λ both. both.0.puts ≡ []) }
+{
+    let room = (2 * inst.list_of_programme(programme).len()).max(1);
+    let (put, take) = mailbox(alloc, rt, room as u32)?;
+    match Programme::open(alloc, inst, programme, take) {
+        Some(desk) => Ok((put, desk)),
+        None => Err(MailFault::Memory),
+    }
+}
+
+/// The mailbox and the agent of each programme.
 fn open_programmes<J: Naming, R: Wait + Copy>(
     alloc: Global,
     rt: R,
@@ -158,10 +200,7 @@ fn open_programmes<J: Naming, R: Wait + Copy>(
     let mut puts = Vec::new(alloc);
     let mut desks = Vec::new(alloc);
     for p in 0..inst.programmes() {
-        let programme = ProgrammeNo(p);
-        let room = (2 * inst.list_of_programme(programme).len()).max(1);
-        let (put, take) = mailbox(alloc, rt, room as u32)?;
-        let desk = Programme::open(alloc, inst, programme, take).ok_or(MailFault::Memory)?;
+        let (put, desk) = programme_desk::<J, R>(alloc, rt, inst, ProgrammeNo(p))?;
         let (Ok(()), Ok(())) = (puts.push(put), desks.push(desk)) else {
             return Err(MailFault::Memory);
         };

@@ -3,7 +3,7 @@ mod journals;
 mod large;
 
 use crate::devices::{CutReader, CutWriter};
-use crate::samples::{
+use crate::texts::{
     CLOSE, ELEVEN, FULL, OTHER_SHEET, QUOTAS, SMALL, SMALL_JOURNAL, SMALL_SHEET, TO_EIGHTEEN,
     TO_THIRTEEN, joined,
 };

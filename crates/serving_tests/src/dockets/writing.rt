@@ -1,15 +1,16 @@
 //! Sheets and journals by their bytes, and read back.
 use super::read;
 use crate::devices::CutWriter;
-use crate::samples::{
-    A, B, CLOSE, ELEVEN, FULL, OTHER_SHEET, QUOTAS, SMALL, SMALL_JOURNAL, TO_EIGHTEEN, TO_THIRTEEN,
-    X, Y, answer, hear, joined, nine_events, nineteen_events,
+use crate::texts::{
+    CLOSE, ELEVEN, FULL, OTHER_SHEET, QUOTAS, SMALL, SMALL_JOURNAL, TO_EIGHTEEN, TO_THIRTEEN,
+    joined,
 };
 use docket::docket::Docket;
 use docket::fault::DocketFault;
 use docket::row_text::RowText;
 use docket::write::{write_journal, write_sheet};
 use exchange_core::event::{AnswerKind, Capacity, Event};
+use samples::events::{A, B, X, Y, answer, hear, nine_events, nineteen_events};
 use std::alloc::{AllocError, Global};
 use std::io::Write;
 use std::test::Fail;

@@ -1,7 +1,7 @@
 //! What a match with its journal writes: appended to its docket it is stable, and replayed whole.
 use super::{CHAIN, NARROW_WITH_JOURNAL, WITH_JOURNAL, serve};
 use crate::markets::hundreds;
-use crate::samples::{CLOSE, OTHER_SHEET, QUOTAS, SMALL, SMALL_JOURNAL, SMALL_SHEET, joined, rows};
+use crate::texts::{CLOSE, OTHER_SHEET, QUOTAS, SMALL, SMALL_JOURNAL, SMALL_SHEET, joined, rows};
 use residency::options::Order;
 use residency::status::Status;
 use std::alloc::{AllocError, Global};

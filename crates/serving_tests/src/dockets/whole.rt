@@ -1,9 +1,10 @@
 //! A docket read whole.
 use super::read;
-use crate::samples::{A, B, FULL, OTHER_SHEET, SMALL, SMALL_JOURNAL, X, Y, joined, nine_events};
+use crate::texts::{FULL, OTHER_SHEET, SMALL, SMALL_JOURNAL, joined};
 use docket::docket::{Docket, Journal};
 use exchange_core::event::Capacity;
 use match_model::assignment::Assignment;
+use samples::events::{A, B, X, Y, nine_events};
 use std::alloc::{AllocError, Global};
 use std::test::Fail;
 

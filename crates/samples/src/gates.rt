@@ -11,7 +11,7 @@ const TURNS: u32 = 10_000_000;
 
 /// What a gate has seen that holds one pass until another worker has entered two events.
 #[derive(Drop)]
-pub(super) struct Held {
+pub struct Held {
     place: u64,
     passed: AtomicU64,
     held: AtomicBool,
@@ -21,7 +21,7 @@ pub(super) struct Held {
 
 impl Held {
     /// Nothing is seen yet. The pass at this place is held, counted from 0.
-    pub(super) fn new(place: u64) -> Held {
+    pub fn new(place: u64) -> Held {
         Held {
             place,
             passed: AtomicU64::new(0),
@@ -32,12 +32,12 @@ impl Held {
     }
 
     /// Whether the pass was held, and the gate didn't give up.
-    pub(super) fn has_held(&self) -> bool {
+    pub fn has_held(&self) -> bool {
         self.held.load(Ordering::SeqCst)
     }
 
     /// How many events this worker has entered.
-    pub(super) fn count(&self, worker: usize) -> u64 {
+    pub fn count(&self, worker: usize) -> u64 {
         self.counter(worker).load(Ordering::SeqCst)
     }
 
@@ -73,7 +73,7 @@ impl Held {
 
 /// A gate that holds a pass, and never stops the run.
 #[derive(Drop)]
-pub(super) struct Firm(pub(super) Held);
+pub struct Firm(pub Held);
 
 impl Gate for Firm {
     ghost MAY_STOP = { false };
@@ -92,7 +92,7 @@ impl Gate for Firm {
 
 /// A gate that holds a pass, and stops the run where it gives up.
 #[derive(Drop)]
-pub(super) struct Loose(pub(super) Held);
+pub struct Loose(pub Held);
 
 impl Gate for Loose {
     ghost MAY_STOP = { true };
@@ -114,7 +114,7 @@ impl Gate for Loose {
 
 /// A gate that stops the run at its first pass.
 #[derive(Drop)]
-pub(super) struct StopsAtOnce;
+pub struct StopsAtOnce;
 
 impl Gate for StopsAtOnce {
     ghost MAY_STOP = { true };

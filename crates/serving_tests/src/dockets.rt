@@ -7,7 +7,7 @@ mod whole;
 mod writing;
 
 use crate::devices::CutReader;
-use crate::samples::joined;
+use crate::texts::joined;
 use docket::docket::Docket;
 use docket::fault::DocketFault;
 use docket::read::read_docket;
@@ -43,6 +43,20 @@ fn tells(alloc: Global, texts: &[&str], wanted: &str) -> Result<bool, AllocError
     is_told(alloc, read(alloc, text.as_str()), wanted)
 }
 
+/// Whether this is told of the docket of these records, parted by spaces, by a reader that gives all at once and by a slow
+/// one.
+fn tells_both(alloc: Global, records: &str, wanted: &str) -> Result<bool, AllocError> {
+    let mut input = records.replace(alloc, " ", "\n")?;
+    input.push_str("\n")?;
+    let at_once = is_told(alloc, read(alloc, input.as_str()), wanted)?;
+    let slowly = is_told(
+        alloc,
+        read_slowly(alloc, input.as_str(), usize::MAX),
+        wanted,
+    )?;
+    Ok(at_once && slowly)
+}
+
 /// The first line of which something else is told than it says, by a reader that gives all at once or by a slow one.
 ///
 /// In a line the records of a docket are parted by spaces, and what is told of it stands after ` = `.
@@ -51,11 +65,7 @@ fn first_wrong<'a>(alloc: Global, lines: &'a str) -> Result<Option<&'a str>, All
         let Some((records, wanted)) = line.split_once(" = ") else {
             return Ok(Some(line));
         };
-        let mut input = records.replace(alloc, " ", "\n")?;
-        input.push_str("\n")?;
-        let at_once = read(alloc, input.as_str());
-        let slowly = read_slowly(alloc, input.as_str(), usize::MAX);
-        if !is_told(alloc, at_once, wanted)? || !is_told(alloc, slowly, wanted)? {
+        if !tells_both(alloc, records, wanted)? {
             return Ok(Some(line));
         }
     }

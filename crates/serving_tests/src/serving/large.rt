@@ -1,13 +1,13 @@
 //! Matches that are held up on their way, and matches of dockets as large as there may be.
 use super::{MATCH, NARROW, serve};
-use crate::gates::{Firm, Held};
 use crate::markets::{in_one_order, sheet_in_one_order, widest};
-use crate::samples::{SMALL, SMALL_SHEET, rows};
+use crate::texts::{SMALL, SMALL_SHEET, rows};
 use exchange_core::event::Capacity;
 use residency::fault::ServeFault;
 use residency::options::{MatchOptions, Order};
 use residency::serve::serve_match;
 use residency::status::Status;
+use samples::gates::{Firm, Held};
 use std::alloc::{AllocError, Global};
 use std::sync::Wait;
 use std::test::Fail;

@@ -1,11 +1,13 @@
 //! One docket in many forms, fields that are no names, and a reader that fails.
 use super::{first_wrong, is_told, read, read_slowly};
-use crate::samples::{A, B, SMALL, X, Y, is_programme, is_resident};
+use crate::texts::SMALL;
 use docket::docket::Docket;
 use docket::fault::DocketFault;
 use docket::read::read_docket;
 use match_model::instance::Instance;
 use match_model::member::{ProgrammeNo, ResidentNo};
+use samples::events::{A, B, X, Y};
+use samples::members::{is_programme, is_resident};
 use std::test::Fail;
 
 // Lines ended by CR and LF, a blank line, and quotes.

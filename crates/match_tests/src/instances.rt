@@ -1,0 +1,73 @@
+//! Instances that several tests share.
+use match_model::assignment::Assignment;
+use match_model::builder::InstanceBuilder;
+use match_model::fault::ModelFault;
+use match_model::instance::Instance;
+use match_model::member::{ProgrammeNo, ResidentNo};
+use std::alloc::Global;
+
+/// The quotas and the lists of the programmes, and then the lists of the residents, by number.
+pub(super) type Members<'a> = (&'a [(u32, &'a [u32])], &'a [&'a [u32]]);
+
+/// Two programmes and two residents, who rank them the other way round.
+pub(super) const TWO_BY_TWO: Members = (&[(1, &[0, 1]), (1, &[1, 0])], &[&[1, 0], &[0, 1]]);
+
+/// A programme of two places that all rank, and one that displaces a resident from it.
+pub(super) const TWO_PLACES: Members = (&[(2, &[0, 1, 2]), (1, &[0])], &[&[1, 0], &[0], &[0]]);
+
+fn residents(alloc: Global, numbers: &[u32]) -> Result<Vec<ResidentNo>, ModelFault> {
+    let mut list = Vec::new(alloc);
+    for n in numbers {
+        let Ok(()) = list.push(ResidentNo(*n)) else {
+            return Err(ModelFault::Memory);
+        };
+    }
+    Ok(list)
+}
+
+fn programmes(alloc: Global, numbers: &[u32]) -> Result<Vec<ProgrammeNo>, ModelFault> {
+    let mut list = Vec::new(alloc);
+    for n in numbers {
+        let Ok(()) = list.push(ProgrammeNo(*n)) else {
+            return Err(ModelFault::Memory);
+        };
+    }
+    Ok(list)
+}
+
+fn add_members(
+    alloc: Global,
+    builder: &mut InstanceBuilder,
+    members: Members,
+) -> Result<(), ModelFault> {
+    for _ in members.1 {
+        builder.add_resident()?;
+    }
+    for (quota, list) in members.0 {
+        let programme = builder.add_programme(*quota)?;
+        let list = residents(alloc, list)?;
+        builder.programme_list(programme, list.as_slice())?;
+    }
+    for (r, list) in (0..20_000).zip(members.1) {
+        let list = programmes(alloc, list)?;
+        builder.resident_list(ResidentNo(r), list.as_slice())?;
+    }
+    Ok(())
+}
+
+/// The instance of these members.
+pub(super) fn made(alloc: Global, members: Members) -> Result<Instance, ModelFault> {
+    let mut builder = InstanceBuilder::new(alloc);
+    add_members(alloc, &mut builder, members)?;
+    builder.finish().map_err(|refused| refused.fault)
+}
+
+/// Whether a sheet has these places, by resident.
+pub(super) fn has_places(sheet: &Assignment, places: &[Option<u32>]) -> bool {
+    for (r, place) in (0..sheet.len()).zip(places) {
+        if r < sheet.len() && sheet.get(ResidentNo(r)) != place.map(|p| ProgrammeNo(p)) {
+            return false;
+        }
+    }
+    sheet.len() as usize == places.len()
+}

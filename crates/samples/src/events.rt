@@ -1,0 +1,90 @@
+//! Members by number, and the lists of events of two exchanges.
+use exchange_core::event::{AnswerKind, Event};
+use match_model::member::{ProgrammeNo, ResidentNo};
+
+pub const A: ProgrammeNo = ProgrammeNo(0);
+
+pub const B: ProgrammeNo = ProgrammeNo(1);
+
+pub const X: ResidentNo = ResidentNo(0);
+
+pub const Y: ResidentNo = ResidentNo(1);
+
+pub const Z: ResidentNo = ResidentNo(2);
+
+pub const HOLD: AnswerKind = AnswerKind::Hold;
+
+pub const DECLINE: AnswerKind = AnswerKind::Decline;
+
+pub const RELEASE: AnswerKind = AnswerKind::Release;
+
+pub fn offer(programme: ProgrammeNo, resident: ResidentNo) -> Event {
+    Event::Offer {
+        programme,
+        resident,
+    }
+}
+
+pub fn take(resident: ResidentNo, programme: ProgrammeNo) -> Event {
+    Event::Take {
+        resident,
+        programme,
+    }
+}
+
+pub fn answer(resident: ResidentNo, programme: ProgrammeNo, kind: AnswerKind) -> Event {
+    Event::Answer {
+        resident,
+        programme,
+        kind,
+    }
+}
+
+pub fn hear(programme: ProgrammeNo, resident: ResidentNo, kind: AnswerKind) -> Event {
+    Event::Hear {
+        programme,
+        resident,
+        kind,
+    }
+}
+
+/// The events of an exchange of two programmes and two residents, who rank them the other way round.
+pub fn nine_events() -> [Event; 9] {
+    [
+        offer(A, X),
+        offer(B, Y),
+        take(X, A),
+        take(Y, B),
+        answer(X, A, HOLD),
+        answer(Y, B, HOLD),
+        hear(A, X, HOLD),
+        hear(B, Y, HOLD),
+        Event::Close,
+    ]
+}
+
+/// The events of an exchange in which `B` displaces `X` from `A`, which has two places. `Y` takes before `X`, to whom an
+/// offer was sent first.
+pub fn nineteen_events() -> [Event; 19] {
+    [
+        offer(A, X),
+        offer(A, Y),
+        take(Y, A),
+        take(X, A),
+        answer(Y, A, HOLD),
+        answer(X, A, HOLD),
+        offer(B, X),
+        take(X, B),
+        answer(X, B, HOLD),
+        answer(X, A, RELEASE),
+        hear(A, Y, HOLD),
+        hear(A, X, HOLD),
+        hear(B, X, HOLD),
+        hear(A, X, RELEASE),
+        offer(A, Z),
+        take(Z, A),
+        answer(Z, A, HOLD),
+        hear(A, Z, HOLD),
+        Event::Close,
+    ]
+}

@@ -1,0 +1,20 @@
+//! What the members of an instance are.
+use match_model::instance::Instance;
+use match_model::member::{ProgrammeNo, ResidentNo};
+
+/// Whether a programme has this many places and this list.
+pub fn is_programme(
+    instance: &Instance,
+    programme: ProgrammeNo,
+    quota: u32,
+    list: &[ResidentNo],
+) -> bool {
+    programme.0 < instance.programmes()
+        && instance.quota(programme) == quota
+        && instance.list_of_programme(programme) == list
+}
+
+/// Whether a resident has this list.
+pub fn is_resident(instance: &Instance, resident: ResidentNo, list: &[ProgrammeNo]) -> bool {
+    resident.0 < instance.residents() && instance.list_of_resident(resident) == list
+}
