@@ -1,104 +1,143 @@
-//! Texts and rows, one after another, and where each of them ends.
-ghost use Rattle.std.specs.Prelude.{◌≡◌, ◌<◌, ◌++◌, ◌∷◌, [], length, drop, slice_index_or, OnOk};
+//! Texts and rows, one after another.
+ghost use Rattle.std.specs.Prelude.{◌≡◌, ◌<◌, ◌++◌, ◌∷◌, [], Some, length, drop, slice_get, slice_index_or, IfOk, OnOk};
 ghost use Rattle.csv.specs.Records.{fields_of, prev};
 ghost use Rattle.docket.specs.Fields as fields;
+ghost use Rattle.docket.specs.LongRecord.{keys_of, StartsWith};
 ghost use Rattle.docket.specs.Rows.{row_at};
 
 use csv::ByteRecord;
+use indexmap::IndexSet;
 use std::alloc::{AllocError, Global};
 use std::marker::Model;
 
-// Where items end, in order: the ends below 2^32 in half the room, and from the first larger one on all the others.
+// Numbers, in order, in as little room as they take: those below 2^16 in two bytes, from the first larger one on those
+// below 2^32 in four, and from the first one over that on all others in eight.
 #[derive(Drop)]
-struct Ends {
-    small: Vec<u32>,
+struct Numbers {
+    count: usize,
+    small: Vec<u16>,
+    middle: Vec<u32>,
     large: Vec<usize>,
 }
 
-impl Model for Ends {
-    ghost use Rattle.std.specs.Prelude.{List, ℕ, ◌++◌};
+impl Model for Numbers {
+    ghost use Rattle.std.specs.Prelude.{List, ℕ, ◌++◌, ◌≡◌, length};
 
     ghost Value = { List ℕ };
 
-    ghost view = { λ a. a.small.items ++ a.large.items };
+    ghost view = { λ a. a.small.items ++ (a.middle.items ++ a.large.items) };
+
+    ghost invariant = { λ a. a.count ≡ length (a.small.items ++ (a.middle.items ++ a.large.items)) };
 }
 
-impl Ends {
-    // No ends yet.
-    fn new(alloc: Global) -> Ends
+impl Numbers {
+    // No numbers yet.
+    fn new(alloc: Global) -> Numbers
         ensures { result ≡ [] }
     {
-        Ends {
+        Numbers {
+            count: 0,
             small: Vec::new(alloc),
+            middle: Vec::new(alloc),
             large: Vec::new(alloc),
         }
     }
 
-    // How many ends there are.
+    // How many numbers there are.
     fn len(&self) -> usize
         ensures { result ≡ length self.now }
     {
-        self.small.len() + self.large.len()
+        self.count
     }
 
-    // Takes every end away.
+    // Takes every number away.
     fn clear(&mut self)
         ensures { self.new ≡ [] }
     {
+        self.count = 0;
         self.small.clear();
+        self.middle.clear();
         self.large.clear();
     }
 
-    // Adds an end.
-    fn push(&mut self, end: usize) -> Result<(), AllocError>
-        ensures { OnOk result (self.new ≡ self.old ++ end ∷ []) }
+    // Adds a number.
+    fn push(&mut self, number: usize) -> Result<(), AllocError>
+        ensures { OnOk result (self.new ≡ self.old ++ number ∷ []) }
     {
-        if self.large.is_empty() && end <= u32::MAX as usize {
-            self.small.push(end as u32)?;
-            return Ok(());
+        let Some(count) = self.count.checked_add(1) else {
+            return Err(AllocError);
+        };
+        if !self.large.is_empty() || number > u32::MAX as usize {
+            self.large.push(number)?;
+        } else if !self.middle.is_empty() || number > u16::MAX as usize {
+            self.middle.push(number as u32)?;
+        } else {
+            self.small.push(number as u16)?;
         }
-        self.large.push(end)?;
+        self.count = count;
         Ok(())
     }
 
-    // The end with this number, from 0.
+    // Number `k`, from 0.
     fn get(&self, k: usize) -> usize
         requires { k < length self.now }
         ensures { result ≡ slice_index_or self.now k 0 }
     {
-        let count = self.small.len();
-        if k < count {
-            self.small[k] as usize
+        let small = self.small.len();
+        if k < small {
+            return self.small[k] as usize;
+        }
+        let middle = self.middle.len();
+        if k - small < middle {
+            self.middle[k - small] as usize
         } else {
-            self.large[k - count]
+            self.large[k - small - middle]
         }
     }
 }
 
 // Where item `k` starts of those that end there.
-fn start_of(ends: &Ends, k: usize) -> usize
+fn start_of(ends: &Numbers, k: usize) -> usize
     requires { k < length ends.now }
     ensures { result ≡ prev 0 ends.now k }
 {
     if k == 0 { 0 } else { ends.get(k - 1) }
 }
 
-// Texts, one after another, and where each of them ends.
+// The number of a text among those that were seen, which it joins where it is new.
+fn number_of_text(
+    alloc: Global,
+    seen: &mut IndexSet<Vec<u8>>,
+    text: &[u8],
+) -> Result<usize, AllocError>
+    ensures number { IfOk result (λ n. slice_get (keys_of seen.new.keys) n ≡ Some text.now) }
+    ensures kept { StartsWith (keys_of seen.old.keys) (keys_of seen.new.keys) }
+{
+    if let Some(number) = seen.get_index_of(text) {
+        return Ok(number);
+    }
+    let key = Vec::from_slice(alloc, text)?;
+    let (number, _) = seen.insert_full(key)?;
+    Ok(number)
+}
+
+// Texts, one after another. Each different one is kept once, and of each place the number of its text.
 #[derive(Drop)]
 struct Texts {
-    bytes: Vec<u8>,
-    ends: Ends,
+    alloc: Global,
+    seen: IndexSet<Vec<u8>>,
+    numbers: Numbers,
 }
 
 impl Model for Texts {
     ghost use Rattle.docket.specs.Fields.{Fields};
-    ghost use Rattle.docket.specs.LongRecord.{cut, AreCuts};
+    ghost use Rattle.docket.specs.LongRecord.{texts_at, keys_of, AreNumbersOf};
 
     ghost Value = { Fields };
 
-    ghost view = { λ a. cut 0 a.ends a.bytes.items };
+    ghost view = { λ a. texts_at (keys_of a.seen.keys) a.numbers };
 
-    ghost invariant = { λ a. AreCuts a.ends a.bytes.items };
+    ghost invariant = { λ a. AreNumbersOf (keys_of a.seen.keys) a.numbers };
 }
 
 impl Texts {
@@ -107,8 +146,9 @@ impl Texts {
         ensures { result ≡ [] }
     {
         Texts {
-            bytes: Vec::new(alloc),
-            ends: Ends::new(alloc),
+            alloc,
+            seen: IndexSet::new(alloc),
+            numbers: Numbers::new(alloc),
         }
     }
 
@@ -116,29 +156,23 @@ impl Texts {
     fn len(&self) -> usize
         ensures { result ≡ length self.now }
     {
-        self.ends.len()
+        self.numbers.len()
     }
 
     // Takes every text away.
     fn clear(&mut self)
         ensures { self.new ≡ [] }
     {
-        self.bytes.clear();
-        self.ends.clear();
+        self.numbers.clear();
     }
 
     // Adds a text. Where memory is wanting no text is kept.
     fn push(&mut self, text: &[u8]) -> Result<(), AllocError>
         ensures { OnOk result (self.new ≡ self.old ++ text.now ∷ []) }
     {
-        let Ok(()) = self.bytes.extend_from_slice(text) else {
-            self.bytes.clear();
-            self.ends.clear();
-            return Err(AllocError);
-        };
-        let Ok(()) = self.ends.push(self.bytes.len()) else {
-            self.bytes.clear();
-            self.ends.clear();
+        let number = number_of_text(self.alloc, &mut self.seen, text)?;
+        let Ok(()) = self.numbers.push(number) else {
+            self.numbers.clear();
             return Err(AllocError);
         };
         Ok(())
@@ -149,8 +183,10 @@ impl Texts {
         requires { k < length self.now }
         ensures { result.now ≡ fields.field self.now k }
     {
-        let start = start_of(&self.ends, k);
-        &self.bytes[start..self.ends.get(k)]
+        match self.seen.get_index(self.numbers.get(k)) {
+            Some(text) => text.as_slice(),
+            None => unreachable!("each place has the number of a text"),
+        }
     }
 }
 
@@ -158,7 +194,7 @@ impl Texts {
 #[derive(Drop)]
 pub struct LongRecord {
     fields: Texts,
-    ends: Ends,
+    ends: Numbers,
 }
 
 impl Model for LongRecord {
@@ -192,7 +228,7 @@ impl LongRecord {
     {
         LongRecord {
             fields: Texts::new(alloc),
-            ends: Ends::new(alloc),
+            ends: Numbers::new(alloc),
         }
     }
 
