@@ -1,12 +1,13 @@
 //! Tests on lists as they are handed in, and their mutual parts.
-ghost use Rattle.std.specs.Prelude.{◌≡◌, ℕ, ◌<◌, ◌≤◌, ◌⊎◌, nat_lt, Bool, List, length, map, unwrap_or, [], true, IfOk, IfErr, IfSome, IfNone};
-ghost use Rattle.std.specs.List.{All, AllZip, list_all, filter, sum_by};
+ghost use Rattle.std.specs.Prelude.{◌≡◌, ℕ, ◌<◌, ◌≤◌, ◌^◌, ◌⊎◌, nat_lt, length, map, unwrap_or, [], true, IfOk, IfErr};
+ghost use Rattle.std.specs.List.{list_all, sum_by};
 ghost use Rattle.std.specs.Global.{Vec};
-ghost use Rattle.match_model.specs.Draft.{items_of, given_lists, AreLists, mutual_lists, AreFlags, flag_at, flagged_lists, has_no_repeats, owner_fault, items_fault, AnswersFirst, AnswersOrWantsMemory};
+ghost use Rattle.match_model.specs.Draft.{items_of, given_lists, AreLists, mutual_lists, has_no_repeats, owner_fault, items_fault, AnswersFirst, AnswersOrWantsMemory};
 
 use crate::fault::ModelFault;
 use crate::limits::MAX_PAIRS;
 use crate::member::{ProgrammeNo, ResidentNo};
+use crate::{flag_rows, sorted_copies};
 use std::alloc::{AllocError, Global};
 
 /// Whether this owner was added and has no list yet.
@@ -85,7 +86,7 @@ fn is_distinct(alloc: Global, others: usize, items: &[u32]) -> Result<bool, Allo
 }
 
 /// The items of a place that may have a list.
-fn given(list: &Option<Vec<u32>>) -> &[u32]
+pub(crate) fn given(list: &Option<Vec<u32>>) -> &[u32]
     ensures { result.now ≡ unwrap_or (items_of list.now) [] }
 {
     match list {
@@ -94,111 +95,13 @@ fn given(list: &Option<Vec<u32>>) -> &[u32]
     }
 }
 
-/// Which numbers below `count` stand in the list.
-fn flags(alloc: Global, count: usize, items: &[u32]) -> Result<Vec<bool>, AllocError>
-    requires { list_all (λ x. nat_lt x count) items.now ≡ true }
-    ensures { IfOk result (λ v. AreFlags count items.now v.items) }
-{
-    let mut flags = vec![in alloc; false; count]?;
-    for x in items {
-        flags[*x as usize] = true;
-    }
-    Ok(flags)
-}
-
-/// For each list which numbers below `count` stand in it, so that an item is found by one look.
-fn flag_rows(
-    alloc: Global,
-    count: usize,
-    lists: &[Option<Vec<u32>>],
-) -> Result<Vec<Vec<bool>>, AllocError>
-    requires { All (λ list. list_all (λ x. nat_lt x count) list ≡ true) (given_lists (map items_of lists.now)) }
-    ensures { IfOk result (λ v. AllZip (AreFlags count) (given_lists (map items_of lists.now)) (map (λ row. row.items) v.items)) }
-{
-    let mut rows = Vec::with_capacity(alloc, lists.len())?;
+/// Whether the lists have so many items that a row of flags for each, below `count`, takes less than sorted copies.
+fn is_dense(lists: &[Option<Vec<u32>>], count: usize) -> bool {
+    let mut items: usize = 0;
     for list in lists {
-        rows.push(flags(alloc, count, given(list))?)?;
+        items = items.saturating_add(given(list).len());
     }
-    Ok(rows)
-}
-
-/// Whether an item's row says that it lists the owner.
-fn lists_owner(rows: &[Vec<bool>], item: u32, owner: usize) -> bool
-    requires row { item < length rows.now }
-    requires wide { All (λ (row : List Bool). owner < length row) (map (λ (row : Vec Bool). row.items) rows.now) }
-    ensures { result ≡ flag_at (map (λ (row : Vec Bool). row.items) rows.now) item owner }
-{
-    rows[item as usize][owner]
-}
-
-/// How many items of a list have rows that list its owner.
-fn count_kept(items: &[u32], owner: usize, rows: &[Vec<bool>]) -> usize
-    requires below { list_all (λ x. nat_lt x (length rows.now)) items.now ≡ true }
-    requires wide { All (λ (row : List Bool). owner < length row) (map (λ (row : Vec Bool). row.items) rows.now) }
-    ensures { result ≡ length (filter (λ x. flag_at (map (λ (row : Vec Bool). row.items) rows.now) x owner) items.now) }
-{
-    let mut count = 0;
-    for item in items {
-        if lists_owner(rows, *item, owner) {
-            count += 1;
-        }
-    }
-    count
-}
-
-/// The items of a list whose rows list its owner, in their order.
-fn kept(
-    alloc: Global,
-    items: &[u32],
-    owner: usize,
-    rows: &[Vec<bool>],
-) -> Result<Vec<u32>, AllocError>
-    requires below { list_all (λ x. nat_lt x (length rows.now)) items.now ≡ true }
-    requires wide { All (λ (row : List Bool). owner < length row) (map (λ (row : Vec Bool). row.items) rows.now) }
-    ensures { IfOk result (λ v. v.items ≡ filter (λ x. flag_at (map (λ (row : Vec Bool). row.items) rows.now) x owner) items.now) }
-{
-    let mut kept = Vec::new(alloc);
-    for item in items {
-        if lists_owner(rows, *item, owner) {
-            kept.push(*item)?;
-        }
-    }
-    Ok(kept)
-}
-
-/// How many items all lists keep by these rows, if these are no more than there may be pairs.
-fn count_all_kept(lists: &[Option<Vec<u32>>], rows: &[Vec<bool>]) -> Option<u32>
-    requires below { All (λ list. list_all (λ x. nat_lt x (length rows.now)) list ≡ true) (given_lists (map items_of lists.now)) }
-    requires wide { All (λ (row : List Bool). length lists.now ≤ length row) (map (λ (row : Vec Bool). row.items) rows.now) }
-    ensures counted { IfSome result (λ n. (n ≡ sum_by length (flagged_lists (given_lists (map items_of lists.now)) (map (λ (row : Vec Bool). row.items) rows.now))) × (n ≤ MAX_PAIRS)) }
-    ensures over { IfNone result (MAX_PAIRS < sum_by length (flagged_lists (given_lists (map items_of lists.now)) (map (λ (row : Vec Bool). row.items) rows.now))) }
-{
-    let mut count = 0;
-    for (owner, list) in lists.iter().enumerate() {
-        let kept = count_kept(given(list), owner, rows);
-        if kept > MAX_PAIRS - count {
-            return None;
-        }
-        count += kept;
-    }
-    Some(count as u32)
-}
-
-/// The items that each list keeps by these rows.
-fn all_kept(
-    alloc: Global,
-    lists: &[Option<Vec<u32>>],
-    rows: &[Vec<bool>],
-) -> Result<Vec<Vec<u32>>, AllocError>
-    requires below { All (λ list. list_all (λ x. nat_lt x (length rows.now)) list ≡ true) (given_lists (map items_of lists.now)) }
-    requires wide { All (λ (row : List Bool). length lists.now ≤ length row) (map (λ (row : Vec Bool). row.items) rows.now) }
-    ensures { IfOk result (λ v. map (λ list. list.items) v.items ≡ flagged_lists (given_lists (map items_of lists.now)) (map (λ (row : Vec Bool). row.items) rows.now)) }
-{
-    let mut kept_lists = Vec::with_capacity(alloc, lists.len())?;
-    for (owner, list) in lists.iter().enumerate() {
-        kept_lists.push(kept(alloc, given(list), owner, rows)?)?;
-    }
-    Ok(kept_lists)
+    items >= lists.len().saturating_mul(count) / 16
 }
 
 /// Each member's list, in its order, with only those who list that member.
@@ -207,32 +110,36 @@ pub(crate) fn mutual(
     mine: &[Option<Vec<u32>>],
     theirs: &[Option<Vec<u32>>],
 ) -> Result<Vec<Vec<u32>>, AllocError>
+    requires few { length mine.now < 2 ^ 32 }
     requires lists { AreLists (map items_of mine.now) (length theirs.now) }
     requires others { AreLists (map items_of theirs.now) (length mine.now) }
     ensures { IfOk result (λ v. map (λ list. list.items) v.items ≡ mutual_lists (given_lists (map items_of mine.now)) (given_lists (map items_of theirs.now))) }
 {
-    let rows = flag_rows(alloc, mine.len(), theirs)?;
-    all_kept(alloc, mine, &rows)
+    if is_dense(theirs, mine.len()) {
+        flag_rows::mutual(alloc, mine, theirs)
+    } else {
+        sorted_copies::mutual(alloc, mine, theirs)
+    }
 }
 
-/// The same, and how many items these lists have, where these are no more than there may be pairs. They are counted
-/// before they are gathered.
+/// The same, and how many items these lists have, where these are no more than there may be pairs.
 pub(crate) fn counted_mutual(
     alloc: Global,
     mine: &[Option<Vec<u32>>],
     theirs: &[Option<Vec<u32>>],
 ) -> Result<(Vec<Vec<u32>>, u32), ModelFault>
+    requires few { length mine.now < 2 ^ 32 }
     requires lists { AreLists (map items_of mine.now) (length theirs.now) }
     requires others { AreLists (map items_of theirs.now) (length mine.now) }
     ensures lists { IfOk result (λ made. map (λ list. list.items) made.0.items ≡ mutual_lists (given_lists (map items_of mine.now)) (given_lists (map items_of theirs.now))) }
     ensures count { IfOk result (λ made. (made.1 ≡ sum_by length (mutual_lists (given_lists (map items_of mine.now)) (given_lists (map items_of theirs.now)))) × (made.1 ≤ MAX_PAIRS)) }
     ensures cause { IfErr result (λ fault. (fault ≡ ModelFault.Memory) ⊎ ((fault ≡ ModelFault.TooManyPairs) × (MAX_PAIRS < sum_by length (mutual_lists (given_lists (map items_of mine.now)) (given_lists (map items_of theirs.now)))))) }
 {
-    let rows = flag_rows(alloc, mine.len(), theirs)?;
-    let Some(count) = count_all_kept(mine, &rows) else {
-        return Err(ModelFault::TooManyPairs);
-    };
-    Ok((all_kept(alloc, mine, &rows)?, count))
+    if is_dense(theirs, mine.len()) {
+        flag_rows::counted_mutual(alloc, mine, theirs)
+    } else {
+        sorted_copies::counted_mutual(alloc, mine, theirs)
+    }
 }
 
 /// The lists of these numbers, as residents.

@@ -5,7 +5,7 @@ use Rattle.std.specs.List.{AllZip, sum_by}
 use Rattle.match_model.specs.declared.limits.TheConstants.{MAX_PAIRS}
 use Rattle.match_model.specs.Draft.{items_of, given_lists, AreFlags, flagged_lists, mutual_lists}
 use Rattle.match_model.proofs.Mutual.{rows_of, length-given_lists, have_rows, wide_rows, flagged_are_mutual}
-use Rattle.match_model.proofs.ranking.counted_mutual.Goals as goal
+use Rattle.match_model.proofs.flag_rows.counted_mutual.Goals as goal
 
 -- what is kept by the rows at hand
 made_is : (mine theirs : List (Option (Vec ℕ))) (rows : List (Vec Bool)) → AllZip (AreFlags (length mine)) (given_lists (map items_of theirs)) (rows_of rows) →

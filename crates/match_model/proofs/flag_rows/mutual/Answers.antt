@@ -2,7 +2,7 @@ use Rattle.std.proofs.Common.{ℕ, List, Bool, map, length, subst, sym}
 use Rattle.std.specs.List.{AllZip}
 use Rattle.match_model.specs.Draft.{items_of, given_lists, AreFlags}
 use Rattle.match_model.proofs.Mutual.{rows_of, length-given_lists, have_rows, wide_rows, flagged_are_mutual}
-use Rattle.match_model.proofs.ranking.mutual.Goals as goal
+use Rattle.match_model.proofs.flag_rows.mutual.Goals as goal
 
 pub all_kept-requires-clause-below : goal.all_kept-requires-clause-below
 all_kept-requires-clause-below c =

@@ -4,7 +4,7 @@ use Rattle.std.proofs.lemmas.List.{take_all}
 use Rattle.std.proofs.lemmas.List.Sums.{sum_by_more, sum_by_more_le}
 use Rattle.match_model.specs.Draft.{items_of, given_lists, flag_at, flagged_lists}
 use Rattle.match_model.proofs.Mutual.{rows_of, given_at, length-given_lists, length-flagged_lists, get_or-flagged_lists}
-use Rattle.match_model.proofs.ranking.count_all_kept.Goals as goal
+use Rattle.match_model.proofs.flag_rows.count_all_kept.Goals as goal
 
 pub count_kept-kept-requires-clause-below : goal.count_kept-kept-requires-clause-below
 count_kept-kept-requires-clause-below c =

@@ -3,7 +3,7 @@ use Rattle.std.specs.Global.{Vec}
 use Rattle.std.specs.List.{sum_by}
 use Rattle.match_model.specs.Draft.{items_of, given_lists, flagged_lists}
 use Rattle.match_model.specs.declared.limits.TheConstants.{MAX_PAIRS}
-use Rattle.match_model.proofs.ranking.count_all_kept.Given as goal
+use Rattle.match_model.proofs.flag_rows.count_all_kept.Given as goal
 
 abbrev pub invariant-loop-owner : goal.invariant-loop-owner
 invariant-loop-owner l = record {

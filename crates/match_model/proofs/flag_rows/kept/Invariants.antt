@@ -2,7 +2,7 @@ use Rattle.std.proofs.Common.{◌≡◌, map, take, Bool}
 use Rattle.std.specs.List.{filter}
 use Rattle.std.specs.Global.{Vec}
 use Rattle.match_model.specs.Draft.{flag_at}
-use Rattle.match_model.proofs.ranking.kept.Given as goal
+use Rattle.match_model.proofs.flag_rows.kept.Given as goal
 
 abbrev pub invariant-loop-item : goal.invariant-loop-item
 invariant-loop-item l =

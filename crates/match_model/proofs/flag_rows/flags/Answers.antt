@@ -2,7 +2,7 @@ use Rattle.std.proofs.Common.{get_or, take, set, true, ℕ, List, subst, sym}
 use Rattle.std.proofs.lemmas.List.{take_more}
 use Rattle.match_model.specs.Draft.{AreFlags}
 use Rattle.match_model.proofs.Mutual.{AreFlags-more, list_all_at}
-use Rattle.match_model.proofs.ranking.flags.Goals as goal
+use Rattle.match_model.proofs.flag_rows.flags.Goals as goal
 
 pub loop-x-preserved : goal.loop-x-preserved
 loop-x-preserved c =

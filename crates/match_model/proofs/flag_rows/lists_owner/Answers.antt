@@ -2,7 +2,7 @@ use Rattle.std.proofs.Common.{◌<◌, List, Bool, [], ap, subst, length, vec_le
 use Rattle.std.specs.Global.{Vec}
 use Rattle.std.proofs.lemmas.List.{length-map}
 use Rattle.match_model.proofs.Mutual.{row_at}
-use Rattle.match_model.proofs.ranking.lists_owner.Goals as goal
+use Rattle.match_model.proofs.flag_rows.lists_owner.Goals as goal
 
 vec_len_is : (v : Vec Bool) → vec_len v ≡ length v.items
 vec_len_is v = v.ok.0

@@ -4,7 +4,7 @@ use Rattle.std.specs.List.{list_all, filter}
 use Rattle.std.proofs.lemmas.List.{take_all, take_more, map_push}
 use Rattle.match_model.specs.Draft.{items_of, given_lists, flag_at, flagged_lists}
 use Rattle.match_model.proofs.Mutual.{lists_of, rows_of, given_at, length-given_lists, length-flagged_lists, get_or-flagged_lists}
-use Rattle.match_model.proofs.ranking.all_kept.Goals as goal
+use Rattle.match_model.proofs.flag_rows.all_kept.Goals as goal
 
 pub kept-requires-clause-below : goal.kept-requires-clause-below
 kept-requires-clause-below c =

@@ -1,7 +1,7 @@
 use Rattle.std.proofs.Common.{◌≡◌, map, take, ℕ, Bool}
 use Rattle.std.specs.Global.{Vec}
 use Rattle.match_model.specs.Draft.{items_of, given_lists, flagged_lists}
-use Rattle.match_model.proofs.ranking.all_kept.Given as goal
+use Rattle.match_model.proofs.flag_rows.all_kept.Given as goal
 
 abbrev pub invariant-loop-owner : goal.invariant-loop-owner
 invariant-loop-owner l =

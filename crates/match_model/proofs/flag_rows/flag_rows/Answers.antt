@@ -3,7 +3,7 @@ use Rattle.std.specs.List.{list_all}
 use Rattle.std.proofs.lemmas.List.{map_push}
 use Rattle.match_model.specs.Draft.{items_of, given_lists, AreFlags}
 use Rattle.match_model.proofs.Mutual.{rows_of, given_at, length-given_lists, all_zip_next}
-use Rattle.match_model.proofs.ranking.flag_rows.Goals as goal
+use Rattle.match_model.proofs.flag_rows.flag_rows.Goals as goal
 
 pub flags-requires : goal.flags-requires
 flags-requires c =
