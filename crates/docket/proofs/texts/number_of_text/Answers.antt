@@ -4,7 +4,7 @@ use Rattle.docket.specs.LongRecord.{keys_of}
 use Rattle.docket.specs.Contents.{number_in}
 use Rattle.docket.proofs.NameFacts.{number_in-map}
 use Rattle.docket.proofs.TextFacts.{number_found, key_found}
-use Rattle.docket.proofs.long_record.number_of_text.Goals as goal
+use Rattle.docket.proofs.texts.number_of_text.Goals as goal
 
 pub returns-in-Some-clause-number : goal.returns-in-Some-clause-number
 returns-in-Some-clause-number c =
