@@ -13,7 +13,7 @@ use Rattle.match_model.specs.declared.limits.TheConstants.{MAX_PROGRAMMES, MAX_R
 use Rattle.match_model.specs.declared.fault.ModelFault.{ModelFault}
 use Rattle.match_model.specs.declared.fault.ModelFault.TheVariants as model
 use Rattle.docket.specs.Words.{number_of, capacity_of}
-use Rattle.docket.specs.Fields.{Fields, field, kind_of, is_kind, is_row_of, or_else, unless}
+use Rattle.docket.specs.Fields.{Fields, field, kind_of, is_kind, is_row_of, unless}
 use Rattle.docket.specs.Contents.{rows_of, names_of, programmes_of, residents_of, quotas_of, is_sheet_row, is_declared}
 use Rattle.docket.specs.Passes.{repeat_fault, limit_fault, next_place}
 use Rattle.docket.specs.Answers.{Refuses, at_record}
@@ -134,12 +134,12 @@ is_declared-rows kind rows name = is_declared-map (λ (r : Fields). field r 1) (
         by false e = e
 
 -- the error of a first test, and of a second
-pub refuses_first : (first second : Option DocketFault) (e : DocketFault) → Refuses first e → Refuses (or_else first second) e
+pub refuses_first : (first second : Option DocketFault) (e : DocketFault) → Refuses first e → Refuses (option_or first second) e
 refuses_first first second e (inl memory) = inl memory
 refuses_first None second e (inr some) = absurd (cc some)
 refuses_first (Some f) second e (inr some) = inr some
 
-pub refuses_second : (first second : Option DocketFault) (e : DocketFault) → first ≡ None → Refuses second e → Refuses (or_else first second) e
+pub refuses_second : (first second : Option DocketFault) (e : DocketFault) → first ≡ None → Refuses second e → Refuses (option_or first second) e
 refuses_second first second e none h = rw none h
 
 -- what a builder answered, as a fault at a record
@@ -230,7 +230,7 @@ pub resident_limited : (d : Draft) (before : List Fields) (row : Fields) (n : �
 resident_limited d before row n kind e g = rw (limit_fault-resident d before row kind e, g) refl
 
 -- two tests without a fault
-pub no_fault : (first second : Option DocketFault) → first ≡ None → second ≡ None → or_else first second ≡ None
+pub no_fault : (first second : Option DocketFault) → first ≡ None → second ≡ None → option_or first second ≡ None
 no_fault first second e f = rw (e, f) refl
 
 -- there is a capacity exactly where there is a C row
@@ -262,11 +262,11 @@ event_asked before row cap n kind e g = rw (kind, e, g, is_some-capacity_in befo
 
 -- the answer to such a test
 pub test_refused : (before : List Fields) (row : Fields) (test : Bool) (fault : DocketFault) → repeat_fault before row ≡ unless test fault → test ≡ false
-    → Refuses (or_else (repeat_fault before row) (limit_fault before row)) fault
+    → Refuses (option_or (repeat_fault before row) (limit_fault before row)) fault
 test_refused before row test fault e f = rw (e, f) (inr refl)
 
 pub test_passed : (before : List Fields) (row : Fields) (test : Bool) (fault : DocketFault) → repeat_fault before row ≡ unless test fault → test ≡ true
-    → limit_fault before row ≡ None → or_else (repeat_fault before row) (limit_fault before row) ≡ None
+    → limit_fault before row ≡ None → option_or (repeat_fault before row) (limit_fault before row) ≡ None
 test_passed before row test fault e f g = rw (e, f, g) refl
 
 -- no choice before

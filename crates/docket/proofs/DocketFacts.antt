@@ -2,7 +2,8 @@
 use Rattle.std.proofs.Common.{◌≡◌, ◌≤◌, ℕ, List, [], ◌∷◌, Bool, true, false, length, map, sym, ◌∙◌, refl, Option, Some, None, rules}
 use Rattle.std.specs.Prelude.{◌&&◌, ◌||◌, not, if◌then◌else◌, nat_eq, option_map, IfSome}
 use Rattle.std.specs.List.{list_any}
-use Rattle.docket.specs.Fields.{Fields, field, is_kind, or_else}
+use Rattle.std.specs.Option.{option_or}
+use Rattle.docket.specs.Fields.{Fields, field, is_kind}
 use Rattle.docket.specs.Contents.{Contents, contents_of, programmes_of, residents_of, rows_of, events_of, journal_of, JournalParts, has_sheet, declares_member}
 use Rattle.docket.specs.Passes.{first_from, reading_fault, later_fault, first_fault, docket_of, rows_in, sheet_fault, mark_fault, missing_fault, filled_fault, ranking_fault, pairs_fault, event_fault}
 use Rattle.docket.specs.Answers.{Refuses}
@@ -89,7 +90,7 @@ whole_later (Some bytes) left rows f e all sound h =
 
 -- the faults of a sheet are asked only where there is one
 pub sheet_asked : (rows : List Fields) → has_sheet rows ≡ true
-    → sheet_fault rows ≡ or_else (first_from (mark_fault rows) [] rows) (or_else (missing_fault rows) (first_from (filled_fault rows) [] rows))
+    → sheet_fault rows ≡ option_or (first_from (mark_fault rows) [] rows) (option_or (missing_fault rows) (first_from (filled_fault rows) [] rows))
 unfolding sheet_fault
 sheet_asked rows e = rw e refl
 
@@ -99,12 +100,12 @@ sheet_free rows e = rw e refl
 
 -- the second pass and the later ones
 pub later_is : (rows : List Fields) → later_fault rows
-    ≡ or_else (or_else (first_from (ranking_fault rows) [] rows) (pairs_fault rows)) (or_else (sheet_fault rows) (first_from (event_fault rows) [] rows))
+    ≡ option_or (option_or (first_from (ranking_fault rows) [] rows) (pairs_fault rows)) (option_or (sheet_fault rows) (first_from (event_fault rows) [] rows))
 unfolding later_fault
 later_is rows = by (first_from (ranking_fault rows) [] rows)
   where
-    by : (a : Option DocketFault) → or_else a (or_else (pairs_fault rows) (or_else (sheet_fault rows) (first_from (event_fault rows) [] rows)))
-        ≡ or_else (or_else a (pairs_fault rows)) (or_else (sheet_fault rows) (first_from (event_fault rows) [] rows))
+    by : (a : Option DocketFault) → option_or a (option_or (pairs_fault rows) (option_or (sheet_fault rows) (first_from (event_fault rows) [] rows)))
+        ≡ option_or (option_or a (pairs_fault rows)) (option_or (sheet_fault rows) (first_from (event_fault rows) [] rows))
     by None = refl
     by (Some f) = refl
 

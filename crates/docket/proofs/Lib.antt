@@ -6,6 +6,7 @@ pub mod NameFacts
 pub mod ReadFacts
 pub mod DeclarationFacts
 pub mod SoundFacts
+pub mod TextFacts
 pub mod PassFacts
 pub mod ReadInvariant
 pub mod NumberFacts

@@ -15,9 +15,9 @@ use Rattle.docket.specs.declared.sheet.Marks.{Marks}
 use Rattle.docket.specs.declared.kind.TheConstants.{MATCHED, UNMATCHED, FILLED, MAX_RECORDS}
 use Rattle.docket.specs.declared.fault.DocketFault.{DocketFault}
 use Rattle.docket.specs.declared.fault.DocketFault.TheVariants.{UnknownName, BadSheet}
-use Rattle.docket.proofs.DeclarationFacts.{list_any-if}
+use Rattle.docket.proofs.DeclarationFacts.{list_any-if, option_or-none}
 use Rattle.docket.proofs.NumberFacts.{distinct, number_below, at_number, map_at, bytes_eq-same}
-use Rattle.docket.proofs.RankingFacts.{clean_at, bytes_eq-swap, map-same, find_none, find-push, option_or-nothing, distinct_programmes, distinct_residents}
+use Rattle.docket.proofs.RankingFacts.{clean_at, bytes_eq-swap, map-same, find_none, find-push, distinct_programmes, distinct_residents}
 
 -- by name whether some row passes that name's test, with a row more that passes one name's
 any_at : (p : List ℕ → Fields → Bool) (names : List (List ℕ)) (done : List Fields) (row : Fields) (name : List ℕ) (i : ℕ) → distinct names ≡ true
@@ -69,13 +69,13 @@ placed_at programmes names done row i p d at kind to free =
     own = rw (find-push (is_row_of MATCHED (field row 1)) done row, kind, bytes_eq-same (field row 1), find_none (is_row_of MATCHED (field row 1)) done free) to
 
     other : (x : List ℕ) → bytes_eq (field row 1) x ≡ false → placed_in programmes (done ++ row ∷ []) x ≡ placed_in programmes done x
-    other x e = rw (find-push (is_row_of MATCHED x) done row, kind, bytes_eq-swap (field row 1) x e, option_or-nothing (find (is_row_of MATCHED x) done)) refl
+    other x e = rw (find-push (is_row_of MATCHED x) done row, kind, bytes_eq-swap (field row 1) x e, sym (option_or-none (find (is_row_of MATCHED x) done))) refl
 
 placed_same : (programmes names : List (List ℕ)) (done : List Fields) (row : Fields) → is_kind MATCHED row ≡ false
     → map (placed_in programmes (done ++ row ∷ [])) names ≡ map (placed_in programmes done) names
 placed_same programmes names done row kind =
     map-same (placed_in programmes (done ++ row ∷ [])) (placed_in programmes done) names
-    (λ x. rw (find-push (is_row_of MATCHED x) done row, kind, option_or-nothing (find (is_row_of MATCHED x) done)) refl)
+    (λ x. rw (find-push (is_row_of MATCHED x) done row, kind, sym (option_or-none (find (is_row_of MATCHED x) done))) refl)
 
 -- nobody marked has no M row
 unmarked_unmatched : (name : List ℕ) (done : List Fields) → list_any (is_mark_of name) done ≡ false → list_any (is_row_of MATCHED name) done ≡ false

@@ -6,9 +6,10 @@ use Rattle.std.proofs.lemmas.List.{map-append, get_or_past}
 use Rattle.std.proofs.lemmas.List.Folds.{list_all-append}
 use Rattle.std.proofs.lemmas.Iterator.Adapters.{position_from-zero}
 use Rattle.std.proofs.lemmas.Str.{IsUtf8-from_ascii}
+use Rattle.std.proofs.lemmas.Bool.{and_from, and_parts}
 use Rattle.docket.specs.Words.{is_name, is_name_byte}
 use Rattle.docket.specs.Contents.{number_in, is_declared}
-use Rattle.docket.proofs.WordFacts.{both, and_true, list_all_true_at}
+use Rattle.docket.proofs.WordFacts.{list_all_true_at}
 
 -- a position among images
 position_from-map : {A B : Type 0} (p : B → Bool) (f : A → B) (n : ℕ) (xs : List A) → position_from p n (map f xs) ≡ position_from (λ x. p (f x)) n xs
@@ -63,15 +64,15 @@ ascii_byte c h = by (nat_le 97 c && nat_le c 122) (nat_le 65 c && nat_le c 90) (
   where
     by : (l u d m w p : Bool) → (nat_le 97 c && nat_le c 122) ≡ l → (nat_le 65 c && nat_le c 90) ≡ u → (nat_le 48 c && nat_le c 57) ≡ d
         → (c == 45) ≡ m → (c == 95) ≡ w → (c == 46) ≡ p → (l || u || d || m || w || p) ≡ true → c < 128
-    by true u d m w p el eu ed em ew ep e = le122 (both (nat_le 97 c) (nat_le c 122) el).1
+    by true u d m w p el eu ed em ew ep e = le122 (and_parts (nat_le 97 c) (nat_le c 122) el).1
       where
         le122 : nat_le c 122 ≡ true → c < 128
         le122 q = search (rules, q)
-    by false true d m w p el eu ed em ew ep e = le90 (both (nat_le 65 c) (nat_le c 90) eu).1
+    by false true d m w p el eu ed em ew ep e = le90 (and_parts (nat_le 65 c) (nat_le c 90) eu).1
       where
         le90 : nat_le c 90 ≡ true → c < 128
         le90 q = search (rules, q)
-    by false false true m w p el eu ed em ew ep e = le57 (both (nat_le 48 c) (nat_le c 57) ed).1
+    by false false true m w p el eu ed em ew ep e = le57 (and_parts (nat_le 48 c) (nat_le c 57) ed).1
       where
         le57 : nat_le c 57 ≡ true → c < 128
         le57 q = search (rules, q)
@@ -86,7 +87,7 @@ unfolding is_name
 IsUtf8-is_name name h = IsUtf8-from_ascii name (λ i. at i (nat_lt i (length name)) refl)
   where
     bytes : list_all is_name_byte name ≡ true
-    bytes = (both (nat_le 1 (length name) && nat_le (length name) 32) (list_all is_name_byte name) h).1
+    bytes = (and_parts (nat_le 1 (length name) && nat_le (length name) 32) (list_all is_name_byte name) h).1
 
     at : (i : ℕ) (b : Bool) → nat_lt i (length name) ≡ b → get_or name i 0 < 128
     at i true e = ascii_byte (get_or name i 0) (list_all_true_at is_name_byte name i 0 (search (rules, e)) bytes)
@@ -98,7 +99,7 @@ pub names_push : (names : List (List ℕ)) (name : List ℕ) → list_all is_nam
 names_push names name all one = by (is_declared names name)
   where
     more : list_all is_name (names ++ name ∷ []) ≡ true
-    more = list_all-append is_name names (name ∷ []) ∙ and_true _ _ all (and_true _ _ one refl)
+    more = list_all-append is_name names (name ∷ []) ∙ and_from _ _ all (and_from _ _ one refl)
 
     by : (b : Bool) → list_all is_name (if b then names else names ++ name ∷ []) ≡ true
     by true = all
@@ -107,8 +108,8 @@ names_push names name all one = by (is_declared names name)
 -- a name among the keys is a name
 pub name_at : {K : Type 0} (f : K → List ℕ) (keys : List K) (i : ℕ) (k : K) → list_all is_name (map f keys) ≡ true → slice_get keys i ≡ Some k → is_name (f k) ≡ true
 name_at f [] i k all at = absurd (cc at)
-name_at f (x ∷ xs) zero k all at = let same : x ≡ k = cc at in rw (← same) (both (is_name (f x)) (list_all is_name (map f xs)) all).0
-name_at f (x ∷ xs) (suc i) k all at = name_at f xs i k (both (is_name (f x)) (list_all is_name (map f xs)) all).1 at
+name_at f (x ∷ xs) zero k all at = let same : x ≡ k = cc at in rw (← same) (and_parts (is_name (f x)) (list_all is_name (map f xs)) all).0
+name_at f (x ∷ xs) (suc i) k all at = name_at f xs i k (and_parts (is_name (f x)) (list_all is_name (map f xs)) all).1 at
 
 -- whether a name is declared, by the keys that hold the names
 pub is_declared-map : {K : Type 0} (f : K → List ℕ) (keys : List K) (name : List ℕ) → is_declared (map f keys) name ≡ list_any (λ k. bytes_eq name (f k)) keys

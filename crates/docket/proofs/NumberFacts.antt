@@ -7,12 +7,12 @@ use Rattle.std.proofs.lemmas.Slice.Eq.{bytes_eq-Decides}
 use Rattle.std.specs.List.{list_all}
 use Rattle.std.proofs.lemmas.List.{take_more, length-drop, take_all, map-append, get_or-drop}
 use Rattle.std.proofs.lemmas.List.Folds.{list_all_more, list_all_at}
+use Rattle.std.proofs.lemmas.Bool.{and_parts, or_parts}
 use Rattle.docket.specs.Fields.{Fields, field, is_kind, unless}
 use Rattle.docket.specs.Contents.{number_in, is_declared, member_in, listed_in, names_of, rows_of, programmes_of, residents_of}
 use Rattle.docket.specs.declared.kind.TheConstants.{QUOTA, RESIDENT_LIST}
 use Rattle.docket.specs.declared.fault.DocketFault.{DocketFault}
 use Rattle.docket.proofs.FieldFacts.{field-get_or}
-use Rattle.docket.proofs.WordFacts.{both}
 
 position_from-suc : {A : Type 0} (p : A → Bool) (n : ℕ) (xs : List A) → position_from p (n + 1) xs ≡ option_map suc (position_from p n xs)
 position_from-suc p n [] = refl
@@ -77,12 +77,8 @@ map_same : {B : Type 0} (f g : List ℕ → B) (names : List (List ℕ)) (name :
     → ((x : List ℕ) → bytes_eq name x ≡ false → g x ≡ f x) → map g names ≡ map f names
 map_same f g [] name e h = refl
 map_same f g (x ∷ xs) name e h =
-    let parts = neither (bytes_eq name x) (list_any (bytes_eq name) xs) e in
+    let parts = or_parts (bytes_eq name x) (list_any (bytes_eq name) xs) e in
     rw (h x parts.0, map_same f g xs name parts.1 h) refl
-  where
-    neither : (a b : Bool) → (a || b) ≡ false → (a ≡ false) × (b ≡ false)
-    neither true b h = absurd (cc h)
-    neither false b h = (refl, h)
 
 -- a list by number that changes at one name
 pub map_at : {B : Type 0} (f g : List ℕ → B) (names : List (List ℕ)) (name : List ℕ) (i : ℕ) → distinct names ≡ true → number_in names name ≡ Some i
@@ -90,7 +86,7 @@ pub map_at : {B : Type 0} (f g : List ℕ → B) (names : List (List ℕ)) (name
 unfolding distinct
 map_at f g [] name i d e h = absurd (let below = number_below [] name i e in omega arith)
 map_at f g (x ∷ xs) name i d e h =
-    let parts = both (not (list_any (bytes_eq x) xs)) (distinct xs) d in
+    let parts = and_parts (not (list_any (bytes_eq x) xs)) (distinct xs) d in
     number_cases x xs name i e
     (λ b z.
     let same = same_bytes name x b in

@@ -2,7 +2,8 @@
 use Rattle.std.proofs.Common.{◌≡◌, ◌≤◌, ◌<◌, ◌+◌, ◌-◌, ℕ, zero, suc, List, [], ◌∷◌, ◌++◌, Bool, true, false, length, take, drop, sym, ◌∙◌, refl, ap, Option, Some, None, inl, inr, append_assoc, append-nil, rules, subst, arith}
 use Rattle.std.specs.Prelude.{nat_le, if◌then◌else◌}
 use Rattle.std.proofs.lemmas.List.{take_more, take_all, take-append-drop, length-append}
-use Rattle.docket.specs.Fields.{Fields, or_else, row_fault}
+use Rattle.std.specs.Option.{option_or}
+use Rattle.docket.specs.Fields.{Fields, row_fault}
 use Rattle.docket.specs.Rows.{row_at}
 use Rattle.docket.specs.Answers.{Refuses}
 use Rattle.docket.specs.Read.{GivesRow, IsSplit, Explains, AreAll}
@@ -11,19 +12,19 @@ use Rattle.docket.specs.declared.kind.TheConstants.{MAX_RECORDS}
 use Rattle.docket.specs.declared.fault.DocketFault.{DocketFault}
 use Rattle.docket.specs.declared.fault.DocketFault.TheVariants.{TooManyRecords}
 
-or_else-assoc : (a b c : Option DocketFault) → or_else a (or_else b c) ≡ or_else (or_else a b) c
-or_else-assoc None b c = refl
-or_else-assoc (Some f) b c = refl
+option_or-assoc : (a b c : Option DocketFault) → option_or a (option_or b c) ≡ option_or (option_or a b) c
+option_or-assoc None b c = refl
+option_or-assoc (Some f) b c = refl
 
 -- the first fault of rows and then more rows
 pub first_from-append : (f : List Fields → Fields → Option DocketFault) (before xs ys : List Fields)
-    → first_from f before (xs ++ ys) ≡ or_else (first_from f before xs) (first_from f (before ++ xs) ys)
+    → first_from f before (xs ++ ys) ≡ option_or (first_from f before xs) (first_from f (before ++ xs) ys)
 unfolding first_from
 first_from-append f before [] ys = rw (append-nil before) refl
 first_from-append f before (x ∷ xs) ys =
-    ap (or_else (f before x)) (first_from-append f (before ++ x ∷ []) xs ys)
-    ∙ or_else-assoc (f before x) (first_from f (before ++ x ∷ []) xs) (first_from f ((before ++ x ∷ []) ++ xs) ys)
-    ∙ ap (λ (b : List Fields). or_else (or_else (f before x) (first_from f (before ++ x ∷ []) xs)) (first_from f b ys)) (append_assoc before (x ∷ []) xs)
+    ap (option_or (f before x)) (first_from-append f (before ++ x ∷ []) xs ys)
+    ∙ option_or-assoc (f before x) (first_from f (before ++ x ∷ []) xs) (first_from f ((before ++ x ∷ []) ++ xs) ys)
+    ∙ ap (λ (b : List Fields). option_or (option_or (f before x) (first_from f (before ++ x ∷ []) xs)) (first_from f b ys)) (append_assoc before (x ∷ []) xs)
 
 -- one row more without a fault
 pub first_from-push : (f : List Fields → Fields → Option DocketFault) (kept : List Fields) (row : Fields)
@@ -73,13 +74,13 @@ split_start (Some rows) = (rows, refl, refl)
 
 -- the first pass at a row before the limit, and after it
 pub reading_fault-few : (before : List Fields) (row : Fields) → length before < MAX_RECORDS
-    → reading_fault before row ≡ or_else (row_fault (next_place before) row) (or_else (repeat_fault before row) (limit_fault before row))
+    → reading_fault before row ≡ option_or (row_fault (next_place before) row) (option_or (repeat_fault before row) (limit_fault before row))
 unfolding reading_fault
 reading_fault-few before row few = by (nat_le MAX_RECORDS (length before)) refl
   where
     by : (b : Bool) → nat_le MAX_RECORDS (length before) ≡ b
-        → (if b then Some (TooManyRecords (next_place before)) else or_else (row_fault (next_place before) row) (or_else (repeat_fault before row) (limit_fault before row)))
-        ≡ or_else (row_fault (next_place before) row) (or_else (repeat_fault before row) (limit_fault before row))
+        → (if b then Some (TooManyRecords (next_place before)) else option_or (row_fault (next_place before) row) (option_or (repeat_fault before row) (limit_fault before row)))
+        ≡ option_or (row_fault (next_place before) row) (option_or (repeat_fault before row) (limit_fault before row))
     by true e = absurd (search (rules, few, e))
     by false e = refl
 

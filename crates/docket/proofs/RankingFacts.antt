@@ -8,7 +8,8 @@ use Rattle.std.proofs.lemmas.List.Folds.{list_any-append, find-append}
 use Rattle.match_model.specs.Draft.{Draft, with_programme_list, with_resident_list, AnswersOrWantsMemory, owner_fault, list_fault, has_no_repeats, instance_of, IsFinishFault}
 use Rattle.match_model.specs.declared.fault.ModelFault.{ModelFault}
 use Rattle.match_model.specs.declared.fault.ModelFault.TheVariants as model
-use Rattle.docket.specs.Fields.{Fields, field, kind_of, is_kind, is_row_of, or_else, unless, row_fault}
+use Rattle.std.proofs.lemmas.Bool.{and_from, and_parts, or_parts}
+use Rattle.docket.specs.Fields.{Fields, field, kind_of, is_kind, is_row_of, unless, row_fault}
 use Rattle.docket.specs.Rows.{row_at}
 use Rattle.docket.specs.Contents.{number_in, is_declared, member_in, listed_in, names_of, rows_of, quotas_of, programmes_of, residents_of, lists_of, draft_of}
 use Rattle.docket.specs.Words.{number_of}
@@ -22,8 +23,7 @@ use Rattle.docket.specs.declared.fault.DocketFault.{DocketFault}
 use Rattle.docket.specs.declared.fault.DocketFault.TheVariants.{DeclaredTwice, UnknownName, Model}
 use Rattle.docket.proofs.PassFacts.{first_from-append, reading_fault-few}
 use Rattle.docket.proofs.SoundFacts.{both_none, unless_none}
-use Rattle.docket.proofs.DeclarationFacts.{names_of-if, is_declared-rows}
-use Rattle.docket.proofs.WordFacts.{both, and_true}
+use Rattle.docket.proofs.DeclarationFacts.{option_or-none, names_of-if, is_declared-rows}
 use Rattle.docket.proofs.NameFacts.{is_declared-any}
 use Rattle.docket.proofs.NumberFacts.{distinct, number_below, at_number, map_at, same_bytes, bytes_eq-same}
 
@@ -54,7 +54,7 @@ sound_row rows k none few lt =
     let size = length-take k rows in
     let here : length (take k rows) ≡ k = omega arith in
     let all = sym (reading_fault-few (take k rows) (row_at rows k) (omega arith)) ∙ clean_at reading_fault rows k none lt in
-    let own = both_none (row_fault (next_place (take k rows)) (row_at rows k)) (or_else (repeat_fault (take k rows) (row_at rows k)) (limit_fault (take k rows) (row_at rows k))) all in
+    let own = both_none (row_fault (next_place (take k rows)) (row_at rows k)) (option_or (repeat_fault (take k rows) (row_at rows k)) (limit_fault (take k rows) (row_at rows k))) all in
     (ap (λ (n : ℕ). row_fault (n + 1) (row_at rows k)) (sym here) ∙ own.0, (both_none (repeat_fault (take k rows) (row_at rows k)) (limit_fault (take k rows) (row_at rows k)) own.1).0)
 
 -- no earlier row of the kind has the name
@@ -89,15 +89,11 @@ distinct_push : (names : List (List ℕ)) (name : List ℕ) → distinct names �
 unfolding distinct
 distinct_push [] name d e = refl
 distinct_push (x ∷ xs) name d e =
-    let parts = both (not (list_any (bytes_eq x) xs)) (distinct xs) d in
-    let apart = neither (bytes_eq name x) (list_any (bytes_eq name) xs) e in
+    let parts = and_parts (not (list_any (bytes_eq x) xs)) (distinct xs) d in
+    let apart = or_parts (bytes_eq name x) (list_any (bytes_eq name) xs) e in
     let none = off (list_any (bytes_eq x) xs) parts.0 in
     let more : list_any (bytes_eq x) (xs ++ name ∷ []) ≡ false = rw (list_any-append (bytes_eq x) xs (name ∷ []), none, bytes_eq-swap name x apart.0) refl in
-    and_true _ _ (rw more refl) (distinct_push xs name parts.1 apart.1)
-  where
-    neither : (a b : Bool) → (a || b) ≡ false → (a ≡ false) × (b ≡ false)
-    neither true b h = absurd (cc h)
-    neither false b h = (refl, h)
+    and_from _ _ (rw more refl) (distinct_push xs name parts.1 apart.1)
 
 -- the names that the rows of a kind declare stand once
 distinct_names : (kind : ℕ) → ((before : List Fields) (row : Fields) → repeat_fault before row ≡ None → kind_of row ≡ kind → list_any (is_row_of kind (field row 1)) before ≡ false)
@@ -146,10 +142,6 @@ find_none p (r ∷ rows) e = by (p r) e (find_none p rows)
 pub find-push : (p : Fields → Bool) (rows : List Fields) (row : Fields) → find p (rows ++ row ∷ []) ≡ option_or (find p rows) (if p row then Some row else None)
 find-push p rows row = find-append p rows (row ∷ [])
 
-pub option_or-nothing : {A : Type 0} (o : Option A) → option_or o None ≡ o
-option_or-nothing None = refl
-option_or-nothing (Some x) = refl
-
 -- the lists, with the row of one owner more
 pub lists_of-owner : (kind : ℕ) (owners others : List (List ℕ)) (before : List Fields) (row : Fields) (i : ℕ) → distinct owners ≡ true
     → number_in owners (field row 1) ≡ Some i → is_kind kind row ≡ true → list_any (is_row_of kind (field row 1)) before ≡ false
@@ -163,7 +155,7 @@ lists_of-owner kind owners others before row i d at k free =
         → option_map (listed_in others) (find (is_row_of kind x) (before ++ row ∷ [])) ≡ option_map (listed_in others) (find (is_row_of kind x) before)
     other x e =
         let apart = bytes_eq-swap (field row 1) x e in
-        rw (find-push (is_row_of kind x) before row, k, apart, option_or-nothing (find (is_row_of kind x) before)) refl
+        rw (find-push (is_row_of kind x) before row, k, apart, sym (option_or-none (find (is_row_of kind x) before))) refl
 
     own : option_map (listed_in others) (find (is_row_of kind (field row 1)) (before ++ row ∷ [])) ≡ Some (listed_in others row)
     own = rw (find-push (is_row_of kind (field row 1)) before row, k, bytes_eq-same (field row 1), find_none (is_row_of kind (field row 1)) before free) refl
@@ -178,7 +170,7 @@ pub lists_of-other : (kind : ℕ) (owners others : List (List ℕ)) (before : Li
 unfolding lists_of
 lists_of-other kind owners others before row k =
     map-same (λ (name : List ℕ). option_map (listed_in others) (find (is_row_of kind name) (before ++ row ∷ []))) (λ (name : List ℕ). option_map (listed_in others) (find (is_row_of kind name) before)) owners
-    (λ x. rw (find-push (is_row_of kind x) before row, k, option_or-nothing (find (is_row_of kind x) before)) refl)
+    (λ x. rw (find-push (is_row_of kind x) before row, k, sym (option_or-none (find (is_row_of kind x) before))) refl)
 
 -- nobody has a list before the first row
 pub lists_of-none : (kind : ℕ) (owners others : List (List ℕ)) → lists_of kind owners others [] ≡ map (λ name. None) owners
@@ -206,8 +198,8 @@ items_below : (others : List (List ℕ)) (names : List (List ℕ)) → list_all 
     → list_all (λ x. nat_lt x (length others)) (map (member_in others) names) ≡ true
 items_below others [] h = refl
 items_below others (n ∷ names) h =
-    let parts = both (is_declared others n) (list_all (is_declared others) names) h in
-    and_true _ _ (by (number_in others n) refl parts.0) (items_below others names parts.1)
+    let parts = and_parts (is_declared others n) (list_all (is_declared others) names) h in
+    and_from _ _ (by (number_in others n) refl parts.0) (items_below others names parts.1)
   where
     by : (o : Option ℕ) → number_in others n ≡ o → is_some o ≡ true → nat_lt (unwrap_or (number_in others n) 0) (length others) ≡ true
     by None e s = absurd (cc s)

@@ -3,7 +3,8 @@ use Rattle.std.proofs.Common.{◌≡◌, ◌<◌, ℕ, List, [], ◌∷◌, ◌+
 use Rattle.std.specs.Prelude.{◌==◌, ◌⊎◌, ◌&&◌, is_some, nat_lt, unwrap_or, IsSome}
 use Rattle.std.specs.List.{list_all}
 use Rattle.docket.specs.Words.{is_name, number_of, capacity_of, answer_of}
-use Rattle.docket.specs.Fields.{Fields, field, kind_of, is_kind, or_else, unless, counted, row_fault, quota_row_fault, list_row_fault, lists_names, filled_row_fault, capacity_row_fault, event_row_fault, worded_row_fault, event_names_fault, answer_fault, event_word, width_of}
+use Rattle.std.specs.Option.{option_or}
+use Rattle.docket.specs.Fields.{Fields, field, kind_of, is_kind, unless, counted, row_fault, quota_row_fault, list_row_fault, lists_names, filled_row_fault, capacity_row_fault, event_row_fault, worded_row_fault, event_names_fault, answer_fault, event_word, width_of}
 use Rattle.docket.specs.declared.kind.TheConstants.{QUOTA, PROGRAMME_LIST, RESIDENT_LIST, MATCHED, UNMATCHED, FILLED, CAPACITY, EVENT}
 use Rattle.docket.specs.declared.kind.EventWord.{EventWord}
 use Rattle.docket.specs.declared.kind.EventWord.TheVariants.{Offer, Take, Answer, Hear, Close}
@@ -18,7 +19,7 @@ use Rattle.docket.proofs.WordFacts.{list_all_true_at}
 use Rattle.docket.proofs.FieldFacts.{field-get_or}
 
 -- neither test has a fault
-pub both_none : (first second : Option DocketFault) → or_else first second ≡ None → (first ≡ None) × (second ≡ None)
+pub both_none : (first second : Option DocketFault) → option_or first second ≡ None → (first ≡ None) × (second ≡ None)
 both_none None second e = (refl, e)
 both_none (Some f) second e = absurd (cc e)
 
@@ -37,7 +38,7 @@ pub quota_row_sound : (n : ℕ) (row : Fields) → row_fault n row ≡ None → 
 unfolding row_fault
 quota_row_sound n row h kind =
     let own : quota_row_fault n row ≡ None = rw kind at h in
-    let rest = both_none (counted n 3 row) (or_else (unless (is_name (field row 1)) (BadName n)) (unless (is_some (number_of (field row 2))) (BadQuota n))) own in
+    let rest = both_none (counted n 3 row) (option_or (unless (is_name (field row 1)) (BadName n)) (unless (is_some (number_of (field row 2))) (BadQuota n))) own in
     let last = both_none (unless (is_name (field row 1)) (BadName n)) (unless (is_some (number_of (field row 2))) (BadQuota n)) rest.1 in
     (unless_none (is_name (field row 1)) (BadName n) last.0, unless_none (is_some (number_of (field row 2))) (BadQuota n) last.1)
 
@@ -55,7 +56,7 @@ unfolding row_fault
 filled_row_sound n row h kind =
     let own : filled_row_fault n row ≡ None = rw kind at h in
     let numbers = unless (is_some (number_of (field row 2)) && is_some (number_of (field row 3))) (BadSheet n) in
-    let rest = both_none (counted n 4 row) (or_else (unless (is_name (field row 1)) (BadName n)) numbers) own in
+    let rest = both_none (counted n 4 row) (option_or (unless (is_name (field row 1)) (BadName n)) numbers) own in
     let last = both_none (unless (is_name (field row 1)) (BadName n)) numbers rest.1 in
     both_true (is_some (number_of (field row 2))) (is_some (number_of (field row 3))) (unless_none (is_some (number_of (field row 2)) && is_some (number_of (field row 3))) (BadSheet n) last.1)
   where
@@ -72,7 +73,7 @@ answer_row_sound n row h kind word =
     let known = (both_none (unless (nat_lt 1 (length row)) (FieldCount n)) (worded_row_fault n row (event_word (field row 1))) own).1 in
     by (event_word (field row 1)) known word
   where
-    answered : (w : EventWord) → or_else (counted n (width_of w) row) (answer_fault n row) ≡ None → is_some (answer_of (field row 4)) ≡ true
+    answered : (w : EventWord) → option_or (counted n (width_of w) row) (answer_fault n row) ≡ None → is_some (answer_of (field row 4)) ≡ true
     answered w e =
         let fields = (both_none (counted n (width_of w) row) (answer_fault n row) e).1 in
         unless_none (is_some (answer_of (field row 4))) (BadEvent n) (both_none (event_names_fault n row) (unless (is_some (answer_of (field row 4))) (BadEvent n)) fields).1
@@ -134,14 +135,14 @@ sheet_kind n row h q p r c e =
 -- nothing is asked of a row of a sheet
 pub sheet_row_free : (before : List Fields) (row : Fields) (k : ℕ) → kind_of row ≡ k → (k == QUOTA) ≡ false → (k == PROGRAMME_LIST) ≡ false
     → (k == RESIDENT_LIST) ≡ false → (k == CAPACITY) ≡ false → (k == EVENT) ≡ false
-    → or_else (repeat_fault before row) (limit_fault before row) ≡ None
+    → option_or (repeat_fault before row) (limit_fault before row) ≡ None
 unfolding repeat_fault limit_fault
 sheet_row_free before row k kind q p r c e = rw (kind, q, p, r, c, e) refl
 
 -- a row of a sheet more
 pub sheet_row_declared : (d : Declarations) (rows : List Fields) (row : Fields)
     → (kind_of row ≡ MATCHED) ⊎ ((kind_of row ≡ UNMATCHED) ⊎ (kind_of row ≡ FILLED)) → IsDeclared d rows
-    → IsDeclared (record d { has_sheet_row = true }) (rows ++ row ∷ []) × (or_else (repeat_fault rows row) (limit_fault rows row) ≡ None)
+    → IsDeclared (record d { has_sheet_row = true }) (rows ++ row ∷ []) × (option_or (repeat_fault rows row) (limit_fault rows row) ≡ None)
 sheet_row_declared d rows row (inl m) h =
     (declared_push d _ rows row MATCHED m h refl refl refl refl refl refl (option_or-none d.capacity) (λ e. cc e) refl, sheet_row_free rows row MATCHED m refl refl refl refl refl)
 sheet_row_declared d rows row (inr (inl u)) h =

@@ -1,5 +1,6 @@
 -- One record: its fields, and the faults that it has by itself.
 use Rattle.std.specs.Prelude.{ℕ, nat_lt, ◌&&◌, ◌==◌, Bool, if◌then◌else◌, Option, Some, None, is_some, List, [], ◌∷◌, length, drop, codes, bytes_eq, unwrap_or}
+use Rattle.std.specs.Option.{option_or}
 use Rattle.std.specs.List.{list_all}
 use Rattle.csv.specs.Records.{field_at}
 use Rattle.docket.specs.Words.{is_name, number_of, capacity_of, answer_of}
@@ -35,11 +36,6 @@ is_kind kind row = kind_of row == kind
 abbrev pub is_row_of : ℕ → List ℕ → Fields → Bool
 is_row_of kind name row = is_kind kind row && bytes_eq name (field row 1)
 
--- the first fault of two
-abbrev pub or_else : Option DocketFault → Option DocketFault → Option DocketFault
-or_else (Some fault) later = Some fault
-or_else None later = later
-
 -- the fault, where the test fails
 abbrev pub unless : Bool → DocketFault → Option DocketFault
 unless test fault = if test then None else Some fault
@@ -69,8 +65,8 @@ counted n width row = unless (length row == width) (FieldCount n)
 -- `Q,programme,quota`
 abbrev pub quota_row_fault : ℕ → Fields → Option DocketFault
 quota_row_fault n row =
-    or_else (counted n 3 row)
-    (or_else (unless (is_name (field row 1)) (BadName n)) (unless (is_some (number_of (field row 2))) (BadQuota n)))
+    option_or (counted n 3 row)
+    (option_or (unless (is_name (field row 1)) (BadName n)) (unless (is_some (number_of (field row 2))) (BadQuota n)))
 
 -- whether the fields from 1 on are names
 unfoldable pub lists_names : Fields → Bool
@@ -79,26 +75,26 @@ lists_names row = list_all is_name (drop 1 row)
 -- `P,programme,resident,..` and `R,resident,programme,..`
 abbrev pub list_row_fault : ℕ → Fields → Option DocketFault
 list_row_fault n row =
-    or_else (unless (nat_lt 1 (length row)) (FieldCount n)) (unless (lists_names row) (BadName n))
+    option_or (unless (nat_lt 1 (length row)) (FieldCount n)) (unless (lists_names row) (BadName n))
 
 -- `M,resident,programme`
 abbrev pub matched_row_fault : ℕ → Fields → Option DocketFault
-matched_row_fault n row = or_else (counted n 3 row) (unless (is_name (field row 1) && is_name (field row 2)) (BadName n))
+matched_row_fault n row = option_or (counted n 3 row) (unless (is_name (field row 1) && is_name (field row 2)) (BadName n))
 
 -- `U,resident`
 abbrev pub unmatched_row_fault : ℕ → Fields → Option DocketFault
-unmatched_row_fault n row = or_else (counted n 2 row) (unless (is_name (field row 1)) (BadName n))
+unmatched_row_fault n row = option_or (counted n 2 row) (unless (is_name (field row 1)) (BadName n))
 
 -- `F,programme,filled,quota`
 abbrev pub filled_row_fault : ℕ → Fields → Option DocketFault
 filled_row_fault n row =
-    or_else (counted n 4 row)
-    (or_else (unless (is_name (field row 1)) (BadName n))
+    option_or (counted n 4 row)
+    (option_or (unless (is_name (field row 1)) (BadName n))
     (unless (is_some (number_of (field row 2)) && is_some (number_of (field row 3))) (BadSheet n)))
 
 -- `C,full` or `C,n`
 abbrev pub capacity_row_fault : ℕ → Fields → Option DocketFault
-capacity_row_fault n row = or_else (counted n 2 row) (unless (is_some (capacity_of (field row 1))) (BadEvent n))
+capacity_row_fault n row = option_or (counted n 2 row) (unless (is_some (capacity_of (field row 1))) (BadEvent n))
 
 -- an event's two names
 abbrev pub event_names_fault : ℕ → Fields → Option DocketFault
@@ -106,7 +102,7 @@ event_names_fault n row = unless (is_name (field row 2) && is_name (field row 3)
 
 -- an event's two names and the kind of its answer
 abbrev pub answer_fault : ℕ → Fields → Option DocketFault
-answer_fault n row = or_else (event_names_fault n row) (unless (is_some (answer_of (field row 4))) (BadEvent n))
+answer_fault n row = option_or (event_names_fault n row) (unless (is_some (answer_of (field row 4))) (BadEvent n))
 
 -- what stands after an event's word
 abbrev pub event_fields_fault : ℕ → Fields → EventWord → Option DocketFault
@@ -119,11 +115,11 @@ event_fields_fault n row Close = None
 -- an event whose word is known, or isn't
 abbrev pub worded_row_fault : ℕ → Fields → Option EventWord → Option DocketFault
 worded_row_fault n row None = Some (BadEvent n)
-worded_row_fault n row (Some word) = or_else (counted n (width_of word) row) (event_fields_fault n row word)
+worded_row_fault n row (Some word) = option_or (counted n (width_of word) row) (event_fields_fault n row word)
 
 -- `E,word,..`
 abbrev pub event_row_fault : ℕ → Fields → Option DocketFault
-event_row_fault n row = or_else (unless (nat_lt 1 (length row)) (FieldCount n)) (worded_row_fault n row (event_word (field row 1)))
+event_row_fault n row = option_or (unless (nat_lt 1 (length row)) (FieldCount n)) (worded_row_fault n row (event_word (field row 1)))
 
 -- the first fault of record n by itself: its kind, the number of its fields, its names, its numbers and words
 unfoldable pub row_fault : ℕ → Fields → Option DocketFault

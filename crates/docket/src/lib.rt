@@ -14,6 +14,7 @@ mod journal;
 mod kind;
 mod long_record;
 mod names;
+mod numbers;
 mod ranking;
 pub mod read;
 mod retrying;
@@ -22,6 +23,7 @@ pub mod row_text;
 mod rows;
 mod sheet;
 mod tables;
+mod texts;
 pub mod words;
 pub mod write;
 

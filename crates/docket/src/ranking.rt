@@ -2,7 +2,8 @@
 ghost use Rattle.std.specs.Prelude.{◌≡◌, ◌<◌, ◌≤◌, ◌+◌, [], true, length, take, drop, OnOk, IfOk};
 ghost use Rattle.match_model.specs.Draft.{instance_of as made_of};
 ghost use Rattle.std.specs.List.{list_all};
-ghost use Rattle.docket.specs.Fields.{field as field_of, kind_of, or_else, unless};
+ghost use Rattle.std.specs.Option.{option_or};
+ghost use Rattle.docket.specs.Fields.{field as field_of, kind_of, unless};
 ghost use Rattle.docket.specs.Contents.{is_declared, listed_in, draft_of, programmes_of, residents_of};
 ghost use Rattle.docket.specs.Passes.{first_from, ranking_fault, pairs_fault};
 ghost use Rattle.docket.specs.Answers.{Answers};
@@ -168,7 +169,7 @@ pub fn instance_of(
 ) -> Result<Instance, DocketFault>
     requires { IsRanked builder tables.now [] }
     ensures instance { IfOk result (λ instance. instance ≡ made_of (draft_of tables.now)) }
-    ensures fault { Answers (or_else (first_from (ranking_fault tables.now) [] tables.now) (pairs_fault tables.now)) result }
+    ensures fault { Answers (option_or (first_from (ranking_fault tables.now) [] tables.now) (pairs_fault tables.now)) result }
 {
     rank(alloc, tables, &mut builder)?;
     finished(builder, tables)

@@ -4,3 +4,4 @@ pub mod Drafts
 pub mod Mutual
 pub mod Kept
 pub mod Instances
+pub mod SortedCopies

@@ -1,13 +1,7 @@
 -- Lemmas on rankings: the place that a walk finds, and ranks.
 use Rattle.std.proofs.Common.{◌≡◌, ◌≢◌, ℕ, ◌+◌, ◌<◌, ◌≤◌, Bool, true, false, cond, eqb, ltb, List, [], ◌∷◌, ◌++◌, length, get_or, Some, None, refl, sym, ap, ◌∙◌, suc, zero, arith, one-add, not, ◌&&◌, ◌||◌}
 use Rattle.std.specs.List.{list_any, list_all, filter, IsDistinct, AllByRecursion}
-use Rattle.std.specs.List.Sorted.{IsPermutation, IsSorted, IsBinarySearchResult}
-use Rattle.std.specs.Ordering.{nat_cmp}
-use Rattle.std.specs.Prelude.{Result, Ok, Err, is_ok}
-use Rattle.std.proofs.Common.{⊎_elim}
-use Rattle.std.proofs.lemmas.Bool.{cases_lt, and_parts, or_parts, not-true, eqb-true, eq-eqb, ltb-true, ltb-false, lt-ltb}
-use Rattle.std.proofs.lemmas.List.Sorted.{IsNonDecreasingBy-from_sort, searched}
-use Rattle.std.proofs.lemmas.List.Sorted.{list_any-IsPermutation}
+use Rattle.std.proofs.lemmas.Bool.{and_parts, or_parts, not-true, eqb-true, ltb-true, ltb-false, lt-ltb}
 use Rattle.std.proofs.lemmas.Map.Made.{AllPairs-from_IsDistinct}
 use Rattle.std.proofs.lemmas.Map.Steps.{length-le_from_distinct_below}
 use Rattle.std.proofs.lemmas.Bool.Decides.{Decides-eqb, nat_tests}
@@ -192,34 +186,3 @@ listed_below n q (y ∷ ys) b e =
 
 pub length-le_below : (xs : List ℕ) (n : ℕ) → has_no_repeats xs ≡ true → list_all (λ x. ltb x n) xs ≡ true → length xs ≤ n
 length-le_below xs n h b = length-le_from_distinct_below xs n (IsDistinct-from_test xs h) (λ q e. listed_below n q xs b e)
-
--- a list and its permutation list the same
-pub is_listed-IsPermutation : (xs ys : List ℕ) (x : ℕ) → IsPermutation xs ys → is_listed xs x ≡ is_listed ys x
-is_listed-IsPermutation xs ys x h = is_listed-any xs x ∙ list_any-IsPermutation (λ y. eqb y x) xs ys h ∙ sym (is_listed-any ys x)
-
--- an item that is found is listed, and one that is nowhere isn't
-pub is_listed_at : (xs : List ℕ) (x i : ℕ) → i < length xs → get_or xs i 0 ≡ x → is_listed xs x ≡ true
-is_listed_at [] x i h e = absurd (omega arith)
-is_listed_at (y ∷ ys) x zero h e = is_listed-cons y ys x ∙ ap (λ b. b || is_listed ys x) (eq-eqb y x e)
-is_listed_at (y ∷ ys) x (suc i) h e = is_listed-cons y ys x ∙ ap (λ b. eqb y x || b) (is_listed_at ys x i (omega arith) e) ∙ absorb (eqb y x)
-  where
-    absorb : (b : Bool) → b || true ≡ true
-    absorb true = refl
-    absorb false = refl
-
-pub is_listed_nowhere : (xs : List ℕ) (x : ℕ) → ((k : ℕ) → k < length xs → get_or xs k 0 ≢ x) → is_listed xs x ≡ false
-is_listed_nowhere xs x none = let p : place xs x ≡ length xs = place_past xs x none in grind arith
-
--- what a search by halving finds in a rising list
-pub is_ok_searched : (xs : List ℕ) (x : ℕ) (r : Result ℕ ℕ) → IsBinarySearchResult (λ y. nat_cmp y x) xs r → IsSorted nat_cmp xs → is_ok r ≡ is_listed xs x
-is_ok_searched xs x (Ok i) found up =
-    let rises = IsNonDecreasingBy-from_sort (λ (n : ℕ). n) xs up in
-    let h = searched xs x (Ok i) found (λ a b l k. rises a b 0 l k) in
-    sym (is_listed_at xs x i h.0 h.1)
-is_ok_searched xs x (Err i) found up =
-    let rises = IsNonDecreasingBy-from_sort (λ (n : ℕ). n) xs up in
-    let h = searched xs x (Err i) found (λ a b l k. rises a b 0 l k) in
-    sym (is_listed_nowhere xs x (λ k l e. apart k l e h.1 h.2))
-  where
-    apart : (k : ℕ) → k < length xs → get_or xs k 0 ≡ x → ((k : ℕ) → k < i → get_or xs k 0 < x) → ((k : ℕ) → i ≤ k → k < length xs → x < get_or xs k 0) → ⊥
-    apart k l e low high = ⊎_elim (λ (b : k < i). let s = low k b in absurd (omega arith)) (λ (b : i ≤ k). let s = high k b l in absurd (omega arith)) (cases_lt k i)

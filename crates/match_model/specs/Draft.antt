@@ -1,10 +1,8 @@
 -- What a builder was handed, the instance that it makes, and the first fault of each call.
-use Rattle.std.specs.Prelude.{◌≡◌, ℕ, ◌<◌, ◌≤◌, nat_lt, nat_le, not, ◌&&◌, ◌⊎◌, if◌then◌else◌, Bool, true, Option, Some, None, Result, Ok, Err, List, [], ◌∷◌, ◌++◌, length, map, unwrap_or, slice_index_or, slice_set, is_some}
+use Rattle.std.specs.Prelude.{◌≡◌, ℕ, ◌<◌, ◌≤◌, nat_lt, nat_le, not, ◌&&◌, ◌⊎◌, if◌then◌else◌, Bool, true, false, Option, Some, None, Result, Ok, Err, List, [], ◌∷◌, ◌++◌, length, map, unwrap_or, slice_index_or, slice_set, is_some}
 use Rattle.std.specs.List.{filter, list_all, All, enumerate_from}
 use Rattle.std.specs.Global.{Vec}
 use Rattle.std.specs.Option.{option_or}
-use Rattle.std.specs.List.Sorted.{IsSorted, IsPermutation}
-use Rattle.std.specs.Ordering.{nat_cmp}
 use Rattle.match_model.specs.Ranking.{is_listed}
 use Rattle.match_model.specs.Instance.{Instance, list_at, pair_count}
 use Rattle.match_model.specs.declared.limits.TheConstants.{MAX_PROGRAMMES, MAX_RESIDENTS, MAX_QUOTA, MAX_PAIRS}
@@ -102,10 +100,18 @@ pub record AreLists (lists : List (Option (List ℕ))) (n : ℕ) : Type 0 where
   pub items_below : All (λ list. list_all (λ x. nat_lt x n) list ≡ true) (given_lists lists)
   pub no_repeats : All (λ list. has_no_repeats list ≡ true) (given_lists lists)
 
--- the same items in rising order
-pub record IsSortedCopy (list copy : List ℕ) : Type 0 where
-  pub same_items : IsPermutation list copy
-  pub rising : IsSorted nat_cmp copy
+-- of each number below the count whether it stands in the list
+pub record AreFlags (count : ℕ) (list : List ℕ) (flags : List Bool) : Type 0 where
+  pub one_each : length flags ≡ count
+  pub flag : (x : ℕ) → x < count → slice_index_or flags x false ≡ is_listed list x
+
+-- whether row x flags the number
+abbrev pub flag_at : List (List Bool) → ℕ → ℕ → Bool
+flag_at rows x o = slice_index_or (slice_index_or rows x []) o false
+
+-- of each list the items whose rows flag the list's place
+unfoldable pub flagged_lists : List (List ℕ) → List (List Bool) → List (List ℕ)
+flagged_lists lists rows = map (λ (owned : ℕ × List ℕ). filter (λ x. flag_at rows x owned.0) owned.1) (enumerate_from 0 lists)
 
 -- what a builder keeps: a list or none for each member, of members, without repeats, and the limits
 pub record IsDraft (d : Draft) : Type 0 where

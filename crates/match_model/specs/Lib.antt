@@ -4,3 +4,4 @@ pub mod RankTable
 pub mod Draft
 pub mod Placement
 pub mod Fault
+pub mod SortedCopy

@@ -152,11 +152,12 @@ impl InstanceBuilder {
         ensures within { OnOk result (pair_count (instance_of self.now) ≤ MAX_PAIRS) }
         ensures cause { IfErr result (IsFinishFault self.now) }
     {
-        let programmes = ranking::mutual(self.alloc, &self.programme_lists, &self.resident_lists)?;
+        let (programmes, pairs) = ranking::counted_mutual(
+            self.alloc,
+            &self.programme_lists,
+            &self.resident_lists,
+        )?;
         let residents = ranking::mutual(self.alloc, &self.resident_lists, &self.programme_lists)?;
-        let Some(pairs) = ranking::count_items(&programmes) else {
-            return Err(ModelFault::TooManyPairs);
-        };
         let programme_ranks = rank_tables(self.alloc, &programmes)?;
         let resident_ranks = rank_tables(self.alloc, &residents)?;
         Ok(Instance {

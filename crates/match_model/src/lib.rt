@@ -10,11 +10,13 @@
 pub mod assignment;
 pub mod builder;
 pub mod fault;
+mod flag_rows;
 pub mod instance;
 pub mod limits;
 pub mod member;
 mod rank_table;
 mod ranking;
+mod sorted_copies;
 
 pub use assignment::Assignment;
 pub use builder::{FinishRefused, InstanceBuilder};

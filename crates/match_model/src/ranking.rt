@@ -1,18 +1,14 @@
 //! Tests on lists as they are handed in, and their mutual parts.
-ghost use Rattle.std.specs.Prelude.{◌≡◌, ℕ, ◌<◌, ◌≤◌, ◌^◌, not, nat_lt, Option, Some, None, List, length, map, unwrap_or, [], true, IfOk, IfSome, IfNone, is_some, IsTrue, slice_index_or};
-ghost use Rattle.std.specs.List.{All, AllZip, list_all, filter, sum_by};
-ghost use Rattle.std.specs.List.Sorted.{IsSorted};
-ghost use Rattle.std.specs.Ordering.{nat_cmp};
+ghost use Rattle.std.specs.Prelude.{◌≡◌, ℕ, ◌<◌, ◌≤◌, ◌^◌, ◌⊎◌, nat_lt, length, map, unwrap_or, [], true, IfOk, IfErr};
+ghost use Rattle.std.specs.List.{list_all, sum_by};
 ghost use Rattle.std.specs.Global.{Vec};
-ghost use Rattle.match_model.specs.Ranking.{is_listed};
-ghost use Rattle.match_model.specs.Instance.{list_at};
-ghost use Rattle.match_model.specs.Draft.{items_of, given_lists, AreLists, mutual_lists, IsSortedCopy, has_no_repeats, owner_fault, items_fault, AnswersFirst, AnswersOrWantsMemory};
+ghost use Rattle.match_model.specs.Draft.{items_of, given_lists, AreLists, mutual_lists, has_no_repeats, owner_fault, items_fault, AnswersFirst, AnswersOrWantsMemory};
 
 use crate::fault::ModelFault;
 use crate::limits::MAX_PAIRS;
 use crate::member::{ProgrammeNo, ResidentNo};
+use crate::{flag_rows, sorted_copies};
 use std::alloc::{AllocError, Global};
-use std::collections::HashSet;
 
 /// Whether this owner was added and has no list yet.
 pub(crate) fn test_owner(lists: &[Option<Vec<u32>>], owner: usize) -> Result<(), ModelFault>
@@ -32,7 +28,7 @@ pub(crate) fn test_items(alloc: Global, others: usize, items: &[u32]) -> Result<
     if !are_below(items, others) {
         return Err(ModelFault::NoSuchMember);
     }
-    if !is_distinct(alloc, items)? {
+    if !is_distinct(alloc, others, items)? {
         return Err(ModelFault::ListedTwice);
     }
     Ok(())
@@ -73,21 +69,24 @@ pub(crate) fn numbers_of_programmes(
     Ok(numbers)
 }
 
-/// Whether no item stands in the list twice.
-fn is_distinct(alloc: Global, items: &[u32]) -> Result<bool, AllocError>
+/// Whether no item stands in the list twice, where each is below `others`.
+fn is_distinct(alloc: Global, others: usize, items: &[u32]) -> Result<bool, AllocError>
+    requires { list_all (λ x. nat_lt x others) items.now ≡ true }
     ensures { IfOk result (λ b. b ≡ has_no_repeats items.now) }
 {
-    let mut seen = HashSet::with_capacity(alloc, items.len())?;
+    let mut seen = vec![in alloc; false; others]?;
     for x in items {
-        if !seen.insert(*x)? {
+        let place = *x as usize;
+        if seen[place] {
             return Ok(false);
         }
+        seen[place] = true;
     }
     Ok(true)
 }
 
 /// The items of a place that may have a list.
-fn given(list: &Option<Vec<u32>>) -> &[u32]
+pub(crate) fn given(list: &Option<Vec<u32>>) -> &[u32]
     ensures { result.now ≡ unwrap_or (items_of list.now) [] }
 {
     match list {
@@ -96,45 +95,13 @@ fn given(list: &Option<Vec<u32>>) -> &[u32]
     }
 }
 
-/// Each list in rising order, so that an item is found by halving.
-fn sorted_copies(alloc: Global, lists: &[Option<Vec<u32>>]) -> Result<Vec<Vec<u32>>, AllocError>
-    ensures { IfOk result (λ v. AllZip IsSortedCopy (given_lists (map items_of lists.now)) (map (λ list. list.items) v.items)) }
-{
-    let mut copies = Vec::new(alloc);
+/// Whether the lists have so many items that a row of flags for each, below `count`, takes less than sorted copies.
+fn is_dense(lists: &[Option<Vec<u32>>], count: usize) -> bool {
+    let mut items: usize = 0;
     for list in lists {
-        let mut copy = Vec::from_slice(alloc, given(list))?;
-        copy.sort()?;
-        copies.push(copy)?;
+        items = items.saturating_add(given(list).len());
     }
-    Ok(copies)
-}
-
-/// Whether an item stands in a list in rising order.
-fn stands_in(sorted: &[u32], item: u32) -> bool
-    requires { IsSorted nat_cmp sorted.now }
-    ensures { result ≡ is_listed sorted.now item }
-{
-    sorted.binary_search(&item).is_ok()
-}
-
-/// The items of a list that list its owner, in their order.
-fn kept(
-    alloc: Global,
-    items: &[u32],
-    owner: u32,
-    sorted: &[Vec<u32>],
-) -> Result<Vec<u32>, AllocError>
-    requires below { list_all (λ x. nat_lt x (length sorted.now)) items.now ≡ true }
-    requires sorted { All (IsSorted nat_cmp) (map (λ (list : Vec ℕ). list.items) sorted.now) }
-    ensures { IfOk result (λ v. v.items ≡ filter (λ x. is_listed (list_at (map (λ (list : Vec ℕ). list.items) sorted.now) x) owner) items.now) }
-{
-    let mut kept = Vec::with_capacity(alloc, items.len())?;
-    for item in items {
-        if stands_in(&sorted[*item as usize], owner) {
-            kept.push(*item)?;
-        }
-    }
-    Ok(kept)
+    items >= lists.len().saturating_mul(count) / 16
 }
 
 /// Each member's list, in its order, with only those who list that member.
@@ -145,29 +112,34 @@ pub(crate) fn mutual(
 ) -> Result<Vec<Vec<u32>>, AllocError>
     requires few { length mine.now < 2 ^ 32 }
     requires lists { AreLists (map items_of mine.now) (length theirs.now) }
+    requires others { AreLists (map items_of theirs.now) (length mine.now) }
     ensures { IfOk result (λ v. map (λ list. list.items) v.items ≡ mutual_lists (given_lists (map items_of mine.now)) (given_lists (map items_of theirs.now))) }
 {
-    let sorted = sorted_copies(alloc, theirs)?;
-    let mut lists = Vec::new(alloc);
-    for (owner, list) in mine.iter().enumerate() {
-        lists.push(kept(alloc, given(list), owner as u32, &sorted)?)?;
+    if is_dense(theirs, mine.len()) {
+        flag_rows::mutual(alloc, mine, theirs)
+    } else {
+        sorted_copies::mutual(alloc, mine, theirs)
     }
-    Ok(lists)
 }
 
-/// How many items all the lists have, if these are no more than there may be pairs.
-pub(crate) fn count_items(lists: &[Vec<u32>]) -> Option<u32>
-    ensures counted { IfSome result (λ n. (n ≡ sum_by length (map (λ (list : Vec ℕ). list.items) lists.now)) × (n ≤ MAX_PAIRS)) }
-    ensures over { IfNone result (MAX_PAIRS < sum_by length (map (λ (list : Vec ℕ). list.items) lists.now)) }
+/// The same, and how many items these lists have, where these are no more than there may be pairs.
+pub(crate) fn counted_mutual(
+    alloc: Global,
+    mine: &[Option<Vec<u32>>],
+    theirs: &[Option<Vec<u32>>],
+) -> Result<(Vec<Vec<u32>>, u32), ModelFault>
+    requires few { length mine.now < 2 ^ 32 }
+    requires lists { AreLists (map items_of mine.now) (length theirs.now) }
+    requires others { AreLists (map items_of theirs.now) (length mine.now) }
+    ensures lists { IfOk result (λ made. map (λ list. list.items) made.0.items ≡ mutual_lists (given_lists (map items_of mine.now)) (given_lists (map items_of theirs.now))) }
+    ensures count { IfOk result (λ made. (made.1 ≡ sum_by length (mutual_lists (given_lists (map items_of mine.now)) (given_lists (map items_of theirs.now)))) × (made.1 ≤ MAX_PAIRS)) }
+    ensures cause { IfErr result (λ fault. (fault ≡ ModelFault.Memory) ⊎ ((fault ≡ ModelFault.TooManyPairs) × (MAX_PAIRS < sum_by length (mutual_lists (given_lists (map items_of mine.now)) (given_lists (map items_of theirs.now)))))) }
 {
-    let mut count = 0;
-    for list in lists {
-        if list.len() > MAX_PAIRS - count {
-            return None;
-        }
-        count += list.len();
+    if is_dense(theirs, mine.len()) {
+        flag_rows::counted_mutual(alloc, mine, theirs)
+    } else {
+        sorted_copies::counted_mutual(alloc, mine, theirs)
     }
-    Some(count as u32)
 }
 
 /// The lists of these numbers, as residents.

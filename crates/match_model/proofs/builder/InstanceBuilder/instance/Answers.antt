@@ -1,12 +1,15 @@
 use Rattle.std.proofs.Common.{◌≡◌, ◌≤◌, ℕ, List, length, map, arith, sym, ap, ◌∙◌, subst}
 use Rattle.std.specs.Global.{Vec}
-use Rattle.std.specs.Prelude.{Option}
+use Rattle.std.specs.Result.{IsErrAnd}
+use Rattle.std.specs.Prelude.{Option, Result, Ok, Err, IfErr, ◌<◌, ◌⊎◌}
+use Rattle.match_model.specs.declared.fault.ModelFault.{ModelFault}
+use Rattle.match_model.specs.declared.fault.ModelFault.TheVariants.{Memory, TooManyPairs}
 use Rattle.match_model.proofs.Mutual.{lists_of}
 use Rattle.match_model.specs.Instance.{Instance, IsKept, pair_count}
 use Rattle.std.specs.List.{sum_by, All}
 use Rattle.match_model.specs.RankTable.{AreRankTables}
 use Rattle.match_model.specs.declared.limits.TheConstants.{MAX_PAIRS}
-use Rattle.match_model.specs.Draft.{Draft, instance_of, given_lists, mutual_lists, items_of}
+use Rattle.match_model.specs.Draft.{Draft, IsFinishFault, instance_of, given_lists, mutual_lists, items_of}
 use Rattle.match_model.proofs.Kept.{IsKept-instance_of, resident_lists_short}
 use Rattle.match_model.proofs.builder.InstanceBuilder.instance.Goals as goal
 
@@ -19,38 +22,52 @@ same_instance : (qs qs' : List ℕ) (ps ps' rs rs' : List (List ℕ)) → qs ≡
     (let a : Instance = record { quotas = qs; programme_lists = ps; resident_lists = rs } in let b : Instance = record { quotas = qs'; programme_lists = ps'; resident_lists = rs' } in a ≡ b)
 same_instance qs qs' ps ps' rs rs' e f g = λ i. record { quotas = e i; programme_lists = f i; resident_lists = g i }
 
+-- an error that is handed on
+same_err : {T : Type 0} (r : Result T ModelFault) (e : ModelFault) (P : ModelFault → Type 0) → IsErrAnd r (λ x. x ≡ e) → P e → IfErr r P
+same_err (Ok v) e P h p = tt
+same_err (Err x) e P h p = subst P (sym h) p
+
 pub rank_tables-requires-2 : goal.rank_tables-requires-2
 rank_tables-requires-2 c =
     let residents : lists_of c.in_ok-residents.residents.items ≡ mutual_of c.self.inside.resident_lists.items c.self.inside.programme_lists.items =
     c.in_ok-residents.ensures ∙ ap (λ (vs : List (Option (Vec ℕ))). mutual_of vs c.deref-4.result.now) c.deref-3.ensures.value ∙ ap (λ (vs : List (Option (Vec ℕ))). mutual_of c.self.inside.resident_lists.items vs) c.deref-4.ensures.value in
     let d : Draft = record { quotas = c.self.inside.quotas.items; programme_lists = map items_of c.self.inside.programme_lists.items; resident_lists = map items_of c.self.inside.resident_lists.items } in
-    subst (All (λ (list : List ℕ). length list ≤ MAX_PAIRS)) (sym (ap lists_of c.deref-7.ensures.value ∙ residents)) (resident_lists_short d c.self.invariant)
+    subst (All (λ (list : List ℕ). length list ≤ MAX_PAIRS)) (sym (ap lists_of c.deref-6.ensures.value ∙ residents)) (resident_lists_short d c.self.invariant)
 
 pub invariant_of-result : goal.invariant_of-result
 invariant_of-result c =
-    let quotas = c.in_ok-from_slice.ensures.items ∙ c.deref-8.ensures.value in
+    let quotas = c.in_ok-from_slice.ensures.items ∙ c.deref-7.ensures.value in
     let programmes : lists_of c.in_ok-programmes.programmes.items ≡ mutual_of c.self.inside.programme_lists.items c.self.inside.resident_lists.items =
-    c.in_ok-programmes.ensures ∙ ap (λ (vs : List (Option (Vec ℕ))). mutual_of vs c.deref-2.result.now) c.deref.ensures.value ∙ ap (λ (vs : List (Option (Vec ℕ))). mutual_of c.self.inside.programme_lists.items vs) c.deref-2.ensures.value in
+    c.in_ok-programmes.ensures.lists ∙ ap (λ (vs : List (Option (Vec ℕ))). mutual_of vs c.deref-2.result.now) c.deref.ensures.value ∙ ap (λ (vs : List (Option (Vec ℕ))). mutual_of c.self.inside.programme_lists.items vs) c.deref-2.ensures.value in
     let residents : lists_of c.in_ok-residents.residents.items ≡ mutual_of c.self.inside.resident_lists.items c.self.inside.programme_lists.items =
     c.in_ok-residents.ensures ∙ ap (λ (vs : List (Option (Vec ℕ))). mutual_of vs c.deref-4.result.now) c.deref-3.ensures.value ∙ ap (λ (vs : List (Option (Vec ℕ))). mutual_of c.self.inside.resident_lists.items vs) c.deref-4.ensures.value in
-    let ps = c.in_ok-residents_of.ensures ∙ ap lists_of c.deref-9.ensures.value ∙ programmes in
-    let rs = c.in_ok-programmes_of.ensures ∙ ap lists_of c.deref-10.ensures.value ∙ residents in
+    let ps = c.in_ok-residents_of.ensures ∙ ap lists_of c.deref-8.ensures.value ∙ programmes in
+    let rs = c.in_ok-programmes_of.ensures ∙ ap lists_of c.deref-9.ensures.value ∙ residents in
     let d : Draft = record { quotas = c.self.inside.quotas.items; programme_lists = map items_of c.self.inside.programme_lists.items; resident_lists = map items_of c.self.inside.resident_lists.items } in
-    let counted : c.in-Some.pairs ≡ pair_count (instance_of d) = c.in-Some.ensures.counted.0 ∙ ap (λ (vs : List (Vec ℕ)). sum_by (length {A = ℕ}) (lists_of vs)) c.deref-5.ensures.value ∙ ap (sum_by (length {A = ℕ})) programmes in
-    let few : pair_count (instance_of d) ≤ MAX_PAIRS = (let most = c.in-Some.ensures.counted.1 in omega arith) in
+    let same = ap (λ (vs : List (Option (Vec ℕ))). mutual_of vs c.deref-2.result.now) c.deref.ensures.value ∙ ap (λ (vs : List (Option (Vec ℕ))). mutual_of c.self.inside.programme_lists.items vs) c.deref-2.ensures.value in
+    let counted : c.in_ok-programmes.pairs ≡ pair_count (instance_of d) = c.in_ok-programmes.ensures.count.0 ∙ ap (sum_by (length {A = ℕ})) same in
+    let few : pair_count (instance_of d) ≤ MAX_PAIRS = (let most = c.in_ok-programmes.ensures.count.1 in omega arith) in
     record {
-      rankings = subst (λ (inst : Instance). IsKept inst c.in-Some.pairs) (sym (same_instance _ _ _ _ _ _ quotas ps rs)) (IsKept-instance_of d c.in-Some.pairs c.self.invariant few counted);
-      programme_ranks = subst (λ (lists : List (List ℕ)). AreRankTables lists c.in_ok-programme_ranks.programme_ranks.items) (ap lists_of c.deref-6.ensures.value ∙ programmes ∙ sym ps) c.in_ok-programme_ranks.ensures;
-      resident_ranks = subst (λ (lists : List (List ℕ)). AreRankTables lists c.in_ok-resident_ranks.resident_ranks.items) (ap lists_of c.deref-7.ensures.value ∙ residents ∙ sym rs) c.in_ok-resident_ranks.ensures;
+      rankings = subst (λ (inst : Instance). IsKept inst c.in_ok-programmes.pairs) (sym (same_instance _ _ _ _ _ _ quotas ps rs)) (IsKept-instance_of d c.in_ok-programmes.pairs c.self.invariant few counted);
+      programme_ranks = subst (λ (lists : List (List ℕ)). AreRankTables lists c.in_ok-programme_ranks.programme_ranks.items) (ap lists_of c.deref-5.ensures.value ∙ programmes ∙ sym ps) c.in_ok-programme_ranks.ensures;
+      resident_ranks = subst (λ (lists : List (List ℕ)). AreRankTables lists c.in_ok-resident_ranks.resident_ranks.items) (ap lists_of c.deref-6.ensures.value ∙ residents ∙ sym rs) c.in_ok-resident_ranks.ensures;
     }
 
 pub returns-clause-made : goal.returns-clause-made
 returns-clause-made c =
-    let quotas = c.in_ok-from_slice.ensures.items ∙ c.deref-8.ensures.value in
+    let quotas = c.in_ok-from_slice.ensures.items ∙ c.deref-7.ensures.value in
     let programmes : lists_of c.in_ok-programmes.programmes.items ≡ mutual_of c.self.inside.programme_lists.items c.self.inside.resident_lists.items =
-    c.in_ok-programmes.ensures ∙ ap (λ (vs : List (Option (Vec ℕ))). mutual_of vs c.deref-2.result.now) c.deref.ensures.value ∙ ap (λ (vs : List (Option (Vec ℕ))). mutual_of c.self.inside.programme_lists.items vs) c.deref-2.ensures.value in
+    c.in_ok-programmes.ensures.lists ∙ ap (λ (vs : List (Option (Vec ℕ))). mutual_of vs c.deref-2.result.now) c.deref.ensures.value ∙ ap (λ (vs : List (Option (Vec ℕ))). mutual_of c.self.inside.programme_lists.items vs) c.deref-2.ensures.value in
     let residents : lists_of c.in_ok-residents.residents.items ≡ mutual_of c.self.inside.resident_lists.items c.self.inside.programme_lists.items =
     c.in_ok-residents.ensures ∙ ap (λ (vs : List (Option (Vec ℕ))). mutual_of vs c.deref-4.result.now) c.deref-3.ensures.value ∙ ap (λ (vs : List (Option (Vec ℕ))). mutual_of c.self.inside.resident_lists.items vs) c.deref-4.ensures.value in
-    let ps = c.in_ok-residents_of.ensures ∙ ap lists_of c.deref-9.ensures.value ∙ programmes in
-    let rs = c.in_ok-programmes_of.ensures ∙ ap lists_of c.deref-10.ensures.value ∙ residents in
+    let ps = c.in_ok-residents_of.ensures ∙ ap lists_of c.deref-8.ensures.value ∙ programmes in
+    let rs = c.in_ok-programmes_of.ensures ∙ ap lists_of c.deref-9.ensures.value ∙ residents in
     rw (← c.self.view_is) (same_instance _ _ _ _ _ _ quotas ps rs)
+
+pub returns-in_err-programmes-clause-cause : goal.returns-in_err-programmes-clause-cause
+returns-in_err-programmes-clause-cause c =
+    let e : ModelFault = c.in_err-programmes.field-0.0 in
+    let same = ap (λ (vs : List (Option (Vec ℕ))). mutual_of vs c.deref-2.result.now) c.deref.ensures.value ∙ ap (λ (vs : List (Option (Vec ℕ))). mutual_of c.self.inside.programme_lists.items vs) c.deref-2.ensures.value in
+    let pairs = ap (sum_by (length {A = ℕ})) same ∙ ap (λ (d : Draft). pair_count (instance_of d)) c.self.view_is in
+    let cause = subst (λ (n : ℕ). (e ≡ Memory) ⊎ ((e ≡ TooManyPairs) × (MAX_PAIRS < n))) pairs c.in_err-programmes.ensures.cause in
+    same_err c.from_residual.result e (IsFinishFault c.args.self.now) c.from_residual.ensures.1 cause

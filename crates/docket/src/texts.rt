@@ -1,0 +1,252 @@
+//! Texts, in order.
+ghost use Rattle.std.specs.Prelude.{◌≡◌, ◌<◌, ◌++◌, ◌∷◌, [], Some, length, slice_get, IfOk, OnOk};
+ghost use Rattle.docket.specs.Fields as fields;
+ghost use Rattle.docket.specs.LongRecord.{keys_of, StartsWith};
+
+use crate::numbers::{Numbers, start_of};
+use indexmap::IndexSet;
+use std::alloc::{AllocError, Global};
+use std::marker::Model;
+
+// Texts, one after another, and where each of them ends.
+#[derive(Drop)]
+struct PlainTexts {
+    bytes: Vec<u8>,
+    ends: Numbers,
+}
+
+impl Model for PlainTexts {
+    ghost use Rattle.docket.specs.Fields.{Fields};
+    ghost use Rattle.docket.specs.LongRecord.{cut, AreCuts};
+
+    ghost Value = { Fields };
+
+    ghost view = { λ a. cut 0 a.ends a.bytes.items };
+
+    ghost invariant = { λ a. AreCuts a.ends a.bytes.items };
+}
+
+impl PlainTexts {
+    // No texts yet.
+    fn new(alloc: Global) -> PlainTexts
+        ensures { result ≡ [] }
+    {
+        PlainTexts {
+            bytes: Vec::new(alloc),
+            ends: Numbers::new(alloc),
+        }
+    }
+
+    // How many texts there are.
+    fn len(&self) -> usize
+        ensures { result ≡ length self.now }
+    {
+        self.ends.len()
+    }
+
+    // Takes every text away.
+    fn clear(&mut self)
+        ensures { self.new ≡ [] }
+    {
+        self.bytes.clear();
+        self.ends.clear();
+    }
+
+    // Adds a text. Where memory is wanting no text is kept.
+    fn push(&mut self, text: &[u8]) -> Result<(), AllocError>
+        ensures { OnOk result (self.new ≡ self.old ++ text.now ∷ []) }
+    {
+        let Ok(()) = self.bytes.extend_from_slice(text) else {
+            self.bytes.clear();
+            self.ends.clear();
+            return Err(AllocError);
+        };
+        let Ok(()) = self.ends.push(self.bytes.len()) else {
+            self.bytes.clear();
+            self.ends.clear();
+            return Err(AllocError);
+        };
+        Ok(())
+    }
+
+    // The text with this number, from 0.
+    fn get(&self, k: usize) -> &[u8]
+        requires { k < length self.now }
+        ensures { result.now ≡ fields.field self.now k }
+    {
+        let start = start_of(&self.ends, k);
+        &self.bytes[start..self.ends.get(k)]
+    }
+}
+
+// The number of a text among those that were seen, which it joins where it is new.
+fn number_of_text(
+    alloc: Global,
+    seen: &mut IndexSet<Vec<u8>>,
+    text: &[u8],
+) -> Result<usize, AllocError>
+    ensures number { IfOk result (λ n. slice_get (keys_of seen.new.keys) n ≡ Some text.now) }
+    ensures kept { StartsWith (keys_of seen.old.keys) (keys_of seen.new.keys) }
+{
+    if let Some(number) = seen.get_index_of(text) {
+        return Ok(number);
+    }
+    let key = Vec::from_slice(alloc, text)?;
+    let (number, _) = seen.insert_full(key)?;
+    Ok(number)
+}
+
+// Texts, one after another. Each different one is kept once, and of each place the number of its text.
+#[derive(Drop)]
+struct SharedTexts {
+    alloc: Global,
+    seen: IndexSet<Vec<u8>>,
+    numbers: Numbers,
+}
+
+impl Model for SharedTexts {
+    ghost use Rattle.docket.specs.Fields.{Fields};
+    ghost use Rattle.docket.specs.LongRecord.{texts_at, keys_of, AreNumbersOf};
+
+    ghost Value = { Fields };
+
+    ghost view = { λ a. texts_at (keys_of a.seen.keys) a.numbers };
+
+    ghost invariant = { λ a. AreNumbersOf (keys_of a.seen.keys) a.numbers };
+}
+
+impl SharedTexts {
+    // No texts yet.
+    fn new(alloc: Global) -> SharedTexts
+        ensures { result ≡ [] }
+    {
+        SharedTexts {
+            alloc,
+            seen: IndexSet::new(alloc),
+            numbers: Numbers::new(alloc),
+        }
+    }
+
+    // How many texts there are.
+    fn len(&self) -> usize
+        ensures { result ≡ length self.now }
+    {
+        self.numbers.len()
+    }
+
+    // Takes every text away.
+    fn clear(&mut self)
+        ensures { self.new ≡ [] }
+    {
+        self.numbers.clear();
+    }
+
+    // Adds a text. Where memory is wanting no text is kept.
+    fn push(&mut self, text: &[u8]) -> Result<(), AllocError>
+        ensures { OnOk result (self.new ≡ self.old ++ text.now ∷ []) }
+    {
+        let number = number_of_text(self.alloc, &mut self.seen, text)?;
+        let Ok(()) = self.numbers.push(number) else {
+            self.numbers.clear();
+            return Err(AllocError);
+        };
+        Ok(())
+    }
+
+    // The text with this number, from 0.
+    fn get(&self, k: usize) -> &[u8]
+        requires { k < length self.now }
+        ensures { result.now ≡ fields.field self.now k }
+    {
+        match self.seen.get_index(self.numbers.get(k)) {
+            Some(text) => text.as_slice(),
+            None => unreachable!("each place has the number of a text"),
+        }
+    }
+}
+
+// As many texts are kept one after another. A text more than these is kept once, since only long lists come to so many.
+const MOST_PLAIN: usize = 4_194_304;
+
+/// Texts, in order: the first of them one after another, and of all others each different one once.
+#[derive(Drop)]
+pub struct Texts {
+    count: usize,
+    plain: PlainTexts,
+    shared: SharedTexts,
+}
+
+impl Model for Texts {
+    ghost use Rattle.std.specs.Prelude.{◌++◌, ◌≡◌, length};
+    ghost use Rattle.docket.specs.Fields.{Fields};
+
+    ghost Value = { Fields };
+
+    ghost view = { λ a. a.plain ++ a.shared };
+
+    ghost invariant = { λ a. a.count ≡ length (a.plain ++ a.shared) };
+}
+
+impl Texts {
+    /// No texts yet.
+    pub fn new(alloc: Global) -> Texts
+        ensures { result ≡ [] }
+    {
+        Texts {
+            count: 0,
+            plain: PlainTexts::new(alloc),
+            shared: SharedTexts::new(alloc),
+        }
+    }
+
+    /// How many texts there are.
+    pub fn len(&self) -> usize
+        ensures { result ≡ length self.now }
+    {
+        self.count
+    }
+
+    /// Takes every text away.
+    pub fn clear(&mut self)
+        ensures { self.new ≡ [] }
+    {
+        self.count = 0;
+        self.plain.clear();
+        self.shared.clear();
+    }
+
+    /// Adds a text. Where memory is wanting no text is kept.
+    pub fn push(&mut self, text: &[u8]) -> Result<(), AllocError>
+        ensures { OnOk result (self.new ≡ self.old ++ text.now ∷ []) }
+    {
+        let Some(count) = self.count.checked_add(1) else {
+            return Err(AllocError);
+        };
+        let pushed = if self.shared.len() == 0 && self.plain.len() < MOST_PLAIN {
+            self.plain.push(text)
+        } else {
+            self.shared.push(text)
+        };
+        let Ok(()) = pushed else {
+            self.count = 0;
+            self.plain.clear();
+            self.shared.clear();
+            return Err(AllocError);
+        };
+        self.count = count;
+        Ok(())
+    }
+
+    /// The text with this number, from 0.
+    pub fn get(&self, k: usize) -> &[u8]
+        requires { k < length self.now }
+        ensures { result.now ≡ fields.field self.now k }
+    {
+        let plain = self.plain.len();
+        if k < plain {
+            self.plain.get(k)
+        } else {
+            self.shared.get(k - plain)
+        }
+    }
+}
