@@ -5,10 +5,8 @@ ghost use Rattle.docket.specs.Texts as texts;
 ghost use Rattle.docket.specs.Whole.{IsWhole};
 
 use crate::names::Names;
-use exchange_core::event::{Capacity, Event};
-use match_model::assignment::Assignment;
-use match_model::instance::Instance;
-use match_model::member::{ProgrammeNo, ResidentNo};
+use exchange_core::{Capacity, Event};
+use match_model::{Assignment, Instance, ProgrammeNo, ResidentNo};
 use std::marker::Model;
 
 /// The journal of an exchange: the capacity of its mailboxes, and its events in order.

@@ -2,7 +2,7 @@
 ghost use Rattle.std.specs.Prelude.{◌≡◌};
 ghost use Rattle.docket.specs.declared.fault.DocketFault.TheVariants.{Memory};
 
-use match_model::fault::ModelFault;
+use match_model::ModelFault;
 use std::alloc::{AllocError, AllocFailed};
 use thiserror::Error;
 

@@ -8,24 +8,24 @@
 #![tactic(auto)]
 
 mod declarations;
-pub mod docket;
-pub mod fault;
+mod docket;
+mod fault;
 mod journal;
 mod kind;
 mod long_record;
 mod names;
 mod numbers;
 mod ranking;
-pub mod read;
+mod read;
 mod retrying;
 mod row;
-pub mod row_text;
+mod row_text;
 mod rows;
 mod sheet;
 mod tables;
 mod texts;
-pub mod words;
-pub mod write;
+mod words;
+mod write;
 
 pub use crate::docket::{Docket, Journal};
 pub use fault::DocketFault;

@@ -14,9 +14,7 @@ use crate::declarations::model_fault;
 use crate::fault::DocketFault;
 use crate::kind::{PROGRAMME_LIST, RESIDENT_LIST};
 use crate::tables::Tables;
-use match_model::builder::InstanceBuilder;
-use match_model::instance::Instance;
-use match_model::member::{ProgrammeNo, ResidentNo};
+use match_model::{Instance, InstanceBuilder, ProgrammeNo, ResidentNo};
 use std::alloc::Global;
 
 // The residents whom row `k` lists.

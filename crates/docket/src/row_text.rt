@@ -8,7 +8,7 @@ ghost use Rattle.docket.specs.Texts.{programme_row};
 use crate::docket::Docket;
 use crate::fault::DocketFault;
 use csv::{Writer, WriterBuilder};
-use match_model::member::ProgrammeNo;
+use match_model::ProgrammeNo;
 use std::alloc::Global;
 use std::io::Write;
 use std::marker::Model;

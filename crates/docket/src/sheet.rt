@@ -12,9 +12,7 @@ use crate::fault::DocketFault;
 use crate::kind::{FILLED, MATCHED, UNMATCHED};
 use crate::tables::Tables;
 use crate::words::number_of;
-use match_model::assignment::Assignment;
-use match_model::instance::Instance;
-use match_model::member::{ProgrammeNo, ResidentNo};
+use match_model::{Assignment, Instance, ProgrammeNo, ResidentNo};
 use std::alloc::{AllocError, Global};
 
 // So many flags that aren't set.

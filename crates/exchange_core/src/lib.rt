@@ -4,9 +4,9 @@
 //! them.
 #![tactic(auto)]
 
-pub mod event;
-pub mod exchange;
-pub mod note;
+mod event;
+mod exchange;
+mod note;
 mod programmes;
 mod residents;
 mod seat;

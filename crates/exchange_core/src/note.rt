@@ -2,7 +2,7 @@
 ghost use Rattle.std.specs.Prelude.{ℕ};
 
 use crate::event::AnswerKind;
-use match_model::member::{ProgrammeNo, ResidentNo};
+use match_model::{ProgrammeNo, ResidentNo};
 use std::marker::Model;
 
 /// An offer in a resident's mailbox. Contracts see it as the programme's number.

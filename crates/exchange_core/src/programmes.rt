@@ -6,8 +6,7 @@ ghost use Rattle.exchange_core.specs.Seats.{opened_programme, seat_of_programme,
 
 use crate::event::{AnswerKind, Capacity};
 use crate::seat::{ProgrammeSeat, room};
-use match_model::instance::Instance;
-use match_model::member::{ProgrammeNo, ResidentNo};
+use match_model::{Instance, ProgrammeNo, ResidentNo};
 use std::alloc::{AllocError, Global};
 use std::marker::Model;
 

@@ -7,8 +7,7 @@ ghost use Rattle.exchange_core.specs.Pending.{IsQuiet};
 
 use crate::event::{AnswerKind, Capacity};
 use crate::seat::{ResidentSeat, room};
-use match_model::instance::Instance;
-use match_model::member::{ProgrammeNo, ResidentNo};
+use match_model::{Instance, ProgrammeNo, ResidentNo};
 use std::alloc::{AllocError, Global};
 use std::marker::Model;
 

@@ -6,7 +6,7 @@ ghost use Rattle.exchange_core.specs.Legal.{room_for};
 ghost use Rattle.exchange_core.specs.Seats.{opened_resident, opened_programme, due_of, sent_offer, took_offer, gave_answer, made_offer, sent_answer, heard_answer};
 
 use crate::event::{AnswerKind, Capacity};
-use match_model::member::{ProgrammeNo, ResidentNo};
+use match_model::{ProgrammeNo, ResidentNo};
 use std::alloc::{AllocError, Global};
 use std::collections::VecDeque;
 use std::marker::Model;

@@ -10,9 +10,7 @@ ghost use Rattle.match_audit.specs.Report.{IsUnacceptable, IsOver};
 ghost use Rattle.match_audit.specs.Loads.{AreLoads};
 
 use crate::load::{Load, place_at};
-use match_model::assignment::Assignment;
-use match_model::instance::Instance;
-use match_model::member::{ProgrammeNo, ResidentNo};
+use match_model::{Assignment, Instance, ProgrammeNo, ResidentNo};
 use std::alloc::{AllocError, Global};
 
 /// The pairs of a placement that aren't acceptable, by resident.

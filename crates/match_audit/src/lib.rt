@@ -4,12 +4,12 @@
 //! tests alone: a `Display` that writes nothing keeps its contract.
 #![tactic(auto)]
 
-pub mod audit;
+mod auditor;
 mod findings;
 mod load;
-pub mod replay;
-pub mod report;
+mod replayer;
+mod report;
 
-pub use audit::AuditFault;
-pub use replay::{ReplayFault, Replayed, check};
+pub use auditor::{AuditFault, audit};
+pub use replayer::{ReplayFault, Replayed, check, replay};
 pub use report::AuditReport;

@@ -4,9 +4,7 @@ ghost use Rattle.match_model.specs.Ranking.{place as place_in};
 ghost use Rattle.match_model.specs.Instance.{IsProgramme, list_of_programme as ranking_of_programme};
 ghost use Rattle.match_audit.specs.Loads.{AreLoads};
 
-use match_model::assignment::Assignment;
-use match_model::instance::Instance;
-use match_model::member::{ProgrammeNo, ResidentNo};
+use match_model::{Assignment, Instance, ProgrammeNo, ResidentNo};
 use std::alloc::{AllocError, Global};
 
 /// How many members a programme has, and the last place that one of them has in its list.

@@ -1,6 +1,6 @@
 //! What an audit finds.
 
-use match_model::member::{ProgrammeNo, ResidentNo};
+use match_model::{ProgrammeNo, ResidentNo};
 
 /// What keeps a placement from being stable: all of each kind, and nothing else.
 #[derive(Debug, Drop)]

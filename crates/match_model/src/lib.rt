@@ -7,13 +7,13 @@
 //! them.
 #![tactic(auto)]
 
-pub mod assignment;
-pub mod builder;
-pub mod fault;
+mod assignment;
+mod builder;
+mod fault;
 mod flag_rows;
-pub mod instance;
-pub mod limits;
-pub mod member;
+mod instance;
+mod limits;
+mod member;
 mod rank_table;
 mod ranking;
 mod sorted_copies;

@@ -2,11 +2,9 @@
 ghost use Rattle.std.specs.Prelude.{◌≡◌};
 
 use crate::waits::Waits;
-use exchange_core::event::{AnswerKind, Event, Refused};
-use exchange_core::note::{AnswerNote, OfferNote};
+use exchange_core::{AnswerKind, AnswerNote, Event, OfferNote, Refused};
 use mailbox_rule::PutEnd;
-use match_model::instance::Instance;
-use match_model::member::{ProgrammeNo, ResidentNo};
+use match_model::{Instance, ProgrammeNo, ResidentNo};
 use offer_ledger::{EntryRefused, Ledger, Naming, PutRefusal, Tally};
 
 /// The ledger, and the desks that wait for room.

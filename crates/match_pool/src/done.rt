@@ -1,9 +1,8 @@
 //! What a run gives.
-use exchange_core::event::Event;
-use exchange_core::note::{AnswerNote, OfferNote};
+use exchange_core::{AnswerNote, Event, OfferNote};
 use mailbox_rule::{PutEnd, TakeEnd};
 use match_agents::{ProgrammeAgent, ResidentAgent};
-use match_model::assignment::Assignment;
+use match_model::Assignment;
 
 /// How a run ended.
 #[derive(Clone, Copy, Debug, PartialEq, Eq)]

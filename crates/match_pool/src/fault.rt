@@ -2,7 +2,7 @@
 ghost use Rattle.std.specs.Prelude.{◌≡◌};
 ghost use Rattle.match_pool.specs.declared.fault.RunFault.TheVariants.{Memory};
 
-use exchange_core::event::{Desk, Event};
+use exchange_core::{Desk, Event};
 use std::alloc::{AllocError, AllocFailed};
 use thiserror::Error;
 

@@ -6,7 +6,7 @@ use crate::desks::{ProgrammeSeat, ResidentSeat};
 use crate::fault::Trouble;
 use crate::gate::Gate;
 use crate::hands::Hands;
-use exchange_core::note::{AnswerNote, OfferNote};
+use exchange_core::{AnswerNote, OfferNote};
 use mailbox_rule::{PutEnd, TakeEnd};
 use offer_ledger::Naming;
 use std::hint::spin_loop;

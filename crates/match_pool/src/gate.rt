@@ -1,7 +1,7 @@
 //! A gate sees a run as it goes, and may stop it.
 ghost use Rattle.std.specs.Prelude.{◌≡◌, Bool, true, false};
 
-use exchange_core::event::Desk;
+use exchange_core::Desk;
 
 /// Whether a run goes on.
 #[derive(Clone, Copy, Debug, PartialEq, Eq)]

@@ -8,12 +8,10 @@ use crate::fault::Trouble;
 use crate::floor::Floor;
 use crate::gate::{Gate, Go};
 use crate::woken::Woken;
-use exchange_core::event::{AnswerKind, Desk, Event};
-use exchange_core::note::{AnswerNote, OfferNote};
+use exchange_core::{AnswerKind, AnswerNote, Desk, Event, OfferNote};
 use mailbox_rule::{PutEnd, TakeEnd};
 use match_agents::Heard;
-use match_model::instance::Instance;
-use match_model::member::{ProgrammeNo, ResidentNo};
+use match_model::{Instance, ProgrammeNo, ResidentNo};
 use offer_ledger::{Naming, Tally};
 use std::sync::Wait;
 

@@ -7,11 +7,10 @@ ghost use Rattle.mailbox_rule.specs.Replies.{MatchTake};
 
 use crate::instances::{TWO_PLACES, made};
 use desk::{ProgrammeRun, ResidentRun};
-use exchange_core::event::AnswerKind;
-use exchange_core::note::{AnswerNote, OfferNote};
+use exchange_core::{AnswerKind, AnswerNote, OfferNote};
 use mailbox_rule::{ListTake, TakeEnd, TakeReply};
 use match_agents::Heard;
-use match_model::member::{ProgrammeNo, ResidentNo};
+use match_model::{ProgrammeNo, ResidentNo};
 use samples::events::{A, B, HOLD, RELEASE, X, Y, Z};
 use std::alloc::Global;
 use std::test::Fail;

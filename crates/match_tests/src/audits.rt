@@ -1,12 +1,8 @@
 //! Sheets and lists of events with known answers: programme 0 is `A`, 1 is `B`, and residents 0 to 2 are `X`, `Y` and `Z`.
 use crate::instances::{Members, TWO_BY_TWO, TWO_PLACES, made};
-use exchange_core::event::{AnswerKind, Capacity, Event, Pending, Refused};
-use match_audit::audit::{AuditFault, audit};
-use match_audit::replay::{ReplayFault, check, replay};
-use match_audit::report::AuditReport;
-use match_model::assignment::Assignment;
-use match_model::fault::ModelFault;
-use match_model::member::{ProgrammeNo, ResidentNo};
+use exchange_core::{AnswerKind, Capacity, Event, Pending, Refused};
+use match_audit::{AuditFault, AuditReport, ReplayFault, audit, check, replay};
+use match_model::{Assignment, ModelFault, ProgrammeNo, ResidentNo};
 use samples::events::{A, B, X, Y, Z, answer, hear, nine_events, nineteen_events, offer, take};
 use std::alloc::{AllocError, Global};
 use std::test::Fail;

@@ -4,10 +4,8 @@ mod slow;
 mod walks;
 
 use crate::instances::{Members, TWO_BY_TWO, TWO_PLACES, has_places, made};
-use exchange_core::event::{Capacity, Event, Pending, Refused};
-use exchange_core::exchange::CoreFault;
-use match_model::instance::Instance;
-use match_model::member::{ProgrammeNo, ResidentNo};
+use exchange_core::{Capacity, CoreFault, Event, Pending, Refused};
+use match_model::{Instance, ProgrammeNo, ResidentNo};
 use run::{Run, Seen};
 use samples::events::{
     A, B, DECLINE, HOLD, RELEASE, X, Y, Z, answer, hear, nine_events, nineteen_events, offer, take,

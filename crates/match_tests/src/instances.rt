@@ -1,9 +1,5 @@
 //! Instances that several tests share.
-use match_model::assignment::Assignment;
-use match_model::builder::InstanceBuilder;
-use match_model::fault::ModelFault;
-use match_model::instance::Instance;
-use match_model::member::{ProgrammeNo, ResidentNo};
+use match_model::{Assignment, Instance, InstanceBuilder, ModelFault, ProgrammeNo, ResidentNo};
 use std::alloc::Global;
 
 /// The quotas and the lists of the programmes, and then the lists of the residents, by number.

@@ -4,10 +4,9 @@ ghost use Rattle.mailbox_rule.specs.Lists.{PutList};
 ghost use Rattle.mailbox_rule.specs.Mail.{PutSide};
 
 use crate::instances::{TWO_BY_TWO, TWO_PLACES, made};
-use exchange_core::event::{Capacity, Event, Pending, Refused};
-use exchange_core::note::{AnswerNote, OfferNote};
+use exchange_core::{AnswerNote, Capacity, Event, OfferNote, Pending, Refused};
 use mailbox_rule::{ListPut, MailFault, PutEnd, RuledPut, RuledTake, mailbox};
-use match_model::instance::Instance;
+use match_model::Instance;
 use offer_ledger::{
     EntryRefused, Ledger, LedgerFault, LedgerRefused, Naming, PARTS, PutRefusal, Tally,
 };

@@ -1,8 +1,5 @@
 //! An instance as large as there may be.
-use match_model::builder::InstanceBuilder;
-use match_model::fault::ModelFault;
-use match_model::instance::Instance;
-use match_model::member::{ProgrammeNo, ResidentNo};
+use match_model::{Instance, InstanceBuilder, ModelFault, ProgrammeNo, ResidentNo};
 use std::alloc::Global;
 
 /// The residents below 20,000.

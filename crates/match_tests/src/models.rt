@@ -1,10 +1,6 @@
 //! Instances and assignments by hand.
 use crate::markets::{TEN, all_residents, made_in_one_order};
-use match_model::assignment::Assignment;
-use match_model::builder::InstanceBuilder;
-use match_model::fault::ModelFault;
-use match_model::instance::Instance;
-use match_model::member::{ProgrammeNo, ResidentNo};
+use match_model::{Assignment, Instance, InstanceBuilder, ModelFault, ProgrammeNo, ResidentNo};
 use samples::events::{A, B, X, Y, Z};
 use samples::members::{is_programme, is_resident};
 use std::alloc::Global;

@@ -1,10 +1,8 @@
 //! Runs of the pool over worked markets.
 use crate::instances::{Members, TWO_BY_TWO, TWO_PLACES, has_places, made};
 use crate::markets::made_in_one_order;
-use exchange_core::event::{Capacity, Desk, Event};
-use match_model::assignment::Assignment;
-use match_model::instance::Instance;
-use match_model::member::{ProgrammeNo, ResidentNo};
+use exchange_core::{Capacity, Desk, Event};
+use match_model::{Assignment, Instance, ProgrammeNo, ResidentNo};
 use match_pool::{Ending, Gate, OpenGate, RunFault, run};
 use samples::events::{A, B, X};
 use samples::gates::{Firm, Held, Loose, StopsAtOnce};

@@ -7,9 +7,9 @@ use Rattle.exchange_core.specs.declared.event.Refused.TheVariants.{Closed, NoSuc
 use Rattle.docket.specs.Contents.{Contents, JournalParts}
 use Rattle.docket.specs.RowText.{row}
 use Rattle.docket.specs.Texts.{programme_name, resident_name}
-use Rattle.match_audit.specs.declared.replay.Replayed.{Replayed}
-use Rattle.match_audit.specs.declared.replay.ReplayFault.{ReplayFault}
-use Rattle.match_audit.specs.declared.replay.ReplayFault.TheVariants.{BadCapacity, Memory, At, NotClosed, SheetDiffers}
+use Rattle.match_audit.specs.declared.replayer.Replayed.{Replayed}
+use Rattle.match_audit.specs.declared.replayer.ReplayFault.{ReplayFault}
+use Rattle.match_audit.specs.declared.replayer.ReplayFault.TheVariants.{BadCapacity, Memory, At, NotClosed, SheetDiffers}
 use Rattle.match_audit.specs.Replay.{NamesMember}
 
 -- the word of a refusal

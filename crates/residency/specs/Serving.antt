@@ -18,8 +18,8 @@ use Rattle.docket.specs.declared.fault.DocketFault.TheVariants as docket
 use Rattle.match_audit.specs.Report.{Reports}
 use Rattle.match_audit.specs.Replay.{IsGood, IsReplayOf, IsListFault, IsCheckFault}
 use Rattle.match_audit.specs.declared.report.AuditReport.{AuditReport}
-use Rattle.match_audit.specs.declared.replay.Replayed.{Replayed}
-use Rattle.match_audit.specs.declared.replay.ReplayFault.{ReplayFault}
+use Rattle.match_audit.specs.declared.replayer.Replayed.{Replayed}
+use Rattle.match_audit.specs.declared.replayer.ReplayFault.{ReplayFault}
 use Rattle.residency.specs.declared.fault.ServeFault.{ServeFault}
 use Rattle.residency.specs.declared.fault.ServeFault.TheVariants.{Docket, NoSheet, NoJournal, Run, Memory}
 use Rattle.residency.specs.declared.status.Status.{Status}

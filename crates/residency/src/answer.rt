@@ -7,8 +7,8 @@ ghost use Rattle.residency.specs.Answer.{replay_text, refusal_word as word_of, r
 ghost use Rattle.residency.specs.Serving.{IsWriteFault};
 
 use docket::{Docket, DocketFault, RowText};
-use exchange_core::event::{Pending, Refused};
-use match_audit::replay::{ReplayFault, Replayed};
+use exchange_core::{Pending, Refused};
+use match_audit::{ReplayFault, Replayed};
 use std::alloc::Global;
 use std::io::Write;
 

@@ -6,18 +6,20 @@
 //! keeps and not which it is; other texts of faults, of help and of the version.
 #![tactic(auto)]
 
-pub mod answer;
-pub mod fault;
-pub mod line;
-pub mod options;
+mod answer;
+mod fault;
+mod line;
+mod options;
 mod program;
-pub mod report;
-pub mod serve;
-pub mod status;
+mod report;
+mod serve;
+mod status;
 
+pub use answer::write_replay;
 pub use fault::ServeFault;
 pub use line::{LineFault, read_line};
 pub use options::{MatchOptions, Order};
 pub use program::serve_words;
+pub use report::write_report;
 pub use serve::{serve_audit, serve_match, serve_replay};
 pub use status::{Status, exit_status, line_status};

@@ -1,6 +1,6 @@
 //! What a command line orders.
 
-use exchange_core::event::Capacity;
+use exchange_core::Capacity;
 
 /// How a match is run.
 #[derive(Clone, Copy, Debug, PartialEq, Eq)]

@@ -7,8 +7,8 @@ ghost use Rattle.residency.specs.Report.{report_text, stability_row, pair_row, o
 ghost use Rattle.residency.specs.Serving.{IsWriteFault};
 
 use docket::{Docket, DocketFault, RowText};
-use match_audit::report::AuditReport;
-use match_model::member::{ProgrammeNo, ResidentNo};
+use match_audit::AuditReport;
+use match_model::{ProgrammeNo, ResidentNo};
 use std::alloc::Global;
 use std::io::Write;
 

@@ -1,6 +1,6 @@
 //! Members by number, and the lists of events of two exchanges.
-use exchange_core::event::{AnswerKind, Event};
-use match_model::member::{ProgrammeNo, ResidentNo};
+use exchange_core::{AnswerKind, Event};
+use match_model::{ProgrammeNo, ResidentNo};
 
 pub const A: ProgrammeNo = ProgrammeNo(0);
 

@@ -1,7 +1,7 @@
 //! Gates that hold a run up, or stop it.
 ghost use Rattle.std.specs.Prelude.{true, false};
 
-use exchange_core::event::Desk;
+use exchange_core::Desk;
 use match_pool::{Gate, Go};
 use std::sync::atomic::{AtomicBool, AtomicU64, Ordering};
 use std::thread;

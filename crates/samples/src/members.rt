@@ -1,6 +1,5 @@
 //! What the members of an instance are.
-use match_model::instance::Instance;
-use match_model::member::{ProgrammeNo, ResidentNo};
+use match_model::{Instance, ProgrammeNo, ResidentNo};
 
 /// Whether a programme has this many places and this list.
 pub fn is_programme(

@@ -8,11 +8,8 @@ mod writing;
 
 use crate::devices::CutReader;
 use crate::texts::joined;
-use docket::docket::Docket;
-use docket::fault::DocketFault;
-use docket::read::read_docket;
-use docket::words::capacity_of;
-use exchange_core::event::Capacity;
+use docket::{Docket, DocketFault, capacity_of, read_docket};
+use exchange_core::Capacity;
 use std::alloc::{AllocError, Global};
 
 /// Reads a docket at once.

@@ -1,8 +1,6 @@
 //! A reader that is interrupted before some of its reads.
-use docket::fault::DocketFault;
-use residency::fault::ServeFault;
-use residency::serve::serve_audit;
-use residency::status::Status;
+use docket::DocketFault;
+use residency::{ServeFault, Status, serve_audit};
 use std::alloc::Global;
 use std::io;
 use std::io::Read;

@@ -7,15 +7,14 @@ use crate::texts::{
     CLOSE, ELEVEN, FULL, OTHER_SHEET, QUOTAS, SMALL, SMALL_JOURNAL, SMALL_SHEET, TO_EIGHTEEN,
     TO_THIRTEEN, joined,
 };
-use docket::fault::DocketFault;
-use exchange_core::event::Capacity;
-use match_model::fault::ModelFault;
+use docket::DocketFault;
+use exchange_core::Capacity;
+use match_model::ModelFault;
 use match_pool::{OpenGate, RunFault};
-use residency::fault::ServeFault;
-use residency::line::{LineFault, read_line};
-use residency::options::{MatchOptions, Order};
-use residency::serve::{serve_audit, serve_match, serve_replay};
-use residency::status::{Status, exit_status, line_status};
+use residency::{
+    LineFault, MatchOptions, Order, ServeFault, Status, exit_status, line_status, read_line,
+    serve_audit, serve_match, serve_replay,
+};
 use std::alloc::{AllocError, Global};
 use std::io::{Read, Write};
 use std::sync::Wait;

@@ -1,8 +1,8 @@
 //! Laws of legal lists of events, each the contract of a function without parameters.
 #![tactic(auto)]
 
-pub mod lists;
-pub mod settled;
+mod lists;
+mod settled;
 
 pub use lists::{law_bound, law_no_jam, law_orderly};
 pub use settled::{law_never_rejects, law_one_settled, law_same_residents, law_settled};

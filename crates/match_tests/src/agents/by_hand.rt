@@ -8,11 +8,9 @@ ghost use Rattle.exchange_core.specs.declared.event.Capacity.TheVariants.{Full};
 
 use crate::instances::{TWO_PLACES, made};
 use desks::{Programme, Resident};
-use exchange_core::event::{Capacity, Event};
-use exchange_core::note::{AnswerNote, OfferNote};
+use exchange_core::{AnswerNote, Capacity, Event, OfferNote};
 use mailbox_rule::{MailFault, PutEnd, RuledPut, RuledTake, TakeEnd, mailbox};
-use match_model::instance::Instance;
-use match_model::member::{ProgrammeNo, ResidentNo};
+use match_model::{Instance, ProgrammeNo, ResidentNo};
 use offer_ledger::{EntryRefused, Ledger, Naming, PARTS, Tally};
 use std::alloc::{AllocError, Global};
 use std::marker::Brand;

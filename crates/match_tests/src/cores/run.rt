@@ -2,12 +2,8 @@
 ghost use Rattle.std.specs.Prelude.{◌≡◌, IfOk, length};
 ghost use Rattle.exchange_core.specs.Steps.{IsCoreOf};
 
-use exchange_core::event::{AnswerKind, Capacity, Event, Pending, Refused};
-use exchange_core::exchange::{Core, CoreFault};
-use match_model::assignment::Assignment;
-use match_model::fault::ModelFault;
-use match_model::instance::Instance;
-use match_model::member::{ProgrammeNo, ResidentNo};
+use exchange_core::{AnswerKind, Capacity, Core, CoreFault, Event, Pending, Refused};
+use match_model::{Assignment, Instance, ModelFault, ProgrammeNo, ResidentNo};
 use std::alloc::Global;
 
 /// A core beside its instance.

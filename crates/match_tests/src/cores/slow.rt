@@ -2,9 +2,8 @@
 ghost use Rattle.std.specs.Prelude.{◌≡◌};
 ghost use Rattle.exchange_core.specs.Refusal.{strange_desk};
 
-use exchange_core::event::{AnswerKind, Capacity, Event, Pending, Refused};
-use match_model::instance::Instance;
-use match_model::member::{ProgrammeNo, ResidentNo};
+use exchange_core::{AnswerKind, Capacity, Event, Pending, Refused};
+use match_model::{Instance, ProgrammeNo, ResidentNo};
 
 /// One of the six lists of a list of events: what a desk sent, was sent, took or heard.
 #[derive(Clone, Copy)]

@@ -3,11 +3,8 @@ ghost use Rattle.std.specs.Prelude.{◌<◌};
 
 use super::run::Run;
 use super::slow;
-use exchange_core::event::{AnswerKind, Capacity, Event};
-use match_model::builder::InstanceBuilder;
-use match_model::fault::ModelFault;
-use match_model::instance::Instance;
-use match_model::member::{ProgrammeNo, ResidentNo};
+use exchange_core::{AnswerKind, Capacity, Event};
+use match_model::{Instance, InstanceBuilder, ModelFault, ProgrammeNo, ResidentNo};
 use std::alloc::{AllocError, Global};
 
 const PROGRAMMES: u32 = 3;

@@ -1,6 +1,6 @@
 //! Each fault by itself.
 use super::{first_wrong, is_told};
-use docket::fault::DocketFault;
+use docket::DocketFault;
 use std::test::Fail;
 
 const KINDS: &str = "\

@@ -1,11 +1,8 @@
 //! One docket in many forms, fields that are no names, and a reader that fails.
 use super::{first_wrong, is_told, read, read_slowly};
 use crate::texts::SMALL;
-use docket::docket::Docket;
-use docket::fault::DocketFault;
-use docket::read::read_docket;
-use match_model::instance::Instance;
-use match_model::member::{ProgrammeNo, ResidentNo};
+use docket::{Docket, DocketFault, read_docket};
+use match_model::{Instance, ProgrammeNo, ResidentNo};
 use samples::events::{A, B, X, Y};
 use samples::members::{is_programme, is_resident};
 use std::test::Fail;

@@ -1,9 +1,9 @@
 //! A docket read whole.
 use super::read;
 use crate::texts::{FULL, OTHER_SHEET, SMALL, SMALL_JOURNAL, joined};
-use docket::docket::{Docket, Journal};
-use exchange_core::event::Capacity;
-use match_model::assignment::Assignment;
+use docket::{Docket, Journal};
+use exchange_core::Capacity;
+use match_model::Assignment;
 use samples::events::{A, B, X, Y, nine_events};
 use std::alloc::{AllocError, Global};
 use std::test::Fail;

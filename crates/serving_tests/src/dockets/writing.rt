@@ -5,11 +5,8 @@ use crate::texts::{
     CLOSE, ELEVEN, FULL, OTHER_SHEET, QUOTAS, SMALL, SMALL_JOURNAL, TO_EIGHTEEN, TO_THIRTEEN,
     joined,
 };
-use docket::docket::Docket;
-use docket::fault::DocketFault;
-use docket::row_text::RowText;
-use docket::write::{write_journal, write_sheet};
-use exchange_core::event::{AnswerKind, Capacity, Event};
+use docket::{Docket, DocketFault, RowText, write_journal, write_sheet};
+use exchange_core::{AnswerKind, Capacity, Event};
 use samples::events::{A, B, X, Y, answer, hear, nine_events, nineteen_events};
 use std::alloc::{AllocError, Global};
 use std::io::Write;

@@ -2,8 +2,7 @@
 use super::{CHAIN, NARROW_WITH_JOURNAL, WITH_JOURNAL, serve};
 use crate::markets::hundreds;
 use crate::texts::{CLOSE, OTHER_SHEET, QUOTAS, SMALL, SMALL_JOURNAL, SMALL_SHEET, joined, rows};
-use residency::options::Order;
-use residency::status::Status;
+use residency::{Order, Status};
 use std::alloc::{AllocError, Global};
 use std::sync::Wait;
 use std::test::Fail;

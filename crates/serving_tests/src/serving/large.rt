@@ -2,11 +2,8 @@
 use super::{MATCH, NARROW, serve};
 use crate::markets::{in_one_order, sheet_in_one_order, widest};
 use crate::texts::{SMALL, SMALL_SHEET, rows};
-use exchange_core::event::Capacity;
-use residency::fault::ServeFault;
-use residency::options::{MatchOptions, Order};
-use residency::serve::serve_match;
-use residency::status::Status;
+use exchange_core::Capacity;
+use residency::{MatchOptions, Order, ServeFault, Status, serve_match};
 use samples::gates::{Firm, Held};
 use std::alloc::{AllocError, Global};
 use std::sync::Wait;

@@ -4,12 +4,10 @@ ghost use Rattle.match_model.specs.Instance.{IsProgramme, IsResident};
 ghost use Rattle.match_agents.specs.Programmes.{IsProgrammeAgentOf};
 ghost use Rattle.match_agents.specs.Residents.{IsResidentAgentOf};
 
-use exchange_core::event::AnswerKind;
-use exchange_core::note::{AnswerNote, OfferNote};
+use exchange_core::{AnswerKind, AnswerNote, OfferNote};
 use mailbox_rule::TakeEnd;
 use match_agents::{Heard, ProgrammeAgent, ResidentAgent};
-use match_model::instance::Instance;
-use match_model::member::{ProgrammeNo, ResidentNo};
+use match_model::{Instance, ProgrammeNo, ResidentNo};
 use offer_ledger::Naming;
 use std::alloc::Global;
 use std::marker::PhantomData;

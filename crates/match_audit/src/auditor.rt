@@ -1,13 +1,12 @@
 //! What keeps a placement from being stable.
 ghost use Rattle.std.specs.Prelude.{◌≡◌, ◌≢◌, ◌↔◌, length, IfOk, IsErrOf};
 ghost use Rattle.match_audit.specs.Report.{Reports};
-ghost use Rattle.match_audit.specs.declared.audit.AuditFault.TheVariants.{Memory};
+ghost use Rattle.match_audit.specs.declared.auditor.AuditFault.TheVariants.{Memory};
 
 use crate::findings::{blocking_pairs, over_quota, unacceptable_pairs};
 use crate::load::loads;
 use crate::report::AuditReport;
-use match_model::assignment::Assignment;
-use match_model::instance::Instance;
+use match_model::{Assignment, Instance};
 use std::alloc::{AllocError, Global};
 use std::error::Error;
 use std::fmt;

@@ -1,7 +1,7 @@
 use Rattle.std.proofs.Common.{◌∙◌, sym, subst, List}
 use Rattle.match_audit.specs.declared.load.Load.{Load}
 use Rattle.match_audit.specs.Loads.{AreLoads}
-use Rattle.match_audit.proofs.audit.audit.Goals as goal
+use Rattle.match_audit.proofs.auditor.audit.Goals as goal
 
 pub returns-clause-report : goal.returns-clause-report
 returns-clause-report c = record {
