@@ -7,16 +7,16 @@ write_report-requires g c =
     report_of_docket _ c.in-Some.sheet.now _ c.instance.ensures.whole (sym c.in-Some.ensures.sheet)
     (rw c.instance.ensures.instance at c.residents-instance.ensures.instance) c.in_ok-report.ensures.report
 
-pub returns-in-Ok-write_report-clause-report : goal.returns-in-Ok-write_report-clause-report
-returns-in-Ok-write_report-clause-report g c =
+pub returns-in-Ok-clause-report : goal.returns-in-Ok-clause-report
+returns-in-Ok-clause-report g c =
     let reports = c.in_ok-report.ensures.report in
     record {
       sheet = c.in-Some.sheet.now;
       has_sheet = sym c.in-Some.ensures.sheet;
-      report = c.in_ok-report.result;
+      report = c.in_ok-report.report;
       reports = reports;
       tells = tells_stable _ _ _ true reports c.if-is_stable.ensures.stable;
-      appended = c.in-Ok-write_report.ensures.ok;
+      appended = c.in-Ok.ensures.ok;
     }
 
 pub returns-in-Ok-2-clause-report : goal.returns-in-Ok-2-clause-report
@@ -25,7 +25,7 @@ returns-in-Ok-2-clause-report g c =
     record {
       sheet = c.in-Some.sheet.now;
       has_sheet = sym c.in-Some.ensures.sheet;
-      report = c.in_ok-report.result;
+      report = c.in_ok-report.report;
       reports = reports;
       tells = tells_stable _ _ _ false reports c.if-is_stable.ensures.stable;
       appended = c.in-Ok-2.ensures.ok;
