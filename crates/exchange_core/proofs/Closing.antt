@@ -13,9 +13,9 @@ use Rattle.exchange_core.specs.Calls.{best_of, calls, rejections, due, out, last
 use Rattle.exchange_core.specs.Legal.{is_closed, IsAtRest, IsLegal}
 use Rattle.exchange_core.specs.Left.{held_by, given}
 use Rattle.exchange_core.proofs.Prefixes.{item_at, prefix_whole}
-use Rattle.exchange_core.proofs.Events.{offers_of_same, offers_to_same, takes_same, answers_to_same, hears_same}
-use Rattle.exchange_core.proofs.CallsOf.{last_hold-calls}
-use Rattle.exchange_core.proofs.Legality.{closed_parts}
+use Rattle.exchange_core.proofs.Mail.{offers_of_same, offers_to_same, takes_same, answers_to_same, hears_same}
+use Rattle.exchange_core.proofs.Calls.{last_hold-calls}
+use Rattle.exchange_core.proofs.Legal.{closed_parts}
 use Rattle.exchange_core.proofs.Members.{offers_to_members, answers_to_members}
 use Rattle.exchange_core.proofs.Dues.{due_same, out_same}
 use Rattle.exchange_core.proofs.InOrder.{takes_in_order, answers_in_order, hears_in_order}

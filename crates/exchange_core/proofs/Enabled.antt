@@ -14,8 +14,8 @@ use Rattle.exchange_core.specs.Left.{Left}
 use Rattle.exchange_core.specs.Refusal.{cause, is_number, is_answer, is_nil, strange_desk}
 use Rattle.exchange_core.specs.Steps.{resident_at, programme_at, event_fault_left, fault_left, next_offer_left, HasNoResidentEvent, HasNoProgrammeEvent}
 use Rattle.exchange_core.specs.Shown.{Shows, IsCapacity}
-use Rattle.exchange_core.proofs.Causes.{three_none, four_none, head_none, rest_none, cause_none, number_from, answer_from}
-use Rattle.exchange_core.proofs.Outcomes.{no_fault_from}
+use Rattle.exchange_core.proofs.Refusal.{three_none, four_none, head_none, rest_none, cause_none, number_from, answer_from}
+use Rattle.exchange_core.proofs.Left.{no_fault_from}
 use Rattle.exchange_core.proofs.NoJam.{next_event}
 
 -- the event of this desk with what stands in front, if something does

@@ -1,9 +1,9 @@
 pub mod Counts
 pub mod Rankings
 pub mod Prefixes
-pub mod Events
-pub mod CallsOf
-pub mod Legality
+pub mod Mail
+pub mod Calls
+pub mod Legal
 pub mod Members
 pub mod Dues
 pub mod InOrder
@@ -12,11 +12,11 @@ pub mod Closing
 pub mod Totals
 mod ListExamples
 pub mod FirstBelow
-pub mod Causes
-pub mod Bridge
+pub mod Refusal
+pub mod Shown
 pub mod Accepts
-pub mod Stepped
-pub mod Outcomes
+pub mod Steps
+pub mod Left
 pub mod NoJam
 pub mod Enabled
 mod Seats

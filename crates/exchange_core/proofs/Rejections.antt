@@ -19,16 +19,16 @@ use Rattle.exchange_core.specs.Refusal.{is_number}
 use Rattle.exchange_core.proofs.Counts.{count_of, count_of_push, sum_below_zero, sum_below-le, sum_below_counts, sum_by_same, sum_by-le, sum_by_one}
 use Rattle.exchange_core.proofs.Rankings.{sum_by_listed, prefix_count, count_of_unlisted, listed_push_before, listed_push_last, count_of_listed, count_from_no_repeats, best_of_Some, best_of_push_better, best_of_push_same, prefix_listed}
 use Rattle.exchange_core.proofs.Prefixes.{push_induction}
-use Rattle.exchange_core.proofs.Events.{where_same_at, where_same_apart}
-use Rattle.exchange_core.proofs.CallsOf.{best_of_nothing, calls_nil, calls_push, called_by_better, called_by_other}
-use Rattle.exchange_core.proofs.Legality.{legal_induction}
+use Rattle.exchange_core.proofs.Mail.{where_same_at, where_same_apart}
+use Rattle.exchange_core.proofs.Calls.{best_of_nothing, calls_nil, calls_push, called_by_better, called_by_other}
+use Rattle.exchange_core.proofs.Legal.{legal_induction}
 use Rattle.exchange_core.proofs.Members.{slice_get-append_parts}
 use Rattle.exchange_core.proofs.Dues.{out_nil, out_same, out_offer-le, out_hear}
 use Rattle.std.specs.List.{flat_map}
 use Rattle.exchange_core.proofs.Totals.{over_residents, sum_below-flat_map, sum_below-where_same}
 use Rattle.exchange_core.proofs.Members.{offers_of_members, HasMembers, members_at}
 use Rattle.exchange_core.proofs.InOrder.{offers_match, next_call, takes_in_order, answers_in_order, hears_in_order, listed_offer_of, offers_of_no_repeats, takes_no_repeats}
-use Rattle.exchange_core.proofs.Causes.{number_from, number_to}
+use Rattle.exchange_core.proofs.Refusal.{number_from, number_to}
 
 -- whether the answer gives the place of x back
 abbrev pub is_rejection_of : ℕ → Answered → Bool

@@ -9,8 +9,8 @@ use Rattle.exchange_core.specs.declared.event.Event.TheVariants.{Offer, Take, An
 use Rattle.exchange_core.specs.declared.event.Capacity.{Capacity}
 use Rattle.exchange_core.specs.Mail.{where_same, offered_by, offered_to, taken_by, answered_by, answered_to, heard_by, offers_of, offers_to, takes, answers_of, answers_to, hears}
 use Rattle.exchange_core.specs.Legal.{is_close, is_closed, MayFollow, IsLegal}
-use Rattle.exchange_core.proofs.Legality.{legal_induction}
-use Rattle.exchange_core.proofs.Events.{is_closed_nil, is_closed_push}
+use Rattle.exchange_core.proofs.Legal.{legal_induction}
+use Rattle.exchange_core.proofs.Mail.{is_closed_nil, is_closed_push}
 use Rattle.exchange_core.proofs.Counts.{sum_below, sum_below_zero, sum_below_same, sum_below-add, sum_below_one, sum_by_same}
 use Rattle.exchange_core.proofs.Members.{HasMembers, members_at}
 

@@ -30,6 +30,15 @@ pub(crate) enum Entry {
     Gone,
 }
 
+impl<J: Naming, P: PutEnd<OfferNote> + Drop, Q: PutEnd<AnswerNote> + Drop> Books<J, P, Q> {
+    /// The ledger alone.
+    pub(crate) fn into_ledger(self) -> Ledger<J, P, Q>
+        ensures { result ≡ self.ledger }
+    {
+        self.ledger
+    }
+}
+
 impl<J: Naming, P: PutEnd<OfferNote>, Q: PutEnd<AnswerNote>> Books<J, P, Q> {
     /// Whether offers wait at a resident, as far as the core has it.
     pub(crate) fn offers_wait(&self, inst: &Instance, resident: ResidentNo) -> bool

@@ -48,8 +48,8 @@ where
             let mut number = 0;
             let mut all_started = true;
             for tally in tallies {
-                let worker = Worker::new(rt, inst, gate, number, tally);
-                let started = match scope.spawn(move || worker.work(floor)) {
+                let worker = Worker::new(rt, inst, gate, floor, number, tally);
+                let started = match scope.spawn(move || worker.work()) {
                     Ok(handle) => handles.push(handle).is_ok(),
                     Err(_) => false,
                 };

@@ -20,6 +20,17 @@ enum Place {
     InHandAgain,
 }
 
+/// What a worker finds that looks for a desk.
+#[derive(Clone, Copy, Debug, PartialEq, Eq)]
+pub(crate) enum Next {
+    /// This desk, which is in its hands now.
+    Desk(u32),
+    /// None is listed.
+    Nothing,
+    /// The run ends.
+    Ended,
+}
+
 /// The desks in hands and those that may have work, each listed at most once; and how the run ends.
 #[derive(Debug, Drop)]
 pub(crate) struct Hands<'a, G: Gate> {
@@ -97,11 +108,18 @@ impl<'a, G: Gate> Hands<'a, G> {
         }
     }
 
-    /// A desk that may have work comes into a hand.
-    pub(crate) fn take(&mut self) -> Option<u32> {
-        let desk = self.ready.pop()?;
-        *self.places.get_mut(desk as usize)? = Place::InHand;
-        Some(desk)
+    /// A desk that may have work comes into a hand, while the run goes on.
+    pub(crate) fn next(&mut self) -> Next {
+        if self.ended {
+            return Next::Ended;
+        }
+        let Some(desk) = self.ready.pop() else {
+            return Next::Nothing;
+        };
+        if let Some(place) = self.places.get_mut(desk as usize) {
+            *place = Place::InHand;
+        }
+        Next::Desk(desk)
     }
 
     /// This desk comes into a hand, if nobody has it. It isn't listed.

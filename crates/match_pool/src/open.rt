@@ -1,5 +1,5 @@
 //! What a run has before its workers start: mailboxes, agents and books.
-ghost use Rattle.std.specs.Prelude.{◌≡◌, ◌≤◌, ℕ, Some, [], length, slice_get, IfOk, IfErr};
+ghost use Rattle.std.specs.Prelude.{◌≡◌, ◌≤◌, ◌++◌, ◌∷◌, ℕ, Some, [], length, slice_get, IfOk, IfErr, OnOk};
 ghost use Rattle.match_model.specs.Instance.{IsResident, IsProgramme};
 ghost use Rattle.match_pool.specs.Done.{Each};
 ghost use Rattle.match_pool.specs.declared.fault.RunFault.TheVariants.{Memory};
@@ -21,7 +21,35 @@ use std::sync::ledger::Blank;
 use std::sync::{Mutex, Wait};
 
 /// By receiver, the sending ends of the mailboxes of one kind, and the locks of the desks.
-type Mailboxes<P, S> = (Vec<P>, Vec<Mutex<S>>);
+#[derive(Drop)]
+struct Mailboxes<P: Drop, S: Drop> {
+    puts: Vec<P>,
+    seats: Vec<Mutex<S>>,
+}
+
+impl<P: Drop, S: Drop> Mailboxes<P, S> {
+    // Room for so many mailboxes.
+    fn with_room(alloc: Global, count: usize) -> Result<Mailboxes<P, S>, RunFault>
+        ensures none { IfOk result (λ boxes. boxes.puts.items ≡ []) }
+        ensures fault { IfErr result (λ fault. fault ≡ Memory) }
+    {
+        Ok(Mailboxes {
+            puts: Vec::with_capacity(alloc, count)?,
+            seats: Vec::with_capacity(alloc, count)?,
+        })
+    }
+
+    // Adds one.
+    fn add(&mut self, desk: Desk<P, S>) -> Result<(), RunFault>
+        ensures added { OnOk result (self.new.puts.items ≡ self.old.puts.items ++ desk.0 ∷ []) }
+        ensures fault { IfErr result (λ fault. fault ≡ Memory) }
+    {
+        let (put, seat) = desk;
+        self.puts.push(put)?;
+        self.seats.push(seat)?;
+        Ok(())
+    }
+}
 
 /// The sending end of one mailbox, and the lock of its receiver's desk.
 type Desk<P, S> = (P, Mutex<S>);
@@ -51,10 +79,10 @@ pub(crate) fn open_floor<'a, J: Naming, R: Wait + Copy, G: Gate>(
     ensures { IfErr result (λ fault. fault ≡ Memory) }
 {
     let hands = Hands::open(alloc, inst.residents(), inst.programmes())?;
-    let (offer_puts, residents) = offer_mailboxes::<J, R>(rt, alloc, inst, cap)?;
-    let (answer_puts, programmes) = answer_mailboxes::<J, R>(rt, alloc, inst, cap)?;
-    let (books, tally) = open_books(alloc, blank, inst, cap, offer_puts, answer_puts)?;
-    Ok((Floor::new(residents, programmes, books, hands), tally))
+    let offers = offer_mailboxes::<J, R>(rt, alloc, inst, cap)?;
+    let answers = answer_mailboxes::<J, R>(rt, alloc, inst, cap)?;
+    let (books, tally) = open_books(alloc, blank, inst, cap, offers.puts, answers.puts)?;
+    Ok((Floor::new(offers.seats, answers.seats, books, hands), tally))
 }
 
 // A mailbox for each resident: its sending end, and a lock with the resident's agent over its receiving end.
@@ -65,18 +93,15 @@ fn offer_mailboxes<J: Naming, R: Wait + Copy>(
     cap: Capacity,
 ) -> Result<Mailboxes<RuledPut<OfferNote, R>, ResidentSeat<J, RuledTake<OfferNote, R>>>, RunFault>
     requires { inst.now ≡ J.inst }
-    ensures puts { IfOk result (λ both. Each both.0.items (length inst.now.resident_lists) (λ _ end. end.puts ≡ [])) }
+    ensures puts { IfOk result (λ boxes. Each boxes.puts.items (length inst.now.resident_lists) (λ _ end. end.puts ≡ [])) }
     ensures fault { IfErr result (λ fault. fault ≡ Memory) }
 {
     let count = inst.residents();
-    let mut puts = Vec::with_capacity(alloc, count as usize)?;
-    let mut seats = Vec::with_capacity(alloc, count as usize)?;
+    let mut boxes = Mailboxes::with_room(alloc, count as usize)?;
     for r in 0..count {
-        let (put, seat) = resident_desk(rt, alloc, inst, cap, ResidentNo(r))?;
-        puts.push(put)?;
-        seats.push(seat)?;
+        boxes.add(resident_desk(rt, alloc, inst, cap, ResidentNo(r))?)?;
     }
-    Ok((puts, seats))
+    Ok(boxes)
 }
 
 // A mailbox for each programme: its sending end, and a lock with the programme's agent over its receiving end.
@@ -90,18 +115,15 @@ fn answer_mailboxes<J: Naming, R: Wait + Copy>(
     RunFault,
 >
     requires { inst.now ≡ J.inst }
-    ensures puts { IfOk result (λ both. Each both.0.items (length inst.now.quotas) (λ _ end. end.puts ≡ [])) }
+    ensures puts { IfOk result (λ boxes. Each boxes.puts.items (length inst.now.quotas) (λ _ end. end.puts ≡ [])) }
     ensures fault { IfErr result (λ fault. fault ≡ Memory) }
 {
     let count = inst.programmes();
-    let mut puts = Vec::with_capacity(alloc, count as usize)?;
-    let mut seats = Vec::with_capacity(alloc, count as usize)?;
+    let mut boxes = Mailboxes::with_room(alloc, count as usize)?;
     for p in 0..count {
-        let (put, seat) = programme_desk(rt, alloc, inst, cap, ProgrammeNo(p))?;
-        puts.push(put)?;
-        seats.push(seat)?;
+        boxes.add(programme_desk(rt, alloc, inst, cap, ProgrammeNo(p))?)?;
     }
-    Ok((puts, seats))
+    Ok(boxes)
 }
 
 // The room of a mailbox in which at most this many messages can ever wait: no more than that is ever used.

@@ -3,10 +3,11 @@ ghost use Rattle.std.specs.Prelude.{◌≡◌, ◌↔◌, ◌+◌, List, ℕ, []
 ghost use Rattle.exchange_core.specs.declared.event.Event.{Event};
 ghost use Rattle.exchange_core.specs.Legal.{IsClosed};
 ghost use Rattle.exchange_core.specs.Left.{given};
+ghost use Rattle.exchange_core.specs.Mail.{takes, hears};
+ghost use Rattle.match_pool.specs.Compare.{AreLogs, LogsAreTaken, LogsAreHeard, taken_of, heard_of};
 ghost use Rattle.match_pool.specs.Done.{IsRunOf, IsSettledRun, IsFault, IsReceipt};
 ghost use Rattle.match_pool.specs.declared.fault.RunFault.TheVariants.{Memory, Thread};
 
-use crate::books::Books;
 use crate::compare::Cursors;
 use crate::desks::{ProgrammeSeat, ResidentSeat};
 use crate::done::{Done, Ending, Ends};
@@ -26,20 +27,48 @@ use std::sync::Mutex;
 /// Room for the comparison and for the result, so that nothing more is asked of memory after the joins.
 #[derive(Drop)]
 pub(crate) struct Reserve<T: TakeEnd<OfferNote>, U: TakeEnd<AnswerNote>> {
-    cursors: Cursors,
+    logs: Logs<T, U>,
     assignment: Assignment,
     entered: Vec<u64>,
-    residents: Vec<ResidentAgent<T>>,
-    programmes: Vec<ProgrammeAgent<U>>,
     ghost none_entered: { entered.items ≡ [] },
 }
 
 /// The agents of a run, out of their locks, and the walk that compares them with its journal.
 #[derive(Drop)]
-pub(crate) struct Logs<T: TakeEnd<OfferNote>, U: TakeEnd<AnswerNote>> {
+struct Logs<T: TakeEnd<OfferNote>, U: TakeEnd<AnswerNote>> {
     cursors: Cursors,
     residents: Vec<ResidentAgent<T>>,
     programmes: Vec<ProgrammeAgent<U>>,
+}
+
+impl<T: TakeEnd<OfferNote> + Drop, U: TakeEnd<AnswerNote> + Drop> Logs<T, U> {
+    // Room for the agents of this instance.
+    fn with_room(alloc: Global, inst: &Instance) -> Result<Logs<T, U>, RunFault>
+        ensures { IfErr result (λ fault. fault ≡ Memory) }
+    {
+        Ok(Logs {
+            cursors: Cursors::new(alloc, inst.residents(), inst.programmes())?,
+            residents: Vec::with_capacity(alloc, inst.residents() as usize)?,
+            programmes: Vec::with_capacity(alloc, inst.programmes() as usize)?,
+        })
+    }
+
+    // Takes the agents out of their locks, by desk.
+    fn fill<J: Naming>(
+        &mut self,
+        residents: Vec<Mutex<ResidentSeat<J, T>>>,
+        programmes: Vec<Mutex<ProgrammeSeat<J, U>>>,
+    ) -> Result<(), RunFault>
+        ensures { IfErr result (λ fault. fault ≡ Memory) }
+    {
+        for seat in residents {
+            self.residents.push(seat.into_inner().into_agent())?;
+        }
+        for seat in programmes {
+            self.programmes.push(seat.into_inner().into_agent())?;
+        }
+        Ok(())
+    }
 }
 
 impl<T: TakeEnd<OfferNote> + Drop, U: TakeEnd<AnswerNote> + Drop> Reserve<T, U> {
@@ -52,16 +81,16 @@ impl<T: TakeEnd<OfferNote> + Drop, U: TakeEnd<AnswerNote> + Drop> Reserve<T, U> 
         ensures made { IfOk result (λ reserve. length reserve.assignment ≡ length inst.now.resident_lists) }
         ensures fault { IfErr result (λ fault. fault ≡ Memory) }
     {
-        let Ok(assignment) = Assignment::new(alloc, inst.residents()) else {
-            return Err(RunFault::Memory);
-        };
-        Ok(Reserve {
-            cursors: Cursors::new(alloc, inst.residents(), inst.programmes())?,
-            assignment,
-            entered: Vec::with_capacity(alloc, workers)?,
-            residents: Vec::with_capacity(alloc, inst.residents() as usize)?,
-            programmes: Vec::with_capacity(alloc, inst.programmes() as usize)?,
-        })
+        let logs = Logs::with_room(alloc, inst)?;
+        let entered = Vec::with_capacity(alloc, workers)?;
+        match Assignment::new(alloc, inst.residents()) {
+            Ok(assignment) => Ok(Reserve {
+                logs,
+                assignment,
+                entered,
+            }),
+            Err(_) => Err(RunFault::Memory),
+        }
     }
 
     /// What a run gives whose workers are joined, with these tallies by worker.
@@ -88,41 +117,22 @@ impl<T: TakeEnd<OfferNote> + Drop, U: TakeEnd<AnswerNote> + Drop> Reserve<T, U> 
         ensures fault { IfErr result (IsFault inst.now J.cap) }
     {
         let Reserve {
-            cursors,
+            mut logs,
             assignment,
             entered,
-            residents,
-            programmes,
         } = self;
         let Floor {
-            residents: resident_seats,
-            programmes: programme_seats,
+            residents,
+            programmes,
             books,
             hands,
             news: _,
             ending: _,
         } = floor;
-        let Outcome {
-            ledger,
-            ending,
-            entered,
-        } = outcome_of(
-            inst,
-            books.into_inner(),
-            &hands.into_inner(),
-            tallies,
-            entered,
-            workers,
-        )?;
-        let logs = Logs {
-            cursors,
-            residents: resident_agents(resident_seats, residents)?,
-            programmes: programme_agents(programme_seats, programmes)?,
-        };
-        match result_of(inst, ledger, logs, ending, assignment, entered) {
-            Ok(done) => Ok(done),
-            Err(fault) => Err(fault),
-        }
+        let ledger = books.into_inner().into_ledger();
+        let outcome = outcome_of(inst, ledger, &hands.into_inner(), tallies, entered, workers)?;
+        logs.fill(residents, programmes)?;
+        result_of(inst, outcome, logs, assignment)
     }
 }
 
@@ -137,7 +147,7 @@ struct Outcome<J: Naming, P: PutEnd<OfferNote>, Q: PutEnd<AnswerNote>> {
 // How a run ended whose workers are joined, with these tallies by worker.
 fn outcome_of<J: Naming, P: PutEnd<OfferNote> + Drop, Q: PutEnd<AnswerNote> + Drop, G: Gate>(
     inst: &Instance,
-    books: Books<J, P, Q>,
+    ledger: Ledger<J, P, Q>,
     hands: &Hands<'_, G>,
     tallies: Vec<Tally<J>>,
     entered: Vec<u64>,
@@ -151,59 +161,24 @@ fn outcome_of<J: Naming, P: PutEnd<OfferNote> + Drop, Q: PutEnd<AnswerNote> + Dr
     ensures counts { IfOk result (λ outcome. (length outcome.entered.items ≡ workers) × (sum outcome.entered.items ≡ length outcome.ledger.journal)) }
     ensures fault { IfErr result (IsFault inst.now J.cap) }
 {
-    let Books {
-        mut ledger,
-        waits: _,
-    } = books;
     if let Some(trouble) = hands.trouble() {
         return Err(fault_of(inst, ledger, trouble));
     }
-    let mut entered = entered;
-    count(&mut ledger, tallies, &mut entered, workers)?;
-    let ending = ending_of(inst, &ledger, hands.is_stopped())?;
-    Ok(Outcome {
+    let mut outcome = Outcome {
+        ending: ending_of(inst, &ledger, hands.is_stopped())?,
         ledger,
-        ending,
         entered,
-    })
-}
-
-// The agents out of their locks, by resident.
-fn resident_agents<J: Naming, T: TakeEnd<OfferNote> + Drop>(
-    seats: Vec<Mutex<ResidentSeat<J, T>>>,
-    agents: Vec<ResidentAgent<T>>,
-) -> Result<Vec<ResidentAgent<T>>, RunFault>
-    ensures { IfErr result (λ fault. fault ≡ Memory) }
-{
-    let mut agents = agents;
-    for seat in seats {
-        agents.push(seat.into_inner().into_agent())?;
-    }
-    Ok(agents)
-}
-
-// The agents out of their locks, by programme.
-fn programme_agents<J: Naming, U: TakeEnd<AnswerNote> + Drop>(
-    seats: Vec<Mutex<ProgrammeSeat<J, U>>>,
-    agents: Vec<ProgrammeAgent<U>>,
-) -> Result<Vec<ProgrammeAgent<U>>, RunFault>
-    ensures { IfErr result (λ fault. fault ≡ Memory) }
-{
-    let mut agents = agents;
-    for seat in seats {
-        agents.push(seat.into_inner().into_agent())?;
-    }
-    Ok(agents)
+    };
+    count(&mut outcome.ledger, tallies, &mut outcome.entered, workers)?;
+    Ok(outcome)
 }
 
 // The result, where every log is the journal's.
 fn result_of<J, P, Q, T, U>(
     inst: &Instance,
-    ledger: Ledger<J, P, Q>,
+    outcome: Outcome<J, P, Q>,
     logs: Logs<T, U>,
-    ending: Ending,
     assignment: Assignment,
-    entered: Vec<u64>,
 ) -> Result<Done<P, T, Q, U>, RunFault>
 where
     J: Naming,
@@ -213,29 +188,62 @@ where
     U: TakeEnd<AnswerNote> + Drop,
     requires instance { inst.now ≡ J.inst }
     requires room { length assignment ≡ length inst.now.resident_lists }
-    requires ending { (ending ≡ Ending.Closed) ↔ IsClosed ledger.journal }
+    requires ending { (outcome.ending ≡ Ending.Closed) ↔ IsClosed outcome.ledger.journal }
     ensures run { IfOk result (λ done. IsRunOf P T Q U P.puts T.taken Q.puts U.taken inst.now J.cap done.ending done.journal.items done.ends.offer_puts.items done.ends.residents.items done.ends.answer_puts.items done.ends.programmes.items) }
     ensures given { IfOk result (λ done. done.assignment ≡ given inst.now done.journal.items) }
-    ensures same { IfOk result (λ done. (done.journal.items ≡ ledger.journal) × (done.ending ≡ ending) × (done.entered ≡ entered)) }
+    ensures same { IfOk result (λ done. (done.journal.items ≡ outcome.ledger.journal) × (done.ending ≡ outcome.ending) × (done.entered ≡ outcome.entered)) }
     ensures settled { IfOk result (λ done. done.ending ≡ Ending.Closed → IsSettledRun inst.now done.journal.items done.assignment) }
     ensures fault { IfErr result (IsFault inst.now J.cap) }
 {
-    law_orderly();
-    law_settled();
-    let _members = inst.residents();
     let Logs {
         cursors,
         residents,
         programmes,
     } = logs;
-    let mut assignment = assignment;
-    match cursors.compare(inst, ledger.journal(), &residents, &programmes) {
-        Ok(()) => {}
-        Err(desk) => return Err(RunFault::Torn(desk)),
+    match cursors.compare(inst, outcome.ledger.journal(), &residents, &programmes) {
+        Ok(()) => Ok(done_of(inst, outcome, assignment, residents, programmes)),
+        Err(desk) => Err(RunFault::Torn(desk)),
     }
+}
+
+// What a run gives whose logs are the journal's.
+fn done_of<J, P, Q, T, U>(
+    inst: &Instance,
+    outcome: Outcome<J, P, Q>,
+    assignment: Assignment,
+    residents: Vec<ResidentAgent<T>>,
+    programmes: Vec<ProgrammeAgent<U>>,
+) -> Done<P, T, Q, U>
+where
+    J: Naming,
+    P: PutEnd<OfferNote> + Drop,
+    Q: PutEnd<AnswerNote> + Drop,
+    T: TakeEnd<OfferNote> + Drop,
+    U: TakeEnd<AnswerNote> + Drop,
+    requires instance { inst.now ≡ J.inst }
+    requires room { length assignment ≡ length inst.now.resident_lists }
+    requires ending { (outcome.ending ≡ Ending.Closed) ↔ IsClosed outcome.ledger.journal }
+    requires takes { AreLogs taken_of residents.items (length inst.now.resident_lists) (λ r. takes r outcome.ledger.journal) }
+    requires taken { LogsAreTaken T.taken residents.items }
+    requires hears { AreLogs heard_of programmes.items (length inst.now.quotas) (λ p. hears p outcome.ledger.journal) }
+    requires heard { LogsAreHeard U.taken programmes.items }
+    ensures run { IsRunOf P T Q U P.puts T.taken Q.puts U.taken inst.now J.cap result.ending result.journal.items result.ends.offer_puts.items result.ends.residents.items result.ends.answer_puts.items result.ends.programmes.items }
+    ensures given { result.assignment ≡ given inst.now result.journal.items }
+    ensures same { (result.journal.items ≡ outcome.ledger.journal) × (result.ending ≡ outcome.ending) × (result.entered ≡ outcome.entered) }
+    ensures settled { result.ending ≡ Ending.Closed → IsSettledRun inst.now result.journal.items result.assignment }
+{
+    law_orderly();
+    law_settled();
+    let _members = inst.residents();
+    let Outcome {
+        ledger,
+        ending,
+        entered,
+    } = outcome;
+    let mut assignment = assignment;
     ledger.core().assignment(&mut assignment);
     let (journal, _, offer_puts, answer_puts) = ledger.into_parts();
-    Ok(Done {
+    Done {
         ending,
         journal,
         assignment,
@@ -246,7 +254,7 @@ where
             answer_puts,
             programmes,
         },
-    })
+    }
 }
 
 // The count of each worker, once all their tallies are joined to one that has every part.

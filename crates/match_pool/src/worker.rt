@@ -7,6 +7,7 @@ use crate::desks::{ProgrammeSeat, ResidentSeat};
 use crate::fault::Trouble;
 use crate::floor::Floor;
 use crate::gate::{Gate, Go};
+use crate::hands::Next;
 use crate::woken::Woken;
 use exchange_core::{AnswerKind, AnswerNote, Desk, Event, OfferNote};
 use mailbox_rule::{PutEnd, TakeEnd};
@@ -17,10 +18,20 @@ use std::sync::Wait;
 
 /// One worker of a run.
 #[derive(Drop)]
-pub(crate) struct Worker<'a, J: Naming, G: Gate, R: Wait> {
+pub(crate) struct Worker<'a, 'f, J, P, Q, T, U, G, R>
+where
+    J: Naming,
+    P: PutEnd<OfferNote>,
+    Q: PutEnd<AnswerNote>,
+    T: TakeEnd<OfferNote>,
+    U: TakeEnd<AnswerNote>,
+    G: Gate,
+    R: Wait,
+{
     rt: &'a R,
     inst: &'a Instance,
     gate: &'a G,
+    floor: &'a Floor<'f, J, P, Q, T, U, G>,
     number: usize,
     tally: Tally<J>,
     woken: Woken,
@@ -49,21 +60,32 @@ enum Miss {
 
 const LEAVE: Step = Step::Leave { again: false };
 
-impl<'a, J: Naming, G: Gate, R: Wait> Worker<'a, J, G, R> {
+impl<'a, 'f, J, P, Q, T, U, G, R> Worker<'a, 'f, J, P, Q, T, U, G, R>
+where
+    J: Naming,
+    P: PutEnd<OfferNote>,
+    Q: PutEnd<AnswerNote>,
+    T: TakeEnd<OfferNote>,
+    U: TakeEnd<AnswerNote>,
+    G: Gate,
+    R: Wait,
+{
     /// A worker with this number and tally, which has noted nothing.
     pub(crate) fn new(
         rt: &'a R,
         inst: &'a Instance,
         gate: &'a G,
+        floor: &'a Floor<'f, J, P, Q, T, U, G>,
         number: usize,
         tally: Tally<J>,
-    ) -> Worker<'a, J, G, R>
+    ) -> Worker<'a, 'f, J, P, Q, T, U, G, R>
         requires { inst.now ≡ J.inst }
     {
         Worker {
             rt,
             inst,
             gate,
+            floor,
             number,
             tally,
             woken: Woken::new(),
@@ -71,71 +93,52 @@ impl<'a, J: Naming, G: Gate, R: Wait> Worker<'a, J, G, R> {
     }
 
     /// Drives desks until the run ends, and gives the tally back.
-    pub(crate) fn work<P, Q, T, U>(mut self, floor: &Floor<'_, J, P, Q, T, U, G>) -> Tally<J>
-    where
-        P: PutEnd<OfferNote>,
-        Q: PutEnd<AnswerNote>,
-        T: TakeEnd<OfferNote>,
-        U: TakeEnd<AnswerNote>,
-    {
-        let mut in_hand = self.next(floor);
+    pub(crate) fn work(mut self) -> Tally<J> {
+        let first = self.floor.lock_hands(self.rt).next();
+        let mut in_hand = self.or_search(first);
         for _ in self.rt.forever() {
             let Some(desk) = in_hand else {
                 break;
             };
-            let again = self.visit(floor, desk);
-            in_hand = self.turn(floor, desk, again);
+            let again = self.visit(desk);
+            in_hand = self.turn(desk, again);
         }
         let Worker { tally, .. } = self;
         tally
     }
 
     // Stays at a desk while it has work. Answers whether to come back to it at once.
-    fn visit<P, Q, T, U>(&mut self, floor: &Floor<'_, J, P, Q, T, U, G>, desk: u32) -> bool
-    where
-        P: PutEnd<OfferNote>,
-        Q: PutEnd<AnswerNote>,
-        T: TakeEnd<OfferNote>,
-        U: TakeEnd<AnswerNote>,
-    {
+    fn visit(&mut self, desk: u32) -> bool {
         let residents = self.inst.residents();
         if desk < residents {
-            let Some(seat) = floor.residents.get(desk as usize) else {
+            let Some(seat) = self.floor.residents.get(desk as usize) else {
                 return false;
             };
             let mut seat = seat.lock(self.rt);
-            self.visit_resident(floor, &mut seat, ResidentNo(desk))
+            self.visit_resident(&mut seat, ResidentNo(desk))
         } else {
             let programme = desk - residents;
-            let Some(seat) = floor.programmes.get(programme as usize) else {
+            let Some(seat) = self.floor.programmes.get(programme as usize) else {
                 return false;
             };
             let mut seat = seat.lock(self.rt);
-            self.visit_programme(floor, &mut seat, ProgrammeNo(programme))
+            self.visit_programme(&mut seat, ProgrammeNo(programme))
         }
     }
 
     // Gives every answer that is due and takes the next offer, while there is one.
-    fn visit_resident<P, Q, T, U>(
-        &mut self,
-        floor: &Floor<'_, J, P, Q, T, U, G>,
-        seat: &mut ResidentSeat<J, T>,
-        resident: ResidentNo,
-    ) -> bool
-    where
-        P: PutEnd<OfferNote>,
-        Q: PutEnd<AnswerNote>,
-        T: TakeEnd<OfferNote>,
-        U: TakeEnd<AnswerNote>,
-    {
-        let mut more = floor.lock_books(self.rt).offers_wait(self.inst, resident);
+    fn visit_resident(&mut self, seat: &mut ResidentSeat<J, T>, resident: ResidentNo) -> bool {
+        let mut more = self
+            .floor
+            .lock_books(self.rt)
+            .offers_wait(self.inst, resident);
         for _ in self.rt.forever() {
-            if floor.is_ending() {
+            if self.floor.is_ending() {
                 return false;
             }
             let step = match seat.due() {
-                Some((programme, kind)) => self.answer(floor, seat, resident, programme, kind),
-                None if more => self.take(floor, seat, resident),
+                Some((programme, kind)) => self.answer(seat, resident, programme, kind),
+                None if more => self.take(seat, resident),
                 None => return false,
             };
             match step {
@@ -147,28 +150,20 @@ impl<'a, J: Naming, G: Gate, R: Wait> Worker<'a, J, G, R> {
     }
 
     // Hears every answer that waits, and offers while there is a wish.
-    fn visit_programme<P, Q, T, U>(
-        &mut self,
-        floor: &Floor<'_, J, P, Q, T, U, G>,
-        seat: &mut ProgrammeSeat<J, U>,
-        programme: ProgrammeNo,
-    ) -> bool
-    where
-        P: PutEnd<OfferNote>,
-        Q: PutEnd<AnswerNote>,
-        T: TakeEnd<OfferNote>,
-        U: TakeEnd<AnswerNote>,
-    {
-        let mut more = floor.lock_books(self.rt).answers_wait(self.inst, programme);
+    fn visit_programme(&mut self, seat: &mut ProgrammeSeat<J, U>, programme: ProgrammeNo) -> bool {
+        let mut more = self
+            .floor
+            .lock_books(self.rt)
+            .answers_wait(self.inst, programme);
         for _ in self.rt.forever() {
-            if floor.is_ending() {
+            if self.floor.is_ending() {
                 return false;
             }
             let step = if more {
-                self.hear(floor, seat, programme)
+                self.hear(seat, programme)
             } else {
                 match seat.wish(self.inst) {
-                    Some(resident) => self.offer(floor, seat, programme, resident),
+                    Some(resident) => self.offer(seat, programme, resident),
                     None => return false,
                 }
             };
@@ -181,91 +176,60 @@ impl<'a, J: Naming, G: Gate, R: Wait> Worker<'a, J, G, R> {
     }
 
     // Gives the first answer that is due.
-    fn answer<P, Q, T, U>(
+    fn answer(
         &mut self,
-        floor: &Floor<'_, J, P, Q, T, U, G>,
         seat: &mut ResidentSeat<J, T>,
         resident: ResidentNo,
         programme: ProgrammeNo,
         kind: AnswerKind,
     ) -> Step
-    where
-        P: PutEnd<OfferNote>,
-        Q: PutEnd<AnswerNote>,
-        T: TakeEnd<OfferNote>,
-        U: TakeEnd<AnswerNote>,
         requires { slice_get seat.old.due 0 ≢ None }
     {
-        let entry = floor
+        let entry = self
+            .floor
             .lock_books(self.rt)
             .answer(self.inst, &mut self.tally, resident, programme, kind);
         if let Entry::Made { .. } = entry {
             seat.answered();
         }
-        self.after_put(
-            floor,
-            entry,
-            Desk::Resident(resident),
-            Desk::Programme(programme),
-        )
+        self.after_put(entry, Desk::Resident(resident), Desk::Programme(programme))
     }
 
     // Offers to the next resident.
-    fn offer<P, Q, T, U>(
+    fn offer(
         &mut self,
-        floor: &Floor<'_, J, P, Q, T, U, G>,
         seat: &mut ProgrammeSeat<J, U>,
         programme: ProgrammeNo,
         resident: ResidentNo,
     ) -> Step
-    where
-        P: PutEnd<OfferNote>,
-        Q: PutEnd<AnswerNote>,
-        T: TakeEnd<OfferNote>,
-        U: TakeEnd<AnswerNote>,
         requires { wish_of J.inst seat.old ≢ None }
     {
-        let entry = floor
+        let entry = self
+            .floor
             .lock_books(self.rt)
             .offer(self.inst, &mut self.tally, programme, resident);
         if let Entry::Made { .. } = entry {
             seat.offered(self.inst);
         }
-        self.after_put(
-            floor,
-            entry,
-            Desk::Programme(programme),
-            Desk::Resident(resident),
-        )
+        self.after_put(entry, Desk::Programme(programme), Desk::Resident(resident))
     }
 
     // Takes an offer out of the mailbox, enters the take, and decides.
-    fn take<P, Q, T, U>(
-        &mut self,
-        floor: &Floor<'_, J, P, Q, T, U, G>,
-        seat: &mut ResidentSeat<J, T>,
-        resident: ResidentNo,
-    ) -> Step
-    where
-        P: PutEnd<OfferNote>,
-        Q: PutEnd<AnswerNote>,
-        T: TakeEnd<OfferNote>,
-        U: TakeEnd<AnswerNote>,
-    {
+    fn take(&mut self, seat: &mut ResidentSeat<J, T>, resident: ResidentNo) -> Step {
         let desk = Desk::Resident(resident);
         let again = desk;
-        self.list_woken(floor);
+        self.list_woken();
         let programme = match seat.take() {
             Heard::Got(note) => note.programme,
-            heard => return self.after_miss(floor, miss_of(&heard), desk),
+            heard => return self.after_miss(miss_of(&heard), desk),
         };
-        self.pass(floor, again);
-        let entry = floor
+        self.pass(again);
+        let entry = self
+            .floor
             .lock_books(self.rt)
             .take(self.inst, &mut self.tally, resident, programme);
         seat.decide(self.inst);
         self.after_receipt(
-            floor,
             entry,
             Event::Take {
                 resident,
@@ -275,32 +239,21 @@ impl<'a, J: Naming, G: Gate, R: Wait> Worker<'a, J, G, R> {
     }
 
     // Takes an answer out of the mailbox, and enters the hear.
-    fn hear<P, Q, T, U>(
-        &mut self,
-        floor: &Floor<'_, J, P, Q, T, U, G>,
-        seat: &mut ProgrammeSeat<J, U>,
-        programme: ProgrammeNo,
-    ) -> Step
-    where
-        P: PutEnd<OfferNote>,
-        Q: PutEnd<AnswerNote>,
-        T: TakeEnd<OfferNote>,
-        U: TakeEnd<AnswerNote>,
-    {
+    fn hear(&mut self, seat: &mut ProgrammeSeat<J, U>, programme: ProgrammeNo) -> Step {
         let desk = Desk::Programme(programme);
         let again = desk;
-        self.list_woken(floor);
+        self.list_woken();
         let note = match seat.hear() {
             Heard::Got(note) => note,
-            heard => return self.after_miss(floor, miss_of(&heard), desk),
+            heard => return self.after_miss(miss_of(&heard), desk),
         };
-        self.pass(floor, again);
+        self.pass(again);
         let AnswerNote { resident, kind } = note;
-        let entry = floor
+        let entry = self
+            .floor
             .lock_books(self.rt)
             .hear(self.inst, &mut self.tally, programme, resident, kind);
         self.after_receipt(
-            floor,
             entry,
             Event::Hear {
                 programme,
@@ -311,63 +264,34 @@ impl<'a, J: Naming, G: Gate, R: Wait> Worker<'a, J, G, R> {
     }
 
     // Lets the gate see a receipt, and ends the run on its word.
-    fn pass<P, Q, T, U>(&mut self, floor: &Floor<'_, J, P, Q, T, U, G>, desk: Desk)
-    where
-        P: PutEnd<OfferNote>,
-        Q: PutEnd<AnswerNote>,
-        T: TakeEnd<OfferNote>,
-        U: TakeEnd<AnswerNote>,
-    {
+    fn pass(&mut self, desk: Desk) {
         if let Go::Stop = self.gate.pass(self.number, desk) {
-            floor.stop(self.rt);
+            self.floor.stop(self.rt);
         }
     }
 
     // What a put leaves at the desk of its sender.
-    fn after_put<P, Q, T, U>(
-        &mut self,
-        floor: &Floor<'_, J, P, Q, T, U, G>,
-        entry: Entry,
-        sender: Desk,
-        receiver: Desk,
-    ) -> Step
-    where
-        P: PutEnd<OfferNote>,
-        Q: PutEnd<AnswerNote>,
-        T: TakeEnd<OfferNote>,
-        U: TakeEnd<AnswerNote>,
-    {
+    fn after_put(&mut self, entry: Entry, sender: Desk, receiver: Desk) -> Step {
         match entry {
-            Entry::Made { more, woken } => self.made(floor, more, woken),
+            Entry::Made { more, woken } => self.made(more, woken),
             Entry::Later | Entry::Ended => LEAVE,
             Entry::Refused => {
-                floor.fail(self.rt, Trouble::Torn(sender));
+                self.floor.fail(self.rt, Trouble::Torn(sender));
                 LEAVE
             }
             Entry::Gone => {
-                floor.fail(self.rt, Trouble::MailGone(receiver));
+                self.floor.fail(self.rt, Trouble::MailGone(receiver));
                 LEAVE
             }
         }
     }
 
     // What a receipt leaves at its desk.
-    fn after_receipt<P, Q, T, U>(
-        &mut self,
-        floor: &Floor<'_, J, P, Q, T, U, G>,
-        entry: Entry,
-        receipt: Event,
-    ) -> Step
-    where
-        P: PutEnd<OfferNote>,
-        Q: PutEnd<AnswerNote>,
-        T: TakeEnd<OfferNote>,
-        U: TakeEnd<AnswerNote>,
-    {
+    fn after_receipt(&mut self, entry: Entry, receipt: Event) -> Step {
         match entry {
-            Entry::Made { more, woken } => self.made(floor, more, woken),
+            Entry::Made { more, woken } => self.made(more, woken),
             Entry::Refused => {
-                floor.fail(self.rt, Trouble::OutOfStep(receipt));
+                self.floor.fail(self.rt, Trouble::OutOfStep(receipt));
                 LEAVE
             }
             Entry::Later | Entry::Ended | Entry::Gone => LEAVE,
@@ -375,168 +299,115 @@ impl<'a, J: Naming, G: Gate, R: Wait> Worker<'a, J, G, R> {
     }
 
     // What a look into the mailbox leaves that gave no message.
-    fn after_miss<P, Q, T, U>(
-        &mut self,
-        floor: &Floor<'_, J, P, Q, T, U, G>,
-        miss: Miss,
-        desk: Desk,
-    ) -> Step
-    where
-        P: PutEnd<OfferNote>,
-        Q: PutEnd<AnswerNote>,
-        T: TakeEnd<OfferNote>,
-        U: TakeEnd<AnswerNote>,
-    {
+    fn after_miss(&mut self, miss: Miss, desk: Desk) -> Step {
         match miss {
             Miss::Empty => Step::Leave { again: true },
             Miss::Gone => {
-                floor.fail(self.rt, Trouble::MailGone(desk));
+                self.floor.fail(self.rt, Trouble::MailGone(desk));
                 LEAVE
             }
             Miss::LogFull => {
-                floor.fail(self.rt, Trouble::Torn(desk));
+                self.floor.fail(self.rt, Trouble::Torn(desk));
                 LEAVE
             }
         }
     }
 
     // An event was entered: the gate is told, and the desk that it woke is noted.
-    fn made<P, Q, T, U>(
-        &mut self,
-        floor: &Floor<'_, J, P, Q, T, U, G>,
-        more: bool,
-        woken: Option<u32>,
-    ) -> Step
-    where
-        P: PutEnd<OfferNote>,
-        Q: PutEnd<AnswerNote>,
-        T: TakeEnd<OfferNote>,
-        U: TakeEnd<AnswerNote>,
-    {
+    fn made(&mut self, more: bool, woken: Option<u32>) -> Step {
         self.gate.entered(self.number);
         if let Some(desk) = woken {
             self.woken.push(desk);
             if self.woken.is_nearly_full() {
-                self.list_woken(floor);
+                self.list_woken();
             }
         }
         Step::Made { more }
     }
 
     // Lists the desks that were woken, and wakes a worker that waits for one.
-    fn list_woken<P, Q, T, U>(&mut self, floor: &Floor<'_, J, P, Q, T, U, G>)
-    where
-        P: PutEnd<OfferNote>,
-        Q: PutEnd<AnswerNote>,
-        T: TakeEnd<OfferNote>,
-        U: TakeEnd<AnswerNote>,
-    {
+    fn list_woken(&mut self) {
         if self.woken.is_empty() {
             return;
         }
         let wakes = {
-            let mut hands = floor.lock_hands(self.rt);
+            let mut hands = self.floor.lock_hands(self.rt);
             hands.list_all(self.woken.desks());
             hands.wakes_one()
         };
         self.woken.clear();
         if wakes {
-            floor.news.notify_one();
+            self.floor.news.notify_one();
         }
     }
 
     // Lets a desk go, lists what was woken, and takes the next desk.
-    fn turn<P, Q, T, U>(
-        &mut self,
-        floor: &Floor<'_, J, P, Q, T, U, G>,
-        desk: u32,
-        again: bool,
-    ) -> Option<u32>
-    where
-        P: PutEnd<OfferNote>,
-        Q: PutEnd<AnswerNote>,
-        T: TakeEnd<OfferNote>,
-        U: TakeEnd<AnswerNote>,
-    {
-        let (next, wakes, ended) = {
-            let mut hands = floor.lock_hands(self.rt);
+    fn turn(&mut self, desk: u32, again: bool) -> Option<u32> {
+        let (next, wakes) = {
+            let mut hands = self.floor.lock_hands(self.rt);
             hands.list_all(self.woken.desks());
             hands.let_go(desk, again);
-            (hands.take(), hands.wakes_one(), hands.ended)
+            (hands.next(), hands.wakes_one())
         };
         self.woken.clear();
         if wakes {
-            floor.news.notify_one();
+            self.floor.news.notify_one();
         }
-        if ended {
-            return None;
-        }
-        match next {
-            Some(desk) => Some(desk),
-            None => self.search(floor),
-        }
+        self.or_search(next)
     }
 
-    // The first desk.
-    fn next<P, Q, T, U>(&mut self, floor: &Floor<'_, J, P, Q, T, U, G>) -> Option<u32>
-    where
-        P: PutEnd<OfferNote>,
-        Q: PutEnd<AnswerNote>,
-        T: TakeEnd<OfferNote>,
-        U: TakeEnd<AnswerNote>,
-    {
-        let next = floor.lock_hands(self.rt).take();
-        match next {
-            Some(desk) => Some(desk),
-            None => self.search(floor),
+    // The desk that was found, or where none was listed what a search gives. None once the run ends.
+    fn or_search(&mut self, found: Next) -> Option<u32> {
+        match found {
+            Next::Desk(desk) => Some(desk),
+            Next::Nothing => self.search(),
+            Next::Ended => None,
         }
     }
 
     // Where no desk is listed: asks the core once, closes at rest, or waits for news. None once the run ends.
-    fn search<P, Q, T, U>(&mut self, floor: &Floor<'_, J, P, Q, T, U, G>) -> Option<u32>
-    where
-        P: PutEnd<OfferNote>,
-        Q: PutEnd<AnswerNote>,
-        T: TakeEnd<OfferNote>,
-        U: TakeEnd<AnswerNote>,
-    {
+    fn search(&mut self) -> Option<u32> {
         for _ in self.rt.forever() {
-            let found = floor
+            let found = self
+                .floor
                 .lock_books(self.rt)
                 .close_or_find(self.inst, &mut self.tally);
-            match found {
+            let next = match found {
+                Found::Desk(desk) => self.claim_or_wait(desk),
                 Found::Closed => {
                     self.gate.entered(self.number);
-                    floor.end(self.rt);
-                    return None;
+                    Next::Ended
                 }
-                Found::Ended => {
-                    floor.end(self.rt);
+                Found::Ended => Next::Ended,
+            };
+            match next {
+                Next::Desk(desk) => return Some(desk),
+                Next::Nothing => {}
+                Next::Ended => {
+                    self.floor.end(self.rt);
                     return None;
-                }
-                Found::Desk(desk) => {
-                    let mut hands = floor.lock_hands(self.rt);
-                    if hands.ended {
-                        return None;
-                    }
-                    if hands.claim(desk) {
-                        return Some(desk);
-                    }
-                    hands.wait_begins();
-                    let mut hands = floor
-                        .news
-                        .wait_while(self.rt, hands, |hands| !hands.has_news());
-                    hands.wait_ends();
-                    if hands.ended {
-                        return None;
-                    }
-                    if let Some(next) = hands.take() {
-                        return Some(next);
-                    }
                 }
             }
         }
         unreachable!()
+    }
+
+    // Takes this desk into a hand; where another worker has it, waits until a desk is listed or the run ends.
+    fn claim_or_wait(&self, desk: u32) -> Next {
+        let mut hands = self.floor.lock_hands(self.rt);
+        if hands.ended {
+            return Next::Ended;
+        }
+        if hands.claim(desk) {
+            return Next::Desk(desk);
+        }
+        hands.wait_begins();
+        let mut hands = self
+            .floor
+            .news
+            .wait_while(self.rt, hands, |hands| !hands.has_news());
+        hands.wait_ends();
+        hands.next()
     }
 }
 

@@ -6,8 +6,8 @@ use Rattle.std.proofs.lemmas.List.Elements.{All-contains_itself, All-weaker}
 use Rattle.std.proofs.lemmas.Bool.{cases_lt}
 use Rattle.match_model.specs.Ranking.{place}
 use Rattle.match_model.specs.Instance.{Instance, IsInstance, IsProgramme, IsResident, Acceptable}
-use Rattle.match_model.specs.Placement.{IsMemberOf}
 use Rattle.settle_law.specs.Stable.{Blocks}
+use Rattle.settle_law.proofs.Placements.{member_within}
 use Rattle.docket.specs.Contents.{Contents}
 use Rattle.docket.specs.Whole.{IsWhole}
 use Rattle.match_audit.specs.Listing.{Lists}
@@ -29,13 +29,6 @@ resident_of_acceptable inst r p instance listed = elim (cases_lt r (length inst.
       absurd (omega arith)
 ]
 
--- whoever has a place in a placement is one of its residents
-placed_within : (m : List (Option ℕ)) (r p : ℕ) → IsMemberOf m r p → r < length m
-placed_within m r p h = elim (cases_lt r (length m)) [
-  | inl below ↦ below
-  | inr past ↦ let none = get_or_past m r None past in absurd (cc)
-]
-
 -- what holds of each pair of which R holds, holds of all that are listed
 all_listed : (R : ℕ → ℕ → Type 0) (P : ℕ × ℕ → Type 0) (pairs : List (ℕ × ℕ)) → Lists R pairs → ((a b : ℕ) → R a b → P (a, b)) → All P pairs
 all_listed R P pairs lists h =
@@ -45,7 +38,7 @@ pub report_of_docket : (d : Contents) (m : List (Option ℕ)) (report : AuditRep
     Reports d.instance m report → IsReportOf d report
 report_of_docket d m report whole is_sheet instance reports = record {
   unacceptable = all_listed (IsUnacceptable d.instance m) (IsPairOf d) report.unacceptable.items reports.unacceptable
-      (λ r p h. (omega (arith, placed_within m r p h.0, reports.one_place_each), omega (arith, (whole.sheet m is_sheet).members r p h.0, whole.programmes)));
+      (λ r p h. (omega (arith, member_within m r p h.0, reports.one_place_each), omega (arith, (whole.sheet m is_sheet).members r p h.0, whole.programmes)));
   over = all_listed (IsOver d.instance m) (λ over. IsProgramme d.instance over.0) report.over.items reports.over (λ p n h. h.0);
   blocking = all_listed (Blocks d.instance m) (IsPairOf d) report.blocking.items reports.blocking
       (λ r p h. (resident_of_acceptable d.instance r p instance h.acceptable, programme_of_acceptable d.instance r p instance h.acceptable));

@@ -1,7 +1,8 @@
 //! The calls from bytes to bytes.
-ghost use Rattle.std.specs.Prelude.{◌≡◌, ℕ, List, Some, false, IfOk, IfErr, OnOk};
+ghost use Rattle.std.specs.Prelude.{◌≡◌, ℕ, List, Some, false, length, IfOk, IfErr, OnOk};
 ghost use Rattle.std.specs.List.{All};
 ghost use Rattle.std.specs.Io.KnownBytes.{Appends};
+ghost use Rattle.match_audit.specs.Report.{Reports};
 ghost use Rattle.docket.specs.Whole.{IsSheetOf, NamesMembers};
 ghost use Rattle.residency.specs.Serving.{WritesMatch, match_text, IsWriteFault, WritesReport, WritesReplay, IsMatchFault, IsAuditFault, IsReplayFault, AreDocket, IsFaultOf, IsBeforeWriting, IsAnswerTo};
 
@@ -12,7 +13,7 @@ use crate::report::write_report;
 use crate::status::Status;
 use docket::{Docket, DocketFault, read_docket, write_journal, write_sheet};
 use exchange_core::Event;
-use match_audit::{AuditFault, ReplayFault, audit, check, replay};
+use match_audit::{AuditFault, AuditReport, ReplayFault, audit, check, replay};
 use match_model::Assignment;
 use match_pool::{Ending, Gate, run};
 use settle_law::law_one_settled;
@@ -86,6 +87,19 @@ where
     }
 }
 
+// What an audit of a docket's sheet reports. An error is want of memory.
+fn report_of(alloc: Global, docket: &Docket, sheet: &Assignment) -> Result<AuditReport, ServeFault>
+    requires { length sheet.now ≡ length docket.now.instance.resident_lists }
+    ensures report { IfOk result (Reports docket.now.instance sheet.now) }
+    ensures fault { IfErr result (λ fault. fault ≡ ServeFault.Memory) }
+{
+    match audit(alloc, docket.instance(), sheet) {
+        Ok(report) => Ok(report),
+        Err(AuditFault::Memory) => Err(ServeFault::Memory),
+        Err(AuditFault::WrongSize) => unreachable!("a docket's sheet is by resident"),
+    }
+}
+
 // Writes what keeps a docket's sheet from being stable.
 fn audit_docket<W: Write>(
     alloc: Global,
@@ -99,14 +113,9 @@ fn audit_docket<W: Write>(
     let Some(sheet) = docket.sheet() else {
         return Err(ServeFault::NoSheet);
     };
-    let inst = docket.instance();
     // For the proof alone: the instance is one.
-    let _instance = inst.residents();
-    let report = match audit(alloc, inst, sheet) {
-        Ok(report) => report,
-        Err(AuditFault::Memory) => return Err(ServeFault::Memory),
-        Err(AuditFault::WrongSize) => unreachable!("a docket's sheet is by resident"),
-    };
+    let _instance = docket.instance().residents();
+    let report = report_of(alloc, docket, sheet)?;
     match write_report(alloc, docket, &report, writer) {
         Ok(()) if report.is_stable() => Ok(Status::Stable),
         Ok(()) => Ok(Status::Unstable),

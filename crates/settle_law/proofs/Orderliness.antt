@@ -4,7 +4,7 @@ use Rattle.match_model.specs.Instance.{Instance}
 use Rattle.exchange_core.specs.declared.event.Event.{Event}
 use Rattle.exchange_core.specs.declared.event.Capacity.{Capacity}
 use Rattle.exchange_core.specs.Legal.{IsLegal}
-use Rattle.exchange_core.proofs.Legality as legality
+use Rattle.exchange_core.proofs.Legal as legality
 use Rattle.exchange_core.proofs.InOrder as order
 use Rattle.exchange_core.proofs.Rejections as rejections
 use Rattle.settle_law.specs.Orderly.{IsInOrder}

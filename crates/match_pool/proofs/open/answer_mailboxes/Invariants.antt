@@ -6,4 +6,4 @@ use Rattle.match_pool.proofs.open.answer_mailboxes.Given as goal
 
 -- no sending end so far has put anything
 abbrev pub invariant-loop-p : goal.invariant-loop-p
-invariant-loop-p g l = Each l.puts.items l.p (λ (i : ℕ) (end : PutSide Answered). end.puts ≡ [])
+invariant-loop-p g l = Each l.boxes.puts.items l.p (λ (i : ℕ) (end : PutSide Answered). end.puts ≡ [])

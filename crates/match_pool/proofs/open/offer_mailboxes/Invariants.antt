@@ -6,4 +6,4 @@ use Rattle.match_pool.proofs.open.offer_mailboxes.Given as goal
 
 -- no sending end so far has put anything
 abbrev pub invariant-loop-r : goal.invariant-loop-r
-invariant-loop-r g l = Each l.puts.items l.r (λ (i : ℕ) (end : PutSide ℕ). end.puts ≡ [])
+invariant-loop-r g l = Each l.boxes.puts.items l.r (λ (i : ℕ) (end : PutSide ℕ). end.puts ≡ [])

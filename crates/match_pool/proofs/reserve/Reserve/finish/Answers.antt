@@ -1,5 +1,9 @@
-use Rattle.std.proofs.Common.{◌≡◌, sym, ◌∙◌}
+use Rattle.std.proofs.Common.{◌≡◌, true, sym, ◌∙◌}
+use Rattle.std.proofs.lemmas.Result.{IfOk-weaker}
+use Rattle.match_pool.specs.declared.done.Ending.TheVariants.{Stopped}
 use Rattle.match_pool.proofs.reserve.Reserve.finish.Goals as goal
 
-pub returns-in-Ok-clause-stopped : goal.returns-in-Ok-clause-stopped
-returns-in-Ok-clause-stopped g c = λ is_stopped. c.in_ok-ledger.ensures.stopped (sym c.in-Ok.ensures.same.1 ∙ is_stopped)
+pub returns-clause-stopped : goal.returns-clause-stopped
+returns-clause-stopped g c =
+    IfOk-weaker c.result_of.result _ (λ done. done.ending ≡ Stopped → g.G.Gate.MAY_STOP ≡ true)
+    (λ done same is_stopped. c.in_ok-outcome.ensures.stopped (sym same.1 ∙ is_stopped)) c.result_of.ensures.same
