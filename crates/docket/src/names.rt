@@ -1,6 +1,5 @@
 //! Names, numbered from 0 in the order in which they were first seen.
-ghost use Rattle.std.specs.Prelude.{◌≡◌, ◌≢◌, ◌<◌, ◌≤◌, ◌^◌, ◌+◌, ◌++◌, ◌∷◌, [], Some, not, if◌then◌else◌, length, slice_get, slice_index_or, IfOk, OnOk, OnErr, IfSome, true};
-ghost use Rattle.std.specs.List.{AllPairs};
+ghost use Rattle.std.specs.Prelude.{◌≡◌, ◌<◌, ◌+◌, ◌++◌, ◌∷◌, [], Some, not, if◌then◌else◌, length, slice_get, IfOk, OnOk, OnErr, IfSome, true};
 ghost use Rattle.docket.specs.Words as words;
 ghost use Rattle.docket.specs.Contents.{number_in, is_declared};
 
