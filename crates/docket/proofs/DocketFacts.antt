@@ -1,18 +1,17 @@
 -- The passes together.
-use Rattle.std.proofs.Common.{◌≡◌, ◌≤◌, ℕ, List, [], ◌∷◌, Bool, true, false, length, map, sym, ◌∙◌, refl, Option, Some, None, rules}
-use Rattle.std.specs.Prelude.{◌&&◌, ◌||◌, not, if◌then◌else◌, nat_eq, option_map, IfSome}
+use Rattle.std.proofs.Common.{◌≡◌, ◌⊎◌, inl, inr, ℕ, List, [], ◌∷◌, Bool, true, false, length, map, sym, ◌∙◌, refl, Option, Some, None, Result, Ok, Err, rules}
+use Rattle.std.specs.Prelude.{◌&&◌, ◌||◌, not, if◌then◌else◌, nat_eq, option_map, IfOk, IfErr, IfSome}
 use Rattle.std.specs.List.{list_any}
 use Rattle.std.specs.Option.{option_or}
 use Rattle.docket.specs.Fields.{Fields, field, is_kind}
 use Rattle.docket.specs.Contents.{Contents, contents_of, programmes_of, residents_of, rows_of, events_of, journal_of, JournalParts, has_sheet, declares_member}
 use Rattle.docket.specs.Passes.{first_from, reading_fault, later_fault, first_fault, docket_of, rows_in, sheet_fault, mark_fault, missing_fault, filled_fault, ranking_fault, pairs_fault, event_fault}
-use Rattle.docket.specs.Answers.{Refuses}
+use Rattle.docket.specs.Answers.{Answers, Refuses}
 use Rattle.docket.specs.Texts.{programme_name, resident_name}
 use Rattle.std.proofs.lemmas.Option.{get_or_from_slice_get}
 use Rattle.std.proofs.Common.{slice_get}
-use Rattle.docket.specs.Read.{AreAll, Explains}
+use Rattle.docket.specs.Read.{AreAll, Explains, IsReadFault}
 use Rattle.docket.specs.Ranking.{IsRanked}
-use Rattle.docket.specs.Tables.{AreTables}
 use Rattle.std.specs.Prelude.{find, unwrap_or}
 use Rattle.exchange_core.specs.declared.event.Capacity.{Capacity}
 use Rattle.exchange_core.specs.declared.event.Capacity.TheVariants.{Full}
@@ -20,10 +19,11 @@ use Rattle.exchange_core.specs.declared.event.Event.{Event}
 use Rattle.docket.specs.Words.{capacity_of}
 use Rattle.docket.specs.Declarations.{IsDeclared, capacity_in}
 use Rattle.docket.specs.declared.declarations.Declarations.{Declarations}
-use Rattle.docket.specs.declared.kind.TheConstants.{QUOTA, PROGRAMME_LIST, RESIDENT_LIST, CAPACITY, MAX_RECORDS}
+use Rattle.docket.specs.declared.kind.TheConstants.{QUOTA, PROGRAMME_LIST, RESIDENT_LIST, CAPACITY}
 use Rattle.docket.specs.declared.fault.DocketFault.{DocketFault}
 use Rattle.docket.proofs.DeclarationFacts.{refuses_first, refuses_second, no_fault}
 use Rattle.docket.proofs.RankingFacts.{lists_of-none}
+use Rattle.docket.proofs.SoundFacts.{both_none}
 
 -- a list with an item isn't empty
 not_empty : {A : Type 0} (x : A) (xs : List A) → nat_eq (length (x ∷ xs)) 0 ≡ false
@@ -63,30 +63,28 @@ ranked_start d rows h = record {
   resident_lists = h.resident_lists ∙ sym (lists_of-none RESIDENT_LIST (residents_of rows) (programmes_of rows));
 }
 
-pub tables_start : (d : Declarations) (rows : List Fields) → IsDeclared d rows → first_from reading_fault [] rows ≡ None → length rows ≤ MAX_RECORDS
-    → AreTables rows d.programmes d.residents
-tables_start d rows h sound few = record { programmes_are = h.programmes; residents_are = h.residents; sound = sound; few = few }
+-- the answers of the whole, where the bytes are known: a fault as the records are read
+pub whole_reading : (known : Option (List ℕ)) (e : DocketFault) → IsReadFault e ⊎ Explains (option_map rows_in known) (first_from reading_fault []) e
+    → IsReadFault e ⊎ IfSome known (λ bytes. Refuses (first_fault bytes) e)
+whole_reading known e (inl read) = inl read
+whole_reading None e (inr h) = inr tt
+whole_reading (Some bytes) e (inr h) = inr (refuses_first _ _ e h)
 
--- the answers of the whole, where the bytes are known
-pub whole_docket : (known : Option (List ℕ)) (left : Option (List Fields)) (rows : List Fields) (d : Contents) → left ≡ option_map rows_in known → AreAll left rows
-    → first_from reading_fault [] rows ≡ None → later_fault rows ≡ None → d ≡ contents_of rows
-    → IfSome known (λ bytes. (first_fault bytes ≡ None) × (d ≡ docket_of bytes))
-whole_docket None left rows d e all sound fine is = tt
-whole_docket (Some bytes) left rows d e all sound fine is =
-    let same : rows_in bytes ≡ rows = rw e at all in
-    rw same (no_fault _ _ sound fine, is)
+-- the docket
+pub whole_docket : (known : Option (List ℕ)) (rows : List Fields) (r : Result Contents DocketFault) → AreAll (option_map rows_in known) rows
+    → first_from reading_fault [] rows ≡ None → IfOk r (λ d. d ≡ contents_of rows) → Answers (later_fault rows) r
+    → IfOk r (λ d. IfSome known (λ bytes. (first_fault bytes ≡ None) × (d ≡ docket_of bytes)))
+whole_docket known rows (Err e) all sound is answers = tt
+whole_docket None rows (Ok d) all sound is answers = tt
+whole_docket (Some bytes) rows (Ok d) all sound is answers = rw all (no_fault _ _ sound answers, is)
 
-pub whole_reading : (known : Option (List ℕ)) (left : Option (List Fields)) (e : DocketFault) → left ≡ option_map rows_in known → Explains left (first_from reading_fault []) e
-    → IfSome known (λ bytes. Refuses (first_fault bytes) e)
-whole_reading None left f e h = tt
-whole_reading (Some bytes) left f e h = refuses_first _ _ f (rw e at h)
-
-pub whole_later : (known : Option (List ℕ)) (left : Option (List Fields)) (rows : List Fields) (f : DocketFault) → left ≡ option_map rows_in known → AreAll left rows
-    → first_from reading_fault [] rows ≡ None → Refuses (later_fault rows) f → IfSome known (λ bytes. Refuses (first_fault bytes) f)
-whole_later None left rows f e all sound h = tt
-whole_later (Some bytes) left rows f e all sound h =
-    let same : rows_in bytes ≡ rows = rw e at all in
-    rw same (refuses_second _ _ f sound h)
+-- a fault of a later pass
+pub whole_later : (known : Option (List ℕ)) (rows : List Fields) (r : Result Contents DocketFault) → AreAll (option_map rows_in known) rows
+    → first_from reading_fault [] rows ≡ None → Answers (later_fault rows) r
+    → IfErr r (λ e. IsReadFault e ⊎ IfSome known (λ bytes. Refuses (first_fault bytes) e))
+whole_later known rows (Ok d) all sound answers = tt
+whole_later None rows (Err e) all sound answers = inr tt
+whole_later (Some bytes) rows (Err e) all sound answers = inr (rw all (refuses_second _ _ e sound answers))
 
 -- the faults of a sheet are asked only where there is one
 pub sheet_asked : (rows : List Fields) → has_sheet rows ≡ true
@@ -108,6 +106,11 @@ later_is rows = by (first_from (ranking_fault rows) [] rows)
         ≡ option_or (option_or a (pairs_fault rows)) (option_or (sheet_fault rows) (first_from (event_fault rows) [] rows))
     by None = refl
     by (Some f) = refl
+
+-- where no later pass finds a fault, each event's names are declared
+pub events_known : (rows : List Fields) → later_fault rows ≡ None → first_from (event_fault rows) [] rows ≡ None
+unfolding later_fault
+events_known rows fine = (both_none (sheet_fault rows) _ (both_none (pairs_fault rows) _ (both_none (first_from (ranking_fault rows) [] rows) _ fine).1).1).1
 
 -- the name of a programme, as the docket gives it
 pub programme_name-is : (d : Contents) (p : ℕ) (name : List ℕ) → slice_get d.programmes p ≡ Some name → programme_name d p ≡ name

@@ -3,10 +3,9 @@ use Rattle.std.proofs.Common.{◌≡◌, ◌<◌, ◌+◌, ℕ, zero, suc, List,
 use Rattle.std.specs.Prelude.{bytes_eq, slice_get, IsUtf8, ◌&&◌, ◌||◌, nat_le, nat_lt, ◌==◌, if◌then◌else◌}
 use Rattle.std.specs.List.{list_all, list_any, position_from}
 use Rattle.std.proofs.lemmas.List.{map-append, get_or_past}
-use Rattle.std.proofs.lemmas.List.Folds.{list_all-append}
 use Rattle.std.proofs.lemmas.Iterator.Adapters.{position_from-zero}
 use Rattle.std.proofs.lemmas.Str.{IsUtf8-from_ascii}
-use Rattle.std.proofs.lemmas.Bool.{and_from, and_parts}
+use Rattle.std.proofs.lemmas.Bool.{and_parts}
 use Rattle.docket.specs.Words.{is_name, is_name_byte}
 use Rattle.docket.specs.Contents.{number_in, is_declared}
 use Rattle.docket.proofs.WordFacts.{list_all_true_at}
@@ -92,18 +91,6 @@ IsUtf8-is_name name h = IsUtf8-from_ascii name (λ i. at i (nat_lt i (length nam
     at : (i : ℕ) (b : Bool) → nat_lt i (length name) ≡ b → get_or name i 0 < 128
     at i true e = ascii_byte (get_or name i 0) (list_all_true_at is_name_byte name i 0 (search (rules, e)) bytes)
     at i false e = rw (get_or_past name i 0 (search (rules, e))) (omega arith)
-
--- each of some names is a name, and one more
-pub names_push : (names : List (List ℕ)) (name : List ℕ) → list_all is_name names ≡ true → is_name name ≡ true
-    → list_all is_name (if is_declared names name then names else names ++ name ∷ []) ≡ true
-names_push names name all one = by (is_declared names name)
-  where
-    more : list_all is_name (names ++ name ∷ []) ≡ true
-    more = list_all-append is_name names (name ∷ []) ∙ and_from _ _ all (and_from _ _ one refl)
-
-    by : (b : Bool) → list_all is_name (if b then names else names ++ name ∷ []) ≡ true
-    by true = all
-    by false = more
 
 -- a name among the keys is a name
 pub name_at : {K : Type 0} (f : K → List ℕ) (keys : List K) (i : ℕ) (k : K) → list_all is_name (map f keys) ≡ true → slice_get keys i ≡ Some k → is_name (f k) ≡ true

@@ -1,6 +1,6 @@
 -- Facts on numbers of names, and on lists by number.
 use Rattle.std.proofs.Common.{◌≡◌, ◌≤◌, ◌<◌, ◌+◌, ◌-◌, ℕ, suc, List, [], ◌∷◌, ◌++◌, Bool, true, false, length, get_or, take, drop, map, arith, sym, ◌∙◌, refl, ap, Option, Some, None, cond, add-one}
-use Rattle.std.specs.Prelude.{bytes_eq, ◌&&◌, ◌||◌, not, if◌then◌else◌, option_map, slice_set}
+use Rattle.std.specs.Prelude.{bytes_eq, ◌&&◌, not, if◌then◌else◌, option_map, slice_set}
 use Rattle.std.specs.List.{list_any, position_from}
 use Rattle.std.proofs.lemmas.Iterator.Adapters.{position_from-zero}
 use Rattle.std.proofs.lemmas.Slice.Eq.{bytes_eq-Decides}

@@ -1,12 +1,12 @@
 -- The first record with a fault, as records are added one by one.
-use Rattle.std.proofs.Common.{◌≡◌, ◌≤◌, ◌<◌, ◌+◌, ◌-◌, ℕ, zero, suc, List, [], ◌∷◌, ◌++◌, Bool, true, false, length, take, drop, sym, ◌∙◌, refl, ap, Option, Some, None, inl, inr, append_assoc, append-nil, rules, subst, arith}
+use Rattle.std.proofs.Common.{◌≡◌, ◌⊎◌, ◌≤◌, ◌<◌, ◌+◌, ◌-◌, ℕ, zero, suc, List, [], ◌∷◌, ◌++◌, Bool, true, false, length, take, drop, sym, ◌∙◌, refl, ap, Option, Some, None, inl, inr, append_assoc, append-nil, rules, subst, arith}
 use Rattle.std.specs.Prelude.{nat_le, if◌then◌else◌}
 use Rattle.std.proofs.lemmas.List.{take_more, take_all, take-append-drop, length-append}
 use Rattle.std.specs.Option.{option_or}
 use Rattle.docket.specs.Fields.{Fields, row_fault}
 use Rattle.docket.specs.Rows.{row_at}
 use Rattle.docket.specs.Answers.{Refuses}
-use Rattle.docket.specs.Read.{GivesRow, IsSplit, Explains, AreAll}
+use Rattle.docket.specs.Read.{GivesRow, IsSplit, IsOutside, IsReadFault, Explains, AreAll}
 use Rattle.docket.specs.Passes.{first_from, reading_fault, repeat_fault, limit_fault, next_place}
 use Rattle.docket.specs.declared.kind.TheConstants.{MAX_RECORDS}
 use Rattle.docket.specs.declared.fault.DocketFault.{DocketFault}
@@ -66,6 +66,13 @@ split_fault f (Some rows) kept (Some l) after row e s g none (inr here) =
     let same : l ≡ s.0 = cc s.1 in
     let all : rows ≡ kept ++ row ∷ g.0 = s.2 ∙ ap (λ (r : List Fields). kept ++ r) (sym same ∙ g.2) in
     inr (rw all (first_from-found f kept g.0 row e none here))
+
+-- what isn't a docket's fault explains itself
+pub outside_fault : (all : Option (List Fields)) (f : List Fields → Option DocketFault) (place : ℕ) (e : DocketFault)
+    → IsOutside place e → IsReadFault e ⊎ Explains all f e
+outside_fault None f place e (inl memory) = inr tt
+outside_fault (Some rows) f place e (inl memory) = inr (inl memory)
+outside_fault all f place e (inr read) = inl (place, read)
 
 -- at the start all rows are left
 pub split_start : (all : Option (List Fields)) → IsSplit all [] all

@@ -1,8 +1,8 @@
 -- Facts on texts that are kept by number.
-use Rattle.std.proofs.Common.{◌≡◌, ◌≤◌, ◌<◌, ◌+◌, ℕ, suc, List, [], ◌∷◌, ◌++◌, length, get_or, take, map, arith, sym, ◌∙◌, refl, ap, Some, true}
+use Rattle.std.proofs.Common.{◌≡◌, ◌<◌, ℕ, suc, List, [], ◌∷◌, ◌++◌, length, get_or, map, arith, sym, ◌∙◌, refl, ap, Some, true}
 use Rattle.std.specs.Prelude.{slice_get, bytes_eq, option_map}
 use Rattle.std.specs.Global.{Vec}
-use Rattle.std.proofs.lemmas.List.{map_push, length-map, get_or-map, get_or-take, length-take}
+use Rattle.std.proofs.lemmas.List.{map_push, length-map, get_or-map, get_or-take}
 use Rattle.std.proofs.lemmas.List.Quantifiers.{position-Some}
 use Rattle.std.proofs.lemmas.Option.{slice_get-map, slice_get-get_or, get_or_from_slice_get}
 use Rattle.docket.specs.Contents.{number_in}

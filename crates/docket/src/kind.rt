@@ -41,7 +41,7 @@ pub fn law_constants()
 {}
 
 /// The word of an event.
-#[derive(Clone, Copy, Debug, PartialEq, Eq)]
+#[derive(Clone, Copy)]
 pub enum EventWord {
     /// `E,offer,p,r`
     Offer,

@@ -1,6 +1,5 @@
 //! Names, numbered from 0 in the order in which they were first seen.
-ghost use Rattle.std.specs.Prelude.{◌≡◌, ◌≢◌, ◌<◌, ◌≤◌, ◌^◌, ◌+◌, ◌++◌, ◌∷◌, [], Some, not, if◌then◌else◌, length, slice_get, slice_index_or, IfOk, OnOk, OnErr, IfSome, true};
-ghost use Rattle.std.specs.List.{AllPairs};
+ghost use Rattle.std.specs.Prelude.{◌≡◌, ◌<◌, ◌+◌, ◌++◌, ◌∷◌, [], Some, not, if◌then◌else◌, length, slice_get, IfOk, OnOk, OnErr, IfSome, true};
 ghost use Rattle.docket.specs.Words as words;
 ghost use Rattle.docket.specs.Contents.{number_in, is_declared};
 
@@ -10,7 +9,6 @@ use std::marker::Model;
 use std::str;
 
 /// Names, numbered from 0 in the order in which they were first seen.
-#[derive(Drop)]
 pub struct Names {
     seen: IndexSet<Vec<u8>>,
 }
@@ -25,6 +23,13 @@ impl Model for Names {
     ghost view = { λ a. map (λ k. k.items) a.seen.keys };
 
     ghost invariant = { λ a. list_all words.is_name (map (λ k. k.items) a.seen.keys) ≡ true };
+}
+
+// As one call, so that whoever lets names go proves nothing of their parts.
+impl Drop for Names {
+    fn drop(self) {
+        let Names { seen: _ } = self;
+    }
 }
 
 impl Names {

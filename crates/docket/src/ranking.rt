@@ -1,9 +1,9 @@
 //! The second pass: the lists, by number.
-ghost use Rattle.std.specs.Prelude.{◌≡◌, ◌<◌, ◌≤◌, ◌+◌, [], true, length, take, drop, OnOk, IfOk};
+ghost use Rattle.std.specs.Prelude.{◌≡◌, ◌<◌, ◌+◌, [], length, take, drop, OnOk, IfOk};
 ghost use Rattle.match_model.specs.Draft.{instance_of as made_of};
 ghost use Rattle.std.specs.List.{list_all};
 ghost use Rattle.std.specs.Option.{option_or};
-ghost use Rattle.docket.specs.Fields.{field as field_of, kind_of, unless};
+ghost use Rattle.docket.specs.Fields.{kind_of, unless};
 ghost use Rattle.docket.specs.Contents.{is_declared, listed_in, draft_of, programmes_of, residents_of};
 ghost use Rattle.docket.specs.Passes.{first_from, ranking_fault, pairs_fault};
 ghost use Rattle.docket.specs.Answers.{Answers};

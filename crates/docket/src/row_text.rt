@@ -14,7 +14,6 @@ use std::io::Write;
 use std::marker::Model;
 
 /// The text of rows, gathered in memory.
-#[derive(Drop)]
 pub struct RowText {
     alloc: Global,
     rows: Writer<Vec<u8>>,
@@ -29,6 +28,13 @@ impl Model for RowText {
     ghost view = { λ a. bytes_of a.rows };
 
     ghost invariant = { λ a. AreWhole a.rows };
+}
+
+// As one call, so that whoever lets rows go proves nothing of their parts.
+impl Drop for RowText {
+    fn drop(self) {
+        let RowText { alloc: _, rows: _ } = self;
+    }
 }
 
 // A writer into memory that has written nothing. It has a buffer of its own, which is cleared where it is made, so it is
@@ -97,7 +103,8 @@ impl RowText {
         ensures sent { OnOk result (Appends (W.contents writer.old) (W.contents writer.new) self) }
         ensures err { IfErr result (λ fault. (fault ≡ DocketFault.Memory) ⊎ (fault ≡ DocketFault.Write)) }
     {
-        let Ok(bytes) = self.rows.into_inner() else {
+        let RowText { alloc: _, rows } = self;
+        let Ok(bytes) = rows.into_inner() else {
             return Err(DocketFault::Memory);
         };
         let Ok(()) = writer.write_all(bytes.as_slice()) else {

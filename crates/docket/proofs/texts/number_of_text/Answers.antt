@@ -1,7 +1,6 @@
-use Rattle.std.proofs.Common.{◌∙◌, ap, sym, ◌≡◌, Some, true, subst, List, ℕ}
+use Rattle.std.proofs.Common.{◌∙◌, sym, ◌≡◌, true, subst, List, ℕ}
 use Rattle.std.specs.Prelude.{bytes_eq}
 use Rattle.docket.specs.LongRecord.{keys_of}
-use Rattle.docket.specs.Contents.{number_in}
 use Rattle.docket.proofs.NameFacts.{number_in-map}
 use Rattle.docket.proofs.TextFacts.{number_found, key_found}
 use Rattle.docket.proofs.texts.number_of_text.Goals as goal
