@@ -6,7 +6,7 @@ use match_model::{ProgrammeNo, ResidentNo};
 use std::marker::Model;
 
 /// An offer in a resident's mailbox. Contracts see it as the programme's number.
-#[derive(Clone, Copy, Debug, PartialEq, Eq, Hash)]
+#[derive(Clone, Copy, Debug, PartialEq, Eq)]
 pub struct OfferNote {
     /// Who offers a place.
     pub programme: ProgrammeNo,
@@ -21,7 +21,7 @@ impl Model for OfferNote {
 }
 
 /// An answer in a programme's mailbox. Contracts see it as the resident's number and the kind.
-#[derive(Clone, Copy, Debug, PartialEq, Eq, Hash)]
+#[derive(Clone, Copy, Debug, PartialEq, Eq)]
 pub struct AnswerNote {
     /// Who answers.
     pub resident: ResidentNo,

@@ -11,7 +11,7 @@ use std::alloc::{AllocError, Global};
 use std::marker::Model;
 
 /// A seat for each programme, and how many of them have answers waiting.
-#[derive(Debug, Drop)]
+#[derive(Drop)]
 pub(crate) struct ProgrammeDesks {
     seats: Vec<ProgrammeSeat>,
     with_answers: usize,

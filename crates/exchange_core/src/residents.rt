@@ -12,7 +12,7 @@ use std::alloc::{AllocError, Global};
 use std::marker::Model;
 
 /// A seat for each resident, and how many of them have something pending.
-#[derive(Debug, Drop)]
+#[derive(Drop)]
 pub(crate) struct ResidentDesks {
     seats: Vec<ResidentSeat>,
     with_offers: usize,

@@ -13,7 +13,7 @@ use std::marker::Model;
 
 /// At a resident's desk: the offers that wait, the answers that are due, of which an offer calls for two at most, and
 /// the programme held.
-#[derive(Debug, Drop)]
+#[derive(Drop)]
 pub(crate) struct ResidentSeat {
     waiting: VecDeque<ProgrammeNo>,
     first_due: Option<(ProgrammeNo, AnswerKind)>,
@@ -137,7 +137,7 @@ fn release_of(held: Option<ProgrammeNo>) -> Option<(ProgrammeNo, AnswerKind)>
 }
 
 /// At a programme's desk: how many offers it made and has out, and the answers that wait.
-#[derive(Debug, Drop)]
+#[derive(Drop)]
 pub(crate) struct ProgrammeSeat {
     offered: u32,
     out: u32,

@@ -1,4 +1,8 @@
 //! Why a mailbox could not be made.
+ghost use Rattle.std.specs.Prelude.{◌≡◌};
+ghost use Rattle.mailbox_rule.specs.declared.fault.MailFault.TheVariants.{Memory};
+
+use std::alloc::AllocError;
 use thiserror::Error;
 
 /// Why no mailbox, or no list that stands for one, was made.
@@ -8,4 +12,12 @@ pub enum MailFault {
     NoCapacity,
     #[error("out of memory")]
     Memory,
+}
+
+impl From<AllocError> for MailFault {
+    ghost from_gives = { λ _ fault. fault ≡ Memory };
+
+    fn from(_: AllocError) -> MailFault {
+        MailFault::Memory
+    }
 }

@@ -32,9 +32,7 @@ impl<M> ListPut<M> {
         ensures memory { IfErr result (λ fault. fault ≡ MailFault.Memory) }
     {
         let room = n as usize;
-        let Ok(messages) = Vec::with_capacity(alloc, room) else {
-            return Err(MailFault::Memory);
-        };
+        let messages = Vec::with_capacity(alloc, room)?;
         Ok(ListPut { messages, room })
     }
 }

@@ -73,9 +73,7 @@ pub fn mailbox<M: Copy + Eq, R: Wait + Copy>(
     if capacity == 0 {
         return Err(MailFault::NoCapacity);
     }
-    let Ok((sender, receiver, mut pass)) = bounded_with(alloc, capacity as usize) else {
-        return Err(MailFault::Memory);
-    };
+    let (sender, receiver, mut pass) = bounded_with(alloc, capacity as usize)?;
     let other = sender.another::<Brand>(&mut pass);
     let put = RuledPut { sender, pass, rt };
     let take = RuledTake {

@@ -12,7 +12,7 @@ use std::error::Error;
 use std::fmt;
 
 /// Why a placement wasn't audited.
-#[derive(Clone, Copy, Debug, PartialEq, Eq, Hash)]
+#[derive(Clone, Copy, Debug, PartialEq, Eq)]
 pub enum AuditFault {
     /// The placement has more or fewer places than there are residents.
     WrongSize,

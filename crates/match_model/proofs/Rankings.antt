@@ -1,7 +1,9 @@
 -- Lemmas on rankings: the place that a walk finds, and ranks.
-use Rattle.std.proofs.Common.{◌≡◌, ◌≢◌, ℕ, ◌+◌, ◌<◌, ◌≤◌, Bool, true, false, cond, eqb, ltb, List, [], ◌∷◌, ◌++◌, length, get_or, Some, None, refl, sym, ap, ◌∙◌, suc, zero, arith, one-add, not, ◌&&◌, ◌||◌}
+use Rattle.std.proofs.Common.{◌≡◌, ◌≢◌, ℕ, ◌+◌, ◌<◌, ◌≤◌, Bool, true, false, cond, eqb, ltb, List, [], ◌∷◌, ◌++◌, length, get_or, take, Some, None, refl, sym, ap, ◌∙◌, suc, zero, arith, one-add, not, ◌&&◌, ◌||◌}
 use Rattle.std.specs.List.{list_any, list_all, filter, IsDistinct, AllByRecursion}
 use Rattle.std.proofs.lemmas.Bool.{and_parts, or_parts, not-true, eqb-true, ltb-true, ltb-false, lt-ltb}
+use Rattle.std.proofs.lemmas.List.{append-nil, take_more}
+use Rattle.std.proofs.lemmas.List.Elements.{filter-append}
 use Rattle.std.proofs.lemmas.Map.Made.{AllPairs-from_IsDistinct}
 use Rattle.std.proofs.lemmas.Map.Steps.{length-le_from_distinct_below}
 use Rattle.std.proofs.lemmas.Bool.Decides.{Decides-eqb, nat_tests}
@@ -186,3 +188,14 @@ listed_below n q (y ∷ ys) b e =
 
 pub length-le_below : (xs : List ℕ) (n : ℕ) → has_no_repeats xs ≡ true → list_all (λ x. ltb x n) xs ≡ true → length xs ≤ n
 length-le_below xs n h b = length-le_from_distinct_below xs n (IsDistinct-from_test xs h) (λ q e. listed_below n q xs b e)
+
+-- the front of what a filter keeps, one item on
+module _ (q : ℕ → Bool) (xs : List ℕ) (i d : ℕ) (within : i < length xs) where
+  filter_more : filter q (take (i + 1) xs) ≡ filter q (take i xs) ++ filter q (get_or xs i d ∷ [])
+  filter_more = ap (filter q) (take_more xs i d within) ∙ filter-append q (take i xs) (get_or xs i d ∷ [])
+
+  pub filter_keeps : q (get_or xs i d) ≡ true → filter q (take (i + 1) xs) ≡ filter q (take i xs) ++ get_or xs i d ∷ []
+  filter_keeps h = filter_more ∙ ap (λ b. filter q (take i xs) ++ cond b (get_or xs i d ∷ []) []) h
+
+  pub filter_leaves : q (get_or xs i d) ≡ false → filter q (take (i + 1) xs) ≡ filter q (take i xs)
+  filter_leaves h = filter_more ∙ ap (λ b. filter q (take i xs) ++ cond b (get_or xs i d ∷ []) []) h ∙ append-nil (filter q (take i xs))

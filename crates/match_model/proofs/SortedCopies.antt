@@ -53,6 +53,10 @@ sorted_at vs i v all h e =
     let same : get_or (lists_of vs) i v.items ≡ v.items = get_or-map (λ (list : Vec ℕ). list.items) vs i v v.items h ∙ ap (λ (list : Vec ℕ). list.items) (sym e) in
     subst (IsSorted nat_cmp) same (all i v.items (subst (λ n. i < n) (sym (length-map vs (λ (list : Vec ℕ). list.items))) h))
 
+-- the items of a vector among others
+pub list_at_vector : (vs : List (Vec ℕ)) (i : ℕ) (v : Vec ℕ) → i < length vs → v ≡ get_or vs i v → list_at (lists_of vs) i ≡ v.items
+list_at_vector vs i v h e = get_or-map (λ (list : Vec ℕ). list.items) vs i v [] h ∙ ap (λ (list : Vec ℕ). list.items) (sym e)
+
 -- what sorted copies list
 pub same_listed : (lists copies : List (List ℕ)) → AllZip IsSortedCopy lists copies → (x o : ℕ) → is_listed (list_at copies x) o ≡ is_listed (list_at lists x) o
 same_listed [] [] h x o = refl

@@ -7,7 +7,7 @@ use crate::rank_table::RankTable;
 use std::marker::Model;
 
 /// Quotas, and for each member its ranking of acceptable members, best first.
-#[derive(Debug, Drop)]
+#[derive(Debug)]
 pub struct Instance {
     pub(crate) quotas: Vec<u32>,
     pub(crate) programme_lists: Vec<Vec<ResidentNo>>,
@@ -31,6 +31,20 @@ impl Model for Instance {
       programme_ranks : AreRankTables (map (λ v. v.items) i.programme_lists.items) i.programme_ranks.items;
       resident_ranks : AreRankTables (map (λ v. v.items) i.resident_lists.items) i.resident_ranks.items;
     } };
+}
+
+// As one call, so that whoever lets an instance go proves nothing of its parts.
+impl Drop for Instance {
+    fn drop(self) {
+        let Instance {
+            quotas: _,
+            programme_lists: _,
+            resident_lists: _,
+            programme_ranks: _,
+            resident_ranks: _,
+            pairs: _,
+        } = self;
+    }
 }
 
 impl Instance {

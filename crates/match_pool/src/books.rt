@@ -8,7 +8,6 @@ use match_model::{Instance, ProgrammeNo, ResidentNo};
 use offer_ledger::{EntryRefused, Ledger, Naming, PutRefusal, Tally};
 
 /// The ledger, and the desks that wait for room.
-#[derive(Drop)]
 pub(crate) struct Books<J: Naming, P: PutEnd<OfferNote>, Q: PutEnd<AnswerNote>> {
     pub(crate) ledger: Ledger<J, P, Q>,
     pub(crate) waits: Waits,
@@ -30,12 +29,23 @@ pub(crate) enum Entry {
     Gone,
 }
 
+// As one call, so that whoever lets books go proves nothing of its parts.
+impl<J: Naming, P: PutEnd<OfferNote> + Drop, Q: PutEnd<AnswerNote> + Drop> Drop for Books<J, P, Q> {
+    fn drop(self) {
+        let Books {
+            ledger: _,
+            waits: _,
+        } = self;
+    }
+}
+
 impl<J: Naming, P: PutEnd<OfferNote> + Drop, Q: PutEnd<AnswerNote> + Drop> Books<J, P, Q> {
     /// The ledger alone.
     pub(crate) fn into_ledger(self) -> Ledger<J, P, Q>
         ensures { result ≡ self.ledger }
     {
-        self.ledger
+        let Books { ledger, waits: _ } = self;
+        ledger
     }
 }
 

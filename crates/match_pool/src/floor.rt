@@ -8,7 +8,7 @@ use crate::gate::Gate;
 use crate::hands::Hands;
 use exchange_core::{AnswerNote, OfferNote};
 use mailbox_rule::{PutEnd, TakeEnd};
-use offer_ledger::Naming;
+use offer_ledger::{Ledger, Naming};
 use std::hint::spin_loop;
 use std::sync::atomic::{AtomicBool, Ordering};
 use std::sync::{Condvar, Mutex, MutexGuard, Wait};
@@ -51,8 +51,15 @@ fn lock_soon<'a, T, R: Wait>(rt: &R, lock: &'a Mutex<T>) -> MutexGuard<'a, T> {
     lock.lock(rt)
 }
 
+/// What a floor is taken apart into: the desks of the residents and of the programmes, the ledger and the hands.
+pub(crate) type FloorParts<'a, J, P, Q, T, U, G> = (
+    Vec<Mutex<ResidentSeat<J, T>>>,
+    Vec<Mutex<ProgrammeSeat<J, U>>>,
+    Ledger<J, P, Q>,
+    Hands<'a, G>,
+);
+
 /// The locks of a run. They are taken in the order desk, ledger; `hands` is never held while another is taken.
-#[derive(Drop)]
 pub(crate) struct Floor<'a, J, P, Q, T, U, G>
 where
     J: Naming,
@@ -68,6 +75,52 @@ where
     pub(crate) hands: Mutex<Hands<'a, G>>,
     pub(crate) news: Condvar,
     pub(crate) ending: AtomicBool,
+}
+
+// As one call, so that whoever lets a floor go proves nothing of its parts.
+impl<'a, J, P, Q, T, U, G> Drop for Floor<'a, J, P, Q, T, U, G>
+where
+    J: Naming,
+    P: PutEnd<OfferNote> + Drop,
+    Q: PutEnd<AnswerNote> + Drop,
+    T: TakeEnd<OfferNote> + Drop,
+    U: TakeEnd<AnswerNote> + Drop,
+    G: Gate,
+{
+    fn drop(self) {
+        let Floor {
+            residents: _,
+            programmes: _,
+            books: _,
+            hands: _,
+            news: _,
+            ending: _,
+        } = self;
+    }
+}
+
+impl<'a, J, P, Q, T, U, G> Floor<'a, J, P, Q, T, U, G>
+where
+    J: Naming,
+    P: PutEnd<OfferNote> + Drop,
+    Q: PutEnd<AnswerNote> + Drop,
+    T: TakeEnd<OfferNote> + Drop,
+    U: TakeEnd<AnswerNote> + Drop,
+    G: Gate,
+{
+    /// The desks, the ledger and the hands, out of their locks but for the desks.
+    pub(crate) fn into_parts(self) -> FloorParts<'a, J, P, Q, T, U, G> {
+        let Floor {
+            residents,
+            programmes,
+            books,
+            hands,
+            news: _,
+            ending: _,
+        } = self;
+        let ledger = books.into_inner().into_ledger();
+        (residents, programmes, ledger, hands.into_inner())
+    }
 }
 
 impl<'a, J, P, Q, T, U, G> Floor<'a, J, P, Q, T, U, G>

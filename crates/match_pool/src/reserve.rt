@@ -25,7 +25,6 @@ use std::alloc::Global;
 use std::sync::Mutex;
 
 /// Room for the comparison and for the result, so that nothing more is asked of memory after the joins.
-#[derive(Drop)]
 pub(crate) struct Reserve<T: TakeEnd<OfferNote>, U: TakeEnd<AnswerNote>> {
     logs: Logs<T, U>,
     assignment: Assignment,
@@ -34,11 +33,32 @@ pub(crate) struct Reserve<T: TakeEnd<OfferNote>, U: TakeEnd<AnswerNote>> {
 }
 
 /// The agents of a run, out of their locks, and the walk that compares them with its journal.
-#[derive(Drop)]
 struct Logs<T: TakeEnd<OfferNote>, U: TakeEnd<AnswerNote>> {
     cursors: Cursors,
     residents: Vec<ResidentAgent<T>>,
     programmes: Vec<ProgrammeAgent<U>>,
+}
+
+// As one call, so that whoever lets logs go proves nothing of its parts.
+impl<T: TakeEnd<OfferNote> + Drop, U: TakeEnd<AnswerNote> + Drop> Drop for Logs<T, U> {
+    fn drop(self) {
+        let Logs {
+            cursors: _,
+            residents: _,
+            programmes: _,
+        } = self;
+    }
+}
+
+// As one call, so that whoever lets a reserve go proves nothing of its parts.
+impl<T: TakeEnd<OfferNote> + Drop, U: TakeEnd<AnswerNote> + Drop> Drop for Reserve<T, U> {
+    fn drop(self) {
+        let Reserve {
+            logs: _,
+            assignment: _,
+            entered: _,
+        } = self;
+    }
 }
 
 impl<T: TakeEnd<OfferNote> + Drop, U: TakeEnd<AnswerNote> + Drop> Logs<T, U> {
@@ -68,6 +88,33 @@ impl<T: TakeEnd<OfferNote> + Drop, U: TakeEnd<AnswerNote> + Drop> Logs<T, U> {
             self.programmes.push(seat.into_inner().into_agent())?;
         }
         Ok(())
+    }
+
+    // The result, where every log is the journal's.
+    fn result<J: Naming, P: PutEnd<OfferNote> + Drop, Q: PutEnd<AnswerNote> + Drop>(
+        self,
+        inst: &Instance,
+        outcome: Outcome<J, P, Q>,
+        assignment: Assignment,
+    ) -> Result<Done<P, T, Q, U>, RunFault>
+        requires instance { inst.now ≡ J.inst }
+        requires room { length assignment ≡ length inst.now.resident_lists }
+        requires ending { (outcome.ending ≡ Ending.Closed) ↔ IsClosed outcome.ledger.journal }
+        ensures run { IfOk result (λ done. IsRunOf P T Q U P.puts T.taken Q.puts U.taken inst.now J.cap done.ending done.journal.items done.ends.offer_puts.items done.ends.residents.items done.ends.answer_puts.items done.ends.programmes.items) }
+        ensures given { IfOk result (λ done. done.assignment ≡ given inst.now done.journal.items) }
+        ensures same { IfOk result (λ done. (done.journal.items ≡ outcome.ledger.journal) × (done.ending ≡ outcome.ending) × (done.entered ≡ outcome.entered)) }
+        ensures settled { IfOk result (λ done. done.ending ≡ Ending.Closed → IsSettledRun inst.now done.journal.items done.assignment) }
+        ensures fault { IfErr result (IsFault inst.now J.cap) }
+    {
+        let Logs {
+            cursors,
+            residents,
+            programmes,
+        } = self;
+        match cursors.compare(inst, outcome.ledger.journal(), &residents, &programmes) {
+            Ok(()) => Ok(outcome.done(inst, assignment, residents, programmes)),
+            Err(desk) => Err(RunFault::Torn(desk)),
+        }
     }
 }
 
@@ -121,27 +168,77 @@ impl<T: TakeEnd<OfferNote> + Drop, U: TakeEnd<AnswerNote> + Drop> Reserve<T, U> 
             assignment,
             entered,
         } = self;
-        let Floor {
-            residents,
-            programmes,
-            books,
-            hands,
-            news: _,
-            ending: _,
-        } = floor;
-        let ledger = books.into_inner().into_ledger();
-        let outcome = outcome_of(inst, ledger, &hands.into_inner(), tallies, entered, workers)?;
+        let (residents, programmes, ledger, hands) = floor.into_parts();
+        let outcome = outcome_of(inst, ledger, &hands, tallies, entered, workers)?;
         logs.fill(residents, programmes)?;
-        result_of(inst, outcome, logs, assignment)
+        logs.result(inst, outcome, assignment)
     }
 }
 
 /// The ledger of a run that had no trouble, how it ended, and the count of each worker.
-#[derive(Drop)]
 struct Outcome<J: Naming, P: PutEnd<OfferNote>, Q: PutEnd<AnswerNote>> {
     ledger: Ledger<J, P, Q>,
     ending: Ending,
     entered: Vec<u64>,
+}
+
+// As one call, so that whoever lets an outcome go proves nothing of its parts.
+impl<J: Naming, P: PutEnd<OfferNote> + Drop, Q: PutEnd<AnswerNote> + Drop> Drop
+    for Outcome<J, P, Q> {
+    fn drop(self) {
+        let Outcome {
+            ledger: _,
+            ending: _,
+            entered: _,
+        } = self;
+    }
+}
+
+impl<J: Naming, P: PutEnd<OfferNote> + Drop, Q: PutEnd<AnswerNote> + Drop> Outcome<J, P, Q> {
+    // What a run gives whose logs are the journal's.
+    fn done<T: TakeEnd<OfferNote> + Drop, U: TakeEnd<AnswerNote> + Drop>(
+        self,
+        inst: &Instance,
+        assignment: Assignment,
+        residents: Vec<ResidentAgent<T>>,
+        programmes: Vec<ProgrammeAgent<U>>,
+    ) -> Done<P, T, Q, U>
+        requires instance { inst.now ≡ J.inst }
+        requires room { length assignment ≡ length inst.now.resident_lists }
+        requires ending { (self.ending ≡ Ending.Closed) ↔ IsClosed self.ledger.journal }
+        requires takes { AreLogs taken_of residents.items (length inst.now.resident_lists) (λ r. takes r self.ledger.journal) }
+        requires taken { LogsAreTaken T.taken residents.items }
+        requires hears { AreLogs heard_of programmes.items (length inst.now.quotas) (λ p. hears p self.ledger.journal) }
+        requires heard { LogsAreHeard U.taken programmes.items }
+        ensures run { IsRunOf P T Q U P.puts T.taken Q.puts U.taken inst.now J.cap result.ending result.journal.items result.ends.offer_puts.items result.ends.residents.items result.ends.answer_puts.items result.ends.programmes.items }
+        ensures given { result.assignment ≡ given inst.now result.journal.items }
+        ensures same { (result.journal.items ≡ self.ledger.journal) × (result.ending ≡ self.ending) × (result.entered ≡ self.entered) }
+        ensures settled { result.ending ≡ Ending.Closed → IsSettledRun inst.now result.journal.items result.assignment }
+    {
+        law_orderly();
+        law_settled();
+        let _members = inst.residents();
+        let Outcome {
+            ledger,
+            ending,
+            entered,
+        } = self;
+        let mut assignment = assignment;
+        ledger.core().assignment(&mut assignment);
+        let (journal, _, offer_puts, answer_puts) = ledger.into_parts();
+        Done {
+            ending,
+            journal,
+            assignment,
+            entered,
+            ends: Ends {
+                offer_puts,
+                residents,
+                answer_puts,
+                programmes,
+            },
+        }
+    }
 }
 
 // How a run ended whose workers are joined, with these tallies by worker.
@@ -171,90 +268,6 @@ fn outcome_of<J: Naming, P: PutEnd<OfferNote> + Drop, Q: PutEnd<AnswerNote> + Dr
     };
     count(&mut outcome.ledger, tallies, &mut outcome.entered, workers)?;
     Ok(outcome)
-}
-
-// The result, where every log is the journal's.
-fn result_of<J, P, Q, T, U>(
-    inst: &Instance,
-    outcome: Outcome<J, P, Q>,
-    logs: Logs<T, U>,
-    assignment: Assignment,
-) -> Result<Done<P, T, Q, U>, RunFault>
-where
-    J: Naming,
-    P: PutEnd<OfferNote> + Drop,
-    Q: PutEnd<AnswerNote> + Drop,
-    T: TakeEnd<OfferNote> + Drop,
-    U: TakeEnd<AnswerNote> + Drop,
-    requires instance { inst.now ≡ J.inst }
-    requires room { length assignment ≡ length inst.now.resident_lists }
-    requires ending { (outcome.ending ≡ Ending.Closed) ↔ IsClosed outcome.ledger.journal }
-    ensures run { IfOk result (λ done. IsRunOf P T Q U P.puts T.taken Q.puts U.taken inst.now J.cap done.ending done.journal.items done.ends.offer_puts.items done.ends.residents.items done.ends.answer_puts.items done.ends.programmes.items) }
-    ensures given { IfOk result (λ done. done.assignment ≡ given inst.now done.journal.items) }
-    ensures same { IfOk result (λ done. (done.journal.items ≡ outcome.ledger.journal) × (done.ending ≡ outcome.ending) × (done.entered ≡ outcome.entered)) }
-    ensures settled { IfOk result (λ done. done.ending ≡ Ending.Closed → IsSettledRun inst.now done.journal.items done.assignment) }
-    ensures fault { IfErr result (IsFault inst.now J.cap) }
-{
-    let Logs {
-        cursors,
-        residents,
-        programmes,
-    } = logs;
-    match cursors.compare(inst, outcome.ledger.journal(), &residents, &programmes) {
-        Ok(()) => Ok(done_of(inst, outcome, assignment, residents, programmes)),
-        Err(desk) => Err(RunFault::Torn(desk)),
-    }
-}
-
-// What a run gives whose logs are the journal's.
-fn done_of<J, P, Q, T, U>(
-    inst: &Instance,
-    outcome: Outcome<J, P, Q>,
-    assignment: Assignment,
-    residents: Vec<ResidentAgent<T>>,
-    programmes: Vec<ProgrammeAgent<U>>,
-) -> Done<P, T, Q, U>
-where
-    J: Naming,
-    P: PutEnd<OfferNote> + Drop,
-    Q: PutEnd<AnswerNote> + Drop,
-    T: TakeEnd<OfferNote> + Drop,
-    U: TakeEnd<AnswerNote> + Drop,
-    requires instance { inst.now ≡ J.inst }
-    requires room { length assignment ≡ length inst.now.resident_lists }
-    requires ending { (outcome.ending ≡ Ending.Closed) ↔ IsClosed outcome.ledger.journal }
-    requires takes { AreLogs taken_of residents.items (length inst.now.resident_lists) (λ r. takes r outcome.ledger.journal) }
-    requires taken { LogsAreTaken T.taken residents.items }
-    requires hears { AreLogs heard_of programmes.items (length inst.now.quotas) (λ p. hears p outcome.ledger.journal) }
-    requires heard { LogsAreHeard U.taken programmes.items }
-    ensures run { IsRunOf P T Q U P.puts T.taken Q.puts U.taken inst.now J.cap result.ending result.journal.items result.ends.offer_puts.items result.ends.residents.items result.ends.answer_puts.items result.ends.programmes.items }
-    ensures given { result.assignment ≡ given inst.now result.journal.items }
-    ensures same { (result.journal.items ≡ outcome.ledger.journal) × (result.ending ≡ outcome.ending) × (result.entered ≡ outcome.entered) }
-    ensures settled { result.ending ≡ Ending.Closed → IsSettledRun inst.now result.journal.items result.assignment }
-{
-    law_orderly();
-    law_settled();
-    let _members = inst.residents();
-    let Outcome {
-        ledger,
-        ending,
-        entered,
-    } = outcome;
-    let mut assignment = assignment;
-    ledger.core().assignment(&mut assignment);
-    let (journal, _, offer_puts, answer_puts) = ledger.into_parts();
-    Done {
-        ending,
-        journal,
-        assignment,
-        entered,
-        ends: Ends {
-            offer_puts,
-            residents,
-            answer_puts,
-            programmes,
-        },
-    }
 }
 
 // The count of each worker, once all their tallies are joined to one that has every part.

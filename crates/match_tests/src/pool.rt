@@ -6,7 +6,7 @@ use match_model::{Assignment, Instance, ProgrammeNo, ResidentNo};
 use match_pool::{Ending, Gate, OpenGate, RunFault, run};
 use samples::events::{A, B, X};
 use samples::gates::{Firm, Held, Loose, StopsAtOnce};
-use std::alloc::Global;
+use std::alloc::{AllocError, Global};
 use std::sync::Wait;
 use std::test::Fail;
 use std::thread::Threads;
@@ -209,30 +209,37 @@ fn heeds_a_stop(rt: HostRuntime) {
     assert!(rt; told.is_ok_and(|told| is_stopped(&told)));
 }
 
+const TORN: &str = "a desk's log differs from the journal";
+
+// Whether a fault prints as this text.
+fn says(alloc: Global, fault: RunFault, text: &str) -> Result<bool, AllocError> {
+    Ok(fault.to_string(alloc)?.as_str() == text)
+}
+
+// Whether the faults that name an event or a desk print as they are to.
+fn desks_are_told(alloc: Global) -> Result<bool, AllocError> {
+    let receipt = RunFault::OutOfStep {
+        journal: Vec::new(alloc),
+        event: Event::Close,
+    };
+    Ok(
+        says(alloc, receipt, "a receipt was out of step")?
+            && says(alloc, RunFault::Torn(Desk::Resident(X)), TORN)?
+            && says(
+                alloc,
+                RunFault::MailGone(Desk::Programme(B)),
+                "a mailbox is gone",
+            )?,
+    )
+}
+
 #[test]
 fn prints_its_faults(rt: HostRuntime) -> Result<(), Fail> {
-    let journal = Vec::new(rt.alloc());
-    let event = Event::Take {
-        resident: X,
-        programme: A,
-    };
-    let faults = [
-        (RunFault::BadWorkers, "bad number of workers"),
-        (RunFault::BadCapacity, "bad capacity"),
-        (RunFault::Memory, "out of memory"),
-        (RunFault::Thread, "a worker could not be started"),
-        (
-            RunFault::OutOfStep { journal, event },
-            "a receipt was out of step",
-        ),
-        (
-            RunFault::Torn(Desk::Resident(X)),
-            "a desk's log differs from the journal",
-        ),
-        (RunFault::MailGone(Desk::Programme(B)), "a mailbox is gone"),
-    ];
-    for (fault, text) in faults {
-        assert!(rt; fault.to_string(rt.alloc())?.as_str() == text, "{text}");
-    }
+    let alloc = rt.alloc();
+    assert!(rt; says(alloc, RunFault::BadWorkers, "bad number of workers")?);
+    assert!(rt; says(alloc, RunFault::BadCapacity, "bad capacity")?);
+    assert!(rt; says(alloc, RunFault::Memory, "out of memory")?);
+    assert!(rt; says(alloc, RunFault::Thread, "a worker could not be started")?);
+    assert!(rt; desks_are_told(alloc)?);
     Ok(())
 }

@@ -1,6 +1,7 @@
 //! The command line.
 ghost use Rattle.std.specs.Prelude.{◌≡◌, true, IfOk, IfErr, IfSome};
 ghost use Rattle.exchange_core.specs.Shown.{is_capacity};
+ghost use Rattle.residency.specs.declared.line.LineFault.TheVariants.{Memory};
 ghost use Rattle.residency.specs.Options.{IsOrder, IsWithinLimits};
 ghost use Rattle.residency.specs.Status.{IsLineFault};
 
@@ -58,6 +59,14 @@ pub enum LineFault {
     /// The words aren't those of a command, or help or the version was asked for.
     #[error(transparent)]
     Line(clap::Error),
+}
+
+impl From<AllocError> for LineFault {
+    ghost from_gives = { λ _ fault. fault ≡ Memory };
+
+    fn from(_: AllocError) -> LineFault {
+        LineFault::Memory
+    }
 }
 
 // The fault that an error of the parser is.
@@ -217,9 +226,7 @@ pub fn read_line<'a, S: AsStr>(alloc: Global, words: &'a [S]) -> Result<Order, L
     ensures order { IfOk result IsOrder }
     ensures fault { IfErr result IsLineFault }
 {
-    let Ok(mut commands) = commands(alloc) else {
-        return Err(LineFault::Memory);
-    };
+    let mut commands = commands(alloc)?;
     let matches = match matches_of(&mut commands, words) {
         Ok(matches) => matches,
         Err(error) => return Err(line_fault(error)),

@@ -3,22 +3,22 @@ use Rattle.exchange_core.specs.declared.event.Event.{Event}
 use Rattle.exchange_core.specs.Mail.{takes, hears}
 use Rattle.match_agents.specs.Desks.{ResidentDesk, ProgrammeDesk}
 use Rattle.match_pool.specs.Compare.{AreLogs, LogsAreTaken, LogsAreHeard, taken_of, heard_of}
-use Rattle.match_pool.proofs.reserve.result_of.Goals as goal
+use Rattle.match_pool.proofs.reserve.Logs.result.Goals as goal
 
-pub done_of-requires-clause-takes : goal.done_of-requires-clause-takes
-done_of-requires-clause-takes g c =
+pub done-requires-clause-takes : goal.done-requires-clause-takes
+done-requires-clause-takes g c =
     let inst = c.args.inst.now in
     let of_journal = subst (λ (j : List Event). AreLogs taken_of c.deref.result.now (length inst.resident_lists) (λ r. takes r j)) c.journal.ensures.journal c.in-Ok.ensures.takes in
     subst (λ (xs : List (ResidentDesk g.row.T.Denot)). AreLogs taken_of xs (length inst.resident_lists) (λ r. takes r c.args.outcome.ledger.journal)) c.deref.ensures.value of_journal
 
-pub done_of-requires-clause-taken : goal.done_of-requires-clause-taken
-done_of-requires-clause-taken g c = subst (λ (xs : List (ResidentDesk g.row.T.Denot)). LogsAreTaken g.T.TakeEnd.taken xs) c.deref.ensures.value c.in-Ok.ensures.taken
+pub done-requires-clause-taken : goal.done-requires-clause-taken
+done-requires-clause-taken g c = subst (λ (xs : List (ResidentDesk g.row.T.Denot)). LogsAreTaken g.T.TakeEnd.taken xs) c.deref.ensures.value c.in-Ok.ensures.taken
 
-pub done_of-requires-clause-hears : goal.done_of-requires-clause-hears
-done_of-requires-clause-hears g c =
+pub done-requires-clause-hears : goal.done-requires-clause-hears
+done-requires-clause-hears g c =
     let inst = c.args.inst.now in
     let of_journal = subst (λ (j : List Event). AreLogs heard_of c.deref-2.result.now (length inst.quotas) (λ p. hears p j)) c.journal.ensures.journal c.in-Ok.ensures.hears in
     subst (λ (xs : List (ProgrammeDesk g.row.U.Denot)). AreLogs heard_of xs (length inst.quotas) (λ p. hears p c.args.outcome.ledger.journal)) c.deref-2.ensures.value of_journal
 
-pub done_of-requires-clause-heard : goal.done_of-requires-clause-heard
-done_of-requires-clause-heard g c = subst (λ (xs : List (ProgrammeDesk g.row.U.Denot)). LogsAreHeard g.U.TakeEnd.taken xs) c.deref-2.ensures.value c.in-Ok.ensures.heard
+pub done-requires-clause-heard : goal.done-requires-clause-heard
+done-requires-clause-heard g c = subst (λ (xs : List (ProgrammeDesk g.row.U.Denot)). LogsAreHeard g.U.TakeEnd.taken xs) c.deref-2.ensures.value c.in-Ok.ensures.heard
