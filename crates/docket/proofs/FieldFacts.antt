@@ -2,7 +2,7 @@
 use Rattle.std.proofs.Common.{◌≡◌, ◌≤◌, ◌<◌, ◌+◌, ◌-◌, ℕ, zero, suc, List, [], ◌∷◌, ◌++◌, Bool, false, length, get_or, take, drop, arith, sym, ◌∙◌, refl, ap}
 use Rattle.std.specs.Prelude.{◌&&◌}
 use Rattle.std.specs.List.{list_all}
-use Rattle.std.proofs.lemmas.List.{get_or-append_right}
+use Rattle.std.proofs.lemmas.List.{get_or_append_left, get_or-append_right}
 use Rattle.std.proofs.lemmas.List.Folds.{list_all_more, list_all_at}
 use Rattle.csv.specs.Records.{field_at}
 use Rattle.docket.specs.Fields.{Fields, field}
@@ -16,12 +16,7 @@ field-get_or (f ∷ row) (suc i) = field-get_or row i
 
 -- a field of texts that are joined
 pub field-append_left : (xs ys : Fields) (i : ℕ) → i < length xs → field (xs ++ ys) i ≡ field xs i
-field-append_left xs ys i h = field-get_or (xs ++ ys) i ∙ front xs ys i h ∙ sym (field-get_or xs i)
-  where
-    front : (xs ys : Fields) (i : ℕ) → i < length xs → get_or (xs ++ ys) i [] ≡ get_or xs i []
-    front [] ys i h = absurd (omega arith)
-    front (x ∷ xs) ys zero h = refl
-    front (x ∷ xs) ys (suc i) h = front xs ys i (omega arith)
+field-append_left xs ys i h = field-get_or (xs ++ ys) i ∙ get_or_append_left xs ys [] i h ∙ sym (field-get_or xs i)
 
 pub field-append_right : (xs ys : Fields) (i : ℕ) → length xs ≤ i → field (xs ++ ys) i ≡ field ys (i - length xs)
 field-append_right xs ys i h = field-get_or (xs ++ ys) i ∙ get_or-append_right xs ys (length xs) i [] refl h ∙ sym (field-get_or ys (i - length xs))

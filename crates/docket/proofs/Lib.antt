@@ -2,6 +2,7 @@ pub mod WordFacts
 pub mod FieldFacts
 pub mod LongRecordFacts
 pub mod RowsFacts
+pub mod RowKindFacts
 pub mod NameFacts
 pub mod ReadFacts
 pub mod DeclarationFacts

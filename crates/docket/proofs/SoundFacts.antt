@@ -2,15 +2,15 @@
 use Rattle.std.proofs.Common.{◌≡◌, ◌<◌, ℕ, List, [], ◌∷◌, ◌++◌, Bool, true, false, length, drop, arith, refl, Option, Some, None, inl, inr, rules}
 use Rattle.std.specs.Prelude.{◌==◌, ◌⊎◌, ◌&&◌, is_some, nat_lt, unwrap_or, IsSome}
 use Rattle.std.specs.List.{list_all}
-use Rattle.docket.specs.Words.{is_name, number_of, capacity_of, answer_of}
+use Rattle.docket.specs.Words.{is_name, is_number, answer_of}
 use Rattle.std.specs.Option.{option_or}
-use Rattle.docket.specs.Fields.{Fields, field, kind_of, is_kind, unless, counted, row_fault, quota_row_fault, list_row_fault, lists_names, filled_row_fault, capacity_row_fault, event_row_fault, worded_row_fault, event_names_fault, answer_fault, event_word, width_of}
+use Rattle.docket.specs.Fields.{Fields, field, kind_of, unless, counted, row_fault, list_row_fault, lists_names, filled_row_fault, event_row_fault, worded_row_fault, event_names_fault, answer_fault, event_word, width_of}
 use Rattle.docket.specs.declared.kind.TheConstants.{QUOTA, PROGRAMME_LIST, RESIDENT_LIST, MATCHED, UNMATCHED, FILLED, CAPACITY, EVENT}
 use Rattle.docket.specs.declared.kind.EventWord.{EventWord}
 use Rattle.docket.specs.declared.kind.EventWord.TheVariants.{Offer, Take, Answer, Hear, Close}
 use Rattle.docket.specs.Contents.{word_in}
 use Rattle.docket.specs.declared.fault.DocketFault.{DocketFault}
-use Rattle.docket.specs.declared.fault.DocketFault.TheVariants.{FieldCount, BadName, BadQuota, BadEvent, BadSheet, UnknownKind}
+use Rattle.docket.specs.declared.fault.DocketFault.TheVariants.{FieldCount, BadName, BadEvent, BadSheet}
 use Rattle.docket.specs.Passes.{repeat_fault, limit_fault}
 use Rattle.docket.specs.Declarations.{IsDeclared}
 use Rattle.docket.specs.declared.declarations.Declarations.{Declarations}
@@ -32,33 +32,16 @@ pub is_some-some : {A : Type 0} (o : Option A) → is_some o ≡ true → IsSome
 is_some-some (Some x) e = search rules
 is_some-some None e = absurd (cc e)
 
--- a Q row has a name and a number
-pub quota_row_sound : (n : ℕ) (row : Fields) → row_fault n row ≡ None → kind_of row ≡ QUOTA
-    → (is_name (field row 1) ≡ true) × (is_some (number_of (field row 2)) ≡ true)
-unfolding row_fault
-quota_row_sound n row h kind =
-    let own : quota_row_fault n row ≡ None = rw kind at h in
-    let rest = both_none (counted n 3 row) (option_or (unless (is_name (field row 1)) (BadName n)) (unless (is_some (number_of (field row 2))) (BadQuota n))) own in
-    let last = both_none (unless (is_name (field row 1)) (BadName n)) (unless (is_some (number_of (field row 2))) (BadQuota n)) rest.1 in
-    (unless_none (is_name (field row 1)) (BadName n) last.0, unless_none (is_some (number_of (field row 2))) (BadQuota n) last.1)
-
--- a C row has a capacity
-pub capacity_row_sound : (n : ℕ) (row : Fields) → row_fault n row ≡ None → kind_of row ≡ CAPACITY → is_some (capacity_of (field row 1)) ≡ true
-unfolding row_fault
-capacity_row_sound n row h kind =
-    let own : capacity_row_fault n row ≡ None = rw kind at h in
-    unless_none (is_some (capacity_of (field row 1))) (BadEvent n) (both_none (counted n 2 row) (unless (is_some (capacity_of (field row 1))) (BadEvent n)) own).1
-
 -- an F row has two numbers
 pub filled_row_sound : (n : ℕ) (row : Fields) → row_fault n row ≡ None → kind_of row ≡ FILLED
-    → (is_some (number_of (field row 2)) ≡ true) × (is_some (number_of (field row 3)) ≡ true)
+    → (is_number (field row 2) ≡ true) × (is_number (field row 3) ≡ true)
 unfolding row_fault
 filled_row_sound n row h kind =
     let own : filled_row_fault n row ≡ None = rw kind at h in
-    let numbers = unless (is_some (number_of (field row 2)) && is_some (number_of (field row 3))) (BadSheet n) in
+    let numbers = unless (is_number (field row 2) && is_number (field row 3)) (BadSheet n) in
     let rest = both_none (counted n 4 row) (option_or (unless (is_name (field row 1)) (BadName n)) numbers) own in
     let last = both_none (unless (is_name (field row 1)) (BadName n)) numbers rest.1 in
-    both_true (is_some (number_of (field row 2))) (is_some (number_of (field row 3))) (unless_none (is_some (number_of (field row 2)) && is_some (number_of (field row 3))) (BadSheet n) last.1)
+    both_true (is_number (field row 2)) (is_number (field row 3)) (unless_none (is_number (field row 2) && is_number (field row 3)) (BadSheet n) last.1)
   where
     both_true : (a b : Bool) → (a && b) ≡ true → (a ≡ true) × (b ≡ true)
     both_true true b h = (refl, h)
@@ -89,8 +72,8 @@ answer_row_sound n row h kind word =
     by (Some Close) e (inl w) = absurd (cc w)
     by (Some Close) e (inr w) = absurd (cc w)
 
--- a P or R row has names from field 1 on
-list_row_sound : (n : ℕ) (row : Fields) → list_row_fault n row ≡ None → is_name (field row 1) ≡ true
+-- a P or R row has a name in field 1
+pub list_row_sound : (n : ℕ) (row : Fields) → list_row_fault n row ≡ None → is_name (field row 1) ≡ true
 unfolding lists_names
 list_row_sound n row own =
     let rest = both_none (unless (nat_lt 1 (length row)) (FieldCount n)) (unless (lists_names row) (BadName n)) own in
@@ -102,35 +85,6 @@ list_row_sound n row own =
     first [] lt all = absurd (omega arith)
     first (k ∷ []) lt all = absurd (omega arith)
     first (k ∷ name ∷ rest) lt all = rw (field-get_or (k ∷ name ∷ rest) 1) (list_all_true_at is_name (name ∷ rest) 0 [] (omega arith) all)
-
-pub programme_list_sound : (n : ℕ) (row : Fields) → row_fault n row ≡ None → kind_of row ≡ PROGRAMME_LIST → is_name (field row 1) ≡ true
-unfolding row_fault
-programme_list_sound n row h kind = list_row_sound n row (rw kind at h)
-
-pub resident_list_sound : (n : ℕ) (row : Fields) → row_fault n row ≡ None → kind_of row ≡ RESIDENT_LIST → is_name (field row 1) ≡ true
-unfolding row_fault
-resident_list_sound n row h kind = list_row_sound n row (rw kind at h)
-
--- a row of none of the five kinds is of a sheet
-pub sheet_kind : (n : ℕ) (row : Fields) → row_fault n row ≡ None
-    → (kind_of row ≡ QUOTA → ⊥) → (kind_of row ≡ PROGRAMME_LIST → ⊥) → (kind_of row ≡ RESIDENT_LIST → ⊥) → (kind_of row ≡ CAPACITY → ⊥) → (kind_of row ≡ EVENT → ⊥)
-    → (kind_of row ≡ MATCHED) ⊎ ((kind_of row ≡ UNMATCHED) ⊎ (kind_of row ≡ FILLED))
-unfolding row_fault
-sheet_kind n row h q p r c e =
-    by (is_kind MATCHED row) refl (is_kind UNMATCHED row) refl (is_kind FILLED row) refl
-  where
-    other : (k : ℕ) → (kind_of row ≡ k → ⊥) → (kind_of row == k) ≡ false
-    other k isnt = search (rules, isnt)
-
-    none : (is_kind MATCHED row) ≡ false → (is_kind UNMATCHED row) ≡ false → (is_kind FILLED row) ≡ false → ⊥
-    none m u f = let last : Some (UnknownKind n) ≡ None = rw (other QUOTA q, other PROGRAMME_LIST p, other RESIDENT_LIST r, m, u, f, other CAPACITY c, other EVENT e) at h in cc last
-
-    by : (m : Bool) → is_kind MATCHED row ≡ m → (u : Bool) → is_kind UNMATCHED row ≡ u → (f : Bool) → is_kind FILLED row ≡ f
-        → (kind_of row ≡ MATCHED) ⊎ ((kind_of row ≡ UNMATCHED) ⊎ (kind_of row ≡ FILLED))
-    by true m u eu f ef = inl (search (rules, m))
-    by false m true eu f ef = inr (inl (search (rules, eu)))
-    by false m false eu true ef = inr (inr (search (rules, ef)))
-    by false m false eu false ef = absurd (none m eu ef)
 
 -- nothing is asked of a row of a sheet
 pub sheet_row_free : (before : List Fields) (row : Fields) (k : ℕ) → kind_of row ≡ k → (k == QUOTA) ≡ false → (k == PROGRAMME_LIST) ≡ false

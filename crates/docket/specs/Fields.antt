@@ -3,7 +3,7 @@ use Rattle.std.specs.Prelude.{ℕ, nat_lt, ◌&&◌, ◌==◌, Bool, if◌then�
 use Rattle.std.specs.Option.{option_or}
 use Rattle.std.specs.List.{list_all}
 use Rattle.csv.specs.Records.{field_at}
-use Rattle.docket.specs.Words.{is_name, number_of, capacity_of, answer_of}
+use Rattle.docket.specs.Words.{is_name, is_number, number_of, capacity_of, answer_of}
 use Rattle.docket.specs.declared.kind.TheConstants.{QUOTA, PROGRAMME_LIST, RESIDENT_LIST, MATCHED, UNMATCHED, FILLED, CAPACITY, EVENT}
 use Rattle.docket.specs.declared.kind.EventWord.{EventWord}
 use Rattle.docket.specs.declared.kind.EventWord.TheVariants.{Offer, Take, Answer, Hear, Close}
@@ -90,7 +90,7 @@ abbrev pub filled_row_fault : ℕ → Fields → Option DocketFault
 filled_row_fault n row =
     option_or (counted n 4 row)
     (option_or (unless (is_name (field row 1)) (BadName n))
-    (unless (is_some (number_of (field row 2)) && is_some (number_of (field row 3))) (BadSheet n)))
+    (unless (is_number (field row 2) && is_number (field row 3)) (BadSheet n)))
 
 -- `C,full` or `C,n`
 abbrev pub capacity_row_fault : ℕ → Fields → Option DocketFault

@@ -3,6 +3,7 @@ pub mod Fields
 pub mod Passes
 pub mod Contents
 pub mod LongRecord
+pub mod RowKind
 pub mod Rows
 pub mod Read
 pub mod Retrying

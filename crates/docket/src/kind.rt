@@ -1,4 +1,7 @@
+//! The kinds of records, by their letters, and what a record of each kind says.
 ghost use Rattle.std.specs.Prelude.{◌≡◌};
+
+use exchange_core::Capacity;
 
 /// `Q,programme,quota`: declares a programme.
 pub const QUOTA: u8 = b'Q';
@@ -53,4 +56,35 @@ pub enum EventWord {
     Hear,
     /// `E,close`
     Close,
+}
+
+/// What a record says by itself, where it has no fault of its own: its kind, and what was read from its fields.
+#[derive(Clone, Copy)]
+pub enum RowKind {
+    /// `Q,programme,quota`
+    Programme { quota: u32 },
+    /// `P,programme,resident,..`
+    ProgrammeList,
+    /// `R,resident,programme,..`
+    Resident,
+    /// `M,resident,programme`, `U,resident` or `F,programme,filled,quota`
+    Sheet,
+    /// `C,full` or `C,n`
+    Capacity(Capacity),
+    /// `E,word,..`
+    Event(EventWord),
+}
+
+impl RowKind {
+    ghost use Rattle.docket.specs.RowKind.{word_of};
+
+    /// The word of a record, if it is an event.
+    pub fn word(self) -> Option<EventWord>
+        ensures { result ≡ word_of self }
+    {
+        match self {
+            RowKind::Event(word) => Some(word),
+            _ => None,
+        }
+    }
 }

@@ -11,7 +11,7 @@ ghost use Rattle.docket.specs.Rows.{row_at};
 use crate::fault::DocketFault;
 use crate::kind::{FILLED, MATCHED, UNMATCHED};
 use crate::tables::Tables;
-use crate::words::number_of;
+use crate::words::digits_worth;
 use match_model::{Assignment, Instance, ProgrammeNo, ResidentNo};
 use std::alloc::{AllocError, Global};
 
@@ -187,8 +187,8 @@ impl Marks {
         let Some(programme) = tables.programme(k, 1) else {
             unreachable!("the first walk knew the programme");
         };
-        let filled = number_of(tables.field(k, 2)).unwrap();
-        let quota = number_of(tables.field(k, 3)).unwrap();
+        let filled = digits_worth(tables.field(k, 2));
+        let quota = digits_worth(tables.field(k, 3));
         filled == self.counts[programme.0 as usize] && quota == instance.quota(programme)
     }
 

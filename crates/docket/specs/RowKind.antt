@@ -1,0 +1,38 @@
+-- What a record says by itself, where it has no fault of its own.
+use Rattle.std.specs.Prelude.{◌≡◌, ◌⊎◌, true, Option, Some, None, Result, Ok, Err}
+use Rattle.docket.specs.Words.{is_name, number_of, capacity_of}
+use Rattle.docket.specs.Fields.{Fields, field, kind_of}
+use Rattle.docket.specs.Rows.{IsEventOf}
+use Rattle.docket.specs.declared.kind.RowKind.{RowKind}
+use Rattle.docket.specs.declared.kind.RowKind.TheVariants.{Programme, ProgrammeList, Resident, Sheet, Capacity, Event}
+use Rattle.docket.specs.declared.kind.EventWord.{EventWord}
+use Rattle.docket.specs.declared.kind.TheConstants.{QUOTA, PROGRAMME_LIST, RESIDENT_LIST, MATCHED, UNMATCHED, FILLED, CAPACITY}
+use Rattle.docket.specs.declared.fault.DocketFault.{DocketFault}
+
+-- the word of a record, if it is an event
+abbrev pub word_of : RowKind → Option EventWord
+word_of (Programme quota) = None
+word_of ProgrammeList = None
+word_of Resident = None
+word_of Sheet = None
+word_of (Capacity room) = None
+word_of (Event word) = Some word
+
+-- the record is of the kind, and says this
+abbrev pub IsReadAs : RowKind → Fields → Type 0
+IsReadAs (Programme quota) row = (kind_of row ≡ QUOTA) × (is_name (field row 1) ≡ true) × (number_of (field row 2) ≡ Some quota)
+IsReadAs ProgrammeList row = (kind_of row ≡ PROGRAMME_LIST) × (is_name (field row 1) ≡ true)
+IsReadAs Resident row = (kind_of row ≡ RESIDENT_LIST) × (is_name (field row 1) ≡ true)
+IsReadAs Sheet row = (kind_of row ≡ MATCHED) ⊎ ((kind_of row ≡ UNMATCHED) ⊎ (kind_of row ≡ FILLED))
+IsReadAs (Capacity room) row = (kind_of row ≡ CAPACITY) × (capacity_of (field row 1) ≡ Some room)
+IsReadAs (Event word) row = IsEventOf (Some word) row
+
+-- the kind, unless there is a fault
+abbrev pub read_as : RowKind → Option DocketFault → Result RowKind DocketFault
+read_as kind None = Ok kind
+read_as kind (Some e) = Err e
+
+-- the answer is the fault, or what the record says where there is none
+abbrev pub Reads : Option DocketFault → Fields → Result RowKind DocketFault → Type 0
+Reads fault row (Ok kind) = (fault ≡ None) × IsReadAs kind row
+Reads fault row (Err e) = fault ≡ Some e

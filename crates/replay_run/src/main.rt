@@ -1,0 +1,22 @@
+//! The program once more, with the stored run of a replay beside it: its words, its docket, what it prints and its exit status.
+#![tactic(auto)]
+
+use residency::serve_words;
+use std::process::ExitCode;
+use std::{env, io};
+
+// The words after the program's own name.
+fn words(rt: &HostRuntime) -> io::Result<Vec<String>> {
+    Ok(env::args(rt)?.skip(1).collect(rt.alloc())?)
+}
+
+fn main(rt: HostRuntime) -> ExitCode {
+    serve_words(
+        rt,
+        rt.alloc(),
+        words(&rt),
+        rt.reader(),
+        &mut io::writer(&rt),
+        &rt,
+    )
+}
