@@ -1,6 +1,7 @@
 -- The words of a docket: names, numbers, a capacity, the kind of an answer.
 use Rattle.std.specs.Prelude.{ℕ, ◌+◌, ◌-◌, ◌*◌, nat_le, ◌&&◌, ◌||◌, ◌==◌, Bool, if◌then◌else◌, Option, Some, None, List, length, codes, bytes_eq, fold, option_and_then}
 use Rattle.std.specs.List.{list_all}
+use Rattle.exchange_core.specs.Shown.{is_capacity}
 use Rattle.exchange_core.specs.declared.event.AnswerKind.{AnswerKind}
 use Rattle.exchange_core.specs.declared.event.AnswerKind.TheVariants.{Hold, Decline, Release}
 use Rattle.exchange_core.specs.declared.event.Capacity.{Capacity}
@@ -36,7 +37,7 @@ number_of text = if is_number text then Some (digits_worth text) else None
 
 -- room for each mailbox, from 1 to 1,024
 abbrev pub each_of : ℕ → Option Capacity
-each_of n = if is_between 1 1024 n then Some (Each n) else None
+each_of n = if is_capacity (Each n) then Some (Each n) else None
 
 -- the capacity that `full`, or a number from 1 to 1,024, writes
 unfoldable pub capacity_of : List ℕ → Option Capacity

@@ -4,33 +4,34 @@ ghost use Rattle.std.specs.Prelude.{◌≡◌};
 use exchange_core::Capacity;
 
 /// `Q,programme,quota`: declares a programme.
-pub const QUOTA: u8 = b'Q';
+pub(crate) const QUOTA: u8 = b'Q';
 
 /// `P,programme,resident,..`: a programme's list, best first.
-pub const PROGRAMME_LIST: u8 = b'P';
+pub(crate) const PROGRAMME_LIST: u8 = b'P';
 
 /// `R,resident,programme,..`: declares a resident, with its list, best first.
-pub const RESIDENT_LIST: u8 = b'R';
+pub(crate) const RESIDENT_LIST: u8 = b'R';
 
 /// `M,resident,programme`: matched, of a sheet.
-pub const MATCHED: u8 = b'M';
+pub(crate) const MATCHED: u8 = b'M';
 
 /// `U,resident`: unmatched, of a sheet.
-pub const UNMATCHED: u8 = b'U';
+pub(crate) const UNMATCHED: u8 = b'U';
 
 /// `F,programme,filled,quota`: how many residents a programme has, of a sheet.
-pub const FILLED: u8 = b'F';
+pub(crate) const FILLED: u8 = b'F';
 
 /// `C,full` or `C,n`: the capacity, of a journal.
-pub const CAPACITY: u8 = b'C';
+pub(crate) const CAPACITY: u8 = b'C';
 
 /// `E,word,..`: an event, of a journal.
-pub const EVENT: u8 = b'E';
+pub(crate) const EVENT: u8 = b'E';
 
 /// The most records of a docket.
-pub const MAX_RECORDS: u32 = 2_000_000;
+pub(crate) const MAX_RECORDS: u32 = 2_000_000;
 
-/// What definitions name by a constant is this, whatever the constant says.
+/// What definitions and contracts name by a constant is this, whatever the constant says: the kinds' letters in ASCII, and
+/// the most records of a docket.
 pub fn law_constants()
     ensures quota { QUOTA ≡ 81 }
     ensures programme_list { PROGRAMME_LIST ≡ 80 }
@@ -45,7 +46,7 @@ pub fn law_constants()
 
 /// The word of an event.
 #[derive(Clone, Copy)]
-pub enum EventWord {
+pub(crate) enum EventWord {
     /// `E,offer,p,r`
     Offer,
     /// `E,take,r,p`
@@ -60,7 +61,7 @@ pub enum EventWord {
 
 /// What a record says by itself, where it has no fault of its own: its kind, and what was read from its fields.
 #[derive(Clone, Copy)]
-pub enum RowKind {
+pub(crate) enum RowKind {
     /// `Q,programme,quota`
     Programme { quota: u32 },
     /// `P,programme,resident,..`
@@ -79,7 +80,7 @@ impl RowKind {
     ghost use Rattle.docket.specs.RowKind.{word_of};
 
     /// The word of a record, if it is an event.
-    pub fn word(self) -> Option<EventWord>
+    pub(crate) fn word(self) -> Option<EventWord>
         ensures { result ≡ word_of self }
     {
         match self {

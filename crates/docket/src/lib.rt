@@ -29,6 +29,7 @@ mod write;
 
 pub use crate::docket::{Docket, Journal};
 pub use fault::DocketFault;
+pub use kind::law_constants;
 pub use read::read_docket;
 pub use row_text::RowText;
 pub use words::capacity_of;

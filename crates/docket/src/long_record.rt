@@ -12,7 +12,7 @@ use std::marker::Model;
 
 /// Rows in one long record, and where each of them ends in it.
 #[derive(Drop)]
-pub struct LongRecord {
+pub(crate) struct LongRecord {
     fields: Texts,
     ends: Numbers,
 }
@@ -43,7 +43,7 @@ fn append(fields: &mut Texts, row: &ByteRecord, from: usize) -> Result<(), Alloc
 
 impl LongRecord {
     /// No rows yet.
-    pub fn new(alloc: Global) -> LongRecord
+    pub(crate) fn new(alloc: Global) -> LongRecord
         ensures { result ≡ [] }
     {
         LongRecord {
@@ -53,7 +53,7 @@ impl LongRecord {
     }
 
     /// Takes every row away.
-    pub fn clear(&mut self)
+    pub(crate) fn clear(&mut self)
         ensures { self.new ≡ [] }
     {
         self.fields.clear();
@@ -61,7 +61,7 @@ impl LongRecord {
     }
 
     /// Adds the fields of a row from field `from` on, as a row. Where memory is wanting no row is kept.
-    pub fn push(&mut self, row: &ByteRecord, from: usize) -> Result<(), AllocError>
+    pub(crate) fn push(&mut self, row: &ByteRecord, from: usize) -> Result<(), AllocError>
         ensures { OnOk result (self.new ≡ self.old ++ drop from (fields_of row.now) ∷ []) }
     {
         let Ok(()) = append(&mut self.fields, row, from) else {
@@ -78,7 +78,7 @@ impl LongRecord {
     }
 
     /// How many fields row `k` has.
-    pub fn width(&self, k: usize) -> usize
+    pub(crate) fn width(&self, k: usize) -> usize
         requires { k < length self.now }
         ensures { result ≡ length (row_at self.now k) }
     {
@@ -86,7 +86,7 @@ impl LongRecord {
     }
 
     /// Field `i` of row `k`, which is empty past the end.
-    pub fn field(&self, k: usize, i: usize) -> &[u8]
+    pub(crate) fn field(&self, k: usize, i: usize) -> &[u8]
         requires { k < length self.now }
         ensures { result.now ≡ fields.field (row_at self.now k) i }
     {

@@ -9,7 +9,7 @@ use std::marker::Model;
 use std::str;
 
 /// Names, numbered from 0 in the order in which they were first seen.
-pub struct Names {
+pub(crate) struct Names {
     seen: IndexSet<Vec<u8>>,
 }
 
@@ -34,7 +34,7 @@ impl Drop for Names {
 
 impl Names {
     /// No names yet.
-    pub fn new(alloc: Global) -> Names
+    pub(crate) fn new(alloc: Global) -> Names
         ensures { result ≡ [] }
     {
         Names {
@@ -43,14 +43,14 @@ impl Names {
     }
 
     /// How many names there are.
-    pub fn len(&self) -> usize
+    pub(crate) fn len(&self) -> usize
         ensures { result ≡ length self.now }
     {
         self.seen.len()
     }
 
     /// The number of a name, if it was seen.
-    pub fn number(&self, name: &[u8]) -> Option<usize>
+    pub(crate) fn number(&self, name: &[u8]) -> Option<usize>
         ensures number { result ≡ number_in self.now name.now }
         ensures within { IfSome result (λ i. i < length self.now) }
     {
@@ -58,7 +58,7 @@ impl Names {
     }
 
     /// Adds a name, and says whether it is new.
-    pub fn add(&mut self, alloc: Global, name: &[u8]) -> Result<bool, AllocError>
+    pub(crate) fn add(&mut self, alloc: Global, name: &[u8]) -> Result<bool, AllocError>
         requires { words.is_name name.now ≡ true }
         ensures fresh { IfOk result (λ fresh. fresh ≡ not (is_declared self.old name.now)) }
         ensures names { OnOk result (self.new ≡ (if is_declared self.old name.now then self.old else self.old ++ name.now ∷ [])) }
@@ -69,7 +69,7 @@ impl Names {
     }
 
     /// The name of a number. The number was given to a name.
-    pub fn name(&self, number: usize) -> &str
+    pub(crate) fn name(&self, number: usize) -> &str
         requires { number < length self.now }
         ensures { slice_get self.now number ≡ Some result.now }
     {

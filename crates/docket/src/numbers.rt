@@ -8,7 +8,7 @@ use std::marker::Model;
 /// Numbers, in order, in as little room as they take: those below 2^16 in two bytes, from the first larger one on those
 /// below 2^32 in four, and from the first one over that on all others in eight.
 #[derive(Drop)]
-pub struct Numbers {
+pub(crate) struct Numbers {
     count: usize,
     small: Vec<u16>,
     middle: Vec<u32>,
@@ -27,7 +27,7 @@ impl Model for Numbers {
 
 impl Numbers {
     /// No numbers yet.
-    pub fn new(alloc: Global) -> Numbers
+    pub(crate) fn new(alloc: Global) -> Numbers
         ensures { result ≡ [] }
     {
         Numbers {
@@ -39,14 +39,14 @@ impl Numbers {
     }
 
     /// How many numbers there are.
-    pub fn len(&self) -> usize
+    pub(crate) fn len(&self) -> usize
         ensures { result ≡ length self.now }
     {
         self.count
     }
 
     /// Takes every number away.
-    pub fn clear(&mut self)
+    pub(crate) fn clear(&mut self)
         ensures { self.new ≡ [] }
     {
         self.count = 0;
@@ -56,7 +56,7 @@ impl Numbers {
     }
 
     /// Adds a number.
-    pub fn push(&mut self, number: usize) -> Result<(), AllocError>
+    pub(crate) fn push(&mut self, number: usize) -> Result<(), AllocError>
         ensures { OnOk result (self.new ≡ self.old ++ number ∷ []) }
     {
         let Some(count) = self.count.checked_add(1) else {
@@ -74,7 +74,7 @@ impl Numbers {
     }
 
     /// Number `k`, from 0.
-    pub fn get(&self, k: usize) -> usize
+    pub(crate) fn get(&self, k: usize) -> usize
         requires { k < length self.now }
         ensures { result ≡ slice_index_or self.now k 0 }
     {
@@ -92,7 +92,7 @@ impl Numbers {
 }
 
 /// Where item `k` starts of those that end there.
-pub fn start_of(ends: &Numbers, k: usize) -> usize
+pub(crate) fn start_of(ends: &Numbers, k: usize) -> usize
     requires { k < length ends.now }
     ensures { result ≡ prev 0 ends.now k }
 {

@@ -160,7 +160,7 @@ fn finished(builder: InstanceBuilder, tables: &Tables) -> Result<Instance, Docke
 }
 
 /// The instance of the lists.
-pub fn instance_of(
+pub(crate) fn instance_of(
     alloc: Global,
     tables: &Tables,
     mut builder: InstanceBuilder,

@@ -39,13 +39,13 @@ fn read_again<R: Read>(reader: &mut R, buf: &mut [u8]) -> io::Result<usize>
 
 /// Reads again where a read is interrupted, as the standard library's own readers do.
 #[derive(Drop)]
-pub struct Retrying<R> {
+pub(crate) struct Retrying<R> {
     inner: R,
 }
 
 impl<R> Retrying<R> {
     /// Over another reader.
-    pub fn new(inner: R) -> Retrying<R>
+    pub(crate) fn new(inner: R) -> Retrying<R>
         ensures { inner_of result ≡ inner }
     {
         Retrying { inner }

@@ -213,7 +213,7 @@ impl Marks {
 }
 
 /// The sheet of a docket that has one.
-pub fn sheet_of(
+pub(crate) fn sheet_of(
     alloc: Global,
     tables: &Tables,
     instance: &Instance,

@@ -141,7 +141,7 @@ impl SharedTexts {
         self.numbers.clear();
     }
 
-    // Adds a text. Where memory is wanting no text is kept.
+    // Adds a text. Where memory is wanting, those before are kept or none is.
     fn push(&mut self, text: &[u8]) -> Result<(), AllocError>
         ensures { OnOk result (self.new ≡ self.old ++ text.now ∷ []) }
     {
@@ -170,7 +170,7 @@ const MOST_PLAIN: usize = 4_194_304;
 
 /// Texts, in order: the first of them one after another, and of all others each different one once.
 #[derive(Drop)]
-pub struct Texts {
+pub(crate) struct Texts {
     count: usize,
     plain: PlainTexts,
     shared: SharedTexts,
@@ -189,7 +189,7 @@ impl Model for Texts {
 
 impl Texts {
     /// No texts yet.
-    pub fn new(alloc: Global) -> Texts
+    pub(crate) fn new(alloc: Global) -> Texts
         ensures { result ≡ [] }
     {
         Texts {
@@ -200,14 +200,14 @@ impl Texts {
     }
 
     /// How many texts there are.
-    pub fn len(&self) -> usize
+    pub(crate) fn len(&self) -> usize
         ensures { result ≡ length self.now }
     {
         self.count
     }
 
     /// Takes every text away.
-    pub fn clear(&mut self)
+    pub(crate) fn clear(&mut self)
         ensures { self.new ≡ [] }
     {
         self.count = 0;
@@ -216,7 +216,7 @@ impl Texts {
     }
 
     /// Adds a text. Where memory is wanting no text is kept.
-    pub fn push(&mut self, text: &[u8]) -> Result<(), AllocError>
+    pub(crate) fn push(&mut self, text: &[u8]) -> Result<(), AllocError>
         ensures { OnOk result (self.new ≡ self.old ++ text.now ∷ []) }
     {
         let Some(count) = self.count.checked_add(1) else {
@@ -238,7 +238,7 @@ impl Texts {
     }
 
     /// The text with this number, from 0.
-    pub fn get(&self, k: usize) -> &[u8]
+    pub(crate) fn get(&self, k: usize) -> &[u8]
         requires { k < length self.now }
         ensures { result.now ≡ fields.field self.now k }
     {

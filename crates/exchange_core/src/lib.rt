@@ -11,6 +11,6 @@ mod programmes;
 mod residents;
 mod seat;
 
-pub use event::{AnswerKind, Capacity, Desk, Event, MAX_EACH, Pending, Refused};
+pub use event::{AnswerKind, Capacity, Desk, Event, Pending, Refused};
 pub use exchange::{Core, CoreFault};
 pub use note::{AnswerNote, OfferNote};

@@ -5,16 +5,22 @@ ghost use Rattle.mailbox_rule.specs.Replies.{MatchPut, MatchTake};
 /// What a put answers. `Full` and `Gone` hand the message back.
 #[derive(Clone, Copy, PartialEq, Eq, Debug, Drop)]
 pub enum PutReply<M> {
+    /// The message is in the mailbox.
     Done,
+    /// There is no room.
     Full(M),
+    /// Nobody can take any more.
     Gone(M),
 }
 
 /// What a take answers.
 #[derive(Clone, Copy, PartialEq, Eq, Debug, Drop)]
 pub enum TakeReply<M> {
+    /// The oldest message, which is out of the mailbox now.
     Got(M),
+    /// No message waits.
     Nothing,
+    /// No message waits, and nobody can put any more.
     Gone,
 }
 

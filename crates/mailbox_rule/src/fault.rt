@@ -8,8 +8,10 @@ use thiserror::Error;
 /// Why no mailbox, or no list that stands for one, was made.
 #[derive(Clone, Copy, PartialEq, Eq, Debug, Drop, Error)]
 pub enum MailFault {
+    /// There would be room for no message.
     #[error("a mailbox needs a capacity above 0")]
     NoCapacity,
+    /// A growth was refused.
     #[error("out of memory")]
     Memory,
 }

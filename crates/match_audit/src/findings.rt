@@ -40,6 +40,7 @@ fn is_acceptable(inst: &Instance, resident: ResidentNo, programme: ProgrammeNo) 
     requires { IsResident inst.now resident }
     ensures { IsTrue result ↔ Acceptable inst.now resident programme }
 {
+    // For the proof alone: rankings are mutual.
     let _residents = inst.residents();
     inst.rank_at_resident(resident, programme).is_some()
 }

@@ -1,3 +1,4 @@
+//! Who is matched where.
 ghost use Rattle.std.specs.Prelude.{◌≡◌, ℕ, ◌<◌, ◌^◌, Option, None, List, length, replicate, vec_len, IfOk, IsOkUnless, slice_set};
 ghost use Rattle.match_model.specs.Placement.{programme_of};
 

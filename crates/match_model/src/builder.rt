@@ -1,3 +1,4 @@
+//! The builder of an instance: quotas and lists as they are handed in.
 ghost use Rattle.std.specs.Prelude.{◌≡◌, ℕ, ◌⊎◌, ◌<◌, ◌≤◌, Option, List, [], length, IfOk, IfErr, OnOk, OnErr, IfSome, Err};
 ghost use Rattle.match_model.specs.Instance.{IsInstance, pair_count};
 

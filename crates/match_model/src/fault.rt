@@ -1,3 +1,4 @@
+//! Why a call of the model is refused.
 ghost use Rattle.std.specs.Prelude.{◌≡◌};
 ghost use Rattle.match_model.specs.declared.fault.ModelFault.TheVariants.{Memory};
 

@@ -1,3 +1,4 @@
+//! An instance: quotas, mutual rankings and ranks.
 ghost use Rattle.std.specs.Prelude.{◌≡◌, ◌<◌, ◌≤◌, length};
 ghost use Rattle.match_model.specs.Instance.{IsInstance, IsProgramme, IsResident, pair_count, quota as quota_of, list_of_programme as ranking_of_programme, list_of_resident as ranking_of_resident, rank};
 

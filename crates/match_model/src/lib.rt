@@ -22,5 +22,5 @@ pub use assignment::Assignment;
 pub use builder::{FinishRefused, InstanceBuilder};
 pub use fault::ModelFault;
 pub use instance::Instance;
-pub use limits::{MAX_PAIRS, MAX_PROGRAMMES, MAX_QUOTA, MAX_RESIDENTS};
+pub use limits::{MAX_PAIRS, MAX_PROGRAMMES, MAX_QUOTA, MAX_RESIDENTS, law_limits};
 pub use member::{ProgrammeNo, ResidentNo};

@@ -1,3 +1,4 @@
+//! The limits of an instance.
 ghost use Rattle.std.specs.Prelude.{◌≡◌};
 
 /// The largest number of programmes of an instance.
@@ -12,7 +13,7 @@ pub const MAX_PAIRS: usize = 200_000;
 /// The largest quota of a programme.
 pub const MAX_QUOTA: u32 = 10_000;
 
-/// What definitions name by a constant is this, whatever the constant says.
+/// What definitions and contracts name by a constant is this, whatever the constant says.
 pub fn law_limits()
     ensures programmes { MAX_PROGRAMMES ≡ 2000 }
     ensures residents { MAX_RESIDENTS ≡ 20000 }

@@ -1,3 +1,4 @@
+//! The numbers of programmes and residents.
 ghost use Rattle.std.specs.Prelude.{ℕ};
 
 use std::marker::Model;

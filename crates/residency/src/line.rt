@@ -1,6 +1,5 @@
 //! The command line.
-ghost use Rattle.std.specs.Prelude.{◌≡◌, true, IfOk, IfErr, IfSome};
-ghost use Rattle.exchange_core.specs.Shown.{is_capacity};
+ghost use Rattle.std.specs.Prelude.{◌≡◌, IfOk, IfErr, IfSome};
 ghost use Rattle.residency.specs.declared.line.LineFault.TheVariants.{Memory};
 ghost use Rattle.residency.specs.Options.{IsOrder, IsWithinLimits};
 ghost use Rattle.residency.specs.Status.{IsLineFault};
@@ -9,7 +8,6 @@ use crate::options::{MatchOptions, Order};
 use clap::error::ErrorKind;
 use clap::{Arg, ArgAction, ArgMatches, Command};
 use docket::capacity_of;
-use exchange_core::Capacity;
 use std::alloc::{AllocError, Global};
 use std::convert::AsStr;
 use thiserror::Error;
@@ -53,12 +51,12 @@ pub enum LineFault {
     /// A growth was refused.
     #[error("out of memory")]
     Memory,
-    /// The capacity is neither `full` nor a number from 1 to 1,024.
-    #[error("bad capacity")]
-    BadCapacity,
     /// The words aren't those of a command, or help or the version was asked for.
     #[error(transparent)]
     Line(clap::Error),
+    /// The capacity is neither `full` nor a number from 1 to 1,024.
+    #[error("bad capacity")]
+    BadCapacity,
 }
 
 impl From<AllocError> for LineFault {
@@ -160,27 +158,16 @@ fn commands<'a>(alloc: Global) -> Result<Command<'a>, AllocError> {
     with_command(auditing, replay_command(alloc)?)
 }
 
-// The capacity that a text writes.
-fn capacity_given(text: &str) -> Result<Capacity, LineFault>
-    ensures capacity { IfOk result (λ capacity. is_capacity capacity ≡ true) }
-    ensures fault { IfErr result IsLineFault }
-{
-    match capacity_of(text.as_bytes()) {
-        Some(capacity) if capacity.is_admitted() => Ok(capacity),
-        _ => Err(LineFault::BadCapacity),
-    }
-}
-
-// The options that the words of a match give.
+// The options that the words of a match give. The number of workers is the one that its option admits.
 fn match_options(matches: &ArgMatches) -> Result<MatchOptions, LineFault>
     ensures options { IfOk result IsWithinLimits }
     ensures fault { IfErr result IsLineFault }
 {
     let mut options = MatchOptions::default();
     if let Some(text) = matches.get_str("capacity") {
-        match capacity_given(text) {
-            Ok(capacity) => options.capacity = capacity,
-            Err(fault) => return Err(fault),
+        match capacity_of(text.as_bytes()) {
+            Some(capacity) => options.capacity = capacity,
+            None => return Err(LineFault::BadCapacity),
         }
     }
     options.journal = matches.get_flag("journal");

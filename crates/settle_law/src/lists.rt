@@ -13,7 +13,7 @@ pub fn law_bound()
     ensures { BoundLaw }
 {}
 
-/// While a legal list isn't closed some event may follow, for every capacity from 1 on.
+/// While a legal list isn't closed some event may follow, for every capacity that is admitted.
 pub fn law_no_jam()
     ensures { NoJamLaw }
 {}
