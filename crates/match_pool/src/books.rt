@@ -131,7 +131,8 @@ impl<J: Naming, P: PutEnd<OfferNote>, Q: PutEnd<AnswerNote>> Books<J, P, Q> {
         }
     }
 
-    // What became of a put, whose receiver is woken where its mailbox was empty.
+    // What became of a put, whose receiver is woken where its mailbox was empty. Its sender waits for room in this
+    // mailbox where the put was refused as full, and for none where it is entered.
     fn put_entry(
         &mut self,
         made: Result<(), EntryRefused>,
@@ -140,10 +141,13 @@ impl<J: Naming, P: PutEnd<OfferNote>, Q: PutEnd<AnswerNote>> Books<J, P, Q> {
         was_empty: bool,
     ) -> Entry {
         match made {
-            Ok(()) => Entry::Made {
-                more: false,
-                woken: if was_empty { Some(receiver) } else { None },
-            },
+            Ok(()) => {
+                self.waits.leave(sender);
+                Entry::Made {
+                    more: false,
+                    woken: if was_empty { Some(receiver) } else { None },
+                }
+            }
             Err(
                 EntryRefused::Step(Refused::MailboxFull)
                 | EntryRefused::PutRefused(PutRefusal::Full),
@@ -203,7 +207,7 @@ impl<J: Naming, P: PutEnd<OfferNote>, Q: PutEnd<AnswerNote>> Books<J, P, Q> {
         match made {
             Ok(()) => Entry::Made {
                 more: false,
-                woken: self.waits.leave(receiver),
+                woken: self.waits.leave_first(receiver),
             },
             Err(EntryRefused::Spoiled) => Entry::Ended,
             Err(_) => {

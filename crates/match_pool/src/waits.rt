@@ -1,15 +1,16 @@
 //! Desks that wait for room in a mailbox, in the order in which they were refused.
 use std::alloc::{AllocError, Global};
 
-/// For each mailbox the first and the last of the desks whose put was refused as full, and for each desk whether it
-/// waits and who waits behind it; and how many wait in all, so that nothing is looked up while nobody does. Mailboxes
-/// and desks go by the number of the desk. Each desk waits at most once.
+/// For each mailbox the first and the last of the desks whose put was refused as full, and for each desk the mailbox
+/// for which it waits, and who waits before and behind it; and how many wait in all, so that nothing is looked up while
+/// nobody does. Mailboxes and desks go by the number of the desk. Each desk waits for one mailbox at most.
 #[derive(Debug, Drop)]
 pub(crate) struct Waits {
     first: Vec<Option<u32>>,
     last: Vec<Option<u32>>,
+    mailbox: Vec<Option<u32>>,
+    before: Vec<Option<u32>>,
     behind: Vec<Option<u32>>,
-    waits: Vec<bool>,
     count: usize,
 }
 
@@ -19,40 +20,60 @@ impl Waits {
         Ok(Waits {
             first: vec![in alloc; None; desks]?,
             last: vec![in alloc; None; desks]?,
+            mailbox: vec![in alloc; None; desks]?,
+            before: vec![in alloc; None; desks]?,
             behind: vec![in alloc; None; desks]?,
-            waits: vec![in alloc; false; desks]?,
             count: 0,
         })
     }
 
-    /// A desk begins to wait for room in a mailbox, unless it waits already.
+    /// A desk begins to wait for room in a mailbox, and for no other. Where it waits there already it keeps its place.
     pub(crate) fn join(&mut self, mailbox: u32, desk: u32) {
-        if self.waits.get(desk as usize) != Some(&false) {
+        if linked(&self.mailbox, desk) == Some(mailbox) {
             return;
         }
-        mark(&mut self.waits, desk, true);
-        self.count = self.count.saturating_add(1);
-        match linked(&self.last, mailbox) {
+        self.leave(desk);
+        let last = linked(&self.last, mailbox);
+        match last {
             Some(before) => link(&mut self.behind, before, Some(desk)),
             None => link(&mut self.first, mailbox, Some(desk)),
         }
         link(&mut self.last, mailbox, Some(desk));
+        link(&mut self.mailbox, desk, Some(mailbox));
+        link(&mut self.before, desk, last);
+        link(&mut self.behind, desk, None);
+        self.count = self.count.saturating_add(1);
+    }
+
+    /// A desk waits no more, if it does.
+    pub(crate) fn leave(&mut self, desk: u32) {
+        if self.count == 0 {
+            return;
+        }
+        let Some(mailbox) = linked(&self.mailbox, desk) else {
+            return;
+        };
+        let before = linked(&self.before, desk);
+        let behind = linked(&self.behind, desk);
+        match before {
+            Some(other) => link(&mut self.behind, other, behind),
+            None => link(&mut self.first, mailbox, behind),
+        }
+        match behind {
+            Some(other) => link(&mut self.before, other, before),
+            None => link(&mut self.last, mailbox, before),
+        }
+        link(&mut self.mailbox, desk, None);
+        self.count = self.count.saturating_sub(1);
     }
 
     /// The desk that has waited longest for room in a mailbox waits no more.
-    pub(crate) fn leave(&mut self, mailbox: u32) -> Option<u32> {
+    pub(crate) fn leave_first(&mut self, mailbox: u32) -> Option<u32> {
         if self.count == 0 {
             return None;
         }
         let desk = linked(&self.first, mailbox)?;
-        let behind = linked(&self.behind, desk);
-        link(&mut self.first, mailbox, behind);
-        link(&mut self.behind, desk, None);
-        if behind.is_none() {
-            link(&mut self.last, mailbox, None);
-        }
-        mark(&mut self.waits, desk, false);
-        self.count = self.count.saturating_sub(1);
+        self.leave(desk);
         Some(desk)
     }
 }
@@ -65,12 +86,6 @@ fn linked(row: &[Option<u32>], at: u32) -> Option<u32> {
 }
 
 fn link(row: &mut [Option<u32>], at: u32, to: Option<u32>) {
-    if let Some(place) = row.get_mut(at as usize) {
-        *place = to;
-    }
-}
-
-fn mark(row: &mut [bool], at: u32, to: bool) {
     if let Some(place) = row.get_mut(at as usize) {
         *place = to;
     }
