@@ -368,6 +368,9 @@ where
     // Where no desk is listed: asks the core once, closes at rest, or waits for news. None once the run ends.
     fn search(&mut self) -> Option<u32> {
         for _ in self.rt.forever() {
+            if self.floor.is_ending() {
+                return None;
+            }
             let found = self
                 .floor
                 .lock_books(self.rt)
