@@ -2,22 +2,31 @@
 use exchange_core::{AnswerKind, Event};
 use match_model::{ProgrammeNo, ResidentNo};
 
+/// The first programme.
 pub const A: ProgrammeNo = ProgrammeNo(0);
 
+/// The second programme.
 pub const B: ProgrammeNo = ProgrammeNo(1);
 
+/// The first resident.
 pub const X: ResidentNo = ResidentNo(0);
 
+/// The second resident.
 pub const Y: ResidentNo = ResidentNo(1);
 
+/// The third resident.
 pub const Z: ResidentNo = ResidentNo(2);
 
+/// The offer is kept for now.
 pub const HOLD: AnswerKind = AnswerKind::Hold;
 
+/// The offer is refused at once.
 pub const DECLINE: AnswerKind = AnswerKind::Decline;
 
+/// An offer that was held is given up for a better one.
 pub const RELEASE: AnswerKind = AnswerKind::Release;
 
+/// A programme offers a place to a resident.
 pub fn offer(programme: ProgrammeNo, resident: ResidentNo) -> Event {
     Event::Offer {
         programme,
@@ -25,6 +34,7 @@ pub fn offer(programme: ProgrammeNo, resident: ResidentNo) -> Event {
     }
 }
 
+/// A resident takes a programme's offer from its mailbox.
 pub fn take(resident: ResidentNo, programme: ProgrammeNo) -> Event {
     Event::Take {
         resident,
@@ -32,6 +42,7 @@ pub fn take(resident: ResidentNo, programme: ProgrammeNo) -> Event {
     }
 }
 
+/// A resident answers a programme's offer.
 pub fn answer(resident: ResidentNo, programme: ProgrammeNo, kind: AnswerKind) -> Event {
     Event::Answer {
         resident,
@@ -40,6 +51,7 @@ pub fn answer(resident: ResidentNo, programme: ProgrammeNo, kind: AnswerKind) ->
     }
 }
 
+/// A programme takes a resident's answer from its mailbox.
 pub fn hear(programme: ProgrammeNo, resident: ResidentNo, kind: AnswerKind) -> Event {
     Event::Hear {
         programme,
