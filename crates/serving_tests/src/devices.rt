@@ -1,4 +1,4 @@
-//! A reader that gives a byte at a time and may fail, and a writer that may fail.
+//! Readers that give a byte at a time and may fail or be interrupted, and a writer that may fail.
 use std::io;
 use std::io::{Read, Write};
 
@@ -24,6 +24,45 @@ impl<'a> Read for CutReader<'a> {
         match (self.text.get(self.at), buf.first_mut()) {
             (Some(byte), Some(place)) => {
                 *place = *byte;
+                self.at = self.at.saturating_add(1);
+                Ok(1)
+            }
+            _ => Ok(0),
+        }
+    }
+}
+
+/// Gives its text byte by byte, and is interrupted once before each so many bytes.
+#[derive(Drop)]
+pub(super) struct InterruptedReader<'a> {
+    text: &'a [u8],
+    at: usize,
+    every: usize,
+    // How many reads come before the next interruption.
+    left: usize,
+}
+
+impl<'a> InterruptedReader<'a> {
+    pub(super) fn new(text: &'a [u8], every: usize) -> InterruptedReader<'a> {
+        InterruptedReader {
+            text,
+            at: 0,
+            every,
+            left: 0,
+        }
+    }
+}
+
+impl<'a> Read for InterruptedReader<'a> {
+    fn read(&mut self, buf: &mut [u8]) -> io::Result<usize> {
+        if self.left == 0 {
+            self.left = self.every;
+            return Err(io::Error::from(io::ErrorKind::Interrupted));
+        }
+        self.left -= 1;
+        match (self.text.get(self.at), buf.first_mut()) {
+            (Some(byte), Some(room)) => {
+                *room = *byte;
                 self.at = self.at.saturating_add(1);
                 Ok(1)
             }

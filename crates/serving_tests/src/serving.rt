@@ -30,7 +30,7 @@ const ONE_SIDED: &str = "Q,a,1\nP,a,x\nR,x\n";
 // twenty-five that four pairs allow.
 const CHAIN: &str = "Q,a,1\nQ,b,1\nQ,c,1\nQ,d,1\nP,a,x\nP,b,x\nP,c,x\nP,d,x\nR,x,d,c,b,a\n";
 
-const MATCH: Order = Order::Match(MatchOptions {
+pub(super) const MATCH: Order = Order::Match(MatchOptions {
     workers: 2,
     capacity: Capacity::Full,
     journal: false,
@@ -69,8 +69,8 @@ fn serve<R: Read + Drop, W: Write, H: Threads + Wait + Sync + Send + Copy>(
     }
 }
 
-// Whether an order over these texts answers this, writes this text, and ends with this exit status.
-fn serves<H: Threads + Wait + Sync + Send + Copy>(
+/// Whether an order over these texts answers this, writes this text, and ends with this exit status.
+pub(super) fn serves<H: Threads + Wait + Sync + Send + Copy>(
     rt: H,
     alloc: Global,
     order: Order,
@@ -86,8 +86,10 @@ fn serves<H: Threads + Wait + Sync + Send + Copy>(
 
 #[test]
 fn matches(rt: HostRuntime) -> Result<(), Fail> {
-    let cases: [(&[&str], &str); 9] = [
+    let cases: [(&[&str], &str); 10] = [
         (&[SMALL], SMALL_SHEET),
+        // the same without its last byte
+        (&[THREE, "P,b,y,x\nR,x,b,a\nR,y,a,b"], SMALL_SHEET),
         (&[QUOTAS], QUOTAS_SHEET),
         (&[], ""),
         (
@@ -283,11 +285,11 @@ const NINE: [&str; 9] = [
     "E,close\n",
 ];
 
-// A journal that has these of the nine events, counted from 0.
+// A journal that has these of the nine events, counted from 0, and for another number an event of no kind.
 fn journal_of(alloc: Global, events: &[usize]) -> Result<String, AllocError> {
     let mut journal = FULL.to_string(alloc)?;
     for event in events {
-        journal.push_str(NINE.get(*event).copied().unwrap_or(""))?;
+        journal.push_str(NINE.get(*event).copied().unwrap_or("E,none\n"))?;
     }
     Ok(journal)
 }
@@ -337,9 +339,24 @@ fn sees_forged_journals(rt: HostRuntime) -> Result<(), Fail> {
     Ok(())
 }
 
-// A fault of each pass of reading.
-const FAULTS: [(&[&str], DocketFault); 4] = [
+// The first three records of the small docket.
+const THREE: &str = "Q,a,1\nQ,b,1\nP,a,x,y\n";
+
+// Faults of each pass of reading; the last four are of the small docket, cut after 3, 20, 34 and 35 bytes.
+const FAULTS: [(&[&str], DocketFault); 17] = [
     (&["Q,a,1\nQ,b,x\n"], DocketFault::BadQuota { place: 2 }),
+    (&["Q,a\n"], DocketFault::FieldCount { place: 1 }),
+    (&["Z,a\n"], DocketFault::UnknownKind { place: 1 }),
+    (&["Q,a/b,1\n"], DocketFault::BadName { place: 1 }),
+    (&["Q,a,\n"], DocketFault::BadQuota { place: 1 }),
+    (&["Q,a,1\nQ,a,2\n"], DocketFault::DeclaredTwice { place: 2 }),
+    (&["Q,a,1\nP,b\n"], DocketFault::UnknownName { place: 2 }),
+    (&["M,x,a\n"], DocketFault::UnknownName { place: 1 }),
+    (&[CLOSE], DocketFault::BadEvent { place: 1 }),
+    (
+        &["Q,a,1\nR,x,a\nF,a,0,1\n"],
+        DocketFault::BadSheet { place: 3 },
+    ),
     (
         &["Q,a,1\nP,a,x,x\nR,x,a\n"],
         DocketFault::Model {
@@ -354,6 +371,16 @@ const FAULTS: [(&[&str], DocketFault); 4] = [
     (
         &[SMALL, SMALL_SHEET, FULL, "E,offer,a,z\n"],
         DocketFault::UnknownName { place: 12 },
+    ),
+    (&["Q,a"], DocketFault::FieldCount { place: 1 }),
+    (&[THREE], DocketFault::UnknownName { place: 3 }),
+    (
+        &[THREE, "P,b,y,x\nR,x,b,"],
+        DocketFault::BadName { place: 5 },
+    ),
+    (
+        &[THREE, "P,b,y,x\nR,x,b,a"],
+        DocketFault::UnknownName { place: 3 },
     ),
 ];
 
@@ -499,6 +526,10 @@ fn tells_faults(rt: HostRuntime) -> Result<(), Fail> {
         (
             ServeFault::Docket(DocketFault::BadName { place: 4 }),
             "record 4: bad name",
+        ),
+        (
+            ServeFault::Docket(DocketFault::Read { place: 9 }),
+            "record 9: the input could not be read",
         ),
         (
             ServeFault::Docket(DocketFault::Write),

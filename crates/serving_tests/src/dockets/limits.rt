@@ -1,6 +1,10 @@
 //! Each limit, and one more.
 use super::{read, tells};
 use crate::markets::{push_all, push_lists};
+use crate::serving::{MATCH, serves};
+use docket::DocketFault;
+use match_model::ModelFault;
+use residency::ServeFault;
 use std::alloc::{AllocError, Global};
 use std::test::Fail;
 
@@ -81,12 +85,13 @@ fn most_pairs(rt: HostRuntime) -> Result<(), Fail> {
     Ok(())
 }
 
+// The records of the last resident and of an eleventh programme.
+const ELEVENTH: &str =
+    "R,r19999,p9,p8,p7,p6,p5,p4,p3,p2,p1,p0,p10\nQ,p10,0\nP,p10,r19999\nC,full\n";
+
 #[test]
 fn one_pair_too_many(rt: HostRuntime) -> Result<(), Fail> {
-    let text = ranked(
-        rt.alloc(),
-        "R,r19999,p9,p8,p7,p6,p5,p4,p3,p2,p1,p0,p10\nQ,p10,0\nP,p10,r19999\nC,full\n",
-    )?;
+    let text = ranked(rt.alloc(), ELEVENTH)?;
     let wanted = "record 20023: more than 200000 acceptable pairs";
     assert!(rt; tells(rt.alloc(), &[text.as_str()], wanted)?);
     Ok(())
@@ -115,5 +120,50 @@ fn one_record_too_many(rt: HostRuntime) -> Result<(), Fail> {
     let text = closes(rt.alloc(), 2_000_001)?;
     let wanted = "record 2000001: more than 2000000 records";
     assert!(rt; tells(rt.alloc(), &[text.as_str()], wanted)?);
+    Ok(())
+}
+
+// What is told of the docket that is beyond each limit.
+const BEYOND: [DocketFault; 5] = [
+    DocketFault::Model {
+        place: 2_001,
+        fault: ModelFault::TooManyProgrammes,
+    },
+    DocketFault::Model {
+        place: 20_001,
+        fault: ModelFault::TooManyResidents,
+    },
+    DocketFault::Model {
+        place: 20_023,
+        fault: ModelFault::TooManyPairs,
+    },
+    DocketFault::Model {
+        place: 1,
+        fault: ModelFault::QuotaTooLarge,
+    },
+    DocketFault::TooManyRecords { place: 2_000_001 },
+];
+
+// The docket beyond a limit, by its place in `BEYOND`.
+fn beyond(alloc: Global, limit: usize) -> Result<String, AllocError> {
+    match limit {
+        0 => most_programmes_and(alloc, "Q,q,10000\n"),
+        1 => numbered(alloc, "R,r", 20_001, "\n"),
+        2 => ranked(alloc, ELEVENTH),
+        3 => numbered(alloc, "Q,q", 1, ",10001\n"),
+        _ => closes(alloc, 2_000_001),
+    }
+}
+
+#[test]
+fn none_is_matched_beyond(rt: HostRuntime) -> Result<(), Fail> {
+    for (limit, fault) in BEYOND.iter().enumerate() {
+        let text = beyond(rt.alloc(), limit)?;
+        let ending = (Err(ServeFault::Docket(*fault)), "", 3);
+        assert!(rt;
+            serves(rt, rt.alloc(), MATCH, &[text.as_str()], ending)?,
+            "{fault}"
+        );
+    }
     Ok(())
 }

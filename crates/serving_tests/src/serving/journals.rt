@@ -8,8 +8,8 @@ use std::sync::Wait;
 use std::test::Fail;
 use std::thread::Threads;
 
-// What a match writes for a docket, if it is closed.
-fn matched<H: Threads + Wait + Sync + Send + Copy>(
+/// What a match writes for a docket, if it is closed.
+pub(super) fn matched<H: Threads + Wait + Sync + Send + Copy>(
     rt: H,
     alloc: Global,
     order: Order,
@@ -36,8 +36,8 @@ fn tells<H: Threads + Wait + Sync + Send + Copy>(
     status == Ok(wanted) && output.as_slice() == text.as_bytes()
 }
 
-// Whether a sheet and a journal that were written, appended to these members, are stable and replayed whole.
-fn is_good<H: Threads + Wait + Sync + Send + Copy>(
+/// Whether a sheet and a journal that were written, appended to these members, are stable and replayed whole.
+pub(super) fn is_good<H: Threads + Wait + Sync + Send + Copy>(
     rt: H,
     alloc: Global,
     members: &str,

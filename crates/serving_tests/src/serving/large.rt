@@ -1,4 +1,5 @@
 //! Matches that are held up on their way, and matches of dockets as large as there may be.
+use super::journals::{is_good, matched};
 use super::{MATCH, NARROW, serve};
 use crate::markets::{in_one_order, sheet_in_one_order, widest};
 use crate::texts::{SMALL, SMALL_SHEET, rows};
@@ -81,22 +82,34 @@ fn the_widest_docket(rt: HostRuntime) -> Result<(), Fail> {
     Ok(())
 }
 
-// A mailbox with as many places as there may be.
+// A mailbox with as many places as there may be, and the journal.
 const ROOMY: Order = Order::Match(MatchOptions {
     workers: 2,
     capacity: Capacity::Each(1_024),
-    journal: false,
+    journal: true,
 });
 
 #[test]
 fn all_in_one_order(rt: HostRuntime) -> Result<(), Fail> {
     let text = in_one_order(rt.alloc())?;
     let sheet = sheet_in_one_order(rt.alloc())?;
-    for order in [MATCH, NARROW, ROOMY] {
+    for order in [MATCH, NARROW] {
         let mut output = Vec::new(rt.alloc());
         let status = serve(rt, rt.alloc(), order, text.as_bytes(), &mut output);
         assert!(rt; status == Ok(Status::Closed));
         assert!(rt; output.as_slice() == sheet.as_bytes());
     }
+    Ok(())
+}
+
+#[test]
+fn the_journal_of_all_in_one_order(rt: HostRuntime) -> Result<(), Fail> {
+    let text = in_one_order(rt.alloc())?;
+    let sheet = sheet_in_one_order(rt.alloc())?;
+    let Some(written) = matched(rt, rt.alloc(), ROOMY, text.as_str()) else {
+        return Err(Fail::from("the match isn't closed"));
+    };
+    assert!(rt; written.as_slice().starts_with(sheet.as_bytes()));
+    assert!(rt; is_good(rt, rt.alloc(), text.as_str(), written.as_slice())?);
     Ok(())
 }
