@@ -9,7 +9,9 @@ use std::test::Fail;
 
 // For each resident its place.
 fn sheet(alloc: Global, places: &[Option<u32>]) -> Result<Assignment, ModelFault> {
-    let residents = u32::try_from(places.len()).unwrap_or(0);
+    let Ok(residents) = u32::try_from(places.len()) else {
+        return Err(ModelFault::TooManyResidents);
+    };
     let mut sheet = Assignment::new(alloc, residents)?;
     for (r, place) in (0..sheet.len()).zip(places) {
         if r < sheet.len() {

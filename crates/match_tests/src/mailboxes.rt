@@ -63,9 +63,11 @@ fn capacities(rt: HostRuntime) {
 }
 
 #[test]
-fn no_room(rt: HostRuntime) -> Result<(), Fail> {
-    let mut put = ListPut::with_room(rt.alloc(), 0)?;
-    assert!(rt; put.put(5) == PutReply::Full(5));
+fn rooms(rt: HostRuntime) -> Result<(), Fail> {
+    for (room, reply) in [(0, PutReply::Full(5)), (400_000, PutReply::Done)] {
+        let mut put = ListPut::with_room(rt.alloc(), room)?;
+        assert!(rt; put.put(5) == reply, "{room}");
+    }
     Ok(())
 }
 

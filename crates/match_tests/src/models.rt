@@ -9,13 +9,17 @@ use std::test::Fail;
 // One programme with one place, and one resident.
 fn one_of_each(alloc: Global) -> Result<InstanceBuilder, ModelFault> {
     let mut builder = InstanceBuilder::new(alloc);
-    for (quota, wanted) in [(10_001, Err(ModelFault::QuotaTooLarge)), (1, Ok(A))] {
-        if builder.add_programme(quota) != wanted {
-            return Err(ModelFault::Memory);
-        }
-    }
+    builder.add_programme(1)?;
     builder.add_resident()?;
     Ok(builder)
+}
+
+#[test]
+fn heeds_the_quota(rt: HostRuntime) {
+    let mut builder = InstanceBuilder::new(rt.alloc());
+    for (quota, wanted) in [(10_001, Err(ModelFault::QuotaTooLarge)), (10_000, Ok(A))] {
+        assert!(rt; builder.add_programme(quota) == wanted, "{quota}");
+    }
 }
 
 #[test]
@@ -121,6 +125,29 @@ fn takes_as_many_pairs_as_there_may_be(rt: HostRuntime) -> Result<(), Fail> {
             (Some(19_999), Some(9))
         )
     );
+    Ok(())
+}
+
+// Adds a resident and as many programmes as there may be, each of which ranks it.
+fn add_most(alloc: Global, builder: &mut InstanceBuilder) -> Result<Vec<ProgrammeNo>, ModelFault> {
+    builder.add_resident()?;
+    let mut programmes = Vec::new(alloc);
+    for _ in 0..2_000 {
+        let programme = builder.add_programme(1)?;
+        builder.programme_list(programme, &[X])?;
+        let Ok(()) = programmes.push(programme) else {
+            return Err(ModelFault::Memory);
+        };
+    }
+    Ok(programmes)
+}
+
+#[test]
+fn a_resident_ranks_as_many_as_there_may_be(rt: HostRuntime) -> Result<(), Fail> {
+    let mut builder = InstanceBuilder::new(rt.alloc());
+    let programmes = add_most(rt.alloc(), &mut builder)?;
+    assert!(rt; builder.resident_list(X, programmes.as_slice()) == Ok(()));
+    assert!(rt; has_pairs(builder, 2_000));
     Ok(())
 }
 
