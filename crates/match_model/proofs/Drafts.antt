@@ -61,6 +61,8 @@ IsDraft-with_programme d q h room small = record {
   quotas_within = All-push (λ x. x ≤ MAX_QUOTA) d.quotas q h.quotas_within small;
   programme_lists = AreLists-push d.programme_lists (length d.resident_lists) h.programme_lists;
   resident_lists = AreLists-weaker d.resident_lists (length d.quotas) (length (d.quotas ++ q ∷ [])) (omega (arith, length_push d.quotas q)) h.resident_lists;
+  one_flag_each_programme = length_push d.programmes_withdrawn false ∙ ap (λ n. n + 1) h.one_flag_each_programme ∙ sym (length_push d.quotas q);
+  one_flag_each_resident = h.one_flag_each_resident;
 }
 
 -- what a builder keeps, with one resident more
@@ -72,6 +74,8 @@ IsDraft-with_resident d h room = record {
   quotas_within = h.quotas_within;
   programme_lists = AreLists-weaker d.programme_lists (length d.resident_lists) (length (d.resident_lists ++ None ∷ [])) (omega (arith, length_push d.resident_lists None)) h.programme_lists;
   resident_lists = AreLists-push d.resident_lists (length d.quotas) h.resident_lists;
+  one_flag_each_programme = h.one_flag_each_programme;
+  one_flag_each_resident = length_push d.residents_withdrawn false ∙ ap (λ n. n + 1) h.one_flag_each_resident ∙ sym (length_push d.resident_lists None);
 }
 
 -- what a builder keeps, with a list given
@@ -83,6 +87,8 @@ IsDraft-with_programme_list d p items h below distinct = record {
   quotas_within = h.quotas_within;
   programme_lists = AreLists-set d.programme_lists (length d.resident_lists) p items below distinct h.programme_lists;
   resident_lists = h.resident_lists;
+  one_flag_each_programme = h.one_flag_each_programme;
+  one_flag_each_resident = h.one_flag_each_resident;
 }
 
 pub IsDraft-with_resident_list : (d : Draft) (r : ℕ) (items : List ℕ) → IsDraft d → list_all (λ x. ltb x (length d.quotas)) items ≡ true → has_no_repeats items ≡ true → IsDraft (with_resident_list d r items)
@@ -93,6 +99,8 @@ IsDraft-with_resident_list d r items h below distinct = record {
   quotas_within = h.quotas_within;
   programme_lists = subst (AreLists d.programme_lists) (sym (length-set d.resident_lists r (Some items))) h.programme_lists;
   resident_lists = AreLists-set d.resident_lists (length d.quotas) r items below distinct h.resident_lists;
+  one_flag_each_programme = h.one_flag_each_programme;
+  one_flag_each_resident = h.one_flag_each_resident ∙ sym (length-set d.resident_lists r (Some items));
 }
 
 -- where a list's items have no fault they are below the bound and stand there once

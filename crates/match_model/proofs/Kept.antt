@@ -5,11 +5,12 @@ use Rattle.std.proofs.lemmas.Bool.{cases_lt}
 use Rattle.std.proofs.lemmas.List.{length-map, get_or_past, get_or_default}
 use Rattle.std.proofs.lemmas.List.Sums.{get_or-le-sum_by}
 use Rattle.match_model.specs.Ranking.{is_listed, IsListed}
-use Rattle.match_model.specs.Instance.{IsKept, list_at, pair_count}
-use Rattle.match_model.specs.Draft.{Draft, IsDraft, given_lists, instance_of, mutual_lists, has_no_repeats}
+use Rattle.match_model.specs.Instance.{IsKept, is_withdrawn, list_at, list_of_programme, list_of_resident, pair_count}
+use Rattle.match_model.specs.Draft.{Draft, IsDraft, given_lists, programme_lists_left, resident_lists_left, instance_of, mutual_lists, has_no_repeats}
 use Rattle.match_model.specs.declared.limits.TheConstants.{MAX_RESIDENTS, MAX_QUOTA, MAX_PAIRS}
 use Rattle.match_model.proofs.Rankings.{is_listed-filter, has_no_repeats-filter, HasNoRepeats-from_test, length-le_below, is_listed-true, is_listed_from}
 use Rattle.match_model.proofs.Mutual.{length-mutual_lists, get_or-mutual_lists}
+use Rattle.match_model.proofs.Remaining.{length-remaining_lists, remaining_withdrawn, remaining_all}
 
 -- a fact of each list that was given holds of the empty list too
 at_list : (P : List ℕ → Type 0) (lists : List (List ℕ)) (i : ℕ) → P [] → All P lists → P (list_at lists i)
@@ -17,14 +18,14 @@ at_list P lists i none all =
     ⊎_elim (λ (h : i < length lists). all i [] h) (λ (h : length lists ≤ i). subst P (sym (get_or_past lists i [] h)) none) (cases_lt i (length lists))
 
 -- each mutual list is the filter of the list, for any number
-mutual_list_at : (mine theirs : List (List ℕ)) (i : ℕ) → list_at (mutual_lists mine theirs) i ≡ filter (λ x. is_listed (list_at theirs x) i) (list_at mine i)
+pub mutual_list_at : (mine theirs : List (List ℕ)) (i : ℕ) → list_at (mutual_lists mine theirs) i ≡ filter (λ x. is_listed (list_at theirs x) i) (list_at mine i)
 mutual_list_at mine theirs i =
     ⊎_elim (λ (h : i < length mine). get_or-mutual_lists mine theirs i h)
     (λ (h : length mine ≤ i). get_or_past (mutual_lists mine theirs) i [] (omega (arith, length-mutual_lists mine theirs)) ∙ sym (ap (λ (xs : List ℕ). filter (λ x. is_listed (list_at theirs x) i) xs) (get_or_past mine i [] h)))
     (cases_lt i (length mine))
 
 -- who stands on a mutual list
-listed_both : (mine theirs : List (List ℕ)) (i x : ℕ) → is_listed (list_at (mutual_lists mine theirs) i) x ≡ is_listed (list_at mine i) x && is_listed (list_at theirs x) i
+pub listed_both : (mine theirs : List (List ℕ)) (i x : ℕ) → is_listed (list_at (mutual_lists mine theirs) i) x ≡ is_listed (list_at mine i) x && is_listed (list_at theirs x) i
 listed_both mine theirs i x = ap (λ (xs : List ℕ). is_listed xs x) (mutual_list_at mine theirs i) ∙ is_listed-filter (λ y. is_listed (list_at theirs y) i) (list_at mine i) x
 
 no_repeats_at : (mine theirs : List (List ℕ)) (i : ℕ) → All (λ list. has_no_repeats list ≡ true) mine → has_no_repeats (list_at (mutual_lists mine theirs) i) ≡ true
@@ -55,10 +56,18 @@ length_at mine theirs i n distinct below =
     let short : length (list_at mine i) ≤ n = length-le_below (list_at mine i) n (at_list (λ list. has_no_repeats list ≡ true) mine i refl distinct) (at_list (λ list. list_all (λ x. ltb x n) list ≡ true) mine i refl below) in
     subst (λ (xs : List ℕ). length xs ≤ n) (sym (mutual_list_at mine theirs i)) (let fewer = fewer_kept (λ x. is_listed (list_at theirs x) i) (list_at mine i) in omega arith)
 
+-- no item of what is left stands there twice
+programmes_distinct : (d : Draft) → IsDraft d → All (λ list. has_no_repeats list ≡ true) (programme_lists_left d)
+programmes_distinct d h = remaining_all (λ list. has_no_repeats list ≡ true) (given_lists d.programme_lists) d.programmes_withdrawn refl h.programme_lists.no_repeats
+
+residents_distinct : (d : Draft) → IsDraft d → All (λ list. has_no_repeats list ≡ true) (resident_lists_left d)
+residents_distinct d h = remaining_all (λ list. has_no_repeats list ≡ true) (given_lists d.resident_lists) d.residents_withdrawn refl h.resident_lists.no_repeats
+
 -- no resident's list is longer than there may be pairs
 resident_list_short : (d : Draft) (r : ℕ) → IsDraft d → length (list_at (instance_of d).resident_lists r) ≤ MAX_PAIRS
 resident_list_short d r h =
-    let one = length_at (given_lists d.resident_lists) (given_lists d.programme_lists) r (length d.quotas) h.resident_lists.no_repeats h.resident_lists.items_below in
+    let below = remaining_all (λ list. list_all (λ x. ltb x (length d.quotas)) list ≡ true) (given_lists d.resident_lists) d.residents_withdrawn refl h.resident_lists.items_below in
+    let one = length_at (resident_lists_left d) (programme_lists_left d) r (length d.quotas) (residents_distinct d h) below in
     let most = h.programmes_within in
     omega arith
 
@@ -66,18 +75,38 @@ pub resident_lists_short : (d : Draft) → IsDraft d → All (λ (list : List �
 resident_lists_short d h = λ r other within.
     subst (λ (list : List ℕ). length list ≤ MAX_PAIRS) (get_or_default (instance_of d).resident_lists r [] other within) (resident_list_short d r h)
 
+-- as many lists as there are members
+as_many_residents : (d : Draft) → length (instance_of d).resident_lists ≡ length d.resident_lists
+as_many_residents d =
+    length-mutual_lists (resident_lists_left d) (programme_lists_left d) ∙ length-remaining_lists (given_lists d.resident_lists) d.residents_withdrawn ∙ length-map d.resident_lists (λ list. unwrap_or list [])
+
+-- whoever is withdrawn lists nobody
+withdrawn_programme : (d : Draft) (p : ℕ) → is_withdrawn d.programmes_withdrawn p ≡ true → list_of_programme (instance_of d) p ≡ []
+withdrawn_programme d p e =
+    mutual_list_at (programme_lists_left d) (resident_lists_left d) p
+    ∙ ap (λ (xs : List ℕ). filter (λ x. is_listed (list_at (resident_lists_left d) x) p) xs) (remaining_withdrawn (given_lists d.programme_lists) d.programmes_withdrawn p e)
+
+withdrawn_resident : (d : Draft) (r : ℕ) → is_withdrawn d.residents_withdrawn r ≡ true → list_of_resident (instance_of d) r ≡ []
+withdrawn_resident d r e =
+    mutual_list_at (resident_lists_left d) (programme_lists_left d) r
+    ∙ ap (λ (xs : List ℕ). filter (λ x. is_listed (list_at (programme_lists_left d) x) r) xs) (remaining_withdrawn (given_lists d.resident_lists) d.residents_withdrawn r e)
+
 -- what the instance of a draft keeps
 pub IsKept-instance_of : (d : Draft) (pairs : ℕ) → IsDraft d → pair_count (instance_of d) ≤ MAX_PAIRS → pairs ≡ pair_count (instance_of d) → IsKept (instance_of d) pairs
 IsKept-instance_of d pairs h few count = record {
   is_instance = record {
-    one_list_each = length-mutual_lists (given_lists d.programme_lists) (given_lists d.resident_lists) ∙ length-map d.programme_lists (λ list. unwrap_or list []) ∙ h.one_list_each;
-    programmes_rank_strictly = λ p. HasNoRepeats-from_test _ (no_repeats_at (given_lists d.programme_lists) (given_lists d.resident_lists) p h.programme_lists.no_repeats);
-    residents_rank_strictly = λ r. HasNoRepeats-from_test _ (no_repeats_at (given_lists d.resident_lists) (given_lists d.programme_lists) r h.resident_lists.no_repeats);
-    both_rank = λ p r. (turned (given_lists d.programme_lists) (given_lists d.resident_lists) p r, turned (given_lists d.resident_lists) (given_lists d.programme_lists) r p);
+    one_list_each = length-mutual_lists (programme_lists_left d) (resident_lists_left d) ∙ length-remaining_lists (given_lists d.programme_lists) d.programmes_withdrawn ∙ length-map d.programme_lists (λ list. unwrap_or list []) ∙ h.one_list_each;
+    programmes_rank_strictly = λ p. HasNoRepeats-from_test _ (no_repeats_at (programme_lists_left d) (resident_lists_left d) p (programmes_distinct d h));
+    residents_rank_strictly = λ r. HasNoRepeats-from_test _ (no_repeats_at (resident_lists_left d) (programme_lists_left d) r (residents_distinct d h));
+    both_rank = λ p r. (turned (programme_lists_left d) (resident_lists_left d) p r, turned (resident_lists_left d) (programme_lists_left d) r p);
     programmes_within = h.programmes_within;
-    residents_within = subst (λ n. n ≤ MAX_RESIDENTS) (sym (length-mutual_lists (given_lists d.resident_lists) (given_lists d.programme_lists) ∙ length-map d.resident_lists (λ list. unwrap_or list []))) h.residents_within;
+    residents_within = subst (λ n. n ≤ MAX_RESIDENTS) (sym (as_many_residents d)) h.residents_within;
     quotas_within = λ p. ⊎_elim (λ (k : p < length d.quotas). h.quotas_within p 0 k) (λ (k : length d.quotas ≤ p). subst (λ n. n ≤ MAX_QUOTA) (sym (get_or_past d.quotas p 0 k)) (omega arith)) (cases_lt p (length d.quotas));
     pairs_within = few;
+    one_flag_each_programme = h.one_flag_each_programme;
+    one_flag_each_resident = h.one_flag_each_resident ∙ sym (as_many_residents d);
+    withdrawn_programmes_rank_nobody = withdrawn_programme d;
+    withdrawn_residents_rank_nobody = withdrawn_resident d;
   };
   pairs_counted = count;
   programme_lists_within = λ p. ⊎_elim

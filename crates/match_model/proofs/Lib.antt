@@ -1,7 +1,9 @@
 pub mod Rankings
 pub mod RankTables
 pub mod Drafts
+pub mod Remaining
 pub mod Mutual
 pub mod Kept
 pub mod Instances
 pub mod SortedCopies
+pub mod Struck

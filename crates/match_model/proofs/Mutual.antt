@@ -9,8 +9,9 @@ use Rattle.std.proofs.lemmas.List.FromFn.{length-enumerate_from, get_or-enumerat
 use Rattle.std.proofs.lemmas.List.Elements.{All-nil, All-cons, filter_agree}
 use Rattle.match_model.specs.Ranking.{is_listed}
 use Rattle.match_model.specs.Instance.{list_at}
-use Rattle.match_model.specs.Draft.{items_of, given_lists, AreLists, mutual_lists, AreFlags, flag_at, flagged_lists}
+use Rattle.match_model.specs.Draft.{items_of, given_lists, lists_left, AreLists, mutual_lists, AreFlags, flag_at, flagged_lists}
 use Rattle.match_model.proofs.Rankings.{is_listed-append, is_listed_alone}
+use Rattle.match_model.proofs.Remaining.{length-remaining_lists, remaining_all}
 
 -- the lists of vectors
 abbrev pub lists_of : List (Vec ℕ) → List (List ℕ)
@@ -119,12 +120,19 @@ all_zip_next R xs ys i x y h e a r =
     let more : suc i ≡ i + 1 = omega arith in
     subst (λ n. AllZip R (take n xs) (ys ++ y ∷ [])) more (all_zip_after R xs ys i x y h e a r)
 
+-- how many lists are left, and of whom
+pub length-lists_left : (lists : List (Option (Vec ℕ))) (flags : List Bool) → length (lists_left lists flags) ≡ length lists
+length-lists_left lists flags = length-remaining_lists (given_lists (map items_of lists)) flags ∙ length-given_lists lists
+
+pub left_below : (lists : List (Option (Vec ℕ))) (flags : List Bool) (n : ℕ) → AreLists (map items_of lists) n → All (λ list. list_all (λ x. ltb x n) list ≡ true) (lists_left lists flags)
+left_below lists flags n a = remaining_all (λ list. list_all (λ x. ltb x n) list ≡ true) (given_lists (map items_of lists)) flags refl a.items_below
+
 -- the items of lists whose rows are at hand have rows
-pub have_rows : (mine theirs : List (Option (Vec ℕ))) (rows : List (Vec Bool)) → AreLists (map items_of mine) (length theirs) → AllZip (AreFlags (length mine)) (given_lists (map items_of theirs)) (rows_of rows) →
-    All (λ list. list_all (λ x. ltb x (length rows)) list ≡ true) (given_lists (map items_of mine))
-have_rows mine theirs rows a h =
-    subst (λ n. All (λ list. list_all (λ x. ltb x n) list ≡ true) (given_lists (map items_of mine)))
-    (sym (sym (length-map rows (λ (row : Vec Bool). row.items)) ∙ length_rows (length mine) _ _ h ∙ length-given_lists theirs)) a.items_below
+pub have_rows : (mine theirs : List (Option (Vec ℕ))) (my_flags their_flags : List Bool) (rows : List (Vec Bool)) → AreLists (map items_of mine) (length theirs) → AllZip (AreFlags (length mine)) (lists_left theirs their_flags) (rows_of rows) →
+    All (λ list. list_all (λ x. ltb x (length rows)) list ≡ true) (lists_left mine my_flags)
+have_rows mine theirs my_flags their_flags rows a h =
+    subst (λ n. All (λ list. list_all (λ x. ltb x n) list ≡ true) (lists_left mine my_flags))
+    (sym (sym (length-map rows (λ (row : Vec Bool). row.items)) ∙ length_rows (length mine) _ _ h ∙ length-lists_left theirs their_flags)) (left_below mine my_flags (length theirs) a)
 
 -- so what is kept by the rows are the mutual lists
 kept_from : (n k : ℕ) (mine theirs : List (List ℕ)) (rows : List (List Bool)) → AllZip (AreFlags n) theirs rows → k + length mine ≤ n →

@@ -4,42 +4,59 @@ use Rattle.std.specs.List.{filter, list_all, All, enumerate_from}
 use Rattle.std.specs.Global.{Vec}
 use Rattle.std.specs.Option.{option_or}
 use Rattle.match_model.specs.Ranking.{is_listed}
-use Rattle.match_model.specs.Instance.{Instance, list_at, pair_count}
+use Rattle.match_model.specs.Instance.{Instance, list_at, is_withdrawn, pair_count}
 use Rattle.match_model.specs.declared.limits.TheConstants.{MAX_PROGRAMMES, MAX_RESIDENTS, MAX_QUOTA, MAX_PAIRS}
 use Rattle.match_model.specs.declared.fault.ModelFault.{ModelFault}
-use Rattle.match_model.specs.declared.fault.ModelFault.TheVariants.{TooManyProgrammes, TooManyResidents, QuotaTooLarge, NoSuchMember, ListGivenTwice, ListedTwice, TooManyPairs, Memory}
+use Rattle.match_model.specs.declared.fault.ModelFault.TheVariants.{TooManyProgrammes, TooManyResidents, QuotaTooLarge, NoSuchMember, ListGivenTwice, ListedTwice, TooManyPairs, Memory, WithdrawnTwice}
 use Rattle.match_model.specs.Fault.{Answers}
 
--- by programme its quota, and by member the list that was given, if one was
+-- by programme its quota, by member the list that was given, if one was, and whether the member is withdrawn
 pub record Draft : Type 0 where
   pub quotas : List ℕ
   pub programme_lists : List (Option (List ℕ))
   pub resident_lists : List (Option (List ℕ))
+  pub programmes_withdrawn : List Bool
+  pub residents_withdrawn : List Bool
 
 -- the list that was given, or an empty one
 abbrev pub given_lists : List (Option (List ℕ)) → List (List ℕ)
 given_lists lists = map (λ list. unwrap_or list []) lists
+
+-- each list, or an empty one where its owner is withdrawn
+abbrev pub remaining_lists : List (List ℕ) → List Bool → List (List ℕ)
+remaining_lists [] flags = []
+remaining_lists (list ∷ lists) [] = list ∷ lists
+remaining_lists (list ∷ lists) (flag ∷ flags) = (if flag then [] else list) ∷ remaining_lists lists flags
+
+-- the lists of programmes, and of residents, that are not withdrawn, as they were given
+abbrev pub programme_lists_left : Draft → List (List ℕ)
+programme_lists_left d = remaining_lists (given_lists d.programme_lists) d.programmes_withdrawn
+
+abbrev pub resident_lists_left : Draft → List (List ℕ)
+resident_lists_left d = remaining_lists (given_lists d.resident_lists) d.residents_withdrawn
 
 -- each member's list, in its order, with only those who list that member
 unfoldable pub mutual_lists : List (List ℕ) → List (List ℕ) → List (List ℕ)
 mutual_lists mine theirs =
     map (λ (owned : ℕ × List ℕ). filter (λ x. is_listed (list_at theirs x) owned.0) owned.1) (enumerate_from 0 mine)
 
--- the instance of what was handed in: the mutual part of each list
+-- the instance of what was handed in: the mutual part of each list, where whoever is withdrawn lists nobody
 abbrev pub instance_of : Draft → Instance
 instance_of d = record {
   quotas = d.quotas;
-  programme_lists = mutual_lists (given_lists d.programme_lists) (given_lists d.resident_lists);
-  resident_lists = mutual_lists (given_lists d.resident_lists) (given_lists d.programme_lists);
+  programme_lists = mutual_lists (programme_lists_left d) (resident_lists_left d);
+  resident_lists = mutual_lists (resident_lists_left d) (programme_lists_left d);
+  programmes_withdrawn = d.programmes_withdrawn;
+  residents_withdrawn = d.residents_withdrawn;
 }
 
 -- the draft with one programme more, which has no list yet
 abbrev pub with_programme : Draft → ℕ → Draft
-with_programme d q = record d { quotas = d.quotas ++ q ∷ []; programme_lists = d.programme_lists ++ None ∷ [] }
+with_programme d q = record d { quotas = d.quotas ++ q ∷ []; programme_lists = d.programme_lists ++ None ∷ []; programmes_withdrawn = d.programmes_withdrawn ++ false ∷ [] }
 
 -- the draft with one resident more, who has no list yet
 abbrev pub with_resident : Draft → Draft
-with_resident d = record d { resident_lists = d.resident_lists ++ None ∷ [] }
+with_resident d = record d { resident_lists = d.resident_lists ++ None ∷ []; residents_withdrawn = d.residents_withdrawn ++ false ∷ [] }
 
 -- the draft in which p's list was given
 abbrev pub with_programme_list : Draft → ℕ → List ℕ → Draft
@@ -49,10 +66,22 @@ with_programme_list d p items = record d { programme_lists = slice_set d.program
 abbrev pub with_resident_list : Draft → ℕ → List ℕ → Draft
 with_resident_list d r items = record d { resident_lists = slice_set d.resident_lists r (Some items) }
 
+-- the draft in which p is withdrawn
+abbrev pub with_programme_withdrawn : Draft → ℕ → Draft
+with_programme_withdrawn d p = record d { programmes_withdrawn = slice_set d.programmes_withdrawn p true }
+
+-- the draft in which r is withdrawn
+abbrev pub with_resident_withdrawn : Draft → ℕ → Draft
+with_resident_withdrawn d r = record d { residents_withdrawn = slice_set d.residents_withdrawn r true }
+
 -- the list in a place that may have one
 abbrev pub items_of : Option (Vec ℕ) → Option (List ℕ)
 items_of None = None
 items_of (Some v) = Some v.items
+
+-- the lists in these places, without those whose owners are withdrawn
+abbrev pub lists_left : List (Option (Vec ℕ)) → List Bool → List (List ℕ)
+lists_left lists flags = remaining_lists (given_lists (map items_of lists)) flags
 
 -- whether no item stands in the list twice
 abbrev pub has_no_repeats : List ℕ → Bool
@@ -85,6 +114,12 @@ items_fault others items =
 abbrev pub list_fault : List (Option (List ℕ)) → ℕ → ℕ → List ℕ → Option ModelFault
 list_fault lists owner others items = option_or (owner_fault lists owner) (items_fault others items)
 
+-- the first fault of a withdrawal, by the flags of its side: nobody of this number, or withdrawn before
+abbrev pub withdrawal_fault : List Bool → ℕ → Option ModelFault
+withdrawal_fault flags member =
+    if nat_le (length flags) member then Some NoSuchMember
+    else (if is_withdrawn flags member then Some WithdrawnTwice else None)
+
 -- where there is a fault it is the answer; else the answer is Ok, or want of memory
 abbrev pub AnswersFirst : {T : Type 0} → Option ModelFault → Result T ModelFault → Type 0
 AnswersFirst (Some fault) r = r ≡ Err fault
@@ -113,7 +148,7 @@ flag_at rows x o = slice_index_or (slice_index_or rows x []) o false
 unfoldable pub flagged_lists : List (List ℕ) → List (List Bool) → List (List ℕ)
 flagged_lists lists rows = map (λ (owned : ℕ × List ℕ). filter (λ x. flag_at rows x owned.0) owned.1) (enumerate_from 0 lists)
 
--- what a builder keeps: a list or none for each member, of members, without repeats, and the limits
+-- what a builder keeps: a list or none for each member, of members, without repeats, a flag for each, and the limits
 pub record IsDraft (d : Draft) : Type 0 where
   pub one_list_each : length d.programme_lists ≡ length d.quotas
   pub programmes_within : length d.quotas ≤ MAX_PROGRAMMES
@@ -121,6 +156,8 @@ pub record IsDraft (d : Draft) : Type 0 where
   pub quotas_within : All (λ q. q ≤ MAX_QUOTA) d.quotas
   pub programme_lists : AreLists d.programme_lists (length d.resident_lists)
   pub resident_lists : AreLists d.resident_lists (length d.quotas)
+  pub one_flag_each_programme : length d.programmes_withdrawn ≡ length d.quotas
+  pub one_flag_each_resident : length d.residents_withdrawn ≡ length d.resident_lists
 
 -- why the draft is not finished: want of memory, or more acceptable pairs than there may be
 abbrev pub IsFinishFault : Draft → ModelFault → Type 0

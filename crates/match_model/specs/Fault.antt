@@ -9,3 +9,8 @@ Refuses memory fault e = (e ≡ memory) ⊎ (fault ≡ Some e)
 abbrev pub Answers : {T E : Type 0} → E → Option E → Result T E → Type 0
 Answers memory fault (Ok v) = fault ≡ None
 Answers memory fault (Err e) = Refuses memory fault e
+
+-- Ok comes exactly where there is no fault, and an error is that fault
+abbrev pub AnswersExactly : {T E : Type 0} → Option E → Result T E → Type 0
+AnswersExactly fault (Ok v) = fault ≡ None
+AnswersExactly fault (Err e) = fault ≡ Some e

@@ -1,18 +1,25 @@
--- The instance of a match: quotas and rankings, of acceptable members only.
-use Rattle.std.specs.Prelude.{◌≡◌, ℕ, ◌<◌, ◌≤◌, ◌↔◌, if◌then◌else◌, Option, Some, None, List, [], length, slice_index, slice_index_or}
+-- The instance of a match: quotas, rankings of acceptable members only, and who is withdrawn.
+use Rattle.std.specs.Prelude.{◌≡◌, ℕ, ◌<◌, ◌≤◌, ◌↔◌, if◌then◌else◌, Bool, true, false, Option, Some, None, List, [], length, slice_index, slice_index_or}
 use Rattle.std.specs.List.{sum_by}
 use Rattle.match_model.specs.Ranking.{place, is_listed, IsListed, HasNoRepeats}
 use Rattle.match_model.specs.declared.limits.TheConstants.{MAX_PROGRAMMES, MAX_RESIDENTS, MAX_PAIRS, MAX_QUOTA}
 
--- by programme its quota and its ranking of acceptable residents, by resident its ranking of acceptable programmes
+-- by programme its quota and its ranking of acceptable residents, by resident its ranking of acceptable programmes,
+-- and by member whether it is withdrawn
 pub record Instance : Type 0 where
   pub quotas : List ℕ
   pub programme_lists : List (List ℕ)
   pub resident_lists : List (List ℕ)
+  pub programmes_withdrawn : List Bool
+  pub residents_withdrawn : List Bool
 
 -- list i, which is empty past the end
 abbrev pub list_at : List (List ℕ) → ℕ → List ℕ
 list_at lists i = slice_index_or lists i []
+
+-- whether the flags say that the member is withdrawn
+abbrev pub is_withdrawn : List Bool → ℕ → Bool
+is_withdrawn flags member = slice_index_or flags member false
 
 -- p is a programme of the instance
 abbrev pub IsProgramme : Instance → ℕ → Type 0
@@ -46,7 +53,8 @@ pair_count inst = sum_by (λ (xs : List ℕ). length xs) inst.programme_lists
 abbrev pub rank : List ℕ → ℕ → Option ℕ
 rank xs x = if is_listed xs x then Some (place xs x) else None
 
--- rankings without repeats, one for each member, in which p lists r exactly where r lists p, within the limits
+-- rankings without repeats, one for each member, in which p lists r exactly where r lists p, within the limits;
+-- a flag for each member, and whoever is withdrawn ranks nobody
 pub record IsInstance (inst : Instance) : Type 0 where
   pub one_list_each : length inst.programme_lists ≡ length inst.quotas
   pub programmes_rank_strictly : (p : ℕ) → HasNoRepeats (list_of_programme inst p)
@@ -56,6 +64,10 @@ pub record IsInstance (inst : Instance) : Type 0 where
   pub residents_within : length inst.resident_lists ≤ MAX_RESIDENTS
   pub quotas_within : (p : ℕ) → quota inst p ≤ MAX_QUOTA
   pub pairs_within : pair_count inst ≤ MAX_PAIRS
+  pub one_flag_each_programme : length inst.programmes_withdrawn ≡ length inst.quotas
+  pub one_flag_each_resident : length inst.residents_withdrawn ≡ length inst.resident_lists
+  pub withdrawn_programmes_rank_nobody : (p : ℕ) → is_withdrawn inst.programmes_withdrawn p ≡ true → list_of_programme inst p ≡ []
+  pub withdrawn_residents_rank_nobody : (r : ℕ) → is_withdrawn inst.residents_withdrawn r ≡ true → list_of_resident inst r ≡ []
 
 -- what an instance keeps: its rankings are one, it counts its pairs, and no list is longer than there can be members
 pub record IsKept (inst : Instance) (pairs : ℕ) : Type 0 where

@@ -5,3 +5,4 @@ pub mod Draft
 pub mod Placement
 pub mod Fault
 pub mod SortedCopy
+pub mod Withdrawals

@@ -1,4 +1,4 @@
-//! The builder of an instance: quotas and lists as they are handed in.
+//! The builder of an instance: quotas, lists and withdrawals as they are handed in.
 ghost use Rattle.std.specs.Prelude.{◌≡◌, ℕ, ◌⊎◌, ◌<◌, ◌≤◌, Option, List, [], length, IfOk, IfErr, OnOk, OnErr, IfSome, Err};
 ghost use Rattle.match_model.specs.Instance.{IsInstance, pair_count};
 
@@ -11,13 +11,15 @@ use crate::ranking;
 use std::alloc::Global;
 use std::marker::Model;
 
-/// Takes quotas and lists as they are handed in, one member and one list at a time.
+/// Takes quotas, lists and withdrawals as they are handed in, one at a time.
 #[derive(Debug, Drop)]
 pub struct InstanceBuilder {
     alloc: Global,
     quotas: Vec<u32>,
     programme_lists: Vec<Option<Vec<u32>>>,
     resident_lists: Vec<Option<Vec<u32>>>,
+    programmes_withdrawn: Vec<bool>,
+    residents_withdrawn: Vec<bool>,
 }
 
 impl Model for InstanceBuilder {
@@ -26,9 +28,9 @@ impl Model for InstanceBuilder {
 
     ghost Value = { Draft };
 
-    ghost view = { λ b. record { quotas = b.quotas.items; programme_lists = map items_of b.programme_lists.items; resident_lists = map items_of b.resident_lists.items } };
+    ghost view = { λ b. record { quotas = b.quotas.items; programme_lists = map items_of b.programme_lists.items; resident_lists = map items_of b.resident_lists.items; programmes_withdrawn = b.programmes_withdrawn.items; residents_withdrawn = b.residents_withdrawn.items } };
 
-    ghost invariant = { λ b. IsDraft (record { quotas = b.quotas.items; programme_lists = map items_of b.programme_lists.items; resident_lists = map items_of b.resident_lists.items }) };
+    ghost invariant = { λ b. IsDraft (record { quotas = b.quotas.items; programme_lists = map items_of b.programme_lists.items; resident_lists = map items_of b.resident_lists.items; programmes_withdrawn = b.programmes_withdrawn.items; residents_withdrawn = b.residents_withdrawn.items }) };
 }
 
 /// Why `finish` refused, with the builder as it was.
@@ -41,17 +43,20 @@ pub struct FinishRefused {
 }
 
 impl InstanceBuilder {
-    ghost use Rattle.match_model.specs.Draft.{Draft, AnswersFirst, AnswersOrWantsMemory, programme_fault, resident_fault, list_fault, owner_fault, with_programme, with_resident, with_programme_list, with_resident_list, instance_of, IsFinishFault};
+    ghost use Rattle.match_model.specs.Fault.{AnswersExactly};
+    ghost use Rattle.match_model.specs.Draft.{Draft, AnswersFirst, AnswersOrWantsMemory, programme_fault, resident_fault, list_fault, owner_fault, withdrawal_fault, with_programme, with_resident, with_programme_list, with_resident_list, with_programme_withdrawn, with_resident_withdrawn, instance_of, IsFinishFault};
 
     /// No members yet. The allocator serves all later growths.
     pub fn new(alloc: Global) -> InstanceBuilder
-        ensures { result ≡ record { quotas = []; programme_lists = []; resident_lists = [] } }
+        ensures { result ≡ record { quotas = []; programme_lists = []; resident_lists = []; programmes_withdrawn = []; residents_withdrawn = [] } }
     {
         InstanceBuilder {
             alloc,
             quotas: Vec::new(alloc),
             programme_lists: Vec::new(alloc),
             resident_lists: Vec::new(alloc),
+            programmes_withdrawn: Vec::new(alloc),
+            residents_withdrawn: Vec::new(alloc),
         }
     }
 
@@ -70,8 +75,13 @@ impl InstanceBuilder {
         if quota > MAX_QUOTA {
             return Err(ModelFault::QuotaTooLarge);
         }
-        self.quotas.push(quota)?;
+        self.programmes_withdrawn.push(false)?;
+        let Ok(()) = self.quotas.push(quota) else {
+            self.programmes_withdrawn.truncate(number);
+            return Err(ModelFault::Memory);
+        };
         let Ok(()) = self.programme_lists.push(None) else {
+            self.programmes_withdrawn.truncate(number);
             self.quotas.truncate(number);
             return Err(ModelFault::Memory);
         };
@@ -90,6 +100,10 @@ impl InstanceBuilder {
             return Err(ModelFault::TooManyResidents);
         }
         self.resident_lists.push(None)?;
+        let Ok(()) = self.residents_withdrawn.push(false) else {
+            self.resident_lists.truncate(number);
+            return Err(ModelFault::Memory);
+        };
         Ok(ResidentNo(number as u32))
     }
 
@@ -132,7 +146,32 @@ impl InstanceBuilder {
         Ok(())
     }
 
-    /// Makes the instance of the mutual parts of the lists. Refused as `TooManyPairs` or `Memory`, with the builder.
+    /// Withdraws a programme, whose list may be given before or after: it keeps its number and quota, and is in no
+    /// acceptable pair. Refused as `NoSuchMember` or `WithdrawnTwice`. Takes no memory.
+    pub fn withdraw_programme(&mut self, programme: ProgrammeNo) -> Result<(), ModelFault>
+        ensures withdrawn { OnOk result (self.new ≡ with_programme_withdrawn self.old programme) }
+        ensures fault { AnswersExactly (withdrawal_fault self.old.programmes_withdrawn programme) result }
+        ensures err { OnErr result (self.new ≡ self.old) }
+    {
+        let member = programme.0 as usize;
+        ranking::test_withdrawal(&self.programmes_withdrawn, member)?;
+        self.programmes_withdrawn[member] = true;
+        Ok(())
+    }
+
+    /// Withdraws a resident, as `withdraw_programme` does a programme.
+    pub fn withdraw_resident(&mut self, resident: ResidentNo) -> Result<(), ModelFault>
+        ensures withdrawn { OnOk result (self.new ≡ with_resident_withdrawn self.old resident) }
+        ensures fault { AnswersExactly (withdrawal_fault self.old.residents_withdrawn resident) result }
+        ensures err { OnErr result (self.new ≡ self.old) }
+    {
+        let member = resident.0 as usize;
+        ranking::test_withdrawal(&self.residents_withdrawn, member)?;
+        self.residents_withdrawn[member] = true;
+        Ok(())
+    }
+
+    /// Makes the instance of the mutual parts of the lists, where whoever is withdrawn lists nobody. Refused as `TooManyPairs` or `Memory`, with the builder.
     pub fn finish(self) -> Result<Instance, FinishRefused>
         ensures made { IfOk result (λ inst. inst ≡ instance_of self) }
         ensures within { OnOk result (pair_count (instance_of self) ≤ MAX_PAIRS) }
@@ -156,9 +195,17 @@ impl InstanceBuilder {
         let (programmes, pairs) = ranking::counted_mutual(
             self.alloc,
             &self.programme_lists,
+            &self.programmes_withdrawn,
             &self.resident_lists,
+            &self.residents_withdrawn,
         )?;
-        let residents = ranking::mutual(self.alloc, &self.resident_lists, &self.programme_lists)?;
+        let residents = ranking::mutual(
+            self.alloc,
+            &self.resident_lists,
+            &self.residents_withdrawn,
+            &self.programme_lists,
+            &self.programmes_withdrawn,
+        )?;
         let programme_ranks = rank_tables(self.alloc, &programmes)?;
         let resident_ranks = rank_tables(self.alloc, &residents)?;
         Ok(Instance {
@@ -168,6 +215,8 @@ impl InstanceBuilder {
             programme_ranks,
             resident_ranks,
             pairs,
+            programmes_withdrawn: Vec::from_slice(self.alloc, &self.programmes_withdrawn)?,
+            residents_withdrawn: Vec::from_slice(self.alloc, &self.residents_withdrawn)?,
         })
     }
 }

@@ -6,7 +6,7 @@ use std::alloc::{AllocError, AllocFailed};
 use std::error::Error;
 use std::fmt;
 
-/// Why a builder or an assignment refused, in the order in which the causes are tried.
+/// Why a builder or an assignment refused. Each call tries its causes in the order of its own documentation.
 #[derive(Clone, Copy, Debug, PartialEq, Eq, Hash)]
 pub enum ModelFault {
     /// There are 2,000 programmes already.
@@ -25,6 +25,8 @@ pub enum ModelFault {
     TooManyPairs,
     /// A growth was refused.
     Memory,
+    /// The member is withdrawn already.
+    WithdrawnTwice,
 }
 
 impl fmt::Display for ModelFault {
@@ -38,6 +40,7 @@ impl fmt::Display for ModelFault {
             ModelFault::ListedTwice => "a name is listed twice",
             ModelFault::TooManyPairs => "more than 200000 acceptable pairs",
             ModelFault::Memory => "out of memory",
+            ModelFault::WithdrawnTwice => "a member is withdrawn twice",
         })
     }
 }

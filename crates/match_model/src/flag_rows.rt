@@ -2,11 +2,11 @@
 ghost use Rattle.std.specs.Prelude.{◌≡◌, ℕ, ◌<◌, ◌≤◌, ◌⊎◌, nat_lt, Bool, List, length, map, true, IfOk, IfErr, IfSome, IfNone};
 ghost use Rattle.std.specs.List.{All, AllZip, list_all, filter, sum_by};
 ghost use Rattle.std.specs.Global.{Vec};
-ghost use Rattle.match_model.specs.Draft.{items_of, given_lists, AreLists, mutual_lists, AreFlags, flag_at, flagged_lists};
+ghost use Rattle.match_model.specs.Draft.{items_of, lists_left, AreLists, mutual_lists, AreFlags, flag_at, flagged_lists};
 
 use crate::fault::ModelFault;
 use crate::limits::MAX_PAIRS;
-use crate::ranking::given;
+use crate::ranking::remaining;
 use std::alloc::{AllocError, Global};
 
 /// Which numbers below `count` stand in the list.
@@ -26,13 +26,15 @@ fn flag_rows(
     alloc: Global,
     count: usize,
     lists: &[Option<Vec<u32>>],
+    withdrawn: &[bool],
 ) -> Result<Vec<Vec<bool>>, AllocError>
-    requires { All (λ list. list_all (λ x. nat_lt x count) list ≡ true) (given_lists (map items_of lists.now)) }
-    ensures { IfOk result (λ v. AllZip (AreFlags count) (given_lists (map items_of lists.now)) (map (λ row. row.items) v.items)) }
+    requires flags { length withdrawn.now ≡ length lists.now }
+    requires below { All (λ list. list_all (λ x. nat_lt x count) list ≡ true) (lists_left lists.now withdrawn.now) }
+    ensures { IfOk result (λ v. AllZip (AreFlags count) (lists_left lists.now withdrawn.now) (map (λ row. row.items) v.items)) }
 {
     let mut rows = Vec::with_capacity(alloc, lists.len())?;
-    for list in lists {
-        rows.push(flags(alloc, count, given(list))?)?;
+    for owner in 0..lists.len() {
+        rows.push(flags(alloc, count, remaining(lists, withdrawn, owner))?)?;
     }
     Ok(rows)
 }
@@ -82,15 +84,16 @@ fn kept(
 }
 
 /// How many items all lists keep by these rows, if these are no more than there may be pairs.
-fn count_all_kept(lists: &[Option<Vec<u32>>], rows: &[Vec<bool>]) -> Option<u32>
-    requires below { All (λ list. list_all (λ x. nat_lt x (length rows.now)) list ≡ true) (given_lists (map items_of lists.now)) }
+fn count_all_kept(lists: &[Option<Vec<u32>>], withdrawn: &[bool], rows: &[Vec<bool>]) -> Option<u32>
+    requires flags { length withdrawn.now ≡ length lists.now }
+    requires below { All (λ list. list_all (λ x. nat_lt x (length rows.now)) list ≡ true) (lists_left lists.now withdrawn.now) }
     requires wide { All (λ (row : List Bool). length lists.now ≤ length row) (map (λ (row : Vec Bool). row.items) rows.now) }
-    ensures counted { IfSome result (λ n. (n ≡ sum_by length (flagged_lists (given_lists (map items_of lists.now)) (map (λ (row : Vec Bool). row.items) rows.now))) × (n ≤ MAX_PAIRS)) }
-    ensures over { IfNone result (MAX_PAIRS < sum_by length (flagged_lists (given_lists (map items_of lists.now)) (map (λ (row : Vec Bool). row.items) rows.now))) }
+    ensures counted { IfSome result (λ n. (n ≡ sum_by length (flagged_lists (lists_left lists.now withdrawn.now) (map (λ (row : Vec Bool). row.items) rows.now))) × (n ≤ MAX_PAIRS)) }
+    ensures over { IfNone result (MAX_PAIRS < sum_by length (flagged_lists (lists_left lists.now withdrawn.now) (map (λ (row : Vec Bool). row.items) rows.now))) }
 {
     let mut count = 0;
-    for (owner, list) in lists.iter().enumerate() {
-        let kept = count_kept(given(list), owner, rows);
+    for owner in 0..lists.len() {
+        let kept = count_kept(remaining(lists, withdrawn, owner), owner, rows);
         if kept > MAX_PAIRS - count {
             return None;
         }
@@ -103,15 +106,17 @@ fn count_all_kept(lists: &[Option<Vec<u32>>], rows: &[Vec<bool>]) -> Option<u32>
 fn all_kept(
     alloc: Global,
     lists: &[Option<Vec<u32>>],
+    withdrawn: &[bool],
     rows: &[Vec<bool>],
 ) -> Result<Vec<Vec<u32>>, AllocError>
-    requires below { All (λ list. list_all (λ x. nat_lt x (length rows.now)) list ≡ true) (given_lists (map items_of lists.now)) }
+    requires flags { length withdrawn.now ≡ length lists.now }
+    requires below { All (λ list. list_all (λ x. nat_lt x (length rows.now)) list ≡ true) (lists_left lists.now withdrawn.now) }
     requires wide { All (λ (row : List Bool). length lists.now ≤ length row) (map (λ (row : Vec Bool). row.items) rows.now) }
-    ensures { IfOk result (λ v. map (λ list. list.items) v.items ≡ flagged_lists (given_lists (map items_of lists.now)) (map (λ (row : Vec Bool). row.items) rows.now)) }
+    ensures { IfOk result (λ v. map (λ list. list.items) v.items ≡ flagged_lists (lists_left lists.now withdrawn.now) (map (λ (row : Vec Bool). row.items) rows.now)) }
 {
     let mut kept_lists = Vec::with_capacity(alloc, lists.len())?;
-    for (owner, list) in lists.iter().enumerate() {
-        kept_lists.push(kept(alloc, given(list), owner, rows)?)?;
+    for owner in 0..lists.len() {
+        kept_lists.push(kept(alloc, remaining(lists, withdrawn, owner), owner, rows)?)?;
     }
     Ok(kept_lists)
 }
@@ -120,14 +125,18 @@ fn all_kept(
 pub(crate) fn mutual(
     alloc: Global,
     mine: &[Option<Vec<u32>>],
+    mine_withdrawn: &[bool],
     theirs: &[Option<Vec<u32>>],
+    theirs_withdrawn: &[bool],
 ) -> Result<Vec<Vec<u32>>, AllocError>
+    requires flags { length mine_withdrawn.now ≡ length mine.now }
+    requires other_flags { length theirs_withdrawn.now ≡ length theirs.now }
     requires lists { AreLists (map items_of mine.now) (length theirs.now) }
     requires others { AreLists (map items_of theirs.now) (length mine.now) }
-    ensures { IfOk result (λ v. map (λ list. list.items) v.items ≡ mutual_lists (given_lists (map items_of mine.now)) (given_lists (map items_of theirs.now))) }
+    ensures { IfOk result (λ v. map (λ list. list.items) v.items ≡ mutual_lists (lists_left mine.now mine_withdrawn.now) (lists_left theirs.now theirs_withdrawn.now)) }
 {
-    let rows = flag_rows(alloc, mine.len(), theirs)?;
-    all_kept(alloc, mine, &rows)
+    let rows = flag_rows(alloc, mine.len(), theirs, theirs_withdrawn)?;
+    all_kept(alloc, mine, mine_withdrawn, &rows)
 }
 
 /// The same, and how many items these lists have, where these are no more than there may be pairs. They are counted
@@ -135,17 +144,21 @@ pub(crate) fn mutual(
 pub(crate) fn counted_mutual(
     alloc: Global,
     mine: &[Option<Vec<u32>>],
+    mine_withdrawn: &[bool],
     theirs: &[Option<Vec<u32>>],
+    theirs_withdrawn: &[bool],
 ) -> Result<(Vec<Vec<u32>>, u32), ModelFault>
+    requires flags { length mine_withdrawn.now ≡ length mine.now }
+    requires other_flags { length theirs_withdrawn.now ≡ length theirs.now }
     requires lists { AreLists (map items_of mine.now) (length theirs.now) }
     requires others { AreLists (map items_of theirs.now) (length mine.now) }
-    ensures lists { IfOk result (λ made. map (λ list. list.items) made.0.items ≡ mutual_lists (given_lists (map items_of mine.now)) (given_lists (map items_of theirs.now))) }
-    ensures count { IfOk result (λ made. (made.1 ≡ sum_by length (mutual_lists (given_lists (map items_of mine.now)) (given_lists (map items_of theirs.now)))) × (made.1 ≤ MAX_PAIRS)) }
-    ensures cause { IfErr result (λ fault. (fault ≡ ModelFault.Memory) ⊎ ((fault ≡ ModelFault.TooManyPairs) × (MAX_PAIRS < sum_by length (mutual_lists (given_lists (map items_of mine.now)) (given_lists (map items_of theirs.now)))))) }
+    ensures lists { IfOk result (λ made. map (λ list. list.items) made.0.items ≡ mutual_lists (lists_left mine.now mine_withdrawn.now) (lists_left theirs.now theirs_withdrawn.now)) }
+    ensures count { IfOk result (λ made. (made.1 ≡ sum_by length (mutual_lists (lists_left mine.now mine_withdrawn.now) (lists_left theirs.now theirs_withdrawn.now))) × (made.1 ≤ MAX_PAIRS)) }
+    ensures cause { IfErr result (λ fault. (fault ≡ ModelFault.Memory) ⊎ ((fault ≡ ModelFault.TooManyPairs) × (MAX_PAIRS < sum_by length (mutual_lists (lists_left mine.now mine_withdrawn.now) (lists_left theirs.now theirs_withdrawn.now))))) }
 {
-    let rows = flag_rows(alloc, mine.len(), theirs)?;
-    let Some(count) = count_all_kept(mine, &rows) else {
+    let rows = flag_rows(alloc, mine.len(), theirs, theirs_withdrawn)?;
+    let Some(count) = count_all_kept(mine, mine_withdrawn, &rows) else {
         return Err(ModelFault::TooManyPairs);
     };
-    Ok((all_kept(alloc, mine, &rows)?, count))
+    Ok((all_kept(alloc, mine, mine_withdrawn, &rows)?, count))
 }

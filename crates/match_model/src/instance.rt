@@ -1,6 +1,6 @@
-//! An instance: quotas, mutual rankings and ranks.
+//! An instance: quotas, mutual rankings and ranks, and who is withdrawn.
 ghost use Rattle.std.specs.Prelude.{◌≡◌, ◌<◌, ◌≤◌, length};
-ghost use Rattle.match_model.specs.Instance.{IsInstance, IsProgramme, IsResident, pair_count, quota as quota_of, list_of_programme as ranking_of_programme, list_of_resident as ranking_of_resident, rank};
+ghost use Rattle.match_model.specs.Instance.{IsInstance, IsProgramme, IsResident, pair_count, is_withdrawn, quota as quota_of, list_of_programme as ranking_of_programme, list_of_resident as ranking_of_resident, rank};
 
 use crate::limits::MAX_PAIRS;
 use crate::member::{ProgrammeNo, ResidentNo};
@@ -16,6 +16,8 @@ pub struct Instance {
     pub(crate) programme_ranks: Vec<RankTable>,
     pub(crate) resident_ranks: Vec<RankTable>,
     pub(crate) pairs: u32,
+    pub(crate) programmes_withdrawn: Vec<bool>,
+    pub(crate) residents_withdrawn: Vec<bool>,
 }
 
 impl Model for Instance {
@@ -25,10 +27,10 @@ impl Model for Instance {
 
     ghost Value = { Rankings };
 
-    ghost view = { λ i. record { quotas = i.quotas.items; programme_lists = map (λ v. v.items) i.programme_lists.items; resident_lists = map (λ v. v.items) i.resident_lists.items } };
+    ghost view = { λ i. record { quotas = i.quotas.items; programme_lists = map (λ v. v.items) i.programme_lists.items; resident_lists = map (λ v. v.items) i.resident_lists.items; programmes_withdrawn = i.programmes_withdrawn.items; residents_withdrawn = i.residents_withdrawn.items } };
 
     ghost invariant = { λ i. record {
-      rankings : IsKept (record { quotas = i.quotas.items; programme_lists = map (λ v. v.items) i.programme_lists.items; resident_lists = map (λ v. v.items) i.resident_lists.items }) i.pairs;
+      rankings : IsKept (record { quotas = i.quotas.items; programme_lists = map (λ v. v.items) i.programme_lists.items; resident_lists = map (λ v. v.items) i.resident_lists.items; programmes_withdrawn = i.programmes_withdrawn.items; residents_withdrawn = i.residents_withdrawn.items }) i.pairs;
       programme_ranks : AreRankTables (map (λ v. v.items) i.programme_lists.items) i.programme_ranks.items;
       resident_ranks : AreRankTables (map (λ v. v.items) i.resident_lists.items) i.resident_ranks.items;
     } };
@@ -44,6 +46,8 @@ impl Drop for Instance {
             programme_ranks: _,
             resident_ranks: _,
             pairs: _,
+            programmes_withdrawn: _,
+            residents_withdrawn: _,
         } = self;
     }
 }
@@ -79,6 +83,22 @@ impl Instance {
         ensures { result ≡ quota_of self.now programme }
     {
         self.quotas[programme.0 as usize]
+    }
+
+    /// Whether a programme is withdrawn, so that it ranks nobody. The programme is a member.
+    pub fn programme_withdrawn(&self, programme: ProgrammeNo) -> bool
+        requires { IsProgramme self.now programme }
+        ensures { result ≡ is_withdrawn self.now.programmes_withdrawn programme }
+    {
+        self.programmes_withdrawn[programme.0 as usize]
+    }
+
+    /// Whether a resident is withdrawn, so that it ranks nobody. The resident is a member.
+    pub fn resident_withdrawn(&self, resident: ResidentNo) -> bool
+        requires { IsResident self.now resident }
+        ensures { result ≡ is_withdrawn self.now.residents_withdrawn resident }
+    {
+        self.residents_withdrawn[resident.0 as usize]
     }
 
     /// Whom a programme ranks, best first, of those who rank it. The programme is a member.

@@ -1,7 +1,7 @@
 //! The model of a residency match: quotas, rankings, ranks and assignments.
 //!
-//! A builder takes quotas and lists as they were handed in; `finish` makes of them an instance, whose lists are the
-//! mutual parts of what was handed in, in order and without repeats.
+//! A builder takes quotas, lists and withdrawals as they were handed in; `finish` makes of them an instance, whose lists
+//! are the mutual parts of what was handed in, in order and without repeats, and without whoever is withdrawn.
 //!
 //! A body that prints nothing for a `ModelFault` would meet its contract, which says nothing of texts: a test shows
 //! them.
@@ -17,6 +17,7 @@ mod member;
 mod rank_table;
 mod ranking;
 mod sorted_copies;
+mod withdrawals;
 
 pub use assignment::Assignment;
 pub use builder::{FinishRefused, InstanceBuilder};
@@ -24,3 +25,4 @@ pub use fault::ModelFault;
 pub use instance::Instance;
 pub use limits::{MAX_PAIRS, MAX_PROGRAMMES, MAX_QUOTA, MAX_RESIDENTS, law_limits};
 pub use member::{ProgrammeNo, ResidentNo};
+pub use withdrawals::law_withdrawals;

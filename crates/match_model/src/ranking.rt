@@ -2,7 +2,9 @@
 ghost use Rattle.std.specs.Prelude.{◌≡◌, ℕ, ◌<◌, ◌≤◌, ◌^◌, ◌⊎◌, nat_lt, length, map, unwrap_or, [], true, IfOk, IfErr};
 ghost use Rattle.std.specs.List.{list_all, sum_by};
 ghost use Rattle.std.specs.Global.{Vec};
-ghost use Rattle.match_model.specs.Draft.{items_of, given_lists, AreLists, mutual_lists, has_no_repeats, owner_fault, items_fault, AnswersFirst, AnswersOrWantsMemory};
+ghost use Rattle.match_model.specs.Draft.{items_of, AreLists, mutual_lists, has_no_repeats, lists_left, owner_fault, items_fault, withdrawal_fault, AnswersFirst, AnswersOrWantsMemory};
+ghost use Rattle.match_model.specs.Fault.{AnswersExactly};
+ghost use Rattle.match_model.specs.Instance.{list_at};
 
 use crate::fault::ModelFault;
 use crate::limits::MAX_PAIRS;
@@ -18,6 +20,17 @@ pub(crate) fn test_owner(lists: &[Option<Vec<u32>>], owner: usize) -> Result<(),
         None => Err(ModelFault::NoSuchMember),
         Some(None) => Ok(()),
         Some(Some(_)) => Err(ModelFault::ListGivenTwice),
+    }
+}
+
+/// Whether this member was added and isn't withdrawn yet.
+pub(crate) fn test_withdrawal(withdrawn: &[bool], member: usize) -> Result<(), ModelFault>
+    ensures { AnswersExactly (withdrawal_fault withdrawn.now member) result }
+{
+    match withdrawn.get(member) {
+        None => Err(ModelFault::NoSuchMember),
+        Some(false) => Ok(()),
+        Some(true) => Err(ModelFault::WithdrawnTwice),
     }
 }
 
@@ -85,8 +98,24 @@ fn is_distinct(alloc: Global, others: usize, items: &[u32]) -> Result<bool, Allo
     Ok(true)
 }
 
+/// A member's list, which is empty where the member is withdrawn.
+pub(crate) fn remaining<'a>(
+    lists: &'a [Option<Vec<u32>>],
+    withdrawn: &[bool],
+    owner: usize,
+) -> &'a [u32]
+    requires one_flag_each { length withdrawn.now ≡ length lists.now }
+    requires member { owner < length lists.now }
+    ensures { result.now ≡ list_at (lists_left lists.now withdrawn.now) owner }
+{
+    if withdrawn[owner] {
+        return &[];
+    }
+    given(&lists[owner])
+}
+
 /// The items of a place that may have a list.
-pub(crate) fn given(list: &Option<Vec<u32>>) -> &[u32]
+fn given(list: &Option<Vec<u32>>) -> &[u32]
     ensures { result.now ≡ unwrap_or (items_of list.now) [] }
 {
     match list {
@@ -108,17 +137,21 @@ fn is_dense(lists: &[Option<Vec<u32>>], count: usize) -> bool {
 pub(crate) fn mutual(
     alloc: Global,
     mine: &[Option<Vec<u32>>],
+    mine_withdrawn: &[bool],
     theirs: &[Option<Vec<u32>>],
+    theirs_withdrawn: &[bool],
 ) -> Result<Vec<Vec<u32>>, AllocError>
     requires few { length mine.now < 2 ^ 32 }
+    requires flags { length mine_withdrawn.now ≡ length mine.now }
+    requires other_flags { length theirs_withdrawn.now ≡ length theirs.now }
     requires lists { AreLists (map items_of mine.now) (length theirs.now) }
     requires others { AreLists (map items_of theirs.now) (length mine.now) }
-    ensures { IfOk result (λ v. map (λ list. list.items) v.items ≡ mutual_lists (given_lists (map items_of mine.now)) (given_lists (map items_of theirs.now))) }
+    ensures { IfOk result (λ v. map (λ list. list.items) v.items ≡ mutual_lists (lists_left mine.now mine_withdrawn.now) (lists_left theirs.now theirs_withdrawn.now)) }
 {
     if is_dense(theirs, mine.len()) {
-        flag_rows::mutual(alloc, mine, theirs)
+        flag_rows::mutual(alloc, mine, mine_withdrawn, theirs, theirs_withdrawn)
     } else {
-        sorted_copies::mutual(alloc, mine, theirs)
+        sorted_copies::mutual(alloc, mine, mine_withdrawn, theirs, theirs_withdrawn)
     }
 }
 
@@ -126,19 +159,23 @@ pub(crate) fn mutual(
 pub(crate) fn counted_mutual(
     alloc: Global,
     mine: &[Option<Vec<u32>>],
+    mine_withdrawn: &[bool],
     theirs: &[Option<Vec<u32>>],
+    theirs_withdrawn: &[bool],
 ) -> Result<(Vec<Vec<u32>>, u32), ModelFault>
     requires few { length mine.now < 2 ^ 32 }
+    requires flags { length mine_withdrawn.now ≡ length mine.now }
+    requires other_flags { length theirs_withdrawn.now ≡ length theirs.now }
     requires lists { AreLists (map items_of mine.now) (length theirs.now) }
     requires others { AreLists (map items_of theirs.now) (length mine.now) }
-    ensures lists { IfOk result (λ made. map (λ list. list.items) made.0.items ≡ mutual_lists (given_lists (map items_of mine.now)) (given_lists (map items_of theirs.now))) }
-    ensures count { IfOk result (λ made. (made.1 ≡ sum_by length (mutual_lists (given_lists (map items_of mine.now)) (given_lists (map items_of theirs.now)))) × (made.1 ≤ MAX_PAIRS)) }
-    ensures cause { IfErr result (λ fault. (fault ≡ ModelFault.Memory) ⊎ ((fault ≡ ModelFault.TooManyPairs) × (MAX_PAIRS < sum_by length (mutual_lists (given_lists (map items_of mine.now)) (given_lists (map items_of theirs.now)))))) }
+    ensures lists { IfOk result (λ made. map (λ list. list.items) made.0.items ≡ mutual_lists (lists_left mine.now mine_withdrawn.now) (lists_left theirs.now theirs_withdrawn.now)) }
+    ensures count { IfOk result (λ made. (made.1 ≡ sum_by length (mutual_lists (lists_left mine.now mine_withdrawn.now) (lists_left theirs.now theirs_withdrawn.now))) × (made.1 ≤ MAX_PAIRS)) }
+    ensures cause { IfErr result (λ fault. (fault ≡ ModelFault.Memory) ⊎ ((fault ≡ ModelFault.TooManyPairs) × (MAX_PAIRS < sum_by length (mutual_lists (lists_left mine.now mine_withdrawn.now) (lists_left theirs.now theirs_withdrawn.now))))) }
 {
     if is_dense(theirs, mine.len()) {
-        flag_rows::counted_mutual(alloc, mine, theirs)
+        flag_rows::counted_mutual(alloc, mine, mine_withdrawn, theirs, theirs_withdrawn)
     } else {
-        sorted_copies::counted_mutual(alloc, mine, theirs)
+        sorted_copies::counted_mutual(alloc, mine, mine_withdrawn, theirs, theirs_withdrawn)
     }
 }
 

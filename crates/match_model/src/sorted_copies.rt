@@ -6,21 +6,26 @@ ghost use Rattle.std.specs.Ordering.{nat_cmp};
 ghost use Rattle.std.specs.Global.{Vec};
 ghost use Rattle.match_model.specs.Ranking.{is_listed};
 ghost use Rattle.match_model.specs.Instance.{list_at};
-ghost use Rattle.match_model.specs.Draft.{items_of, given_lists, AreLists, mutual_lists};
+ghost use Rattle.match_model.specs.Draft.{items_of, lists_left, AreLists, mutual_lists};
 ghost use Rattle.match_model.specs.SortedCopy.{IsSortedCopy};
 
 use crate::fault::ModelFault;
 use crate::limits::MAX_PAIRS;
-use crate::ranking::given;
+use crate::ranking::remaining;
 use std::alloc::{AllocError, Global};
 
 /// Each list in rising order, so that an item is found by halving.
-fn sorted_copies(alloc: Global, lists: &[Option<Vec<u32>>]) -> Result<Vec<Vec<u32>>, AllocError>
-    ensures { IfOk result (λ v. AllZip IsSortedCopy (given_lists (map items_of lists.now)) (map (λ list. list.items) v.items)) }
+fn sorted_copies(
+    alloc: Global,
+    lists: &[Option<Vec<u32>>],
+    withdrawn: &[bool],
+) -> Result<Vec<Vec<u32>>, AllocError>
+    requires { length withdrawn.now ≡ length lists.now }
+    ensures { IfOk result (λ v. AllZip IsSortedCopy (lists_left lists.now withdrawn.now) (map (λ list. list.items) v.items)) }
 {
     let mut copies = Vec::new(alloc);
-    for list in lists {
-        let mut copy = Vec::from_slice(alloc, given(list))?;
+    for owner in 0..lists.len() {
+        let mut copy = Vec::from_slice(alloc, remaining(lists, withdrawn, owner))?;
         copy.sort()?;
         copies.push(copy)?;
     }
@@ -59,16 +64,21 @@ fn kept(
 pub(crate) fn mutual(
     alloc: Global,
     mine: &[Option<Vec<u32>>],
+    mine_withdrawn: &[bool],
     theirs: &[Option<Vec<u32>>],
+    theirs_withdrawn: &[bool],
 ) -> Result<Vec<Vec<u32>>, AllocError>
     requires few { length mine.now < 2 ^ 32 }
+    requires flags { length mine_withdrawn.now ≡ length mine.now }
+    requires other_flags { length theirs_withdrawn.now ≡ length theirs.now }
     requires lists { AreLists (map items_of mine.now) (length theirs.now) }
-    ensures { IfOk result (λ v. map (λ list. list.items) v.items ≡ mutual_lists (given_lists (map items_of mine.now)) (given_lists (map items_of theirs.now))) }
+    ensures { IfOk result (λ v. map (λ list. list.items) v.items ≡ mutual_lists (lists_left mine.now mine_withdrawn.now) (lists_left theirs.now theirs_withdrawn.now)) }
 {
-    let sorted = sorted_copies(alloc, theirs)?;
+    let sorted = sorted_copies(alloc, theirs, theirs_withdrawn)?;
     let mut lists = Vec::new(alloc);
-    for (owner, list) in mine.iter().enumerate() {
-        lists.push(kept(alloc, given(list), owner as u32, &sorted)?)?;
+    for owner in 0..mine.len() {
+        let left = remaining(mine, mine_withdrawn, owner);
+        lists.push(kept(alloc, left, owner as u32, &sorted)?)?;
     }
     Ok(lists)
 }
@@ -92,15 +102,19 @@ fn count_items(lists: &[Vec<u32>]) -> Option<u32>
 pub(crate) fn counted_mutual(
     alloc: Global,
     mine: &[Option<Vec<u32>>],
+    mine_withdrawn: &[bool],
     theirs: &[Option<Vec<u32>>],
+    theirs_withdrawn: &[bool],
 ) -> Result<(Vec<Vec<u32>>, u32), ModelFault>
     requires few { length mine.now < 2 ^ 32 }
+    requires flags { length mine_withdrawn.now ≡ length mine.now }
+    requires other_flags { length theirs_withdrawn.now ≡ length theirs.now }
     requires lists { AreLists (map items_of mine.now) (length theirs.now) }
-    ensures lists { IfOk result (λ made. map (λ list. list.items) made.0.items ≡ mutual_lists (given_lists (map items_of mine.now)) (given_lists (map items_of theirs.now))) }
-    ensures count { IfOk result (λ made. (made.1 ≡ sum_by length (mutual_lists (given_lists (map items_of mine.now)) (given_lists (map items_of theirs.now)))) × (made.1 ≤ MAX_PAIRS)) }
-    ensures cause { IfErr result (λ fault. (fault ≡ ModelFault.Memory) ⊎ ((fault ≡ ModelFault.TooManyPairs) × (MAX_PAIRS < sum_by length (mutual_lists (given_lists (map items_of mine.now)) (given_lists (map items_of theirs.now)))))) }
+    ensures lists { IfOk result (λ made. map (λ list. list.items) made.0.items ≡ mutual_lists (lists_left mine.now mine_withdrawn.now) (lists_left theirs.now theirs_withdrawn.now)) }
+    ensures count { IfOk result (λ made. (made.1 ≡ sum_by length (mutual_lists (lists_left mine.now mine_withdrawn.now) (lists_left theirs.now theirs_withdrawn.now))) × (made.1 ≤ MAX_PAIRS)) }
+    ensures cause { IfErr result (λ fault. (fault ≡ ModelFault.Memory) ⊎ ((fault ≡ ModelFault.TooManyPairs) × (MAX_PAIRS < sum_by length (mutual_lists (lists_left mine.now mine_withdrawn.now) (lists_left theirs.now theirs_withdrawn.now))))) }
 {
-    let lists = mutual(alloc, mine, theirs)?;
+    let lists = mutual(alloc, mine, mine_withdrawn, theirs, theirs_withdrawn)?;
     let Some(count) = count_items(&lists) else {
         return Err(ModelFault::TooManyPairs);
     };

@@ -111,6 +111,112 @@ fn keeps_the_mutual_parts(rt: HostRuntime) -> Result<(), Fail> {
 }
 
 #[test]
+fn refuses_a_withdrawal_in_order(rt: HostRuntime) -> Result<(), Fail> {
+    let mut nobody = InstanceBuilder::new(rt.alloc());
+    assert!(rt; nobody.withdraw_resident(X) == Err(ModelFault::NoSuchMember));
+    assert!(rt; nobody.withdraw_programme(A) == Err(ModelFault::NoSuchMember));
+    let mut builder = one_of_each(rt.alloc())?;
+    for wanted in [Ok(()), Err(ModelFault::WithdrawnTwice)] {
+        assert!(rt; builder.withdraw_programme(A) == wanted);
+        assert!(rt; builder.withdraw_resident(X) == wanted);
+    }
+    assert!(rt; builder.withdraw_programme(B) == Err(ModelFault::NoSuchMember));
+    assert!(rt; has_pairs(builder, 0));
+    Ok(())
+}
+
+#[test]
+fn reads_the_list_of_whoever_is_withdrawn(rt: HostRuntime) -> Result<(), Fail> {
+    let mut builder = one_of_each(rt.alloc())?;
+    builder.withdraw_programme(A)?;
+    for (list, wanted) in [
+        ([X, Y], Err(ModelFault::NoSuchMember)),
+        ([X, X], Err(ModelFault::ListedTwice)),
+    ] {
+        assert!(rt; builder.programme_list(A, &list) == wanted);
+    }
+    assert!(rt; builder.programme_list(A, &[X]) == Ok(()));
+    assert!(rt; builder.programme_list(A, &[X]) == Err(ModelFault::ListGivenTwice));
+    assert!(rt; builder.resident_list(X, &[A]) == Ok(()));
+    assert!(rt; has_pairs(builder, 0));
+    Ok(())
+}
+
+// Two programmes and three residents with all their lists, of whom these are withdrawn, before or after the lists.
+fn without(
+    alloc: Global,
+    first: bool,
+    programmes: &[ProgrammeNo],
+    residents: &[ResidentNo],
+) -> Result<Instance, ModelFault> {
+    let mut builder = two_and_three(alloc)?;
+    if !first {
+        add_lists(&mut builder)?;
+    }
+    for programme in programmes {
+        builder.withdraw_programme(*programme)?;
+    }
+    for resident in residents {
+        builder.withdraw_resident(*resident)?;
+    }
+    if first {
+        add_lists(&mut builder)?;
+    }
+    builder.finish().map_err(|refused| refused.fault)
+}
+
+// The first programme and all three residents rank one another; the second ranks a resident whom it is ranked by, and
+// one whom it isn't.
+fn add_lists(builder: &mut InstanceBuilder) -> Result<(), ModelFault> {
+    builder.programme_list(A, &[X, Y, Z])?;
+    builder.programme_list(B, &[Z, X])?;
+    builder.resident_list(X, &[B, A])?;
+    builder.resident_list(Y, &[A])?;
+    builder.resident_list(Z, &[A])
+}
+
+// Whether these are withdrawn of two programmes and three residents, and so many pairs are left.
+fn is_left(instance: &Instance, pairs: u32, programmes: [bool; 2], residents: [bool; 3]) -> bool {
+    if instance.programmes() != 2 || instance.residents() != 3 {
+        return false;
+    }
+    instance.pairs() == pairs
+        && [A, B].map(|p| instance.programme_withdrawn(p)) == programmes
+        && [X, Y, Z].map(|r| instance.resident_withdrawn(r)) == residents
+}
+
+#[test]
+fn a_withdrawn_member_stands_on_no_list(rt: HostRuntime) -> Result<(), Fail> {
+    for first in [false, true] {
+        let programme = without(rt.alloc(), first, &[B], &[])?;
+        assert!(rt; is_left(&programme, 3, [false, true], [false; 3]));
+        assert!(rt; is_programme(&programme, B, 1, &[]));
+        assert!(rt; is_resident(&programme, X, &[A]));
+        let resident = without(rt.alloc(), first, &[], &[X])?;
+        assert!(rt; is_left(&resident, 2, [false; 2], [true, false, false]));
+        assert!(rt; is_programme(&resident, A, 2, &[Y, Z]));
+        assert!(rt; is_programme(&resident, B, 1, &[]));
+        assert!(rt; is_resident(&resident, X, &[]));
+        assert!(rt; are_ranked(&resident, A, Z, (Some(1), Some(0))));
+        assert!(rt; are_ranked(&resident, A, X, (None, None)));
+    }
+    let nobody = without(rt.alloc(), false, &[A, B], &[Z, X, Y])?;
+    assert!(rt; is_left(&nobody, 0, [true; 2], [true; 3]));
+    Ok(())
+}
+
+#[test]
+fn whom_nobody_lists_may_withdraw(rt: HostRuntime) -> Result<(), Fail> {
+    let mut builder = two_and_three(rt.alloc())?;
+    builder.programme_list(A, &[X])?;
+    builder.resident_list(X, &[A])?;
+    builder.withdraw_resident(Y)?;
+    builder.withdraw_programme(B)?;
+    assert!(rt; has_pairs(builder, 1));
+    Ok(())
+}
+
+#[test]
 fn takes_as_many_pairs_as_there_may_be(rt: HostRuntime) -> Result<(), Fail> {
     let instance = made_in_one_order(rt.alloc())?;
     let residents = all_residents(rt.alloc())?;
@@ -176,6 +282,7 @@ fn prints_its_faults(rt: HostRuntime) {
             "more than 200000 acceptable pairs",
         ),
         (ModelFault::Memory, "out of memory"),
+        (ModelFault::WithdrawnTwice, "a member is withdrawn twice"),
     ];
     for (fault, text) in faults {
         let printed = format!(in rt.alloc(); "{fault}").expect(&rt, "a text");

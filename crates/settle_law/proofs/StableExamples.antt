@@ -1,5 +1,5 @@
 -- That the definitions of stable and settled mean what they say, on small instances.
-use Rattle.std.proofs.Common.{◌≡◌, ℕ, zero, suc, ◌<◌, ◌≤◌, ◌⊎◌, List, [], ◌∷◌, length, get_or, arith, refl, sym, ap, ◌∙◌, inl, inr, subst}
+use Rattle.std.proofs.Common.{◌≡◌, ℕ, zero, suc, ◌<◌, ◌≤◌, ◌⊎◌, false, List, [], ◌∷◌, length, get_or, arith, refl, sym, ap, ◌∙◌, inl, inr, subst}
 use Rattle.std.specs.Prelude.{Option, Some, None}
 use Rattle.std.specs.List.{All}
 use Rattle.std.proofs.lemmas.List.Sums.{count_by-le-length}
@@ -55,6 +55,8 @@ two_each = record {
   quotas = 1 ∷ 1 ∷ [];
   programme_lists = (0 ∷ 1 ∷ []) ∷ (1 ∷ 0 ∷ []) ∷ [];
   resident_lists = (1 ∷ 0 ∷ []) ∷ (0 ∷ 1 ∷ []) ∷ [];
+  programmes_withdrawn = false ∷ false ∷ [];
+  residents_withdrawn = false ∷ false ∷ [];
 }
 
 -- the matching that is best for both programmes, and the one that is best for both residents
@@ -184,6 +186,8 @@ two_and_one = record {
   quotas = 2 ∷ 1 ∷ [];
   programme_lists = (0 ∷ 1 ∷ 2 ∷ []) ∷ (0 ∷ []) ∷ [];
   resident_lists = (1 ∷ 0 ∷ []) ∷ (0 ∷ []) ∷ (0 ∷ []) ∷ [];
+  programmes_withdrawn = false ∷ false ∷ [];
+  residents_withdrawn = false ∷ false ∷ false ∷ [];
 }
 
 abbrev one_and_two : List (Option ℕ)
@@ -282,7 +286,13 @@ one_and_two_is_settled = record { one_place_each = refl; members_are_best = λ p
 
 -- one programme, which both residents list, of three places and of one
 abbrev with_places : ℕ → Instance
-with_places n = record { quotas = n ∷ []; programme_lists = (0 ∷ 1 ∷ []) ∷ []; resident_lists = (0 ∷ []) ∷ (0 ∷ []) ∷ [] }
+with_places n = record {
+  quotas = n ∷ [];
+  programme_lists = (0 ∷ 1 ∷ []) ∷ [];
+  resident_lists = (0 ∷ []) ∷ (0 ∷ []) ∷ [];
+  programmes_withdrawn = false ∷ [];
+  residents_withdrawn = false ∷ false ∷ [];
+}
 
 with_places_pairs : (n : ℕ) (P : ℕ → ℕ → Type 0) → P 0 0 → P 1 0 → (r p : ℕ) → Acceptable (with_places n) r p → P r p
 with_places_pairs n P a b r zero l = elim (is_one_of_two 0 1 r l) [ inl e ↦ subst (λ z. P z 0) e a | inr e ↦ subst (λ z. P z 0) e b ]

@@ -1,4 +1,4 @@
-use Rattle.std.proofs.Common.{◌≡◌, ◌≤◌, ℕ, List, length, map, arith, sym, ap, ◌∙◌, subst}
+use Rattle.std.proofs.Common.{◌≡◌, ◌≤◌, ℕ, Bool, List, length, map, arith, sym, ap, ◌∙◌, subst}
 use Rattle.std.specs.Global.{Vec}
 use Rattle.std.specs.Result.{IsErrAnd}
 use Rattle.std.specs.Prelude.{Option, Result, Ok, Err, IfErr, ◌<◌, ◌⊎◌}
@@ -9,18 +9,22 @@ use Rattle.match_model.specs.Instance.{Instance, IsKept, pair_count}
 use Rattle.std.specs.List.{sum_by, All}
 use Rattle.match_model.specs.RankTable.{AreRankTables}
 use Rattle.match_model.specs.declared.limits.TheConstants.{MAX_PAIRS}
-use Rattle.match_model.specs.Draft.{Draft, IsFinishFault, instance_of, given_lists, mutual_lists, items_of}
+use Rattle.match_model.specs.Draft.{Draft, IsFinishFault, instance_of, lists_left, mutual_lists, items_of}
 use Rattle.match_model.proofs.Kept.{IsKept-instance_of, resident_lists_short}
 use Rattle.match_model.proofs.builder.InstanceBuilder.instance.Goals as goal
 
--- the mutual lists of what two vectors give
-abbrev mutual_of : List (Option (Vec ℕ)) → List (Option (Vec ℕ)) → List (List ℕ)
-mutual_of mine theirs = mutual_lists (given_lists (map items_of mine)) (given_lists (map items_of theirs))
+-- the mutual lists of what two vectors give, without whoever is withdrawn
+abbrev mutual_of : List (Option (Vec ℕ)) → List Bool → List (Option (Vec ℕ)) → List Bool → List (List ℕ)
+mutual_of mine my_flags theirs their_flags = mutual_lists (lists_left mine my_flags) (lists_left theirs their_flags)
+
+-- the same, of equal parts
+same_mutual : (ms ms' : List (Option (Vec ℕ))) (fs fs' : List Bool) (ts ts' : List (Option (Vec ℕ))) (gs gs' : List Bool) → ms ≡ ms' → fs ≡ fs' → ts ≡ ts' → gs ≡ gs' → mutual_of ms fs ts gs ≡ mutual_of ms' fs' ts' gs'
+same_mutual ms ms' fs fs' ts ts' gs gs' m f t g = λ i. mutual_of (m i) (f i) (t i) (g i)
 
 -- the parts of an instance, put in one at a time
-same_instance : (qs qs' : List ℕ) (ps ps' rs rs' : List (List ℕ)) → qs ≡ qs' → ps ≡ ps' → rs ≡ rs' →
-    (let a : Instance = record { quotas = qs; programme_lists = ps; resident_lists = rs } in let b : Instance = record { quotas = qs'; programme_lists = ps'; resident_lists = rs' } in a ≡ b)
-same_instance qs qs' ps ps' rs rs' e f g = λ i. record { quotas = e i; programme_lists = f i; resident_lists = g i }
+same_instance : (qs qs' : List ℕ) (ps ps' rs rs' : List (List ℕ)) (fs fs' gs gs' : List Bool) → qs ≡ qs' → ps ≡ ps' → rs ≡ rs' → fs ≡ fs' → gs ≡ gs' →
+    (let a : Instance = record { quotas = qs; programme_lists = ps; resident_lists = rs; programmes_withdrawn = fs; residents_withdrawn = gs } in let b : Instance = record { quotas = qs'; programme_lists = ps'; resident_lists = rs'; programmes_withdrawn = fs'; residents_withdrawn = gs' } in a ≡ b)
+same_instance qs qs' ps ps' rs rs' fs fs' gs gs' e f g h k = λ i. record { quotas = e i; programme_lists = f i; resident_lists = g i; programmes_withdrawn = h i; residents_withdrawn = k i }
 
 -- an error that is handed on
 same_err : {T : Type 0} (r : Result T ModelFault) (e : ModelFault) (P : ModelFault → Type 0) → IsErrAnd r (λ x. x ≡ e) → P e → IfErr r P
@@ -29,45 +33,49 @@ same_err (Err x) e P h p = subst P (sym h) p
 
 pub rank_tables-requires-2 : goal.rank_tables-requires-2
 rank_tables-requires-2 c =
-    let residents : lists_of c.in_ok-residents.residents.items ≡ mutual_of c.self.inside.resident_lists.items c.self.inside.programme_lists.items =
-    c.in_ok-residents.ensures ∙ ap (λ (vs : List (Option (Vec ℕ))). mutual_of vs c.deref-4.result.now) c.deref-3.ensures.value ∙ ap (λ (vs : List (Option (Vec ℕ))). mutual_of c.self.inside.resident_lists.items vs) c.deref-4.ensures.value in
-    let d : Draft = record { quotas = c.self.inside.quotas.items; programme_lists = map items_of c.self.inside.programme_lists.items; resident_lists = map items_of c.self.inside.resident_lists.items } in
-    subst (All (λ (list : List ℕ). length list ≤ MAX_PAIRS)) (sym (ap lists_of c.deref-6.ensures.value ∙ residents)) (resident_lists_short d c.self.invariant)
+    let residents : lists_of c.in_ok-residents.residents.items ≡ mutual_of c.self.inside.resident_lists.items c.self.inside.residents_withdrawn.items c.self.inside.programme_lists.items c.self.inside.programmes_withdrawn.items =
+    c.in_ok-residents.ensures ∙ same_mutual _ _ _ _ _ _ _ _ c.deref-5.ensures.value c.deref-6.ensures.value c.deref-7.ensures.value c.deref-8.ensures.value in
+    let d : Draft = record { quotas = c.self.inside.quotas.items; programme_lists = map items_of c.self.inside.programme_lists.items; resident_lists = map items_of c.self.inside.resident_lists.items; programmes_withdrawn = c.self.inside.programmes_withdrawn.items; residents_withdrawn = c.self.inside.residents_withdrawn.items } in
+    subst (All (λ (list : List ℕ). length list ≤ MAX_PAIRS)) (sym (ap lists_of c.deref-10.ensures.value ∙ residents)) (resident_lists_short d c.self.invariant)
 
 pub invariant_of-result : goal.invariant_of-result
 invariant_of-result c =
-    let quotas = c.in_ok-from_slice.ensures.items ∙ c.deref-7.ensures.value in
-    let programmes : lists_of c.in_ok-programmes.programmes.items ≡ mutual_of c.self.inside.programme_lists.items c.self.inside.resident_lists.items =
-    c.in_ok-programmes.ensures.lists ∙ ap (λ (vs : List (Option (Vec ℕ))). mutual_of vs c.deref-2.result.now) c.deref.ensures.value ∙ ap (λ (vs : List (Option (Vec ℕ))). mutual_of c.self.inside.programme_lists.items vs) c.deref-2.ensures.value in
-    let residents : lists_of c.in_ok-residents.residents.items ≡ mutual_of c.self.inside.resident_lists.items c.self.inside.programme_lists.items =
-    c.in_ok-residents.ensures ∙ ap (λ (vs : List (Option (Vec ℕ))). mutual_of vs c.deref-4.result.now) c.deref-3.ensures.value ∙ ap (λ (vs : List (Option (Vec ℕ))). mutual_of c.self.inside.resident_lists.items vs) c.deref-4.ensures.value in
-    let ps = c.in_ok-residents_of.ensures ∙ ap lists_of c.deref-8.ensures.value ∙ programmes in
-    let rs = c.in_ok-programmes_of.ensures ∙ ap lists_of c.deref-9.ensures.value ∙ residents in
-    let d : Draft = record { quotas = c.self.inside.quotas.items; programme_lists = map items_of c.self.inside.programme_lists.items; resident_lists = map items_of c.self.inside.resident_lists.items } in
-    let same = ap (λ (vs : List (Option (Vec ℕ))). mutual_of vs c.deref-2.result.now) c.deref.ensures.value ∙ ap (λ (vs : List (Option (Vec ℕ))). mutual_of c.self.inside.programme_lists.items vs) c.deref-2.ensures.value in
+    let programmes : lists_of c.in_ok-programmes.programmes.items ≡ mutual_of c.self.inside.programme_lists.items c.self.inside.programmes_withdrawn.items c.self.inside.resident_lists.items c.self.inside.residents_withdrawn.items =
+    c.in_ok-programmes.ensures.lists ∙ same_mutual _ _ _ _ _ _ _ _ c.deref.ensures.value c.deref-2.ensures.value c.deref-3.ensures.value c.deref-4.ensures.value in
+    let residents : lists_of c.in_ok-residents.residents.items ≡ mutual_of c.self.inside.resident_lists.items c.self.inside.residents_withdrawn.items c.self.inside.programme_lists.items c.self.inside.programmes_withdrawn.items =
+    c.in_ok-residents.ensures ∙ same_mutual _ _ _ _ _ _ _ _ c.deref-5.ensures.value c.deref-6.ensures.value c.deref-7.ensures.value c.deref-8.ensures.value in
+    let quotas = c.in_ok-from_slice.ensures.items ∙ c.deref-11.ensures.value in
+    let ps = c.in_ok-residents_of.ensures ∙ ap lists_of c.deref-12.ensures.value ∙ programmes in
+    let rs = c.in_ok-programmes_of.ensures ∙ ap lists_of c.deref-13.ensures.value ∙ residents in
+    let fs = c.in_ok-from_slice-2.ensures.items ∙ c.deref-14.ensures.value in
+    let gs = c.in_ok-from_slice-3.ensures.items ∙ c.deref-15.ensures.value in
+    let d : Draft = record { quotas = c.self.inside.quotas.items; programme_lists = map items_of c.self.inside.programme_lists.items; resident_lists = map items_of c.self.inside.resident_lists.items; programmes_withdrawn = c.self.inside.programmes_withdrawn.items; residents_withdrawn = c.self.inside.residents_withdrawn.items } in
+    let same = same_mutual _ _ _ _ _ _ _ _ c.deref.ensures.value c.deref-2.ensures.value c.deref-3.ensures.value c.deref-4.ensures.value in
     let counted : c.in_ok-programmes.pairs ≡ pair_count (instance_of d) = c.in_ok-programmes.ensures.count.0 ∙ ap (sum_by (length {A = ℕ})) same in
     let few : pair_count (instance_of d) ≤ MAX_PAIRS = (let most = c.in_ok-programmes.ensures.count.1 in omega arith) in
     record {
-      rankings = subst (λ (inst : Instance). IsKept inst c.in_ok-programmes.pairs) (sym (same_instance _ _ _ _ _ _ quotas ps rs)) (IsKept-instance_of d c.in_ok-programmes.pairs c.self.invariant few counted);
-      programme_ranks = subst (λ (lists : List (List ℕ)). AreRankTables lists c.in_ok-programme_ranks.programme_ranks.items) (ap lists_of c.deref-5.ensures.value ∙ programmes ∙ sym ps) c.in_ok-programme_ranks.ensures;
-      resident_ranks = subst (λ (lists : List (List ℕ)). AreRankTables lists c.in_ok-resident_ranks.resident_ranks.items) (ap lists_of c.deref-6.ensures.value ∙ residents ∙ sym rs) c.in_ok-resident_ranks.ensures;
+      rankings = subst (λ (inst : Instance). IsKept inst c.in_ok-programmes.pairs) (sym (same_instance _ _ _ _ _ _ _ _ _ _ quotas ps rs fs gs)) (IsKept-instance_of d c.in_ok-programmes.pairs c.self.invariant few counted);
+      programme_ranks = subst (λ (lists : List (List ℕ)). AreRankTables lists c.in_ok-programme_ranks.programme_ranks.items) (ap lists_of c.deref-9.ensures.value ∙ programmes ∙ sym ps) c.in_ok-programme_ranks.ensures;
+      resident_ranks = subst (λ (lists : List (List ℕ)). AreRankTables lists c.in_ok-resident_ranks.resident_ranks.items) (ap lists_of c.deref-10.ensures.value ∙ residents ∙ sym rs) c.in_ok-resident_ranks.ensures;
     }
 
 pub returns-clause-made : goal.returns-clause-made
 returns-clause-made c =
-    let quotas = c.in_ok-from_slice.ensures.items ∙ c.deref-7.ensures.value in
-    let programmes : lists_of c.in_ok-programmes.programmes.items ≡ mutual_of c.self.inside.programme_lists.items c.self.inside.resident_lists.items =
-    c.in_ok-programmes.ensures.lists ∙ ap (λ (vs : List (Option (Vec ℕ))). mutual_of vs c.deref-2.result.now) c.deref.ensures.value ∙ ap (λ (vs : List (Option (Vec ℕ))). mutual_of c.self.inside.programme_lists.items vs) c.deref-2.ensures.value in
-    let residents : lists_of c.in_ok-residents.residents.items ≡ mutual_of c.self.inside.resident_lists.items c.self.inside.programme_lists.items =
-    c.in_ok-residents.ensures ∙ ap (λ (vs : List (Option (Vec ℕ))). mutual_of vs c.deref-4.result.now) c.deref-3.ensures.value ∙ ap (λ (vs : List (Option (Vec ℕ))). mutual_of c.self.inside.resident_lists.items vs) c.deref-4.ensures.value in
-    let ps = c.in_ok-residents_of.ensures ∙ ap lists_of c.deref-8.ensures.value ∙ programmes in
-    let rs = c.in_ok-programmes_of.ensures ∙ ap lists_of c.deref-9.ensures.value ∙ residents in
-    rw (← c.self.view_is) (same_instance _ _ _ _ _ _ quotas ps rs)
+    let programmes : lists_of c.in_ok-programmes.programmes.items ≡ mutual_of c.self.inside.programme_lists.items c.self.inside.programmes_withdrawn.items c.self.inside.resident_lists.items c.self.inside.residents_withdrawn.items =
+    c.in_ok-programmes.ensures.lists ∙ same_mutual _ _ _ _ _ _ _ _ c.deref.ensures.value c.deref-2.ensures.value c.deref-3.ensures.value c.deref-4.ensures.value in
+    let residents : lists_of c.in_ok-residents.residents.items ≡ mutual_of c.self.inside.resident_lists.items c.self.inside.residents_withdrawn.items c.self.inside.programme_lists.items c.self.inside.programmes_withdrawn.items =
+    c.in_ok-residents.ensures ∙ same_mutual _ _ _ _ _ _ _ _ c.deref-5.ensures.value c.deref-6.ensures.value c.deref-7.ensures.value c.deref-8.ensures.value in
+    let quotas = c.in_ok-from_slice.ensures.items ∙ c.deref-11.ensures.value in
+    let ps = c.in_ok-residents_of.ensures ∙ ap lists_of c.deref-12.ensures.value ∙ programmes in
+    let rs = c.in_ok-programmes_of.ensures ∙ ap lists_of c.deref-13.ensures.value ∙ residents in
+    let fs = c.in_ok-from_slice-2.ensures.items ∙ c.deref-14.ensures.value in
+    let gs = c.in_ok-from_slice-3.ensures.items ∙ c.deref-15.ensures.value in
+    rw (← c.self.view_is) (same_instance _ _ _ _ _ _ _ _ _ _ quotas ps rs fs gs)
 
 pub returns-in_err-programmes-clause-cause : goal.returns-in_err-programmes-clause-cause
 returns-in_err-programmes-clause-cause c =
     let e : ModelFault = c.in_err-programmes.field-0.0 in
-    let same = ap (λ (vs : List (Option (Vec ℕ))). mutual_of vs c.deref-2.result.now) c.deref.ensures.value ∙ ap (λ (vs : List (Option (Vec ℕ))). mutual_of c.self.inside.programme_lists.items vs) c.deref-2.ensures.value in
+    let same = same_mutual _ _ _ _ _ _ _ _ c.deref.ensures.value c.deref-2.ensures.value c.deref-3.ensures.value c.deref-4.ensures.value in
     let pairs = ap (sum_by (length {A = ℕ})) same ∙ ap (λ (d : Draft). pair_count (instance_of d)) c.self.view_is in
     let cause = subst (λ (n : ℕ). (e ≡ Memory) ⊎ ((e ≡ TooManyPairs) × (MAX_PAIRS < n))) pairs c.in_err-programmes.ensures.cause in
     same_err c.from_residual.result e (IsFinishFault c.args.self.now) c.from_residual.ensures.1 cause
