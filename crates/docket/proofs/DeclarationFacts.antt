@@ -1,6 +1,6 @@
 -- What one row more declares.
 use Rattle.std.proofs.Common.{◌≡◌, ℕ, List, [], ◌∷◌, ◌++◌, Bool, true, false, length, sym, ◌∙◌, refl, ap, Option, Some, None, map, find, filter, is_some, inl, inr, append-nil}
-use Rattle.std.specs.Prelude.{◌==◌, ◌&&◌, ◌||◌, not, if◌then◌else◌, option_map, unwrap_or, bytes_eq, Ok, Err, nat_le, nat_lt}
+use Rattle.std.specs.Prelude.{◌==◌, ◌&&◌, ◌||◌, not, if◌then◌else◌, option_map, unwrap_or, bytes_eq, codes, Ok, Err, nat_le, nat_lt}
 use Rattle.std.specs.List.{list_any}
 use Rattle.std.specs.Option.{option_or}
 use Rattle.std.proofs.lemmas.List.{map-append, length-map}
@@ -13,16 +13,17 @@ use Rattle.match_model.specs.declared.limits.TheConstants.{MAX_PROGRAMMES, MAX_R
 use Rattle.match_model.specs.declared.fault.ModelFault.{ModelFault}
 use Rattle.match_model.specs.declared.fault.ModelFault.TheVariants as model
 use Rattle.docket.specs.Words.{number_of, capacity_of}
-use Rattle.docket.specs.Fields.{Fields, field, kind_of, is_kind, is_row_of, unless}
+use Rattle.docket.specs.Fields.{Fields, field, kind_of, is_kind, is_row_of, unless, version_kind, withdrawal_kind}
 use Rattle.docket.specs.Contents.{rows_of, names_of, programmes_of, residents_of, quotas_of, is_sheet_row, is_declared}
-use Rattle.docket.specs.Passes.{repeat_fault, limit_fault, next_place}
+use Rattle.docket.specs.Passes.{repeat_fault, limit_fault, next_place, is_version_2}
 use Rattle.docket.specs.Answers.{Refuses, at_record}
-use Rattle.docket.specs.Declarations.{IsDeclared, capacity_in}
+use Rattle.docket.specs.Declarations.{IsDeclared, capacity_in, names_withdrawn}
 use Rattle.docket.specs.declared.declarations.Declarations.{Declarations}
 use Rattle.docket.specs.declared.kind.TheConstants.{QUOTA, PROGRAMME_LIST, RESIDENT_LIST, MATCHED, UNMATCHED, FILLED, CAPACITY, EVENT}
 use Rattle.docket.specs.declared.fault.DocketFault.{DocketFault}
 use Rattle.docket.specs.declared.fault.DocketFault.TheVariants.{DeclaredTwice, Model, BadEvent}
 use Rattle.docket.proofs.NameFacts.{is_declared-map}
+use Rattle.docket.proofs.WithdrawalFacts.{names_withdrawn-if, is_version_2-other}
 
 -- the images of the rows of a kind, with one row more
 pub images-if : {A : Type 0} (f : Fields → A) (kind : ℕ) (rows : List Fields) (row : Fields)
@@ -64,6 +65,13 @@ nones-if : (owners : List (List ℕ)) (name : List ℕ) (b : Bool)
 nones-if owners name true = map-append (λ (n : List ℕ). none) owners (name ∷ [])
 nones-if owners name false = refl
 
+-- the flags of members of whom none is withdrawn, with one member more
+here-if : (owners : List (List ℕ)) (name : List ℕ) (b : Bool)
+    → map (λ (n : List ℕ). false) (if b then owners ++ name ∷ [] else owners)
+    ≡ (if b then map (λ (n : List ℕ). false) owners ++ false ∷ [] else map (λ (n : List ℕ). false) owners)
+here-if owners name true = map-append (λ (n : List ℕ). false) owners (name ∷ [])
+here-if owners name false = refl
+
 -- the capacity, with one row more
 pub capacity_in-if : (rows : List Fields) (row : Fields)
     → capacity_in (rows ++ row ∷ []) ≡ option_or (capacity_in rows) (if is_kind CAPACITY row then Some (unwrap_or (capacity_of (field row 1)) Full) else None)
@@ -100,8 +108,13 @@ pub declared_push : (d e : Declarations) (rows : List Fields) (row : Fields) (k 
     → e.capacity ≡ option_or d.capacity (if k == CAPACITY then Some (unwrap_or (capacity_of (field row 1)) Full) else None)
     → ((k == EVENT) ≡ true → is_some d.capacity ≡ true)
     → e.has_sheet_row ≡ (if (k == MATCHED) || (k == UNMATCHED) || (k == FILLED) then true else d.has_sheet_row)
+    → e.is_version_2 ≡ (if k == version_kind then is_version_2 (rows ++ row ∷ []) else d.is_version_2)
+    → e.withdrawn_programmes ≡ (if k == withdrawal_kind then names_withdrawn (codes "P") (rows ++ row ∷ []) else d.withdrawn_programmes)
+    → e.withdrawn_residents ≡ (if k == withdrawal_kind then names_withdrawn (codes "R") (rows ++ row ∷ []) else d.withdrawn_residents)
+    → e.builder.programmes_withdrawn ≡ (if k == QUOTA then d.builder.programmes_withdrawn ++ false ∷ [] else d.builder.programmes_withdrawn)
+    → e.builder.residents_withdrawn ≡ (if k == RESIDENT_LIST then d.builder.residents_withdrawn ++ false ∷ [] else d.builder.residents_withdrawn)
     → IsDeclared e (rows ++ row ∷ [])
-declared_push d e rows row k kind h q pl rl p r ra c ev sh = record {
+declared_push d e rows row k kind h q pl rl p r ra c ev sh ve wp wr pg rg = record {
   quotas = rw (quotas_of-if rows row, kind, ← h.quotas) q;
   programme_lists = rw (programmes_of-if rows row, kind, nones-if (programmes_of rows) (field row 1) (k == QUOTA), ← h.programme_lists) pl;
   resident_lists = rw (residents_of-if rows row, kind, nones-if (residents_of rows) (field row 1) (k == RESIDENT_LIST), ← h.resident_lists) rl;
@@ -111,8 +124,23 @@ declared_push d e rows row k kind h q pl rl p r ra c ev sh = record {
   capacity = rw (capacity_in-if rows row, kind, ← h.capacity) c;
   no_events = λ none. rw (list_any-if (is_kind EVENT) rows row, kind) (no_event (k == EVENT) d.capacity (if k == CAPACITY then Some (unwrap_or (capacity_of (field row 1)) Full) else None) ev h.no_events (sym c ∙ none));
   sheet_rows = rw (list_any-if is_sheet_row rows row, kind, ← h.sheet_rows) sh;
+  version = same_version (k == version_kind) (rw kind refl) ve;
+  withdrawn_programmes = withdrawn (codes "P") d.withdrawn_programmes e.withdrawn_programmes (k == withdrawal_kind) (rw kind refl) h.withdrawn_programmes wp;
+  withdrawn_residents = withdrawn (codes "R") d.withdrawn_residents e.withdrawn_residents (k == withdrawal_kind) (rw kind refl) h.withdrawn_residents wr;
+  no_programme_gone = rw (programmes_of-if rows row, kind, here-if (programmes_of rows) (field row 1) (k == QUOTA), ← h.no_programme_gone) pg;
+  no_resident_gone = rw (residents_of-if rows row, kind, here-if (residents_of rows) (field row 1) (k == RESIDENT_LIST), ← h.no_resident_gone) rg;
 }
   where
+    same_version : (b : Bool) → is_kind version_kind row ≡ b → e.is_version_2 ≡ (if b then is_version_2 (rows ++ row ∷ []) else d.is_version_2)
+        → e.is_version_2 ≡ is_version_2 (rows ++ row ∷ [])
+    same_version true is v = v
+    same_version false is v = v ∙ h.version ∙ sym (is_version_2-other rows row is)
+
+    withdrawn : (side : List ℕ) (old new : List (List ℕ)) (b : Bool) → is_kind withdrawal_kind row ≡ b → old ≡ names_withdrawn side rows
+        → new ≡ (if b then names_withdrawn side (rows ++ row ∷ []) else old) → new ≡ names_withdrawn side (rows ++ row ∷ [])
+    withdrawn side old new true is was w = w
+    withdrawn side old new false is was w = w ∙ was ∙ sym (rw (names_withdrawn-if side rows row, is) refl)
+
     no_event : (b : Bool) (o more : Option Capacity) → (b ≡ true → is_some o ≡ true) → (o ≡ None → list_any (is_kind EVENT) rows ≡ false)
         → option_or o more ≡ None → (if b then true else list_any (is_kind EVENT) rows) ≡ false
     no_event true None more has was none = absurd (cc (has refl))

@@ -1,6 +1,6 @@
 -- The passes together.
 use Rattle.std.proofs.Common.{◌≡◌, ◌⊎◌, inl, inr, ℕ, List, [], ◌∷◌, Bool, true, false, length, map, sym, ◌∙◌, refl, Option, Some, None, Result, Ok, Err, rules}
-use Rattle.std.specs.Prelude.{◌&&◌, ◌||◌, not, if◌then◌else◌, nat_eq, option_map, IfOk, IfErr, IfSome}
+use Rattle.std.specs.Prelude.{◌&&◌, ◌||◌, not, if◌then◌else◌, nat_eq, codes, option_map, IfOk, IfErr, IfSome}
 use Rattle.std.specs.List.{list_any}
 use Rattle.std.specs.Option.{option_or}
 use Rattle.docket.specs.Fields.{Fields, field, is_kind}
@@ -23,6 +23,7 @@ use Rattle.docket.specs.declared.kind.TheConstants.{QUOTA, PROGRAMME_LIST, RESID
 use Rattle.docket.specs.declared.fault.DocketFault.{DocketFault}
 use Rattle.docket.proofs.DeclarationFacts.{refuses_first, refuses_second, no_fault}
 use Rattle.docket.proofs.RankingFacts.{lists_of-none}
+use Rattle.docket.proofs.WithdrawalFacts.{withdrawn_of-none}
 use Rattle.docket.proofs.SoundFacts.{both_none}
 
 -- a list with an item isn't empty
@@ -61,6 +62,8 @@ ranked_start d rows h = record {
   quotas = h.quotas;
   programme_lists = h.programme_lists ∙ sym (lists_of-none PROGRAMME_LIST (programmes_of rows) (residents_of rows));
   resident_lists = h.resident_lists ∙ sym (lists_of-none RESIDENT_LIST (residents_of rows) (programmes_of rows));
+  programmes_withdrawn = h.no_programme_gone ∙ sym (withdrawn_of-none (codes "P") (programmes_of rows));
+  residents_withdrawn = h.no_resident_gone ∙ sym (withdrawn_of-none (codes "R") (residents_of rows));
 }
 
 -- the answers of the whole, where the bytes are known: a fault as the records are read

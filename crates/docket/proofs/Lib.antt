@@ -5,13 +5,16 @@ pub mod RowsFacts
 pub mod RowKindFacts
 pub mod NameFacts
 pub mod ReadFacts
+pub mod WithdrawalFacts
 pub mod DeclarationFacts
 pub mod SoundFacts
+pub mod NumberFacts
+pub mod VersionFacts
 pub mod TextFacts
 pub mod PassFacts
 pub mod ReadInvariant
-pub mod NumberFacts
 pub mod RankingFacts
+pub mod GoneFacts
 pub mod JournalFacts
 pub mod MarkFacts
 pub mod RestFacts

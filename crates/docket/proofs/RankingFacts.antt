@@ -1,6 +1,6 @@
 -- How the lists by number grow with the rows.
 use Rattle.std.proofs.Common.{◌≡◌, ◌≤◌, ◌<◌, ◌+◌, ℕ, zero, suc, List, [], ◌∷◌, ◌++◌, Bool, true, false, length, take, drop, map, find, arith, sym, ◌∙◌, refl, ap, Option, Some, None, inl, inr, rules, is_some}
-use Rattle.std.specs.Prelude.{◌||◌, not, if◌then◌else◌, option_map, bytes_eq, slice_set, nat_lt, nat_le, unwrap_or, Result, Err}
+use Rattle.std.specs.Prelude.{◌||◌, not, if◌then◌else◌, option_map, bytes_eq, codes, slice_set, nat_lt, nat_le, unwrap_or, Result, Err}
 use Rattle.std.specs.Option.{option_or}
 use Rattle.std.specs.List.{list_any, list_all}
 use Rattle.std.proofs.lemmas.List.{take_more, take_all, take-append-drop, length-take, length-map}
@@ -9,9 +9,9 @@ use Rattle.match_model.specs.Draft.{Draft, with_programme_list, with_resident_li
 use Rattle.match_model.specs.declared.fault.ModelFault.{ModelFault}
 use Rattle.match_model.specs.declared.fault.ModelFault.TheVariants as model
 use Rattle.std.proofs.lemmas.Bool.{and_from, and_parts, or_parts}
-use Rattle.docket.specs.Fields.{Fields, field, kind_of, is_kind, is_row_of, unless, row_fault}
+use Rattle.docket.specs.Fields.{Fields, field, kind_of, is_kind, is_row_of, unless, row_fault, withdrawal_kind}
 use Rattle.docket.specs.Rows.{row_at}
-use Rattle.docket.specs.Contents.{number_in, is_declared, member_in, listed_in, names_of, rows_of, quotas_of, programmes_of, residents_of, lists_of, draft_of}
+use Rattle.docket.specs.Contents.{number_in, is_declared, member_in, listed_in, names_of, rows_of, quotas_of, programmes_of, residents_of, lists_of, withdrawn_of, draft_of}
 use Rattle.docket.specs.Words.{number_of}
 use Rattle.docket.specs.Ranking.{IsRanked}
 use Rattle.docket.specs.Passes.{first_from, reading_fault, repeat_fault, limit_fault, next_place, listing_fault, ranking_fault, pairs_fault}
@@ -25,6 +25,7 @@ use Rattle.docket.proofs.PassFacts.{first_from-append, reading_fault-few}
 use Rattle.docket.proofs.SoundFacts.{both_none, unless_none}
 use Rattle.docket.proofs.DeclarationFacts.{option_or-none, names_of-if, is_declared-rows}
 use Rattle.docket.proofs.NameFacts.{is_declared-any}
+use Rattle.docket.proofs.WithdrawalFacts.{withdrawn_of-other}
 use Rattle.docket.proofs.NumberFacts.{distinct, number_below, at_number, map_at, same_bytes, bytes_eq-same}
 
 pub off : (b : Bool) → not b ≡ true → b ≡ false
@@ -251,9 +252,9 @@ unfolding ranking_fault
 ranking_fault-resident rows before row n kind place = rw (kind, place) refl
 
 pub ranking_fault-other : (rows before : List Fields) (row : Fields) → is_kind PROGRAMME_LIST row ≡ false → is_kind RESIDENT_LIST row ≡ false
-    → ranking_fault rows before row ≡ None
+    → is_kind withdrawal_kind row ≡ false → ranking_fault rows before row ≡ None
 unfolding ranking_fault
-ranking_fault-other rows before row p r = rw (p, r) refl
+ranking_fault-other rows before row p r w = rw (p, r, w) refl
 
 -- a row passes a test that one of the rows passes
 list_any_true_at : (p : Fields → Bool) (rows : List Fields) (k : ℕ) → k < length rows → p (row_at rows k) ≡ true → list_any p rows ≡ true
@@ -293,6 +294,12 @@ ranked_programme b e rows k i sound few lt kind at h is =
           ap (λ (d : Draft). d.resident_lists) is ∙ h.resident_lists
           ∙ sym (lists_of-other RESIDENT_LIST (residents_of rows) (programmes_of rows) (take k rows) (row_at rows k) (rw kind refl))
           ∙ ap (lists_of RESIDENT_LIST (residents_of rows) (programmes_of rows)) (sym next);
+      programmes_withdrawn = ap (λ (d : Draft). d.programmes_withdrawn) is ∙ h.programmes_withdrawn
+          ∙ sym (withdrawn_of-other (codes "P") (programmes_of rows) (take k rows) (row_at rows k) (rw kind refl))
+          ∙ ap (withdrawn_of (codes "P") (programmes_of rows)) (sym next);
+      residents_withdrawn = ap (λ (d : Draft). d.residents_withdrawn) is ∙ h.residents_withdrawn
+          ∙ sym (withdrawn_of-other (codes "R") (residents_of rows) (take k rows) (row_at rows k) (rw kind refl))
+          ∙ ap (withdrawn_of (codes "R") (residents_of rows)) (sym next);
     }
 
 pub ranked_resident : (b e : Draft) (rows : List Fields) (k i : ℕ) → first_from reading_fault [] rows ≡ None → length rows ≤ MAX_RECORDS → k < length rows
@@ -312,12 +319,18 @@ ranked_resident b e rows k i sound few lt kind at h is =
           ap (λ (d : Draft). d.programme_lists) is ∙ h.programme_lists
           ∙ sym (lists_of-other PROGRAMME_LIST (programmes_of rows) (residents_of rows) (take k rows) (row_at rows k) (rw kind refl))
           ∙ ap (lists_of PROGRAMME_LIST (programmes_of rows) (residents_of rows)) (sym next);
+      programmes_withdrawn = ap (λ (d : Draft). d.programmes_withdrawn) is ∙ h.programmes_withdrawn
+          ∙ sym (withdrawn_of-other (codes "P") (programmes_of rows) (take k rows) (row_at rows k) (rw kind refl))
+          ∙ ap (withdrawn_of (codes "P") (programmes_of rows)) (sym next);
+      residents_withdrawn = ap (λ (d : Draft). d.residents_withdrawn) is ∙ h.residents_withdrawn
+          ∙ sym (withdrawn_of-other (codes "R") (residents_of rows) (take k rows) (row_at rows k) (rw kind refl))
+          ∙ ap (withdrawn_of (codes "R") (residents_of rows)) (sym next);
     }
 
 -- a row of another kind leaves the builder
 pub ranked_other : (b : Draft) (rows : List Fields) (k : ℕ) → k < length rows → is_kind PROGRAMME_LIST (row_at rows k) ≡ false → is_kind RESIDENT_LIST (row_at rows k) ≡ false
-    → IsRanked b rows (take k rows) → IsRanked b rows (take (k + 1) rows)
-ranked_other b rows k lt p r h =
+    → is_kind withdrawal_kind (row_at rows k) ≡ false → IsRanked b rows (take k rows) → IsRanked b rows (take (k + 1) rows)
+ranked_other b rows k lt p r w h =
     let next = take_more rows k [] lt in
     record {
       quotas = h.quotas;
@@ -327,6 +340,12 @@ ranked_other b rows k lt p r h =
       resident_lists = h.resident_lists
           ∙ sym (lists_of-other RESIDENT_LIST (residents_of rows) (programmes_of rows) (take k rows) (row_at rows k) r)
           ∙ ap (lists_of RESIDENT_LIST (residents_of rows) (programmes_of rows)) (sym next);
+      programmes_withdrawn = h.programmes_withdrawn
+          ∙ sym (withdrawn_of-other (codes "P") (programmes_of rows) (take k rows) (row_at rows k) (rw w refl))
+          ∙ ap (withdrawn_of (codes "P") (programmes_of rows)) (sym next);
+      residents_withdrawn = h.residents_withdrawn
+          ∙ sym (withdrawn_of-other (codes "R") (residents_of rows) (take k rows) (row_at rows k) (rw w refl))
+          ∙ ap (withdrawn_of (codes "R") (residents_of rows)) (sym next);
     }
 
 -- what the builder finds wrong with the list of a P row, and of an R row
@@ -353,13 +372,13 @@ pub not_kind : (row : Fields) (k n : ℕ) → n ≡ kind_of row → (n ≡ k →
 not_kind row k n e isnt = rw (← e) (search (rules, isnt))
 
 -- drafts of the same parts
-same_draft : {b c : Draft} → b.quotas ≡ c.quotas → b.programme_lists ≡ c.programme_lists → b.resident_lists ≡ c.resident_lists → b ≡ c
-same_draft q p r = λ i. record { quotas = q i; programme_lists = p i; resident_lists = r i }
+same_draft : {b c : Draft} → b.quotas ≡ c.quotas → b.programme_lists ≡ c.programme_lists → b.resident_lists ≡ c.resident_lists
+    → b.programmes_withdrawn ≡ c.programmes_withdrawn → b.residents_withdrawn ≡ c.residents_withdrawn → b ≡ c
+same_draft q p r pg rg = λ i. record { quotas = q i; programme_lists = p i; resident_lists = r i; programmes_withdrawn = pg i; residents_withdrawn = rg i }
 
 -- with every row done the builder has what the rows hand in
 ranked_all : (b : Draft) (rows : List Fields) → IsRanked b rows rows → b ≡ draft_of rows
-ranked_all b rows h = let q = h.quotas in let p = h.programme_lists in let r = h.resident_lists in
-    same_draft q p r
+ranked_all b rows h = same_draft h.quotas h.programme_lists h.resident_lists h.programmes_withdrawn h.residents_withdrawn
 
 pub pairs_fine : (b : Draft) (rows : List Fields) → IsRanked b rows rows → pair_count (instance_of b) ≤ MAX_PAIRS → pairs_fault rows ≡ None
 unfolding pairs_fault

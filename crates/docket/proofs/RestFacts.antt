@@ -1,7 +1,7 @@
 -- The walks over the rows that aren't events end where nothing but events is left.
 use Rattle.std.proofs.Common.{◌≡◌, ◌≤◌, ◌<◌, ℕ, List, [], false, length, take, arith, sym, None}
 use Rattle.match_model.specs.Draft.{Draft}
-use Rattle.docket.specs.Fields.{Fields, is_kind}
+use Rattle.docket.specs.Fields.{Fields, is_kind, withdrawal_kind}
 use Rattle.docket.specs.Rows.{row_at, AreEventsFrom}
 use Rattle.docket.specs.Ranking.{IsRanked}
 use Rattle.docket.specs.Marks.{IsMarked}
@@ -24,7 +24,8 @@ ranked_rest b rows n low events ranked none =
     (λ k up lt h.
     let p = other_kind rows n k PROGRAMME_LIST events up lt (λ e. omega (arith, e)) in
     let r = other_kind rows n k RESIDENT_LIST events up lt (λ e. omega (arith, e)) in
-    (ranked_other b rows k lt p r h.0, pass_more (ranking_fault rows) rows k lt h.1 (ranking_fault-other rows (take k rows) (row_at rows k) p r)))
+    let w = other_kind rows n k withdrawal_kind events up lt (λ e. omega (arith, e)) in
+    (ranked_other b rows k lt p r w h.0, pass_more (ranking_fault rows) rows k lt h.1 (ranking_fault-other rows (take k rows) (row_at rows k) p r w)))
     (ranked, none)
 
 -- the sheet

@@ -4,7 +4,7 @@ use Rattle.std.specs.Prelude.{◌==◌, ◌⊎◌, ◌&&◌, is_some, nat_lt, un
 use Rattle.std.specs.List.{list_all}
 use Rattle.docket.specs.Words.{is_name, is_number, answer_of}
 use Rattle.std.specs.Option.{option_or}
-use Rattle.docket.specs.Fields.{Fields, field, kind_of, unless, counted, row_fault, list_row_fault, lists_names, filled_row_fault, event_row_fault, worded_row_fault, event_names_fault, answer_fault, event_word, width_of}
+use Rattle.docket.specs.Fields.{Fields, field, kind_of, unless, counted, row_fault, list_row_fault, lists_names, filled_row_fault, event_row_fault, worded_row_fault, event_names_fault, answer_fault, event_word, width_of, version_kind, withdrawal_kind}
 use Rattle.docket.specs.declared.kind.TheConstants.{QUOTA, PROGRAMME_LIST, RESIDENT_LIST, MATCHED, UNMATCHED, FILLED, CAPACITY, EVENT}
 use Rattle.docket.specs.declared.kind.EventWord.{EventWord}
 use Rattle.docket.specs.declared.kind.EventWord.TheVariants.{Offer, Take, Answer, Hear, Close}
@@ -88,18 +88,18 @@ list_row_sound n row own =
 
 -- nothing is asked of a row of a sheet
 pub sheet_row_free : (before : List Fields) (row : Fields) (k : ℕ) → kind_of row ≡ k → (k == QUOTA) ≡ false → (k == PROGRAMME_LIST) ≡ false
-    → (k == RESIDENT_LIST) ≡ false → (k == CAPACITY) ≡ false → (k == EVENT) ≡ false
+    → (k == RESIDENT_LIST) ≡ false → (k == CAPACITY) ≡ false → (k == EVENT) ≡ false → (k == version_kind) ≡ false → (k == withdrawal_kind) ≡ false
     → option_or (repeat_fault before row) (limit_fault before row) ≡ None
 unfolding repeat_fault limit_fault
-sheet_row_free before row k kind q p r c e = rw (kind, q, p, r, c, e) refl
+sheet_row_free before row k kind q p r c e v w = rw (kind, q, p, r, c, e, v, w) refl
 
 -- a row of a sheet more
 pub sheet_row_declared : (d : Declarations) (rows : List Fields) (row : Fields)
     → (kind_of row ≡ MATCHED) ⊎ ((kind_of row ≡ UNMATCHED) ⊎ (kind_of row ≡ FILLED)) → IsDeclared d rows
     → IsDeclared (record d { has_sheet_row = true }) (rows ++ row ∷ []) × (option_or (repeat_fault rows row) (limit_fault rows row) ≡ None)
 sheet_row_declared d rows row (inl m) h =
-    (declared_push d _ rows row MATCHED m h refl refl refl refl refl refl (option_or-none d.capacity) (λ e. cc e) refl, sheet_row_free rows row MATCHED m refl refl refl refl refl)
+    (declared_push d _ rows row MATCHED m h refl refl refl refl refl refl (option_or-none d.capacity) (λ e. cc e) refl refl refl refl refl refl, sheet_row_free rows row MATCHED m refl refl refl refl refl refl refl)
 sheet_row_declared d rows row (inr (inl u)) h =
-    (declared_push d _ rows row UNMATCHED u h refl refl refl refl refl refl (option_or-none d.capacity) (λ e. cc e) refl, sheet_row_free rows row UNMATCHED u refl refl refl refl refl)
+    (declared_push d _ rows row UNMATCHED u h refl refl refl refl refl refl (option_or-none d.capacity) (λ e. cc e) refl refl refl refl refl refl, sheet_row_free rows row UNMATCHED u refl refl refl refl refl refl refl)
 sheet_row_declared d rows row (inr (inr f)) h =
-    (declared_push d _ rows row FILLED f h refl refl refl refl refl refl (option_or-none d.capacity) (λ e. cc e) refl, sheet_row_free rows row FILLED f refl refl refl refl refl)
+    (declared_push d _ rows row FILLED f h refl refl refl refl refl refl (option_or-none d.capacity) (λ e. cc e) refl refl refl refl refl refl, sheet_row_free rows row FILLED f refl refl refl refl refl refl refl)

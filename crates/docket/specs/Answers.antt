@@ -24,3 +24,4 @@ at_record n model.ListGivenTwice = Model n model.ListGivenTwice
 at_record n model.ListedTwice = Model n model.ListedTwice
 at_record n model.TooManyPairs = Model n model.TooManyPairs
 at_record n model.Memory = Memory
+at_record n model.WithdrawnTwice = Model n model.WithdrawnTwice

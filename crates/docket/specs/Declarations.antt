@@ -1,11 +1,12 @@
 -- What the rows so far declare, as the code keeps it.
-use Rattle.std.specs.Prelude.{◌≡◌, false, List, map, find, Option, None, option_map, unwrap_or}
+use Rattle.std.specs.Prelude.{◌≡◌, ℕ, false, List, map, filter, find, codes, Option, None, option_map, unwrap_or}
 use Rattle.std.specs.List.{list_any}
 use Rattle.exchange_core.specs.declared.event.Capacity.{Capacity}
 use Rattle.exchange_core.specs.declared.event.Capacity.TheVariants.{Full}
 use Rattle.docket.specs.Words.{capacity_of}
-use Rattle.docket.specs.Fields.{Fields, field, is_kind}
+use Rattle.docket.specs.Fields.{Fields, field, is_kind, is_row_of, withdrawal_kind}
 use Rattle.docket.specs.Contents.{names_of, programmes_of, residents_of, quotas_of, is_sheet_row}
+use Rattle.docket.specs.Passes.{is_version_2}
 use Rattle.docket.specs.declared.declarations.Declarations.{Declarations}
 use Rattle.docket.specs.declared.kind.TheConstants.{PROGRAMME_LIST, CAPACITY, EVENT}
 
@@ -13,7 +14,11 @@ use Rattle.docket.specs.declared.kind.TheConstants.{PROGRAMME_LIST, CAPACITY, EV
 unfoldable pub capacity_in : List Fields → Option Capacity
 capacity_in rows = option_map (λ row. unwrap_or (capacity_of (field row 1)) Full) (find (is_kind CAPACITY) rows)
 
--- nobody's list was handed in to the builder yet; no event comes before the capacity; the rest is what the rows declare
+-- the names that the W rows of a side withdraw, in order
+abbrev pub names_withdrawn : List ℕ → List Fields → List (List ℕ)
+names_withdrawn side rows = map (λ row. field row 2) (filter (is_row_of withdrawal_kind side) rows)
+
+-- nobody's list was handed in to the builder yet, and nobody was withdrawn; no event comes before the capacity; the rest is what the rows declare
 pub record IsDeclared (d : Declarations) (rows : List Fields) : Type 0 where
   pub quotas : d.builder.quotas ≡ quotas_of rows
   pub programme_lists : d.builder.programme_lists ≡ map (λ name. None) (programmes_of rows)
@@ -24,3 +29,8 @@ pub record IsDeclared (d : Declarations) (rows : List Fields) : Type 0 where
   pub capacity : d.capacity ≡ capacity_in rows
   pub no_events : d.capacity ≡ None → list_any (is_kind EVENT) rows ≡ false
   pub sheet_rows : d.has_sheet_row ≡ list_any is_sheet_row rows
+  pub version : d.is_version_2 ≡ is_version_2 rows
+  pub withdrawn_programmes : d.withdrawn_programmes ≡ names_withdrawn (codes "P") rows
+  pub withdrawn_residents : d.withdrawn_residents ≡ names_withdrawn (codes "R") rows
+  pub no_programme_gone : d.builder.programmes_withdrawn ≡ map (λ name. false) (programmes_of rows)
+  pub no_resident_gone : d.builder.residents_withdrawn ≡ map (λ name. false) (residents_of rows)

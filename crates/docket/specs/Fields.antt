@@ -1,5 +1,5 @@
 -- One record: its fields, and the faults that it has by itself.
-use Rattle.std.specs.Prelude.{ℕ, nat_lt, ◌&&◌, ◌==◌, Bool, if◌then◌else◌, Option, Some, None, is_some, List, [], ◌∷◌, length, drop, codes, bytes_eq, unwrap_or}
+use Rattle.std.specs.Prelude.{ℕ, nat_lt, ◌&&◌, ◌||◌, ◌==◌, Bool, if◌then◌else◌, Option, Some, None, is_some, List, [], ◌∷◌, length, drop, codes, bytes_eq, unwrap_or}
 use Rattle.std.specs.Option.{option_or}
 use Rattle.std.specs.List.{list_all}
 use Rattle.csv.specs.Records.{field_at}
@@ -8,7 +8,7 @@ use Rattle.docket.specs.declared.kind.TheConstants.{QUOTA, PROGRAMME_LIST, RESID
 use Rattle.docket.specs.declared.kind.EventWord.{EventWord}
 use Rattle.docket.specs.declared.kind.EventWord.TheVariants.{Offer, Take, Answer, Hear, Close}
 use Rattle.docket.specs.declared.fault.DocketFault.{DocketFault}
-use Rattle.docket.specs.declared.fault.DocketFault.TheVariants.{UnknownKind, FieldCount, BadName, BadQuota, BadEvent, BadSheet}
+use Rattle.docket.specs.declared.fault.DocketFault.TheVariants.{UnknownKind, FieldCount, BadName, BadQuota, BadEvent, BadSheet, BadVersion, BadWithdrawal}
 
 -- a record is the list of its fields
 abbrev pub Fields : Type 0
@@ -121,7 +121,30 @@ worded_row_fault n row (Some word) = option_or (counted n (width_of word) row) (
 abbrev pub event_row_fault : ℕ → Fields → Option DocketFault
 event_row_fault n row = option_or (unless (nat_lt 1 (length row)) (FieldCount n)) (worded_row_fault n row (event_word (field row 1)))
 
--- the first fault of record n by itself: its kind, the number of its fields, its names, its numbers and words
+-- the letter of a version row in ASCII, `V`
+abbrev pub version_kind : ℕ
+version_kind = 86
+
+-- the letter of a withdrawal row in ASCII, `W`
+abbrev pub withdrawal_kind : ℕ
+withdrawal_kind = 87
+
+-- `V,2`
+abbrev pub version_row_fault : ℕ → Fields → Option DocketFault
+version_row_fault n row = option_or (counted n 2 row) (unless (bytes_eq (field row 1) (codes "2")) (BadVersion n))
+
+-- whether the text names a side of the match: `P`, the programmes, or `R`, the residents
+abbrev pub is_side : List ℕ → Bool
+is_side text = bytes_eq text (codes "P") || bytes_eq text (codes "R")
+
+-- `W,P,programme` and `W,R,resident`
+abbrev pub withdrawal_row_fault : ℕ → Fields → Option DocketFault
+withdrawal_row_fault n row =
+    option_or (counted n 3 row)
+    (option_or (unless (is_side (field row 1)) (BadWithdrawal n)) (unless (is_name (field row 2)) (BadName n)))
+
+-- the first fault of record n by itself: its kind, the number of its fields, its names, its numbers and words; of a V or W
+-- row none, since whether such a row is known at all hangs on the records before it
 unfoldable pub row_fault : ℕ → Fields → Option DocketFault
 row_fault n row =
     if is_kind QUOTA row then quota_row_fault n row
@@ -132,4 +155,6 @@ row_fault n row =
     else if is_kind FILLED row then filled_row_fault n row
     else if is_kind CAPACITY row then capacity_row_fault n row
     else if is_kind EVENT row then event_row_fault n row
+    else if is_kind version_kind row then None
+    else if is_kind withdrawal_kind row then None
     else Some (UnknownKind n)

@@ -1,12 +1,14 @@
 -- What the builder keeps, as the second pass hands the lists in.
-use Rattle.std.specs.Prelude.{◌≡◌, List}
+use Rattle.std.specs.Prelude.{◌≡◌, List, codes}
 use Rattle.match_model.specs.Draft.{Draft}
 use Rattle.docket.specs.Fields.{Fields}
-use Rattle.docket.specs.Contents.{programmes_of, residents_of, quotas_of, lists_of}
+use Rattle.docket.specs.Contents.{programmes_of, residents_of, quotas_of, lists_of, withdrawn_of}
 use Rattle.docket.specs.declared.kind.TheConstants.{PROGRAMME_LIST, RESIDENT_LIST}
 
--- the builder has every member, and the lists of the rows that are done
+-- the builder has every member, and the lists and withdrawals of the rows that are done
 pub record IsRanked (builder : Draft) (rows done : List Fields) : Type 0 where
   pub quotas : builder.quotas ≡ quotas_of rows
   pub programme_lists : builder.programme_lists ≡ lists_of PROGRAMME_LIST (programmes_of rows) (residents_of rows) done
   pub resident_lists : builder.resident_lists ≡ lists_of RESIDENT_LIST (residents_of rows) (programmes_of rows) done
+  pub programmes_withdrawn : builder.programmes_withdrawn ≡ withdrawn_of (codes "P") (programmes_of rows) done
+  pub residents_withdrawn : builder.residents_withdrawn ≡ withdrawn_of (codes "R") (residents_of rows) done

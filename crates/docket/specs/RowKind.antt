@@ -1,10 +1,10 @@
 -- What a record says by itself, where it has no fault of its own.
 use Rattle.std.specs.Prelude.{◌≡◌, ◌⊎◌, true, Option, Some, None, Result, Ok, Err}
 use Rattle.docket.specs.Words.{is_name, number_of, capacity_of}
-use Rattle.docket.specs.Fields.{Fields, field, kind_of}
+use Rattle.docket.specs.Fields.{Fields, field, kind_of, version_kind, withdrawal_kind}
 use Rattle.docket.specs.Rows.{IsEventOf}
 use Rattle.docket.specs.declared.kind.RowKind.{RowKind}
-use Rattle.docket.specs.declared.kind.RowKind.TheVariants.{Programme, ProgrammeList, Resident, Sheet, Capacity, Event}
+use Rattle.docket.specs.declared.kind.RowKind.TheVariants.{Programme, ProgrammeList, Resident, Sheet, Capacity, Event, Version, Withdrawal}
 use Rattle.docket.specs.declared.kind.EventWord.{EventWord}
 use Rattle.docket.specs.declared.kind.TheConstants.{QUOTA, PROGRAMME_LIST, RESIDENT_LIST, MATCHED, UNMATCHED, FILLED, CAPACITY}
 use Rattle.docket.specs.declared.fault.DocketFault.{DocketFault}
@@ -17,6 +17,8 @@ word_of Resident = None
 word_of Sheet = None
 word_of (Capacity room) = None
 word_of (Event word) = Some word
+word_of Version = None
+word_of Withdrawal = None
 
 -- the record is of the kind, and says this
 abbrev pub IsReadAs : RowKind → Fields → Type 0
@@ -26,6 +28,8 @@ IsReadAs Resident row = (kind_of row ≡ RESIDENT_LIST) × (is_name (field row 1
 IsReadAs Sheet row = (kind_of row ≡ MATCHED) ⊎ ((kind_of row ≡ UNMATCHED) ⊎ (kind_of row ≡ FILLED))
 IsReadAs (Capacity room) row = (kind_of row ≡ CAPACITY) × (capacity_of (field row 1) ≡ Some room)
 IsReadAs (Event word) row = IsEventOf (Some word) row
+IsReadAs Version row = kind_of row ≡ version_kind
+IsReadAs Withdrawal row = kind_of row ≡ withdrawal_kind
 
 -- the kind, unless there is a fault
 abbrev pub read_as : RowKind → Option DocketFault → Result RowKind DocketFault

@@ -36,6 +36,10 @@ pub enum DocketFault {
     Memory,
     /// The writer answered a fault.
     Write,
+    /// The first row names a version of dockets other than 2.
+    BadVersion { place: u32 },
+    /// A withdrawal is neither of a programme nor of a resident.
+    BadWithdrawal { place: u32 },
 }
 
 impl DocketFault {
@@ -52,7 +56,9 @@ impl DocketFault {
             | DocketFault::UnknownName { place }
             | DocketFault::Model { place, fault: _ }
             | DocketFault::BadEvent { place }
-            | DocketFault::BadSheet { place } => Some(place),
+            | DocketFault::BadSheet { place }
+            | DocketFault::BadVersion { place }
+            | DocketFault::BadWithdrawal { place } => Some(place),
             DocketFault::Memory | DocketFault::Write => None,
         }
     }
@@ -73,6 +79,8 @@ impl DocketFault {
             DocketFault::BadSheet { .. } => "bad sheet",
             DocketFault::Memory => "out of memory",
             DocketFault::Write => "the output could not be written",
+            DocketFault::BadVersion { .. } => "unknown version",
+            DocketFault::BadWithdrawal { .. } => "bad withdrawal row",
         })
     }
 }

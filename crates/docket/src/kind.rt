@@ -27,6 +27,12 @@ pub(crate) const CAPACITY: u8 = b'C';
 /// `E,word,..`: an event, of a journal.
 pub(crate) const EVENT: u8 = b'E';
 
+/// `V,2`: the version of a docket with withdrawals, as its first record.
+pub(crate) const VERSION: u8 = b'V';
+
+/// `W,P,programme` or `W,R,resident`: withdrawn before the match.
+pub(crate) const WITHDRAWAL: u8 = b'W';
+
 /// The most records of a docket.
 pub(crate) const MAX_RECORDS: u32 = 2_000_000;
 
@@ -74,6 +80,10 @@ pub(crate) enum RowKind {
     Capacity(Capacity),
     /// `E,word,..`
     Event(EventWord),
+    /// A V row, whose other fields weren't read yet
+    Version,
+    /// A W row, whose other fields weren't read yet
+    Withdrawal,
 }
 
 impl RowKind {

@@ -1,9 +1,9 @@
-//! The second pass: the lists, by number.
-ghost use Rattle.std.specs.Prelude.{◌≡◌, ◌<◌, ◌+◌, [], length, take, drop, OnOk, IfOk};
+//! The second pass: the lists, by number, and who is withdrawn.
+ghost use Rattle.std.specs.Prelude.{◌≡◌, ◌<◌, ◌+◌, [], false, length, take, drop, codes, bytes_eq, OnOk, IfOk};
 ghost use Rattle.match_model.specs.Draft.{instance_of as made_of};
 ghost use Rattle.std.specs.List.{list_all};
 ghost use Rattle.std.specs.Option.{option_or};
-ghost use Rattle.docket.specs.Fields.{kind_of, unless};
+ghost use Rattle.docket.specs.Fields.{field, kind_of, unless};
 ghost use Rattle.docket.specs.Contents.{is_declared, listed_in, draft_of, programmes_of, residents_of};
 ghost use Rattle.docket.specs.Passes.{first_from, ranking_fault, pairs_fault};
 ghost use Rattle.docket.specs.Answers.{Answers};
@@ -12,7 +12,8 @@ ghost use Rattle.docket.specs.Ranking.{IsRanked};
 
 use crate::declarations::model_fault;
 use crate::fault::DocketFault;
-use crate::kind::{PROGRAMME_LIST, RESIDENT_LIST};
+use crate::kind::{PROGRAMME_LIST, RESIDENT_LIST, WITHDRAWAL};
+use crate::row::is_programme_side;
 use crate::tables::Tables;
 use match_model::{Instance, InstanceBuilder, ProgrammeNo, ResidentNo};
 use std::alloc::Global;
@@ -109,6 +110,67 @@ fn rank_programmes(
     }
 }
 
+// `W,P,programme`
+fn withdraw_programme(
+    tables: &Tables,
+    k: usize,
+    builder: &mut InstanceBuilder,
+) -> Result<(), DocketFault>
+    requires place { k < length tables.now }
+    requires kind { kind_of (row_at tables.now k) ≡ WITHDRAWAL }
+    requires side { field (row_at tables.now k) 1 ≡ codes "P" }
+    requires ranked { IsRanked builder.old tables.now (take k tables.now) }
+    ensures ranked { OnOk result (IsRanked builder.new tables.now (take (k + 1) tables.now)) }
+    ensures fault { Answers (ranking_fault tables.now (take k tables.now) (row_at tables.now k)) result }
+{
+    let place = tables.place(k);
+    let Some(programme) = tables.programme(k, 2) else {
+        return Err(DocketFault::UnknownName { place });
+    };
+    match builder.withdraw_programme(programme) {
+        Ok(()) => Ok(()),
+        Err(_) => unreachable!("the first pass refused a second withdrawal"),
+    }
+}
+
+// `W,R,resident`
+fn withdraw_resident(
+    tables: &Tables,
+    k: usize,
+    builder: &mut InstanceBuilder,
+) -> Result<(), DocketFault>
+    requires place { k < length tables.now }
+    requires kind { kind_of (row_at tables.now k) ≡ WITHDRAWAL }
+    requires side { bytes_eq (field (row_at tables.now k) 1) (codes "P") ≡ false }
+    requires ranked { IsRanked builder.old tables.now (take k tables.now) }
+    ensures ranked { OnOk result (IsRanked builder.new tables.now (take (k + 1) tables.now)) }
+    ensures fault { Answers (ranking_fault tables.now (take k tables.now) (row_at tables.now k)) result }
+{
+    let place = tables.place(k);
+    let Some(resident) = tables.resident(k, 2) else {
+        return Err(DocketFault::UnknownName { place });
+    };
+    match builder.withdraw_resident(resident) {
+        Ok(()) => Ok(()),
+        Err(_) => unreachable!("the first pass refused a second withdrawal"),
+    }
+}
+
+// `W,P,programme` or `W,R,resident`
+fn withdraw(tables: &Tables, k: usize, builder: &mut InstanceBuilder) -> Result<(), DocketFault>
+    requires place { k < length tables.now }
+    requires kind { kind_of (row_at tables.now k) ≡ WITHDRAWAL }
+    requires ranked { IsRanked builder.old tables.now (take k tables.now) }
+    ensures ranked { OnOk result (IsRanked builder.new tables.now (take (k + 1) tables.now)) }
+    ensures fault { Answers (ranking_fault tables.now (take k tables.now) (row_at tables.now k)) result }
+{
+    if is_programme_side(tables.field(k, 1)) {
+        withdraw_programme(tables, k, builder)
+    } else {
+        withdraw_resident(tables, k, builder)
+    }
+}
+
 // One row more of the second pass.
 fn rank_row(
     tables: &Tables,
@@ -129,10 +191,13 @@ fn rank_row(
     if kind == RESIDENT_LIST {
         return rank_programmes(tables, k, builder, programmes);
     }
+    if kind == WITHDRAWAL {
+        return withdraw(tables, k, builder);
+    }
     Ok(())
 }
 
-// Hands the lists in to the builder, in the order of the rows.
+// Hands the lists and withdrawals in to the builder, in the order of the rows.
 fn rank(alloc: Global, tables: &Tables, builder: &mut InstanceBuilder) -> Result<(), DocketFault>
     requires { IsRanked builder.old tables.now [] }
     ensures ranked { OnOk result (IsRanked builder.new tables.now tables.now) }
@@ -159,7 +224,7 @@ fn finished(builder: InstanceBuilder, tables: &Tables) -> Result<Instance, Docke
     }
 }
 
-/// The instance of the lists.
+/// The instance of the lists and withdrawals.
 pub(crate) fn instance_of(
     alloc: Global,
     tables: &Tables,

@@ -35,6 +35,8 @@ docket_status_of (docket.UnknownName place) = 3
 docket_status_of (docket.Model place fault) = 3
 docket_status_of (docket.BadEvent place) = 3
 docket_status_of (docket.BadSheet place) = 3
+docket_status_of (docket.BadVersion place) = 3
+docket_status_of (docket.BadWithdrawal place) = 3
 
 -- 1 where memory, the run, the reader or the writer failed, 3 where the docket is at fault, or lacks what was asked about
 abbrev pub fault_status_of : ServeFault → ℕ

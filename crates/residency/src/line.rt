@@ -17,7 +17,8 @@ const VERSION: &str = "1.0.0";
 
 // What the help of each command says of what it reads and writes, of the exit status, and of an example.
 const MATCH_HELP: &str =
-    "Reads a docket on standard input: Q, P and R records. A sheet or a journal in it is not used.
+    "Reads a docket on standard input: Q, P and R records, and W records where V,2 is the first.
+A sheet or a journal in it is not used.
 Writes the sheet on standard output, and after it the journal where --journal asks for it.
 
 Exit status: 0 for a sheet; 1 where memory, a worker, reading or writing failed; 2 for a wrong

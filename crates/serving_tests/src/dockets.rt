@@ -3,11 +3,12 @@ mod faults;
 mod forms;
 mod limits;
 mod order;
+mod versions;
 mod whole;
 mod writing;
 
 use crate::devices::CutReader;
-use crate::texts::joined;
+use crate::texts::{further, joined};
 use docket::{Docket, DocketFault, capacity_of, read_docket};
 use exchange_core::Capacity;
 use std::alloc::{AllocError, Global};
@@ -63,6 +64,23 @@ fn first_wrong<'a>(alloc: Global, lines: &'a str) -> Result<Option<&'a str>, All
             return Ok(Some(line));
         };
         if !tells_both(alloc, records, wanted)? {
+            return Ok(Some(line));
+        }
+    }
+    Ok(None)
+}
+
+/// The first line of which something else is told of a docket of version 2 with its records, each one further.
+fn first_wrong_of_version_2<'a>(
+    alloc: Global,
+    lines: &'a str,
+) -> Result<Option<&'a str>, AllocError> {
+    for line in lines.lines() {
+        let Some((records, wanted)) = line.split_once(" = ") else {
+            return Ok(Some(line));
+        };
+        let again = joined(alloc, &["V,2 ", records])?;
+        if !tells_both(alloc, again.as_str(), further(alloc, wanted)?.as_str())? {
             return Ok(Some(line));
         }
     }

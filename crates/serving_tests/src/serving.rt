@@ -1,11 +1,12 @@
 //! Worked dockets by their bytes, faulty devices, and what the program tells.
 mod journals;
 mod large;
+mod withdrawn;
 
 use crate::devices::{CutReader, CutWriter};
 use crate::texts::{
     CLOSE, ELEVEN, FULL, OTHER_SHEET, QUOTAS, SMALL, SMALL_JOURNAL, SMALL_SHEET, TO_EIGHTEEN,
-    TO_THIRTEEN, joined,
+    TO_THIRTEEN, VERSION_2, further, joined,
 };
 use docket::DocketFault;
 use exchange_core::Capacity;
@@ -84,6 +85,40 @@ pub(super) fn serves<H: Threads + Wait + Sync + Send + Copy>(
     Ok(answer == wanted && output.as_slice() == text.as_bytes() && exit_status(&answer) == exit)
 }
 
+// Whether an answer is the wanted one, where the record of a fault stands one further.
+fn is_further(
+    alloc: Global,
+    answer: &Result<Status, ServeFault>,
+    wanted: &Result<Status, ServeFault>,
+) -> Result<bool, AllocError> {
+    match (answer, wanted) {
+        (Err(fault), Err(first)) => {
+            let told = further(alloc, first.to_string(alloc)?.as_str())?;
+            Ok(fault.to_string(alloc)?.as_str() == told.as_str())
+        }
+        _ => Ok(answer == wanted),
+    }
+}
+
+// Whether an order answers this over these texts, and over the same in a docket of version 2.
+fn serves_both<H: Threads + Wait + Sync + Send + Copy>(
+    rt: H,
+    alloc: Global,
+    order: Order,
+    texts: &[&str],
+    ending: (Result<Status, ServeFault>, &str, u8),
+) -> Result<bool, AllocError> {
+    let (wanted, text, exit) = ending;
+    let first = joined(alloc, texts)?;
+    let second = joined(alloc, &[VERSION_2, first.as_str()])?;
+    let mut output = Vec::new(alloc);
+    let answer = serve(rt, alloc, order, second.as_bytes(), &mut output);
+    let again = is_further(alloc, &answer, &wanted)?
+        && output.as_slice() == text.as_bytes()
+        && exit_status(&answer) == exit;
+    Ok(serves(rt, alloc, order, texts, (wanted, text, exit))? && again)
+}
+
 #[test]
 fn matches(rt: HostRuntime) -> Result<(), Fail> {
     let cases: [(&[&str], &str); 10] = [
@@ -110,7 +145,7 @@ fn matches(rt: HostRuntime) -> Result<(), Fail> {
     ];
     for (texts, sheet) in cases {
         let ending = (Ok(Status::Closed), sheet, 0);
-        assert!(rt; serves(rt, rt.alloc(), MATCH, texts, ending)?, "{sheet}");
+        assert!(rt; serves_both(rt, rt.alloc(), MATCH, texts, ending)?, "{sheet}");
     }
     Ok(())
 }
@@ -119,7 +154,7 @@ fn matches(rt: HostRuntime) -> Result<(), Fail> {
 fn matches_through_narrow_mailboxes(rt: HostRuntime) -> Result<(), Fail> {
     for (text, sheet) in [(QUOTAS, QUOTAS_SHEET), (SMALL, SMALL_SHEET)] {
         let ending = (Ok(Status::Closed), sheet, 0);
-        assert!(rt; serves(rt, rt.alloc(), NARROW, &[text], ending)?, "{sheet}");
+        assert!(rt; serves_both(rt, rt.alloc(), NARROW, &[text], ending)?, "{sheet}");
     }
     Ok(())
 }
@@ -127,7 +162,7 @@ fn matches_through_narrow_mailboxes(rt: HostRuntime) -> Result<(), Fail> {
 #[test]
 fn writes_the_journal_of_nothing(rt: HostRuntime) -> Result<(), Fail> {
     let ending = (Ok(Status::Closed), "C,full\nE,close\n", 0);
-    assert!(rt; serves(rt, rt.alloc(), WITH_JOURNAL, &[], ending)?);
+    assert!(rt; serves_both(rt, rt.alloc(), WITH_JOURNAL, &[], ending)?);
     Ok(())
 }
 
@@ -163,7 +198,7 @@ fn audits(rt: HostRuntime) -> Result<(), Fail> {
     for (texts, status, report, exit) in cases {
         let ending = (Ok(status), report, exit);
         assert!(rt;
-            serves(rt, rt.alloc(), Order::Audit, texts, ending)?,
+            serves_both(rt, rt.alloc(), Order::Audit, texts, ending)?,
             "{report}"
         );
     }
@@ -188,7 +223,7 @@ fn replays_good_journals(rt: HostRuntime) -> Result<(), Fail> {
     for (texts, row) in cases {
         let ending = (Ok(Status::ReplayGood), row, 0);
         assert!(rt;
-            serves(rt, rt.alloc(), Order::Replay, texts, ending)?,
+            serves_both(rt, rt.alloc(), Order::Replay, texts, ending)?,
             "{row}"
         );
     }
@@ -265,7 +300,7 @@ fn replays_bad_journals(rt: HostRuntime) -> Result<(), Fail> {
     for (texts, row) in REFUSED {
         let ending = (Ok(Status::ReplayBad), row, 4);
         assert!(rt;
-            serves(rt, rt.alloc(), Order::Replay, texts, ending)?,
+            serves_both(rt, rt.alloc(), Order::Replay, texts, ending)?,
             "{row}"
         );
     }
@@ -332,7 +367,7 @@ fn sees_forged_journals(rt: HostRuntime) -> Result<(), Fail> {
         let texts = [SMALL, journal.as_str()];
         let ending = (Ok(status), row, exit);
         assert!(rt;
-            serves(rt, rt.alloc(), Order::Replay, &texts, ending)?,
+            serves_both(rt, rt.alloc(), Order::Replay, &texts, ending)?,
             "{row}"
         );
     }
@@ -389,7 +424,7 @@ fn tells_faults_of_reading(rt: HostRuntime) -> Result<(), Fail> {
     for (texts, fault) in FAULTS {
         for order in [MATCH, Order::Audit, Order::Replay] {
             let ending = (Err(ServeFault::Docket(fault)), "", 3);
-            assert!(rt; serves(rt, rt.alloc(), order, texts, ending)?, "{fault}");
+            assert!(rt; serves_both(rt, rt.alloc(), order, texts, ending)?, "{fault}");
         }
     }
     Ok(())
@@ -401,7 +436,7 @@ fn tells_what_a_docket_lacks(rt: HostRuntime) -> Result<(), Fail> {
         (Order::Audit, ServeFault::NoSheet),
         (Order::Replay, ServeFault::NoJournal),
     ] {
-        assert!(rt; serves(rt, rt.alloc(), order, &[SMALL], (Err(fault), "", 3))?);
+        assert!(rt; serves_both(rt, rt.alloc(), order, &[SMALL], (Err(fault), "", 3))?);
     }
     Ok(())
 }
@@ -461,12 +496,15 @@ fn first_untold_cut<H: Threads + Wait + Sync + Send + Copy>(
 #[test]
 fn tells_of_broken_readers(rt: HostRuntime) -> Result<(), Fail> {
     let alloc = rt.alloc();
-    let text = joined(alloc, &[SMALL, FULL, SMALL_JOURNAL, SMALL_SHEET])?;
-    for (order, status, _) in ORDERS {
-        assert!(rt; first_untold_cut(rt, alloc, order, text.as_str()) == None);
-        let reader = CutReader::new(text.as_bytes(), usize::MAX);
-        let mut output = Vec::new(alloc);
-        assert!(rt; serve(rt, alloc, order, reader, &mut output) == Ok(status));
+    let first = joined(alloc, &[SMALL, FULL, SMALL_JOURNAL, SMALL_SHEET])?;
+    let second = joined(alloc, &[VERSION_2, first.as_str()])?;
+    for text in [first.as_str(), second.as_str()] {
+        for (order, status, _) in ORDERS {
+            assert!(rt; first_untold_cut(rt, alloc, order, text) == None);
+            let reader = CutReader::new(text.as_bytes(), usize::MAX);
+            let mut output = Vec::new(alloc);
+            assert!(rt; serve(rt, alloc, order, reader, &mut output) == Ok(status));
+        }
     }
     Ok(())
 }

@@ -33,6 +33,20 @@ pub(super) const TO_EIGHTEEN: &str =
 
 pub(super) const CLOSE: &str = "E,close\n";
 
+/// The first record of a docket that may withdraw members.
+pub(super) const VERSION_2: &str = "V,2\n";
+
+/// What is told of a record, as it is told of the same record where one more stands before it.
+pub(super) fn further(alloc: Global, told: &str) -> Result<String, AllocError> {
+    let Some((number, cause)) = told.strip_prefix("record ").and_then(|t| t.split_once(": ")) else {
+        return told.to_string(alloc);
+    };
+    match number.parse::<u32>() {
+        Ok(n) => format!(in alloc; "record {}: {cause}", n.saturating_add(1)),
+        Err(_) => told.to_string(alloc),
+    }
+}
+
 /// The texts, one after another.
 pub(super) fn joined(alloc: Global, texts: &[&str]) -> Result<String, AllocError> {
     let mut all = String::new(alloc);

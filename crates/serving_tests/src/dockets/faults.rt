@@ -1,12 +1,10 @@
 //! Each fault by itself.
-use super::{first_wrong, is_told};
+use super::{first_wrong, first_wrong_of_version_2, is_told};
 use docket::DocketFault;
 use std::test::Fail;
 
 const KINDS: &str = "\
 Z,a = record 1: unknown kind of row
-V,x = record 1: unknown kind of row
-W,x = record 1: unknown kind of row
 q,a,1 = record 1: unknown kind of row
 QQ,a,1 = record 1: unknown kind of row
 ,a,1 = record 1: unknown kind of row";
@@ -126,6 +124,7 @@ C,0007 E,take,x,a E,hear,a,x,decline Q,a,0 R,x = read";
 fn faults_of_one_record(rt: HostRuntime) -> Result<(), Fail> {
     for lines in [KINDS, COUNTS, NAMES, NUMBERS_AND_WORDS] {
         assert!(rt; first_wrong(rt.alloc(), lines)? == None);
+        assert!(rt; first_wrong_of_version_2(rt.alloc(), lines)? == None);
     }
     Ok(())
 }
@@ -134,6 +133,7 @@ fn faults_of_one_record(rt: HostRuntime) -> Result<(), Fail> {
 fn faults_among_records(rt: HostRuntime) -> Result<(), Fail> {
     for lines in [ROWS_BEFORE, LISTS, SHEETS, EVENTS] {
         assert!(rt; first_wrong(rt.alloc(), lines)? == None);
+        assert!(rt; first_wrong_of_version_2(rt.alloc(), lines)? == None);
     }
     Ok(())
 }

@@ -1,5 +1,5 @@
 //! Two faults in one docket: which of them is answered.
-use super::first_wrong;
+use super::{first_wrong, first_wrong_of_version_2};
 use std::test::Fail;
 
 // Both in one record: the count of its fields before a name, that before a number or the kind of an answer, that before a
@@ -62,6 +62,7 @@ Q,a,1 R,x F,a,1,1 M,x,a C,full = read";
 fn two_faults(rt: HostRuntime) -> Result<(), Fail> {
     for lines in [ONE_RECORD, ONE_PASS, EARLIER_PASS, WALKS] {
         assert!(rt; first_wrong(rt.alloc(), lines)? == None);
+        assert!(rt; first_wrong_of_version_2(rt.alloc(), lines)? == None);
     }
     Ok(())
 }

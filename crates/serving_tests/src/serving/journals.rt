@@ -67,11 +67,14 @@ pub(super) fn is_good<H: Threads + Wait + Sync + Send + Copy>(
     )
 }
 
+// The members of `QUOTAS` without one programme, in a docket of version 2.
+const LEFT: &str = "V,2\nQ,a,2\nQ,b,1\nP,a,x,y,z\nP,b,x\nR,x,b,a\nR,y,a\nR,z,a\nW,P,b\n";
+
 #[test]
 fn its_journal_is_good(rt: HostRuntime) -> Result<(), Fail> {
     let market = hundreds(rt.alloc())?;
     for order in [WITH_JOURNAL, NARROW_WITH_JOURNAL] {
-        for text in [QUOTAS, SMALL, CHAIN, market.as_str()] {
+        for text in [QUOTAS, SMALL, CHAIN, LEFT, market.as_str()] {
             let Some(written) = matched(rt, rt.alloc(), order, text) else {
                 return Err(Fail::from("the match isn't closed"));
             };

@@ -1,0 +1,73 @@
+-- Rows of version 2: what they declare, and whom they withdraw.
+use Rattle.std.proofs.Common.{◌≡◌, ◌<◌, ◌≤◌, ◌+◌, ℕ, List, [], ◌∷◌, ◌++◌, Bool, true, false, length, take, map, filter, sym, ◌∙◌, refl, ap, Option, Some, None, append-nil}
+use Rattle.std.specs.Prelude.{◌==◌, ◌&&◌, ◌||◌, not, if◌then◌else◌, bytes_eq, codes, nat_eq, slice_set, slice_index_or}
+use Rattle.std.specs.List.{list_any}
+use Rattle.std.specs.Option.{option_or}
+use Rattle.std.proofs.lemmas.Bool.{and_parts}
+use Rattle.std.proofs.lemmas.List.{map-append, length-map}
+use Rattle.std.proofs.lemmas.List.Elements.{filter-append}
+use Rattle.std.proofs.lemmas.List.Folds.{list_any-append}
+use Rattle.docket.specs.Words.{is_name}
+use Rattle.docket.specs.Fields.{Fields, field, kind_of, is_kind, is_row_of, is_side, unless, counted, version_kind, withdrawal_kind, withdrawal_row_fault}
+use Rattle.docket.specs.Contents.{is_declared, number_in, is_withdrawal_of, withdrawn_of}
+use Rattle.docket.specs.Passes.{is_version_2, repeat_fault, limit_fault, withdrawal_fault, next_place}
+use Rattle.docket.specs.Declarations.{names_withdrawn}
+use Rattle.docket.specs.declared.fault.DocketFault.{DocketFault}
+use Rattle.docket.specs.declared.fault.DocketFault.TheVariants.{UnknownKind, FieldCount, BadName, BadWithdrawal, DeclaredTwice}
+use Rattle.docket.proofs.NameFacts.{is_declared-map}
+
+-- the names that a side's W rows withdraw, with one row more
+pub names_withdrawn-if : (side : List ℕ) (rows : List Fields) (row : Fields)
+    → names_withdrawn side (rows ++ row ∷ []) ≡ (if is_row_of withdrawal_kind side row then names_withdrawn side rows ++ field row 2 ∷ [] else names_withdrawn side rows)
+names_withdrawn-if side rows row =
+    ap (map second) (filter-append (is_row_of withdrawal_kind side) rows (row ∷ [])) ∙ map-append second kept (filter (is_row_of withdrawal_kind side) (row ∷ [])) ∙ by (is_row_of withdrawal_kind side row)
+  where
+    second : Fields → List ℕ
+    second r = field r 2
+
+    kept : List Fields
+    kept = filter (is_row_of withdrawal_kind side) rows
+
+    by : (b : Bool) → map second kept ++ map second (if b then row ∷ [] else []) ≡ (if b then map second kept ++ second row ∷ [] else map second kept)
+    by true = refl
+    by false = append-nil (map second kept)
+
+-- a name is withdrawn on a side exactly where some W row says so
+pub is_declared-withdrawn : (side : List ℕ) (rows : List Fields) (name : List ℕ) → is_declared (names_withdrawn side rows) name ≡ list_any (is_withdrawal_of side name) rows
+is_declared-withdrawn side rows name = is_declared-map (λ (r : Fields). field r 2) (filter (is_row_of withdrawal_kind side) rows) name ∙ kept rows
+  where
+    kept : (rs : List Fields) → list_any (λ (r : Fields). bytes_eq name (field r 2)) (filter (is_row_of withdrawal_kind side) rs) ≡ list_any (is_withdrawal_of side name) rs
+    kept [] = refl
+    kept (r ∷ rs) = by (is_row_of withdrawal_kind side r) (kept rs)
+      where
+        by : (b : Bool) → list_any (λ (r : Fields). bytes_eq name (field r 2)) (filter (is_row_of withdrawal_kind side) rs) ≡ list_any (is_withdrawal_of side name) rs
+            → list_any (λ (r : Fields). bytes_eq name (field r 2)) (if b then r ∷ filter (is_row_of withdrawal_kind side) rs else filter (is_row_of withdrawal_kind side) rs)
+            ≡ ((b && bytes_eq name (field r 2)) || list_any (is_withdrawal_of side name) rs)
+        by true e = ap (λ x. bytes_eq name (field r 2) || x) e
+        by false e = e
+
+-- a row that is no V row leaves the version
+pub is_version_2-other : (rows : List Fields) (row : Fields) → is_kind version_kind row ≡ false → is_version_2 (rows ++ row ∷ []) ≡ is_version_2 rows
+unfolding is_version_2
+is_version_2-other [] row other = rw other refl
+is_version_2-other (r ∷ rows) row other = refl
+
+-- by member who is withdrawn, with one row more of no withdrawal of the side
+pub withdrawn_of-other : (side : List ℕ) (names : List (List ℕ)) (before : List Fields) (row : Fields) → is_row_of withdrawal_kind side row ≡ false
+    → withdrawn_of side names (before ++ row ∷ []) ≡ withdrawn_of side names before
+unfolding withdrawn_of
+withdrawn_of-other side [] before row off = refl
+withdrawn_of-other side (x ∷ names) before row off =
+    rw (here, withdrawn_of-other side names before row off) refl
+  where
+    no : (a : Bool) → (a || false) ≡ a
+    no true = refl
+    no false = refl
+
+    here : list_any (is_withdrawal_of side x) (before ++ row ∷ []) ≡ list_any (is_withdrawal_of side x) before
+    here = rw (list_any-append (is_withdrawal_of side x) before (row ∷ []), off) (no (list_any (is_withdrawal_of side x) before))
+
+-- nobody is withdrawn before the first row
+pub withdrawn_of-none : (side : List ℕ) (names : List (List ℕ)) → withdrawn_of side names [] ≡ map (λ name. false) names
+unfolding withdrawn_of
+withdrawn_of-none side names = refl
