@@ -6,3 +6,4 @@ mod Kept
 mod Blocking
 mod Replays
 mod Named
+mod WorkerCounts

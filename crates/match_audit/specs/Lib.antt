@@ -2,3 +2,4 @@ pub mod Listing
 pub mod Report
 pub mod Loads
 pub mod Replay
+pub mod WorkerCounts

@@ -5,11 +5,13 @@
 #![tactic(auto)]
 
 mod auditor;
+mod counter;
 mod findings;
 mod load;
 mod replayer;
 mod report;
 
 pub use auditor::{AuditFault, audit};
+pub use counter::counts;
 pub use replayer::{ReplayFault, Replayed, check, replay};
 pub use report::AuditReport;
