@@ -1,10 +1,10 @@
 -- What one row more declares.
-use Rattle.std.proofs.Common.{◌≡◌, ℕ, List, [], ◌∷◌, ◌++◌, Bool, true, false, length, sym, ◌∙◌, refl, ap, Option, Some, None, map, find, filter, is_some, inl, inr, append-nil}
-use Rattle.std.specs.Prelude.{◌==◌, ◌&&◌, ◌||◌, not, if◌then◌else◌, option_map, unwrap_or, bytes_eq, codes, Ok, Err, nat_le, nat_lt}
+use Rattle.std.proofs.Common.{◌≡◌, ℕ, List, [], ◌∷◌, ◌++◌, Bool, true, false, length, sym, ◌∙◌, refl, ap, Option, Some, None, map, find, filter, is_some, inl, inr, append-nil, ◌<◌, ◌≤◌}
+use Rattle.std.specs.Prelude.{◌==◌, ◌&&◌, ◌||◌, not, if◌then◌else◌, option_map, unwrap_or, bytes_eq, codes, Ok, Err, nat_le, nat_lt, option_and_then, IfSome}
 use Rattle.std.specs.List.{list_any}
 use Rattle.std.specs.Option.{option_or}
 use Rattle.std.proofs.lemmas.List.{map-append, length-map}
-use Rattle.std.proofs.lemmas.List.Elements.{filter-append}
+use Rattle.std.proofs.lemmas.List.Elements.{filter-append, All-nil, All-push}
 use Rattle.std.proofs.lemmas.List.Folds.{list_any-append, find-append}
 use Rattle.exchange_core.specs.declared.event.Capacity.{Capacity}
 use Rattle.exchange_core.specs.declared.event.Capacity.TheVariants.{Full}
@@ -12,18 +12,23 @@ use Rattle.match_model.specs.Draft.{Draft, AnswersFirst, programme_fault, reside
 use Rattle.match_model.specs.declared.limits.TheConstants.{MAX_PROGRAMMES, MAX_RESIDENTS, MAX_QUOTA}
 use Rattle.match_model.specs.declared.fault.ModelFault.{ModelFault}
 use Rattle.match_model.specs.declared.fault.ModelFault.TheVariants as model
-use Rattle.docket.specs.Words.{number_of, capacity_of}
-use Rattle.docket.specs.Fields.{Fields, field, kind_of, is_kind, is_row_of, unless, version_kind, withdrawal_kind}
-use Rattle.docket.specs.Contents.{rows_of, names_of, programmes_of, residents_of, quotas_of, is_sheet_row, is_declared}
+use Rattle.docket.specs.Words.{number_of, capacity_of, workers_of, worker_of}
+use Rattle.docket.specs.Fields.{Fields, field, kind_of, is_kind, is_row_of, unless, version_kind, withdrawal_kind, width_of, worker_at}
+use Rattle.docket.specs.Contents.{rows_of, names_of, programmes_of, residents_of, quotas_of, is_sheet_row, is_declared, workers_in, worker_in, who_of}
 use Rattle.docket.specs.Passes.{repeat_fault, limit_fault, next_place, is_version_2}
 use Rattle.docket.specs.Answers.{Refuses, at_record}
-use Rattle.docket.specs.Declarations.{IsDeclared, capacity_in, names_withdrawn}
+use Rattle.docket.specs.Declarations.{IsDeclared, capacity_in, names_withdrawn, AreByWorker, who_if}
+use Rattle.docket.specs.Rows.{IsEventOf}
+use Rattle.docket.specs.Whole.{AreWorkers}
 use Rattle.docket.specs.declared.declarations.Declarations.{Declarations}
 use Rattle.docket.specs.declared.kind.TheConstants.{QUOTA, PROGRAMME_LIST, RESIDENT_LIST, MATCHED, UNMATCHED, FILLED, CAPACITY, EVENT}
 use Rattle.docket.specs.declared.fault.DocketFault.{DocketFault}
 use Rattle.docket.specs.declared.fault.DocketFault.TheVariants.{DeclaredTwice, Model, BadEvent}
+use Rattle.docket.specs.declared.kind.EventWord.{EventWord}
 use Rattle.docket.proofs.NameFacts.{is_declared-map}
 use Rattle.docket.proofs.WithdrawalFacts.{names_withdrawn-if, is_version_2-other}
+use Rattle.docket.proofs.RowsFacts.{event_kind_is, event_word_is}
+use Rattle.docket.proofs.WordFacts.{workers_within, worker_within}
 
 -- the images of the rows of a kind, with one row more
 pub images-if : {A : Type 0} (f : Fields → A) (kind : ℕ) (rows : List Fields) (row : Fields)
@@ -87,6 +92,120 @@ capacity_in-if rows row =
     by None false = refl
     by (Some r) b = refl
 
+-- the number of workers, with one row more
+pub workers_in-if : (rows : List Fields) (row : Fields)
+    → workers_in (rows ++ row ∷ []) ≡ (if is_some (capacity_in rows) then workers_in rows else if is_kind CAPACITY row then workers_of (field row 2) else None)
+unfolding workers_in capacity_in
+workers_in-if rows row =
+    ap (option_and_then (λ (r : Fields). workers_of (field r 2))) (find-append (is_kind CAPACITY) rows (row ∷ []))
+    ∙ by (find (is_kind CAPACITY) rows) (is_kind CAPACITY row)
+  where
+    by : (o : Option Fields) (b : Bool)
+        → option_and_then (λ (r : Fields). workers_of (field r 2)) (option_or o (if b then Some row else None))
+        ≡ (if is_some (option_map (λ (r : Fields). unwrap_or (capacity_of (field r 1)) Full) o) then option_and_then (λ (r : Fields). workers_of (field r 2)) o
+        else if b then workers_of (field row 2) else None)
+    by None true = refl
+    by None false = refl
+    by (Some r) b = refl
+
+-- no number of workers without a capacity
+pub workers_in-none : (rows : List Fields) → is_some (capacity_in rows) ≡ false → workers_in rows ≡ None
+unfolding workers_in capacity_in
+workers_in-none rows e = by (find (is_kind CAPACITY) rows) e
+  where
+    by : (o : Option Fields) → is_some (option_map (λ (r : Fields). unwrap_or (capacity_of (field r 1)) Full) o) ≡ false
+        → option_and_then (λ (r : Fields). workers_of (field r 2)) o ≡ None
+    by None e = refl
+    by (Some r) e = absurd (cc e)
+
+-- the workers of the events, with one row more
+pub who_of-if : (rows : List Fields) (row : Fields)
+    → who_of (rows ++ row ∷ []) ≡ (if is_kind EVENT row then who_of rows ++ worker_in row ∷ [] else who_of rows)
+unfolding who_of
+who_of-if rows row = images-if worker_in EVENT rows row
+
+-- no event has no worker
+pub who_of-none : (rows : List Fields) → list_any (is_kind EVENT) rows ≡ false → who_of rows ≡ []
+unfolding who_of
+who_of-none rows e = ap (map worker_in) (none_of rows e)
+  where
+    none_of : (rs : List Fields) → list_any (is_kind EVENT) rs ≡ false → filter (is_kind EVENT) rs ≡ []
+    none_of [] h = refl
+    none_of (r ∷ rs) h = by (is_kind EVENT r) h (none_of rs)
+      where
+        by : (b : Bool) → (b || list_any (is_kind EVENT) rs) ≡ false → (list_any (is_kind EVENT) rs ≡ false → filter (is_kind EVENT) rs ≡ [])
+            → (if b then r ∷ filter (is_kind EVENT) rs else filter (is_kind EVENT) rs) ≡ []
+        by true f more = absurd (cc f)
+        by false f more = more f
+
+-- a row of another kind changes no workers
+pub by_other : (workers : Option ℕ) (who : List ℕ) (rows : List Fields) (row : Fields) (k : ℕ) → kind_of row ≡ k → (k == CAPACITY) ≡ false → (k == EVENT) ≡ false
+    → AreByWorker workers who rows → AreByWorker workers who (rows ++ row ∷ [])
+by_other workers who rows row k kind c e h = record {
+  workers_are = h.workers_are ∙ sym (rw (workers_in-if rows row, kind, c) (same (is_some (capacity_in rows)) refl));
+  who_are = h.who_are ∙ all workers;
+  within = h.within;
+}
+  where
+    same : (b : Bool) → is_some (capacity_in rows) ≡ b → (if b then workers_in rows else None) ≡ workers_in rows
+    same true f = refl
+    same false f = sym (workers_in-none rows f)
+
+    all : (w : Option ℕ) → who_if w rows ≡ who_if w (rows ++ row ∷ [])
+    all None = refl
+    all (Some n) = rw (who_of-if rows row, kind, e) refl
+
+-- the first C row, before any event
+pub by_opened : (old workers : Option ℕ) (who : List ℕ) (rows : List Fields) (row : Fields) → kind_of row ≡ CAPACITY → is_some (capacity_in rows) ≡ false
+    → list_any (is_kind EVENT) rows ≡ false → workers_of (field row 2) ≡ workers → AreByWorker old who rows → AreByWorker workers who (rows ++ row ∷ [])
+by_opened old workers who rows row kind none free read h = record {
+  workers_are = sym (rw (workers_in-if rows row, none, kind) read);
+  who_are = empty ∙ sym (all workers);
+  within = within workers read;
+}
+  where
+    empty_if : (w : Option ℕ) → who_if w rows ≡ []
+    empty_if None = refl
+    empty_if (Some n) = who_of-none rows free
+
+    empty : who ≡ []
+    empty = h.who_are ∙ empty_if old
+
+    all : (w : Option ℕ) → who_if w (rows ++ row ∷ []) ≡ []
+    all None = refl
+    all (Some n) = rw (who_of-if rows row, kind) (who_of-none rows free)
+
+    within : (w : Option ℕ) → workers_of (field row 2) ≡ w → IfSome w (λ n. AreWorkers n who)
+    within None e = tt
+    within (Some n) e =
+        let few = workers_within (field row 2) n e in
+        record { some = few.0; few = few.1; numbers = rw empty (All-nil (λ w. w < n)) }
+
+-- one event more in a journal by worker, and in another
+pub by_worked : (workers : Option ℕ) (who : List ℕ) (rows : List Fields) (row : Fields) (word : EventWord) (worker : ℕ) → is_some (capacity_in rows) ≡ true
+    → IsEventOf (Some word) row → worker_at (workers_in rows) word row ≡ Some worker → is_some workers ≡ true → AreByWorker workers who rows
+    → AreByWorker workers (who ++ worker ∷ []) (rows ++ row ∷ [])
+by_worked None who rows row word worker has event at some h = absurd (cc some)
+by_worked (Some n) who rows row word worker has event at some h =
+    let kind = event_kind_is row word event in
+    let read : worker_of n (field row (width_of word)) ≡ Some worker = rw (sym h.workers_are) at at in
+    let own = worker_within n (field row (width_of word)) worker read in
+    let is : worker_in row ≡ worker = rw (← event_word_is row word event, own.0) refl in
+    record {
+      workers_are = h.workers_are ∙ sym (rw (workers_in-if rows row, has) refl);
+      who_are = rw (who_of-if rows row, kind, is) (ap (λ ws. ws ++ worker ∷ []) h.who_are);
+      within = record { some = h.within.some; few = h.within.few; numbers = All-push (λ w. w < n) who worker h.within.numbers own.1 };
+    }
+
+pub by_plain : (workers : Option ℕ) (who : List ℕ) (rows : List Fields) (row : Fields) → kind_of row ≡ EVENT → is_some (capacity_in rows) ≡ true
+    → is_some workers ≡ false → AreByWorker workers who rows → AreByWorker workers who (rows ++ row ∷ [])
+by_plain (Some n) who rows row kind has some h = absurd (cc some)
+by_plain None who rows row kind has some h = record {
+  workers_are = h.workers_are ∙ sym (rw (workers_in-if rows row, has) refl);
+  who_are = h.who_are;
+  within = tt;
+}
+
 -- a test of some row, with one row more
 pub list_any-if : (p : Fields → Bool) (rows : List Fields) (row : Fields) → list_any p (rows ++ row ∷ []) ≡ (if p row then true else list_any p rows)
 list_any-if p rows row = list_any-append p rows (row ∷ []) ∙ by (list_any p rows) (p row)
@@ -113,8 +232,9 @@ pub declared_push : (d e : Declarations) (rows : List Fields) (row : Fields) (k 
     → e.withdrawn_residents ≡ (if k == withdrawal_kind then names_withdrawn (codes "R") (rows ++ row ∷ []) else d.withdrawn_residents)
     → e.builder.programmes_withdrawn ≡ (if k == QUOTA then d.builder.programmes_withdrawn ++ false ∷ [] else d.builder.programmes_withdrawn)
     → e.builder.residents_withdrawn ≡ (if k == RESIDENT_LIST then d.builder.residents_withdrawn ++ false ∷ [] else d.builder.residents_withdrawn)
+    → AreByWorker e.workers e.who.items (rows ++ row ∷ [])
     → IsDeclared e (rows ++ row ∷ [])
-declared_push d e rows row k kind h q pl rl p r ra c ev sh ve wp wr pg rg = record {
+declared_push d e rows row k kind h q pl rl p r ra c ev sh ve wp wr pg rg bw = record {
   quotas = rw (quotas_of-if rows row, kind, ← h.quotas) q;
   programme_lists = rw (programmes_of-if rows row, kind, nones-if (programmes_of rows) (field row 1) (k == QUOTA), ← h.programme_lists) pl;
   resident_lists = rw (residents_of-if rows row, kind, nones-if (residents_of rows) (field row 1) (k == RESIDENT_LIST), ← h.resident_lists) rl;
@@ -123,6 +243,7 @@ declared_push d e rows row k kind h q pl rl p r ra c ev sh ve wp wr pg rg = reco
   ranked = rw (names_of-if PROGRAMME_LIST rows row, kind, ← h.ranked) ra;
   capacity = rw (capacity_in-if rows row, kind, ← h.capacity) c;
   no_events = λ none. rw (list_any-if (is_kind EVENT) rows row, kind) (no_event (k == EVENT) d.capacity (if k == CAPACITY then Some (unwrap_or (capacity_of (field row 1)) Full) else None) ev h.no_events (sym c ∙ none));
+  by_worker = bw;
   sheet_rows = rw (list_any-if is_sheet_row rows row, kind, ← h.sheet_rows) sh;
   version = same_version (k == version_kind) (rw kind refl) ve;
   withdrawn_programmes = withdrawn (codes "P") d.withdrawn_programmes e.withdrawn_programmes (k == withdrawal_kind) (rw kind refl) h.withdrawn_programmes wp;
@@ -296,6 +417,16 @@ test_refused before row test fault e f = rw (e, f) (inr refl)
 pub test_passed : (before : List Fields) (row : Fields) (test : Bool) (fault : DocketFault) → repeat_fault before row ≡ unless test fault → test ≡ true
     → limit_fault before row ≡ None → option_or (repeat_fault before row) (limit_fault before row) ≡ None
 test_passed before row test fault e f g = rw (e, f, g) refl
+
+-- there are at most 8 workers
+pub workers_few : (workers : Option ℕ) (who : List ℕ) → IfSome workers (λ n. AreWorkers n who) → IfSome workers (λ n. n ≤ 8)
+workers_few None who h = tt
+workers_few (Some n) who h = h.few
+
+-- what isn't there
+pub none_is : {A : Type 0} (o : Option A) → is_some o ≡ false → o ≡ None
+none_is None e = refl
+none_is (Some x) e = absurd (cc e)
 
 -- no choice before
 pub option_or-first : {A : Type 0} (o p : Option A) → is_some o ≡ false → p ≡ option_or o p

@@ -4,7 +4,7 @@ use Rattle.std.specs.Prelude.{◌&&◌, ◌||◌, not, if◌then◌else◌, nat_
 use Rattle.std.specs.List.{list_any}
 use Rattle.std.specs.Option.{option_or}
 use Rattle.docket.specs.Fields.{Fields, field, is_kind}
-use Rattle.docket.specs.Contents.{Contents, contents_of, programmes_of, residents_of, rows_of, events_of, journal_of, JournalParts, has_sheet, declares_member}
+use Rattle.docket.specs.Contents.{Contents, contents_of, programmes_of, residents_of, rows_of, events_of, journal_of, JournalParts, ByWorkerParts, by_worker_of, workers_in, who_of, has_sheet, declares_member}
 use Rattle.docket.specs.Passes.{first_from, reading_fault, later_fault, first_fault, docket_of, rows_in, sheet_fault, mark_fault, missing_fault, filled_fault, ranking_fault, pairs_fault, event_fault}
 use Rattle.docket.specs.Answers.{Answers, Refuses}
 use Rattle.docket.specs.Texts.{programme_name, resident_name}
@@ -17,7 +17,8 @@ use Rattle.exchange_core.specs.declared.event.Capacity.{Capacity}
 use Rattle.exchange_core.specs.declared.event.Capacity.TheVariants.{Full}
 use Rattle.exchange_core.specs.declared.event.Event.{Event}
 use Rattle.docket.specs.Words.{capacity_of}
-use Rattle.docket.specs.Declarations.{IsDeclared, capacity_in}
+use Rattle.docket.specs.Declarations.{IsDeclared, AreByWorker, capacity_in}
+use Rattle.docket.specs.Whole.{AreWorkers}
 use Rattle.docket.specs.declared.declarations.Declarations.{Declarations}
 use Rattle.docket.specs.declared.kind.TheConstants.{QUOTA, PROGRAMME_LIST, RESIDENT_LIST, CAPACITY}
 use Rattle.docket.specs.declared.fault.DocketFault.{DocketFault}
@@ -55,6 +56,12 @@ pub sheet_is : (d : Declarations) (rows : List Fields) → IsDeclared d rows
     → (d.has_sheet_row || (nat_eq (length d.programmes) 0 && nat_eq (length d.residents) 0)) ≡ has_sheet rows
 unfolding has_sheet
 sheet_is d rows h = rw (h.sheet_rows, h.programmes, h.residents, no_members rows) refl
+
+-- who made the events, as the first pass has it
+pub by_worker_is : (workers : Option ℕ) (who : List ℕ) (rows : List Fields) → AreByWorker workers who rows
+    → (option_map (λ n. record { workers = n; who = who }) workers ≡ by_worker_of rows) × IfSome (by_worker_of rows) (λ by. AreWorkers by.workers by.who)
+by_worker_is None who rows h = rw (← h.workers_are) (refl, tt)
+by_worker_is (Some n) who rows h = rw (← h.workers_are, ← h.who_are) (refl, h.within)
 
 -- before the second pass
 pub ranked_start : (d : Declarations) (rows : List Fields) → IsDeclared d rows → IsRanked d.builder rows []
@@ -129,16 +136,16 @@ resident_name-is d r name h = get_or_from_slice_get d.residents r name [] h
 pub same_contents : {a b : Contents} → a.programmes ≡ b.programmes → a.residents ≡ b.residents → a.instance ≡ b.instance → a.sheet ≡ b.sheet → a.journal ≡ b.journal → a ≡ b
 same_contents p r n s j = λ i. record { programmes = p i; residents = r i; instance = n i; sheet = s i; journal = j i }
 
-abbrev parts_of : List Event → Capacity → JournalParts
-parts_of items c = record { capacity = c; events = items }
+abbrev parts_of : List Event → Option ByWorkerParts → Capacity → JournalParts
+parts_of items by c = record { capacity = c; events = items; by = by }
 
 -- the journal of a capacity and the events
-pub journal_is : (rows : List Fields) (cap : Option Capacity) (items : List Event) → cap ≡ capacity_in rows → items ≡ events_of rows
-    → option_map (parts_of items) cap ≡ journal_of rows
+pub journal_is : (rows : List Fields) (cap : Option Capacity) (items : List Event) (workers : Option ByWorkerParts) → cap ≡ capacity_in rows → items ≡ events_of rows
+    → workers ≡ by_worker_of rows → option_map (parts_of items workers) cap ≡ journal_of rows
 unfolding capacity_in
-journal_is rows cap items e f = rw (e, f) (by (find (is_kind CAPACITY) rows))
+journal_is rows cap items workers e f g = rw (e, f, g) (by (find (is_kind CAPACITY) rows))
   where
-    by : (o : Option Fields) → option_map (parts_of (events_of rows)) (option_map (λ (row : Fields). unwrap_or (capacity_of (field row 1)) Full) o)
-        ≡ option_map (λ (row : Fields). parts_of (events_of rows) (unwrap_or (capacity_of (field row 1)) Full)) o
+    by : (o : Option Fields) → option_map (parts_of (events_of rows) (by_worker_of rows)) (option_map (λ (row : Fields). unwrap_or (capacity_of (field row 1)) Full) o)
+        ≡ option_map (λ (row : Fields). parts_of (events_of rows) (by_worker_of rows) (unwrap_or (capacity_of (field row 1)) Full)) o
     by None = refl
     by (Some row) = refl

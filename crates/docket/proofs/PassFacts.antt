@@ -4,6 +4,7 @@ use Rattle.std.specs.Prelude.{nat_le, if◌then◌else◌}
 use Rattle.std.proofs.lemmas.List.{take_more, take_all, take-append-drop, length-append}
 use Rattle.std.specs.Option.{option_or}
 use Rattle.docket.specs.Fields.{Fields, row_fault}
+use Rattle.docket.specs.Contents.{workers_in}
 use Rattle.docket.specs.Rows.{row_at}
 use Rattle.docket.specs.Answers.{Refuses}
 use Rattle.docket.specs.Read.{GivesRow, IsSplit, IsOutside, IsReadFault, Explains, AreAll}
@@ -81,13 +82,13 @@ split_start (Some rows) = (rows, refl, refl)
 
 -- the first pass at a row before the limit, and after it
 pub reading_fault-few : (before : List Fields) (row : Fields) → length before < MAX_RECORDS
-    → reading_fault before row ≡ option_or (row_fault (next_place before) row) (option_or (repeat_fault before row) (limit_fault before row))
+    → reading_fault before row ≡ option_or (row_fault (next_place before) (workers_in before) row) (option_or (repeat_fault before row) (limit_fault before row))
 unfolding reading_fault
 reading_fault-few before row few = by (nat_le MAX_RECORDS (length before)) refl
   where
     by : (b : Bool) → nat_le MAX_RECORDS (length before) ≡ b
-        → (if b then Some (TooManyRecords (next_place before)) else option_or (row_fault (next_place before) row) (option_or (repeat_fault before row) (limit_fault before row)))
-        ≡ option_or (row_fault (next_place before) row) (option_or (repeat_fault before row) (limit_fault before row))
+        → (if b then Some (TooManyRecords (next_place before)) else option_or (row_fault (next_place before) (workers_in before) row) (option_or (repeat_fault before row) (limit_fault before row)))
+        ≡ option_or (row_fault (next_place before) (workers_in before) row) (option_or (repeat_fault before row) (limit_fault before row))
     by true e = absurd (search (rules, few, e))
     by false e = refl
 

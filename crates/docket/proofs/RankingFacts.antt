@@ -11,7 +11,7 @@ use Rattle.match_model.specs.declared.fault.ModelFault.TheVariants as model
 use Rattle.std.proofs.lemmas.Bool.{and_from, and_parts, or_parts}
 use Rattle.docket.specs.Fields.{Fields, field, kind_of, is_kind, is_row_of, unless, row_fault, withdrawal_kind}
 use Rattle.docket.specs.Rows.{row_at}
-use Rattle.docket.specs.Contents.{number_in, is_declared, member_in, listed_in, names_of, rows_of, quotas_of, programmes_of, residents_of, lists_of, withdrawn_of, draft_of}
+use Rattle.docket.specs.Contents.{number_in, is_declared, member_in, listed_in, names_of, rows_of, quotas_of, programmes_of, residents_of, lists_of, withdrawn_of, draft_of, workers_in}
 use Rattle.docket.specs.Words.{number_of}
 use Rattle.docket.specs.Ranking.{IsRanked}
 use Rattle.docket.specs.Passes.{first_from, reading_fault, repeat_fault, limit_fault, next_place, listing_fault, ranking_fault, pairs_fault}
@@ -50,13 +50,13 @@ length-quotas_of rows = length-map (rows_of QUOTA rows) (λ (r : Fields). unwrap
 
 -- what the first pass says of a row
 pub sound_row : (rows : List Fields) (k : ℕ) → first_from reading_fault [] rows ≡ None → length rows ≤ MAX_RECORDS → k < length rows
-    → (row_fault (k + 1) (row_at rows k) ≡ None) × (repeat_fault (take k rows) (row_at rows k) ≡ None)
+    → (row_fault (k + 1) (workers_in (take k rows)) (row_at rows k) ≡ None) × (repeat_fault (take k rows) (row_at rows k) ≡ None)
 sound_row rows k none few lt =
     let size = length-take k rows in
     let here : length (take k rows) ≡ k = omega arith in
     let all = sym (reading_fault-few (take k rows) (row_at rows k) (omega arith)) ∙ clean_at reading_fault rows k none lt in
-    let own = both_none (row_fault (next_place (take k rows)) (row_at rows k)) (option_or (repeat_fault (take k rows) (row_at rows k)) (limit_fault (take k rows) (row_at rows k))) all in
-    (ap (λ (n : ℕ). row_fault (n + 1) (row_at rows k)) (sym here) ∙ own.0, (both_none (repeat_fault (take k rows) (row_at rows k)) (limit_fault (take k rows) (row_at rows k)) own.1).0)
+    let own = both_none (row_fault (next_place (take k rows)) (workers_in (take k rows)) (row_at rows k)) (option_or (repeat_fault (take k rows) (row_at rows k)) (limit_fault (take k rows) (row_at rows k))) all in
+    (ap (λ (n : ℕ). row_fault (n + 1) (workers_in (take k rows)) (row_at rows k)) (sym here) ∙ own.0, (both_none (repeat_fault (take k rows) (row_at rows k)) (limit_fault (take k rows) (row_at rows k)) own.1).0)
 
 -- no earlier row of the kind has the name
 pub quota_free : (before : List Fields) (row : Fields) → repeat_fault before row ≡ None → kind_of row ≡ QUOTA → list_any (is_row_of QUOTA (field row 1)) before ≡ false

@@ -4,7 +4,7 @@ use Rattle.std.specs.Prelude.{◌==◌, ◌⊎◌, ◌&&◌, is_some, nat_lt, un
 use Rattle.std.specs.List.{list_all}
 use Rattle.docket.specs.Words.{is_name, is_number, answer_of}
 use Rattle.std.specs.Option.{option_or}
-use Rattle.docket.specs.Fields.{Fields, field, kind_of, unless, counted, row_fault, list_row_fault, lists_names, filled_row_fault, event_row_fault, worded_row_fault, event_names_fault, answer_fault, event_word, width_of, version_kind, withdrawal_kind}
+use Rattle.docket.specs.Fields.{Fields, field, kind_of, unless, counted, row_fault, list_row_fault, lists_names, filled_row_fault, event_row_fault, worded_row_fault, event_names_fault, answer_fault, event_word, width_of, version_kind, withdrawal_kind, event_width, worker_at}
 use Rattle.docket.specs.declared.kind.TheConstants.{QUOTA, PROGRAMME_LIST, RESIDENT_LIST, MATCHED, UNMATCHED, FILLED, CAPACITY, EVENT}
 use Rattle.docket.specs.declared.kind.EventWord.{EventWord}
 use Rattle.docket.specs.declared.kind.EventWord.TheVariants.{Offer, Take, Answer, Hear, Close}
@@ -14,7 +14,7 @@ use Rattle.docket.specs.declared.fault.DocketFault.TheVariants.{FieldCount, BadN
 use Rattle.docket.specs.Passes.{repeat_fault, limit_fault}
 use Rattle.docket.specs.Declarations.{IsDeclared}
 use Rattle.docket.specs.declared.declarations.Declarations.{Declarations}
-use Rattle.docket.proofs.DeclarationFacts.{declared_push, option_or-none}
+use Rattle.docket.proofs.DeclarationFacts.{declared_push, by_other, option_or-none}
 use Rattle.docket.proofs.WordFacts.{list_all_true_at}
 use Rattle.docket.proofs.FieldFacts.{field-get_or}
 
@@ -33,10 +33,10 @@ is_some-some (Some x) e = search rules
 is_some-some None e = absurd (cc e)
 
 -- an F row has two numbers
-pub filled_row_sound : (n : ℕ) (row : Fields) → row_fault n row ≡ None → kind_of row ≡ FILLED
+pub filled_row_sound : (n : ℕ) (by : Option ℕ) (row : Fields) → row_fault n by row ≡ None → kind_of row ≡ FILLED
     → (is_number (field row 2) ≡ true) × (is_number (field row 3) ≡ true)
 unfolding row_fault
-filled_row_sound n row h kind =
+filled_row_sound n by row h kind =
     let own : filled_row_fault n row ≡ None = rw kind at h in
     let numbers = unless (is_number (field row 2) && is_number (field row 3)) (BadSheet n) in
     let rest = both_none (counted n 4 row) (option_or (unless (is_name (field row 1)) (BadName n)) numbers) own in
@@ -48,29 +48,31 @@ filled_row_sound n row h kind =
     both_true false b h = absurd (cc h)
 
 -- an event that is given or heard has the kind of an answer
-pub answer_row_sound : (n : ℕ) (row : Fields) → row_fault n row ≡ None → kind_of row ≡ EVENT
+pub answer_row_sound : (n : ℕ) (by : Option ℕ) (row : Fields) → row_fault n by row ≡ None → kind_of row ≡ EVENT
     → (word_in row ≡ Answer) ⊎ (word_in row ≡ Hear) → is_some (answer_of (field row 4)) ≡ true
 unfolding row_fault word_in
-answer_row_sound n row h kind word =
-    let own : event_row_fault n row ≡ None = rw kind at h in
-    let known = (both_none (unless (nat_lt 1 (length row)) (FieldCount n)) (worded_row_fault n row (event_word (field row 1))) own).1 in
-    by (event_word (field row 1)) known word
+answer_row_sound n by row h kind word =
+    let own : event_row_fault n by row ≡ None = rw kind at h in
+    let known = (both_none (unless (nat_lt 1 (length row)) (FieldCount n)) (worded_row_fault n by row (event_word (field row 1))) own).1 in
+    of (event_word (field row 1)) known word
   where
-    answered : (w : EventWord) → option_or (counted n (width_of w) row) (answer_fault n row) ≡ None → is_some (answer_of (field row 4)) ≡ true
+    answered : (w : EventWord) → option_or (counted n (event_width by w) row) (option_or (answer_fault n row) (unless (is_some (worker_at by w row)) (BadEvent n))) ≡ None
+        → is_some (answer_of (field row 4)) ≡ true
     answered w e =
-        let fields = (both_none (counted n (width_of w) row) (answer_fault n row) e).1 in
+        let rest = (both_none (counted n (event_width by w) row) (option_or (answer_fault n row) (unless (is_some (worker_at by w row)) (BadEvent n))) e).1 in
+        let fields = (both_none (answer_fault n row) (unless (is_some (worker_at by w row)) (BadEvent n)) rest).0 in
         unless_none (is_some (answer_of (field row 4))) (BadEvent n) (both_none (event_names_fault n row) (unless (is_some (answer_of (field row 4))) (BadEvent n)) fields).1
 
-    by : (o : Option EventWord) → worded_row_fault n row o ≡ None → (unwrap_or o Close ≡ Answer) ⊎ (unwrap_or o Close ≡ Hear) → is_some (answer_of (field row 4)) ≡ true
-    by None e w = absurd (cc e)
-    by (Some Answer) e w = answered Answer e
-    by (Some Hear) e w = answered Hear e
-    by (Some Offer) e (inl w) = absurd (cc w)
-    by (Some Offer) e (inr w) = absurd (cc w)
-    by (Some Take) e (inl w) = absurd (cc w)
-    by (Some Take) e (inr w) = absurd (cc w)
-    by (Some Close) e (inl w) = absurd (cc w)
-    by (Some Close) e (inr w) = absurd (cc w)
+    of : (o : Option EventWord) → worded_row_fault n by row o ≡ None → (unwrap_or o Close ≡ Answer) ⊎ (unwrap_or o Close ≡ Hear) → is_some (answer_of (field row 4)) ≡ true
+    of None e w = absurd (cc e)
+    of (Some Answer) e w = answered Answer e
+    of (Some Hear) e w = answered Hear e
+    of (Some Offer) e (inl w) = absurd (cc w)
+    of (Some Offer) e (inr w) = absurd (cc w)
+    of (Some Take) e (inl w) = absurd (cc w)
+    of (Some Take) e (inr w) = absurd (cc w)
+    of (Some Close) e (inl w) = absurd (cc w)
+    of (Some Close) e (inr w) = absurd (cc w)
 
 -- a P or R row has a name in field 1
 pub list_row_sound : (n : ℕ) (row : Fields) → list_row_fault n row ≡ None → is_name (field row 1) ≡ true
@@ -98,8 +100,8 @@ pub sheet_row_declared : (d : Declarations) (rows : List Fields) (row : Fields)
     → (kind_of row ≡ MATCHED) ⊎ ((kind_of row ≡ UNMATCHED) ⊎ (kind_of row ≡ FILLED)) → IsDeclared d rows
     → IsDeclared (record d { has_sheet_row = true }) (rows ++ row ∷ []) × (option_or (repeat_fault rows row) (limit_fault rows row) ≡ None)
 sheet_row_declared d rows row (inl m) h =
-    (declared_push d _ rows row MATCHED m h refl refl refl refl refl refl (option_or-none d.capacity) (λ e. cc e) refl refl refl refl refl refl, sheet_row_free rows row MATCHED m refl refl refl refl refl refl refl)
+    (declared_push d _ rows row MATCHED m h refl refl refl refl refl refl (option_or-none d.capacity) (λ e. cc e) refl refl refl refl refl refl (by_other _ _ rows row MATCHED m refl refl h.by_worker), sheet_row_free rows row MATCHED m refl refl refl refl refl refl refl)
 sheet_row_declared d rows row (inr (inl u)) h =
-    (declared_push d _ rows row UNMATCHED u h refl refl refl refl refl refl (option_or-none d.capacity) (λ e. cc e) refl refl refl refl refl refl, sheet_row_free rows row UNMATCHED u refl refl refl refl refl refl refl)
+    (declared_push d _ rows row UNMATCHED u h refl refl refl refl refl refl (option_or-none d.capacity) (λ e. cc e) refl refl refl refl refl refl (by_other _ _ rows row UNMATCHED u refl refl h.by_worker), sheet_row_free rows row UNMATCHED u refl refl refl refl refl refl refl)
 sheet_row_declared d rows row (inr (inr f)) h =
-    (declared_push d _ rows row FILLED f h refl refl refl refl refl refl (option_or-none d.capacity) (λ e. cc e) refl refl refl refl refl refl, sheet_row_free rows row FILLED f refl refl refl refl refl refl refl)
+    (declared_push d _ rows row FILLED f h refl refl refl refl refl refl (option_or-none d.capacity) (λ e. cc e) refl refl refl refl refl refl (by_other _ _ rows row FILLED f refl refl h.by_worker), sheet_row_free rows row FILLED f refl refl refl refl refl refl refl)

@@ -1,12 +1,13 @@
 -- What the rows so far declare, as the code keeps it.
-use Rattle.std.specs.Prelude.{◌≡◌, ℕ, false, List, map, filter, find, codes, Option, None, option_map, unwrap_or}
+use Rattle.std.specs.Prelude.{◌≡◌, ℕ, false, List, map, filter, find, codes, Option, None, option_map, unwrap_or, [], Some, IfSome}
 use Rattle.std.specs.List.{list_any}
 use Rattle.exchange_core.specs.declared.event.Capacity.{Capacity}
 use Rattle.exchange_core.specs.declared.event.Capacity.TheVariants.{Full}
 use Rattle.docket.specs.Words.{capacity_of}
 use Rattle.docket.specs.Fields.{Fields, field, is_kind, is_row_of, withdrawal_kind}
-use Rattle.docket.specs.Contents.{names_of, programmes_of, residents_of, quotas_of, is_sheet_row}
+use Rattle.docket.specs.Contents.{names_of, programmes_of, residents_of, quotas_of, is_sheet_row, workers_in, who_of}
 use Rattle.docket.specs.Passes.{is_version_2}
+use Rattle.docket.specs.Whole.{AreWorkers}
 use Rattle.docket.specs.declared.declarations.Declarations.{Declarations}
 use Rattle.docket.specs.declared.kind.TheConstants.{PROGRAMME_LIST, CAPACITY, EVENT}
 
@@ -18,6 +19,17 @@ capacity_in rows = option_map (λ row. unwrap_or (capacity_of (field row 1)) Ful
 abbrev pub names_withdrawn : List ℕ → List Fields → List (List ℕ)
 names_withdrawn side rows = map (λ row. field row 2) (filter (is_row_of withdrawal_kind side) rows)
 
+-- the workers of the events, if the journal is by worker
+abbrev pub who_if : Option ℕ → List Fields → List ℕ
+who_if None rows = []
+who_if (Some workers) rows = who_of rows
+
+-- the number of workers, if the journal is by worker, and then the worker of each event
+pub record AreByWorker (workers : Option ℕ) (who : List ℕ) (rows : List Fields) : Type 0 where
+  pub workers_are : workers ≡ workers_in rows
+  pub who_are : who ≡ who_if workers rows
+  pub within : IfSome workers (λ n. AreWorkers n who)
+
 -- nobody's list was handed in to the builder yet, and nobody was withdrawn; no event comes before the capacity; the rest is what the rows declare
 pub record IsDeclared (d : Declarations) (rows : List Fields) : Type 0 where
   pub quotas : d.builder.quotas ≡ quotas_of rows
@@ -28,6 +40,7 @@ pub record IsDeclared (d : Declarations) (rows : List Fields) : Type 0 where
   pub ranked : d.ranked ≡ names_of PROGRAMME_LIST rows
   pub capacity : d.capacity ≡ capacity_in rows
   pub no_events : d.capacity ≡ None → list_any (is_kind EVENT) rows ≡ false
+  pub by_worker : AreByWorker d.workers d.who.items rows
   pub sheet_rows : d.has_sheet_row ≡ list_any is_sheet_row rows
   pub version : d.is_version_2 ≡ is_version_2 rows
   pub withdrawn_programmes : d.withdrawn_programmes ≡ names_withdrawn (codes "P") rows

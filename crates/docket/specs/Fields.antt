@@ -1,9 +1,9 @@
 -- One record: its fields, and the faults that it has by itself.
-use Rattle.std.specs.Prelude.{ℕ, nat_lt, ◌&&◌, ◌||◌, ◌==◌, Bool, if◌then◌else◌, Option, Some, None, is_some, List, [], ◌∷◌, length, drop, codes, bytes_eq, unwrap_or}
+use Rattle.std.specs.Prelude.{ℕ, nat_lt, ◌&&◌, ◌||◌, ◌==◌, Bool, if◌then◌else◌, Option, Some, None, is_some, List, [], ◌∷◌, length, drop, codes, bytes_eq, unwrap_or, ◌+◌}
 use Rattle.std.specs.Option.{option_or}
 use Rattle.std.specs.List.{list_all}
 use Rattle.csv.specs.Records.{field_at}
-use Rattle.docket.specs.Words.{is_name, is_number, number_of, capacity_of, answer_of}
+use Rattle.docket.specs.Words.{is_name, is_number, number_of, capacity_of, workers_of, worker_of, answer_of}
 use Rattle.docket.specs.declared.kind.TheConstants.{QUOTA, PROGRAMME_LIST, RESIDENT_LIST, MATCHED, UNMATCHED, FILLED, CAPACITY, EVENT}
 use Rattle.docket.specs.declared.kind.EventWord.{EventWord}
 use Rattle.docket.specs.declared.kind.EventWord.TheVariants.{Offer, Take, Answer, Hear, Close}
@@ -58,6 +58,16 @@ width_of Answer = 5
 width_of Hear = 5
 width_of Close = 2
 
+-- how many fields an event of this word has: one more where the journal is by this many workers
+abbrev pub event_width : Option ℕ → EventWord → ℕ
+event_width None word = width_of word
+event_width (Some workers) word = width_of word + 1
+
+-- the worker's number at the end of an event, in a journal by this many workers, and else 0
+abbrev pub worker_at : Option ℕ → EventWord → Fields → Option ℕ
+worker_at None word row = Some 0
+worker_at (Some workers) word row = worker_of workers (field row (width_of word))
+
 -- the faults below are those of record n by itself, first the number of its fields
 abbrev pub counted : ℕ → ℕ → Fields → Option DocketFault
 counted n width row = unless (length row == width) (FieldCount n)
@@ -92,9 +102,12 @@ filled_row_fault n row =
     (option_or (unless (is_name (field row 1)) (BadName n))
     (unless (is_number (field row 2) && is_number (field row 3)) (BadSheet n)))
 
--- `C,full` or `C,n`
+-- `C,full` or `C,n`, and in a journal by worker the number of workers at its end
 abbrev pub capacity_row_fault : ℕ → Fields → Option DocketFault
-capacity_row_fault n row = option_or (counted n 2 row) (unless (is_some (capacity_of (field row 1))) (BadEvent n))
+capacity_row_fault n row =
+    option_or (unless ((length row == 2) || (length row == 3)) (FieldCount n))
+    (option_or (unless (is_some (capacity_of (field row 1))) (BadEvent n))
+    (unless ((length row == 2) || is_some (workers_of (field row 2))) (BadEvent n)))
 
 -- an event's two names
 abbrev pub event_names_fault : ℕ → Fields → Option DocketFault
@@ -112,14 +125,17 @@ event_fields_fault n row Answer = answer_fault n row
 event_fields_fault n row Hear = answer_fault n row
 event_fields_fault n row Close = None
 
--- an event whose word is known, or isn't
-abbrev pub worded_row_fault : ℕ → Fields → Option EventWord → Option DocketFault
-worded_row_fault n row None = Some (BadEvent n)
-worded_row_fault n row (Some word) = option_or (counted n (width_of word) row) (event_fields_fault n row word)
+-- an event whose word is known, or isn't, in a journal by this many workers, if it is by worker
+abbrev pub worded_row_fault : ℕ → Option ℕ → Fields → Option EventWord → Option DocketFault
+worded_row_fault n workers row None = Some (BadEvent n)
+worded_row_fault n workers row (Some word) =
+    option_or (counted n (event_width workers word) row)
+    (option_or (event_fields_fault n row word) (unless (is_some (worker_at workers word row)) (BadEvent n)))
 
--- `E,word,..`
-abbrev pub event_row_fault : ℕ → Fields → Option DocketFault
-event_row_fault n row = option_or (unless (nat_lt 1 (length row)) (FieldCount n)) (worded_row_fault n row (event_word (field row 1)))
+-- `E,word,..`, and in a journal by worker the worker's number at its end
+abbrev pub event_row_fault : ℕ → Option ℕ → Fields → Option DocketFault
+event_row_fault n workers row =
+    option_or (unless (nat_lt 1 (length row)) (FieldCount n)) (worded_row_fault n workers row (event_word (field row 1)))
 
 -- the letter of a version row in ASCII, `V`
 abbrev pub version_kind : ℕ
@@ -143,10 +159,11 @@ withdrawal_row_fault n row =
     option_or (counted n 3 row)
     (option_or (unless (is_side (field row 1)) (BadWithdrawal n)) (unless (is_name (field row 2)) (BadName n)))
 
--- the first fault of record n by itself: its kind, the number of its fields, its names, its numbers and words; of a V or W
--- row none, since whether such a row is known at all hangs on the records before it
-unfoldable pub row_fault : ℕ → Fields → Option DocketFault
-row_fault n row =
+-- the first fault of record n by itself, where the journal is by this many workers, if it is by worker: its kind, the number
+-- of its fields, its names, its numbers and words; of a V or W row none, since whether such a row is known at all hangs on
+-- the records before it
+unfoldable pub row_fault : ℕ → Option ℕ → Fields → Option DocketFault
+row_fault n workers row =
     if is_kind QUOTA row then quota_row_fault n row
     else if is_kind PROGRAMME_LIST row then list_row_fault n row
     else if is_kind RESIDENT_LIST row then list_row_fault n row
@@ -154,7 +171,7 @@ row_fault n row =
     else if is_kind UNMATCHED row then unmatched_row_fault n row
     else if is_kind FILLED row then filled_row_fault n row
     else if is_kind CAPACITY row then capacity_row_fault n row
-    else if is_kind EVENT row then event_row_fault n row
+    else if is_kind EVENT row then event_row_fault n workers row
     else if is_kind version_kind row then None
     else if is_kind withdrawal_kind row then None
     else Some (UnknownKind n)

@@ -1,11 +1,11 @@
 -- What every docket keeps, and whom the events name that are written with it.
-use Rattle.std.specs.Prelude.{◌≡◌, ℕ, ◌<◌, ⊤, Option, Some, List, length}
+use Rattle.std.specs.Prelude.{◌≡◌, ℕ, ◌<◌, ◌≤◌, ⊤, IfSome, Option, Some, List, length}
 use Rattle.std.specs.List.{All}
 use Rattle.match_model.specs.Instance.{Instance, IsProgramme, IsResident}
 use Rattle.match_model.specs.Placement.{IsMemberOf}
 use Rattle.exchange_core.specs.declared.event.Event.{Event}
 use Rattle.exchange_core.specs.declared.event.Event.TheVariants.{Offer, Take, Answer, Hear, Close}
-use Rattle.docket.specs.Contents.{Contents, JournalParts}
+use Rattle.docket.specs.Contents.{Contents, JournalParts, ByWorkerParts}
 
 -- one entry for each resident, and only programmes of the docket
 pub record IsSheetOf (d : Contents) (m : List (Option ℕ)) : Type 0 where
@@ -25,9 +25,21 @@ NamesMembers inst (Answer r p kind) = AreMembers inst p r
 NamesMembers inst (Hear p r kind) = AreMembers inst p r
 NamesMembers inst Close = ⊤
 
--- a name for each member, a sheet of members, and a journal whose events name members
+-- 1 to 8 workers, and only numbers below that
+pub record AreWorkers (workers : ℕ) (who : List ℕ) : Type 0 where
+  pub some : 1 ≤ workers
+  pub few : workers ≤ 8
+  pub numbers : All (λ w. w < workers) who
+
+-- one number for each event, each that of one of 1 to 8 workers
+pub record IsByWorker (events : List Event) (by : ByWorkerParts) : Type 0 where
+  pub one_number_each : length by.who ≡ length events
+  pub workers : AreWorkers by.workers by.who
+
+-- a name for each member, a sheet of members, and a journal whose events name members, with its workers if it is by worker
 pub record IsWhole (d : Contents) : Type 0 where
   pub programmes : length d.programmes ≡ length d.instance.quotas
   pub residents : length d.residents ≡ length d.instance.resident_lists
   pub sheet : (m : List (Option ℕ)) → d.sheet ≡ Some m → IsSheetOf d m
   pub journal : (j : JournalParts) → d.journal ≡ Some j → All (NamesMembers d.instance) j.events
+  pub by : (j : JournalParts) → d.journal ≡ Some j → IfSome j.by (IsByWorker j.events)

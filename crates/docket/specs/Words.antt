@@ -1,5 +1,5 @@
 -- The words of a docket: names, numbers, a capacity, the kind of an answer.
-use Rattle.std.specs.Prelude.{ℕ, ◌+◌, ◌-◌, ◌*◌, nat_le, ◌&&◌, ◌||◌, ◌==◌, Bool, if◌then◌else◌, Option, Some, None, List, length, codes, bytes_eq, fold, option_and_then}
+use Rattle.std.specs.Prelude.{ℕ, ◌+◌, ◌-◌, ◌*◌, nat_le, nat_lt, ◌&&◌, ◌||◌, ◌==◌, Bool, if◌then◌else◌, Option, Some, None, List, length, codes, bytes_eq, fold, option_and_then}
 use Rattle.std.specs.List.{list_all}
 use Rattle.exchange_core.specs.Shown.{is_capacity}
 use Rattle.exchange_core.specs.declared.event.AnswerKind.{AnswerKind}
@@ -42,6 +42,14 @@ each_of n = if is_capacity (Each n) then Some (Each n) else None
 -- the capacity that `full`, or a number from 1 to 1,024, writes
 unfoldable pub capacity_of : List ℕ → Option Capacity
 capacity_of text = if bytes_eq text (codes "full") then Some Full else option_and_then each_of (number_of text)
+
+-- the number of workers, from 1 to 8, that a text writes
+unfoldable pub workers_of : List ℕ → Option ℕ
+workers_of text = option_and_then (λ n. if nat_le 1 n && nat_le n 8 then Some n else None) (number_of text)
+
+-- the number of a worker, below how many there are, that a text writes
+unfoldable pub worker_of : ℕ → List ℕ → Option ℕ
+worker_of workers text = option_and_then (λ n. if nat_lt n workers then Some n else None) (number_of text)
 
 -- the kind of answer that a word writes
 unfoldable pub answer_of : List ℕ → Option AnswerKind

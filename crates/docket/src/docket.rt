@@ -9,13 +9,33 @@ use exchange_core::{Capacity, Event};
 use match_model::{Assignment, Instance, ProgrammeNo, ResidentNo};
 use std::marker::Model;
 
-/// The journal of an exchange: the capacity of its mailboxes, and its events in order.
+/// Who made the events of a journal.
+#[derive(Drop)]
+pub struct ByWorker {
+    /// How many workers there were, from 1 to 8.
+    pub workers: u32,
+    /// The worker of each event, in order, each below their number.
+    pub who: Vec<u8>,
+}
+
+impl Model for ByWorker {
+    ghost use Rattle.docket.specs.Contents.{ByWorkerParts};
+
+    ghost Value = { ByWorkerParts };
+
+    ghost view = { λ b. record { workers = b.workers; who = b.who.items } };
+}
+
+/// The journal of an exchange: the capacity of its mailboxes, and its events in order, with their workers where it is by
+/// worker.
 #[derive(Drop)]
 pub struct Journal {
     /// The capacity of its mailboxes.
     pub capacity: Capacity,
     /// Its events, in order.
     pub events: Vec<Event>,
+    /// Who made them, if the journal says so.
+    pub by: Option<ByWorker>,
 }
 
 impl Model for Journal {
@@ -23,7 +43,7 @@ impl Model for Journal {
 
     ghost Value = { JournalParts };
 
-    ghost view = { λ j. record { capacity = j.capacity; events = j.events.items } };
+    ghost view = { λ j. record { capacity = j.capacity; events = j.events.items; by = j.by } };
 }
 
 /// What a docket says.

@@ -21,7 +21,7 @@ pub(crate) const UNMATCHED: u8 = b'U';
 /// `F,programme,filled,quota`: how many residents a programme has, of a sheet.
 pub(crate) const FILLED: u8 = b'F';
 
-/// `C,full` or `C,n`: the capacity, of a journal.
+/// `C,full` or `C,n`, and maybe the number of workers: the capacity, of a journal.
 pub(crate) const CAPACITY: u8 = b'C';
 
 /// `E,word,..`: an event, of a journal.
@@ -69,17 +69,25 @@ pub(crate) enum EventWord {
 #[derive(Clone, Copy)]
 pub(crate) enum RowKind {
     /// `Q,programme,quota`
-    Programme { quota: u32 },
+    Programme {
+        quota: u32,
+    },
     /// `P,programme,resident,..`
     ProgrammeList,
     /// `R,resident,programme,..`
     Resident,
     /// `M,resident,programme`, `U,resident` or `F,programme,filled,quota`
     Sheet,
-    /// `C,full` or `C,n`
-    Capacity(Capacity),
-    /// `E,word,..`
-    Event(EventWord),
+    /// `C,full` or `C,n`, and in a journal by worker the number of workers
+    Capacity {
+        capacity: Capacity,
+        workers: Option<u32>,
+    },
+    /// `E,word,..`, and in a journal by worker the worker's number, which else is 0
+    Event {
+        word: EventWord,
+        worker: u8,
+    },
     /// A V row, whose other fields weren't read yet
     Version,
     /// A W row, whose other fields weren't read yet
@@ -94,7 +102,7 @@ impl RowKind {
         ensures { result ≡ word_of self }
     {
         match self {
-            RowKind::Event(word) => Some(word),
+            RowKind::Event { word, .. } => Some(word),
             _ => None,
         }
     }

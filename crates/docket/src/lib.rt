@@ -27,7 +27,7 @@ mod texts;
 mod words;
 mod write;
 
-pub use crate::docket::{Docket, Journal};
+pub use crate::docket::{ByWorker, Docket, Journal};
 pub use fault::DocketFault;
 pub use kind::law_constants;
 pub use read::read_docket;

@@ -17,12 +17,12 @@ unreachable-requires c = filled_known c.args.tables.now c.args.k c.requires.know
 pub digits_worth-filled-requires : goal.digits_worth-filled-requires
 digits_worth-filled-requires c =
     let sound = sound_row c.args.tables.now c.args.k c.place-sound.ensures.sound c.place-sound.ensures.few c.requires.place in
-    rw c.field.ensures (filled_row_sound _ (row_at c.args.tables.now c.args.k) sound.0 c.requires.kind).0
+    rw c.field.ensures (filled_row_sound _ _ (row_at c.args.tables.now c.args.k) sound.0 c.requires.kind).0
 
 pub digits_worth-quota-requires : goal.digits_worth-quota-requires
 digits_worth-quota-requires c =
     let sound = sound_row c.args.tables.now c.args.k c.place-sound.ensures.sound c.place-sound.ensures.few c.requires.place in
-    rw c.field-2.ensures (filled_row_sound _ (row_at c.args.tables.now c.args.k) sound.0 c.requires.kind).1
+    rw c.field-2.ensures (filled_row_sound _ _ (row_at c.args.tables.now c.args.k) sound.0 c.requires.kind).1
 
 pub index-requires : goal.index-requires
 index-requires c = let below = counts_below c.args.self.now c.args.tables.now c.args.tables.now (field (row_at c.args.tables.now c.args.k) 1) c.programme-2.inside.0 c.requires.marked (sym c.programme.ensures ∙ c.in-Some.is ∙ ap Some (sym c.programme-2.view_is)) in omega (arith, c.args.self.now.counts.ok)
@@ -35,7 +35,7 @@ quota-requires c =
 
 pub returns-then-filled-index : goal.returns-then-filled-index
 returns-then-filled-index c =
-    let numbers = filled_row_sound _ (row_at c.args.tables.now c.args.k) (sound_row c.args.tables.now c.args.k c.place-sound.ensures.sound c.place-sound.ensures.few c.requires.place).0 c.requires.kind in
+    let numbers = filled_row_sound _ _ (row_at c.args.tables.now c.args.k) (sound_row c.args.tables.now c.args.k c.place-sound.ensures.sound c.place-sound.ensures.few c.requires.place).0 c.requires.kind in
     let f = c.digits_worth-filled.ensures ∙ ap digits_worth c.field.ensures ∙ number_worth _ numbers.0 in
     let count = c.index.ensures ∙ counts_at c.args.self.now c.args.tables.now c.args.tables.now (field (row_at c.args.tables.now c.args.k) 1) c.programme-2.inside.0 _ c.requires.marked (sym c.programme.ensures ∙ c.in-Some.is ∙ ap Some (sym c.programme-2.view_is)) in
     let q = c.digits_worth-quota.ensures ∙ ap digits_worth c.field-2.ensures ∙ number_worth _ numbers.1 in
@@ -45,7 +45,7 @@ returns-then-filled-index c =
 
 pub returns-else-filled-index : goal.returns-else-filled-index
 returns-else-filled-index c =
-    let numbers = filled_row_sound _ (row_at c.args.tables.now c.args.k) (sound_row c.args.tables.now c.args.k c.place-sound.ensures.sound c.place-sound.ensures.few c.requires.place).0 c.requires.kind in
+    let numbers = filled_row_sound _ _ (row_at c.args.tables.now c.args.k) (sound_row c.args.tables.now c.args.k c.place-sound.ensures.sound c.place-sound.ensures.few c.requires.place).0 c.requires.kind in
     let f = c.digits_worth-filled.ensures ∙ ap digits_worth c.field.ensures ∙ number_worth _ numbers.0 in
     let count = c.index.ensures ∙ counts_at c.args.self.now c.args.tables.now c.args.tables.now (field (row_at c.args.tables.now c.args.k) 1) c.programme-2.inside.0 _ c.requires.marked (sym c.programme.ensures ∙ c.in-Some.is ∙ ap Some (sym c.programme-2.view_is)) in
     let q = c.digits_worth-quota.ensures ∙ ap digits_worth c.field-2.ensures ∙ number_worth _ numbers.1 in
