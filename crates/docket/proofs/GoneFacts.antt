@@ -1,21 +1,19 @@
 -- Who is withdrawn, by number, with the row of one member more.
 use Rattle.std.proofs.Common.{◌≡◌, ◌≤◌, ◌<◌, ◌+◌, ℕ, List, [], ◌∷◌, ◌++◌, Bool, true, false, length, take, sym, ◌∙◌, refl, ap, Option, Some, None, rules}
-use Rattle.std.specs.Prelude.{◌||◌, ◌&&◌, not, if◌then◌else◌, bytes_eq, codes, nat_le, slice_set, slice_index_or, is_some, Result, Ok, Err}
+use Rattle.std.specs.Prelude.{◌||◌, not, bytes_eq, codes, nat_le, slice_set, slice_index_or, Result, Ok, Err}
 use Rattle.std.specs.List.{list_any}
 use Rattle.std.specs.Option.{option_or}
 use Rattle.std.proofs.lemmas.List.{length-map, take_more}
 use Rattle.std.proofs.lemmas.List.Folds.{list_any-append}
-use Rattle.docket.specs.Words.{is_name}
-use Rattle.docket.specs.Fields.{Fields, field, kind_of, is_kind, is_row_of, is_side, unless, withdrawal_kind, withdrawal_row_fault}
+use Rattle.docket.specs.Fields.{Fields, field, kind_of, is_row_of, unless, withdrawal_kind, withdrawal_row_fault}
 use Rattle.docket.specs.Rows.{row_at}
-use Rattle.docket.specs.Contents.{number_in, is_declared, programmes_of, residents_of, is_withdrawal_of, withdrawn_of, lists_of}
+use Rattle.docket.specs.Contents.{number_in, programmes_of, residents_of, is_withdrawal_of, withdrawn_of, lists_of}
 use Rattle.docket.specs.Passes.{first_from, reading_fault, repeat_fault, is_version_2, ranking_fault, names_on, next_place}
 use Rattle.docket.specs.Ranking.{IsRanked}
 use Rattle.match_model.specs.Draft.{Draft, with_programme_withdrawn, with_resident_withdrawn}
 use Rattle.match_model.specs.Draft as model
 use Rattle.match_model.specs.Fault.{AnswersExactly}
 use Rattle.docket.specs.declared.kind.TheConstants.{PROGRAMME_LIST, RESIDENT_LIST, MAX_RECORDS}
-use Rattle.docket.specs.declared.fault.DocketFault.{DocketFault}
 use Rattle.docket.specs.declared.fault.DocketFault.TheVariants.{UnknownKind, UnknownName, DeclaredTwice}
 use Rattle.docket.proofs.NumberFacts.{distinct, number_below, at_number, map_at, bytes_eq-same}
 use Rattle.docket.proofs.SoundFacts.{both_none, unless_none}

@@ -1,19 +1,14 @@
 -- Rows of version 2: what they declare, and whom they withdraw.
-use Rattle.std.proofs.Common.{◌≡◌, ◌<◌, ◌≤◌, ◌+◌, ℕ, List, [], ◌∷◌, ◌++◌, Bool, true, false, length, take, map, filter, sym, ◌∙◌, refl, ap, Option, Some, None, append-nil}
-use Rattle.std.specs.Prelude.{◌==◌, ◌&&◌, ◌||◌, not, if◌then◌else◌, bytes_eq, codes, nat_eq, slice_set, slice_index_or}
+use Rattle.std.proofs.Common.{◌≡◌, ℕ, List, [], ◌∷◌, ◌++◌, Bool, true, false, map, filter, ◌∙◌, refl, ap, append-nil}
+use Rattle.std.specs.Prelude.{◌&&◌, ◌||◌, if◌then◌else◌, bytes_eq}
 use Rattle.std.specs.List.{list_any}
-use Rattle.std.specs.Option.{option_or}
-use Rattle.std.proofs.lemmas.Bool.{and_parts}
-use Rattle.std.proofs.lemmas.List.{map-append, length-map}
+use Rattle.std.proofs.lemmas.List.{map-append}
 use Rattle.std.proofs.lemmas.List.Elements.{filter-append}
 use Rattle.std.proofs.lemmas.List.Folds.{list_any-append}
-use Rattle.docket.specs.Words.{is_name}
-use Rattle.docket.specs.Fields.{Fields, field, kind_of, is_kind, is_row_of, is_side, unless, counted, version_kind, withdrawal_kind, withdrawal_row_fault}
-use Rattle.docket.specs.Contents.{is_declared, number_in, is_withdrawal_of, withdrawn_of}
-use Rattle.docket.specs.Passes.{is_version_2, repeat_fault, limit_fault, withdrawal_fault, next_place}
+use Rattle.docket.specs.Fields.{Fields, field, is_kind, is_row_of, version_kind, withdrawal_kind}
+use Rattle.docket.specs.Contents.{is_declared, is_withdrawal_of, withdrawn_of}
+use Rattle.docket.specs.Passes.{is_version_2}
 use Rattle.docket.specs.Declarations.{names_withdrawn}
-use Rattle.docket.specs.declared.fault.DocketFault.{DocketFault}
-use Rattle.docket.specs.declared.fault.DocketFault.TheVariants.{UnknownKind, FieldCount, BadName, BadWithdrawal, DeclaredTwice}
 use Rattle.docket.proofs.NameFacts.{is_declared-map}
 
 -- the names that a side's W rows withdraw, with one row more

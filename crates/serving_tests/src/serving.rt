@@ -145,7 +145,10 @@ fn matches(rt: HostRuntime) -> Result<(), Fail> {
     ];
     for (texts, sheet) in cases {
         let ending = (Ok(Status::Closed), sheet, 0);
-        assert!(rt; serves_both(rt, rt.alloc(), MATCH, texts, ending)?, "{sheet}");
+        assert!(rt;
+            serves_both(rt, rt.alloc(), MATCH, texts, ending)?,
+            "{sheet}"
+        );
     }
     Ok(())
 }
@@ -154,7 +157,10 @@ fn matches(rt: HostRuntime) -> Result<(), Fail> {
 fn matches_through_narrow_mailboxes(rt: HostRuntime) -> Result<(), Fail> {
     for (text, sheet) in [(QUOTAS, QUOTAS_SHEET), (SMALL, SMALL_SHEET)] {
         let ending = (Ok(Status::Closed), sheet, 0);
-        assert!(rt; serves_both(rt, rt.alloc(), NARROW, &[text], ending)?, "{sheet}");
+        assert!(rt;
+            serves_both(rt, rt.alloc(), NARROW, &[text], ending)?,
+            "{sheet}"
+        );
     }
     Ok(())
 }
@@ -424,7 +430,10 @@ fn tells_faults_of_reading(rt: HostRuntime) -> Result<(), Fail> {
     for (texts, fault) in FAULTS {
         for order in [MATCH, Order::Audit, Order::Replay] {
             let ending = (Err(ServeFault::Docket(fault)), "", 3);
-            assert!(rt; serves_both(rt, rt.alloc(), order, texts, ending)?, "{fault}");
+            assert!(rt;
+                serves_both(rt, rt.alloc(), order, texts, ending)?,
+                "{fault}"
+            );
         }
     }
     Ok(())

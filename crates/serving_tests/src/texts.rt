@@ -38,7 +38,10 @@ pub(super) const VERSION_2: &str = "V,2\n";
 
 /// What is told of a record, as it is told of the same record where one more stands before it.
 pub(super) fn further(alloc: Global, told: &str) -> Result<String, AllocError> {
-    let Some((number, cause)) = told.strip_prefix("record ").and_then(|t| t.split_once(": ")) else {
+    let Some((number, cause)) = told
+        .strip_prefix("record ")
+        .and_then(|t| t.split_once(": "))
+    else {
         return told.to_string(alloc);
     };
     match number.parse::<u32>() {

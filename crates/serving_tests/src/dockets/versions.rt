@@ -78,10 +78,12 @@ fn withdraws(alloc: Global, rows: &str, gone: [bool; 4]) -> Result<bool, AllocEr
     let text = joined(alloc, &[VERSION_2, SMALL, rows])?;
     let [a, b, x, y] = gone;
     match read(alloc, text.as_str()) {
-        Ok(docket) => Ok(is_programme_gone(docket.instance(), A, a)
-            && is_programme_gone(docket.instance(), B, b)
-            && is_resident_gone(docket.instance(), X, x)
-            && is_resident_gone(docket.instance(), Y, y)),
+        Ok(docket) => Ok(
+            is_programme_gone(docket.instance(), A, a)
+                && is_programme_gone(docket.instance(), B, b)
+                && is_resident_gone(docket.instance(), X, x)
+                && is_resident_gone(docket.instance(), Y, y),
+        ),
         Err(_) => Ok(false),
     }
 }

@@ -66,13 +66,24 @@ const AUDITS: [(&[&str], Status, &str, u8); 4] = [
         4,
     ),
     (
-        &[VERSION_2, SMALL, SMALL_SHEET, "U,z\nF,c,0,1\n", UNLISTED, "W,R,z\nW,P,c\n"],
+        &[
+            VERSION_2,
+            SMALL,
+            SMALL_SHEET,
+            "U,z\nF,c,0,1\n",
+            UNLISTED,
+            "W,R,z\nW,P,c\n",
+        ],
         Status::Stable,
         "S,stable\n",
         0,
     ),
     (
-        &[VERSION_2, QUOTAS, "W,P,b\nM,x,a\nM,y,a\nU,z\nF,a,2,2\nF,b,0,1\n"],
+        &[
+            VERSION_2,
+            QUOTAS,
+            "W,P,b\nM,x,a\nM,y,a\nU,z\nF,a,2,2\nF,b,0,1\n",
+        ],
         Status::Stable,
         "S,stable\n",
         0,
@@ -94,19 +105,42 @@ fn audits_of_old_sheets(rt: HostRuntime) -> Result<(), Fail> {
 // Journals from before a withdrawal: the first offer by or to whom is withdrawn is of nobody who is next.
 const REPLAYS: [(&[&str], Status, &str, u8); 3] = [
     (
-        &[VERSION_2, QUOTAS, "W,P,b\n", FULL, ELEVEN, TO_THIRTEEN, TO_EIGHTEEN, CLOSE],
+        &[
+            VERSION_2,
+            QUOTAS,
+            "W,P,b\n",
+            FULL,
+            ELEVEN,
+            TO_THIRTEEN,
+            TO_EIGHTEEN,
+            CLOSE,
+        ],
         Status::ReplayBad,
         "N,7,not-next\n",
         4,
     ),
     (
-        &[VERSION_2, SMALL, "W,R,x\n", FULL, SMALL_JOURNAL, SMALL_SHEET],
+        &[
+            VERSION_2,
+            SMALL,
+            "W,R,x\n",
+            FULL,
+            SMALL_JOURNAL,
+            SMALL_SHEET,
+        ],
         Status::ReplayBad,
         "N,1,not-next\n",
         4,
     ),
     (
-        &[VERSION_2, SMALL, UNLISTED, FULL, SMALL_JOURNAL, "W,R,z\nW,P,c\n"],
+        &[
+            VERSION_2,
+            SMALL,
+            UNLISTED,
+            FULL,
+            SMALL_JOURNAL,
+            "W,R,z\nW,P,c\n",
+        ],
         Status::ReplayGood,
         "G,9\n",
         0,
@@ -129,10 +163,22 @@ fn replays_of_old_journals(rt: HostRuntime) -> Result<(), Fail> {
 const CUTS: [(&[&str], DocketFault); 6] = [
     (&["V"], DocketFault::FieldCount { place: 1 }),
     (&["V,"], DocketFault::BadVersion { place: 1 }),
-    (&[VERSION_2, SMALL, "W"], DocketFault::FieldCount { place: 8 }),
-    (&[VERSION_2, SMALL, "W,"], DocketFault::FieldCount { place: 8 }),
-    (&[VERSION_2, SMALL, "W,P"], DocketFault::FieldCount { place: 8 }),
-    (&[VERSION_2, SMALL, "W,P,"], DocketFault::BadName { place: 8 }),
+    (
+        &[VERSION_2, SMALL, "W"],
+        DocketFault::FieldCount { place: 8 },
+    ),
+    (
+        &[VERSION_2, SMALL, "W,"],
+        DocketFault::FieldCount { place: 8 },
+    ),
+    (
+        &[VERSION_2, SMALL, "W,P"],
+        DocketFault::FieldCount { place: 8 },
+    ),
+    (
+        &[VERSION_2, SMALL, "W,P,"],
+        DocketFault::BadName { place: 8 },
+    ),
 ];
 
 #[test]

@@ -1,7 +1,6 @@
-use Rattle.std.proofs.Common.{◌∙◌, sym, ap, inr, refl, take}
+use Rattle.std.proofs.Common.{◌∙◌, sym, ap, inr, take}
 use Rattle.std.specs.Prelude.{if◌then◌else◌}
 use Rattle.docket.specs.Contents.{programmes_of, residents_of}
-use Rattle.docket.specs.Passes.{names_on}
 use Rattle.docket.specs.Rows.{row_at}
 use Rattle.docket.proofs.RankingFacts.{place_at}
 use Rattle.docket.proofs.GoneFacts.{withdrawal_named, withdrawal_unnamed, ranked_resident_gone, resident_stays, not_refused, resident_side}
