@@ -180,9 +180,17 @@ fn is_left(instance: &Instance, pairs: u32, programmes: [bool; 2], residents: [b
     if instance.programmes() != 2 || instance.residents() != 3 {
         return false;
     }
+    let gone = [
+        instance.resident_withdrawn(X),
+        instance.resident_withdrawn(Y),
+        instance.resident_withdrawn(Z),
+    ];
     instance.pairs() == pairs
-        && [A, B].map(|p| instance.programme_withdrawn(p)) == programmes
-        && [X, Y, Z].map(|r| instance.resident_withdrawn(r)) == residents
+        && [
+            instance.programme_withdrawn(A),
+            instance.programme_withdrawn(B),
+        ] == programmes
+        && gone == residents
 }
 
 #[test]
