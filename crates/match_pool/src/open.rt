@@ -65,24 +65,28 @@ pub(crate) type RuledFloor<'a, J, R, G> = Floor<
     G,
 >;
 
-/// Everything that the workers share, before any event, and the tally of all parts.
+/// Everything that the workers share, before any event, and their tallies.
 pub(crate) fn open_floor<'a, J: Naming, R: Wait + Copy, G: Gate>(
     rt: R,
     alloc: Global,
     blank: Blank,
     inst: &Instance,
     cap: Capacity,
-) -> Result<(RuledFloor<'a, J, R, G>, Tally<J>), RunFault>
+    workers: u32,
+) -> Result<(RuledFloor<'a, J, R, G>, Vec<Tally<J>>), RunFault>
     requires instance { inst.now ≡ J.inst }
     requires capacity { cap ≡ J.cap }
+    requires workers { workers ≡ J.workers }
     requires blank { (blank.name ≡ J.name) × (blank.parts ≡ J.parts) × (J.parts ≡ 8) }
     ensures { IfErr result (λ fault. fault ≡ Memory) }
 {
     let hands = Hands::open(alloc, inst.residents(), inst.programmes())?;
     let offers = offer_mailboxes::<J, R>(rt, alloc, inst, cap)?;
     let answers = answer_mailboxes::<J, R>(rt, alloc, inst, cap)?;
-    let (books, tally) = open_books(alloc, blank, inst, cap, offers.puts, answers.puts)?;
-    Ok((Floor::new(offers.seats, answers.seats, books, hands), tally))
+    let mailboxes = (offers.puts, answers.puts);
+    let (books, tallies) = open_books(alloc, blank, inst, cap, workers, mailboxes)?;
+    let floor = Floor::new(offers.seats, answers.seats, books, hands);
+    Ok((floor, tallies))
 }
 
 // A mailbox for each resident: its sending end, and a lock with the resident's agent over its receiving end.
@@ -215,46 +219,28 @@ fn programme_seat<J: Naming, T: TakeEnd<AnswerNote> + Drop>(
     }
 }
 
-// The ledger over these ends, which have put nothing, with nobody waiting for room; and the tally of all its parts.
+// The ledger over these ends, which have put nothing, with nobody waiting for room; and each worker's tally.
 fn open_books<J: Naming, P: PutEnd<OfferNote> + Drop, Q: PutEnd<AnswerNote> + Drop>(
     alloc: Global,
     blank: Blank,
     inst: &Instance,
     cap: Capacity,
-    offer_puts: Vec<P>,
-    answer_puts: Vec<Q>,
-) -> Result<(Books<J, P, Q>, Tally<J>), RunFault>
+    workers: u32,
+    puts: (Vec<P>, Vec<Q>),
+) -> Result<(Books<J, P, Q>, Vec<Tally<J>>), RunFault>
     requires instance { inst.now ≡ J.inst }
     requires capacity { cap ≡ J.cap }
+    requires workers { workers ≡ J.workers }
     requires blank { (blank.name ≡ J.name) × (blank.parts ≡ J.parts) × (J.parts ≡ 8) }
-    requires offer_puts { Each offer_puts.items (length inst.now.resident_lists) (λ _ end. P.puts end ≡ []) }
-    requires answer_puts { Each answer_puts.items (length inst.now.quotas) (λ _ end. Q.puts end ≡ []) }
+    requires offer_puts { Each puts.0.items (length inst.now.resident_lists) (λ _ end. P.puts end ≡ []) }
+    requires answer_puts { Each puts.1.items (length inst.now.quotas) (λ _ end. Q.puts end ≡ []) }
     ensures { IfErr result (λ fault. fault ≡ Memory) }
 {
     let desks = inst.residents() as usize + inst.programmes() as usize;
     let waits = Waits::with_desks(alloc, desks)?;
-    match Ledger::open(alloc, blank, inst, cap, offer_puts, answer_puts) {
-        Ok((ledger, tally)) => Ok((Books { ledger, waits }, tally)),
+    let (offer_puts, answer_puts) = puts;
+    match Ledger::open(alloc, blank, inst, cap, workers, offer_puts, answer_puts) {
+        Ok((ledger, tallies)) => Ok((Books { ledger, waits }, tallies)),
         Err(_) => Err(RunFault::Memory),
     }
-}
-
-/// As many tallies as there are workers, which together have all parts.
-pub(crate) fn cut<J: Naming>(
-    alloc: Global,
-    tally: Tally<J>,
-    workers: usize,
-) -> Result<Vec<Tally<J>>, RunFault>
-    ensures { IfErr result (λ fault. fault ≡ Memory) }
-{
-    let mut tallies = Vec::with_capacity(alloc, workers)?;
-    let mut rest = tally;
-    for _ in 1..workers {
-        let Some(part) = rest.split() else {
-            return Err(RunFault::Memory);
-        };
-        tallies.push(part)?;
-    }
-    tallies.push(rest)?;
-    Ok(tallies)
 }

@@ -1,5 +1,5 @@
 //! A run: mailboxes, agents, ledger and workers, from an instance to what the ends put and took.
-ghost use Rattle.std.specs.Prelude.{◌≡◌, ℕ, sum, length, true, IfOk, IfErr, OnOk};
+ghost use Rattle.std.specs.Prelude.{◌≡◌, ◌≤◌, ℕ, sum, length, true, IfOk, IfErr, OnOk};
 ghost use Rattle.exchange_core.specs.Mail.{Answered};
 ghost use Rattle.exchange_core.specs.Left.{given};
 ghost use Rattle.mailbox_rule.specs.Mail.{PutSide, TakeSide};
@@ -10,7 +10,7 @@ use crate::done::{Done, Ending};
 use crate::drive::drive;
 use crate::fault::RunFault;
 use crate::gate::Gate;
-use crate::open::{cut, open_floor};
+use crate::open::open_floor;
 use crate::reserve::Reserve;
 use exchange_core::{AnswerNote, Capacity, OfferNote};
 use mailbox_rule::{RuledPut, RuledTake};
@@ -71,6 +71,7 @@ fn run_named<J: Naming + Send + Sync, G: Gate + Sync, R: Threads + Wait + Sync +
 ) -> Result<RuledDone<R>, RunFault>
     requires instance { inst.now ≡ J.inst }
     requires capacity { cap ≡ J.cap }
+    requires workers { (workers ≡ J.workers) × (workers ≤ 8) }
     requires blank { (blank.name ≡ J.name) × (blank.parts ≡ J.parts) × (J.parts ≡ 8) }
     ensures run { IfOk result (λ done. IsRunOf (PutSide ℕ) (TakeSide ℕ) (PutSide Answered) (TakeSide Answered) (λ end. end.puts) (λ end. end.taken) (λ end. end.puts) (λ end. end.taken) inst.now cap done.ending done.journal.items done.ends.offer_puts.items done.ends.residents.items done.ends.answer_puts.items done.ends.programmes.items) }
     ensures stopped { IfOk result (λ done. done.ending ≡ Ending.Stopped → G.MAY_STOP ≡ true) }
@@ -80,8 +81,7 @@ fn run_named<J: Naming + Send + Sync, G: Gate + Sync, R: Threads + Wait + Sync +
     ensures fault { IfErr result (IsFault inst.now cap) }
 {
     let reserve = Reserve::new(alloc, inst, workers)?;
-    let (floor, tally) = open_floor::<J, R, G>(rt, alloc, blank, inst, cap)?;
-    let tallies = cut(alloc, tally, workers)?;
+    let (floor, tallies) = open_floor::<J, R, G>(rt, alloc, blank, inst, cap, workers as u32)?;
     let tallies = drive(&rt, alloc, inst, &floor, gate, tallies)?;
     reserve.finish(inst, floor, tallies, workers)
 }

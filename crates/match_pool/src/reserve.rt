@@ -225,7 +225,7 @@ impl<J: Naming, P: PutEnd<OfferNote> + Drop, Q: PutEnd<AnswerNote> + Drop> Outco
         } = self;
         let mut assignment = assignment;
         ledger.core().assignment(&mut assignment);
-        let (journal, _, offer_puts, answer_puts) = ledger.into_parts();
+        let (journal, _, offer_puts, answer_puts, _) = ledger.into_parts();
         Done {
             ending,
             journal,
@@ -365,7 +365,7 @@ fn out_of_step<J: Naming, P: PutEnd<OfferNote> + Drop, Q: PutEnd<AnswerNote> + D
     let Err(_) = ledger.core().may(inst, again) else {
         return RunFault::Torn(desk);
     };
-    let (journal, _, _, _) = ledger.into_parts();
+    let (journal, ..) = ledger.into_parts();
     RunFault::OutOfStep {
         journal,
         event: third,

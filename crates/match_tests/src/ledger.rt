@@ -126,8 +126,8 @@ fn enters_all<J: Naming, P: PutEnd<OfferNote> + Drop, Q: PutEnd<AnswerNote> + Dr
         && ledger.close(inst, &mut tally) == closed
         && shows(&mut ledger, &mut tally, events)
         && ledger.core().is_closed();
-    let (journal, _core, _offer_ends, _answer_ends) = ledger.into_parts();
-    are_right && journal.as_slice() == events
+    let (journal, _core, _offer_ends, _answer_ends, who) = ledger.into_parts();
+    are_right && journal.as_slice() == events && who.iter().all(|worker| *worker == 0)
 }
 
 // Whether nothing is entered where the ends have no room.
@@ -145,36 +145,36 @@ fn enters_nothing<J: Naming, P: PutEnd<OfferNote>, Q: PutEnd<AnswerNote>>(
         && ledger.close(inst, tally) == Err(pending)
 }
 
-// Whether a tally of all parts can be cut into as many, and no more.
-fn has_all_parts<J: Naming>(tally: &mut Tally<J>) -> bool {
-    for parts in 1..PARTS {
-        if tally.split().is_none() || tally.parts() != PARTS - parts {
-            return false;
-        }
-    }
-    tally.split().is_none()
+// Whether the first of two tallies has all parts but the other's one.
+fn are_cut<J: Naming>(first: &Tally<J>, other: &Tally<J>) -> bool {
+    (first.worker(), first.parts(), first.entered()) == (0, PARTS - 1, 0)
+        && (other.worker(), other.parts(), other.entered()) == (1, 1, 0)
 }
 
-// Whether two shares count what is entered with them, and together all.
+// Whether two workers' tallies count what is entered with them, and together all; and each event's worker is noted.
 fn counts_apart<J: Naming, P: PutEnd<OfferNote>, Q: PutEnd<AnswerNote>>(
     ledger: &mut Ledger<J, P, Q>,
     inst: &Instance,
     tally: &mut Tally<J>,
+    other: Tally<J>,
 ) -> bool
     requires instance { inst.now ≡ J.inst }
     requires parts { J.parts ≡ 8 }
 {
-    let Some(mut other) = tally.split() else {
-        return false;
-    };
+    let mut other = other;
     let all = nine_events();
     let (first, rest) = all.split_at(5);
-    let are_right = answers_each(ledger, inst, tally, first, Ok(()))
+    let are_right = are_cut(tally, &other)
+        && answers_each(ledger, inst, tally, first, Ok(()))
         && answers_each(ledger, inst, &mut other, rest, Ok(()))
         && tally.entered() == 5
         && other.entered() == 4;
     ledger.join(tally, other);
-    are_right && shows(ledger, tally, &all) && has_all_parts(tally)
+    are_right
+        && shows(ledger, tally, &all)
+        && ledger.who() == &[0, 0, 0, 0, 0, 1, 1, 1, 1]
+        && tally.worker() == 0
+        && tally.parts() == PARTS
 }
 
 // Whether a spoiled ledger keeps its journal, and takes no more.
@@ -200,7 +200,7 @@ fn keeps_its_journal<J: Naming, P: PutEnd<OfferNote>, Q: PutEnd<AnswerNote>>(
 enum Trial {
     All,
     RefusedPut,
-    TwoShares,
+    TwoWorkers,
     Spoiled,
 }
 
@@ -210,50 +210,74 @@ fn does<J: Naming>(
     blank: Blank,
     inst: &Instance,
     cap: Capacity,
+    workers: u32,
     room: u32,
     trial: Trial,
 ) -> Result<bool, MailFault>
     requires instance { inst.now ≡ J.inst }
     requires capacity { cap ≡ J.cap }
+    requires workers { workers ≡ J.workers }
     requires blank { (blank.name ≡ J.name) × (blank.parts ≡ J.parts) × (J.parts ≡ 8) }
 {
     let offer_ends = lists::<OfferNote>(alloc, 2, room)?;
     let answer_ends = lists::<AnswerNote>(alloc, 2, room)?;
-    let Ok((mut ledger, mut tally)) = Ledger::<J, _, _>::open(
+    let Ok((mut ledger, tallies)) = Ledger::<J, _, _>::open(
         alloc,
         blank,
         inst,
         cap,
+        workers,
         offer_ends,
         answer_ends,
     ) else {
         return Ok(false);
     };
+    let mut tallies = tallies.into_iter();
+    let Some(mut tally) = tallies.next() else {
+        return Ok(false);
+    };
     match trial {
         Trial::All => Ok(enters_all(ledger, inst, tally, &nine_events())),
         Trial::RefusedPut => Ok(enters_nothing(&mut ledger, inst, &mut tally)),
-        Trial::TwoShares => Ok(counts_apart(&mut ledger, inst, &mut tally)),
+        Trial::TwoWorkers => match tallies.next() {
+            Some(other) => Ok(counts_apart(&mut ledger, inst, &mut tally, other)),
+            None => Ok(false),
+        },
         Trial::Spoiled => Ok(keeps_its_journal(&mut ledger, inst, &mut tally)),
     }
 }
 
 // Whether a ledger of two by two does as tried, over ends with room for so many notes.
-fn small_does(alloc: Global, room: u32, trial: Trial) -> Result<bool, MailFault> {
+fn small_does(
+    alloc: Global,
+    workers: u32,
+    room: u32,
+    trial: Trial,
+) -> Result<bool, MailFault> {
     let Ok(inst) = made(alloc, TWO_BY_TWO) else {
         return Err(MailFault::Memory);
     };
-    does::<Brand>(alloc, Blank::new(8), &inst, Capacity::Full, room, trial)
+    does::<Brand>(
+        alloc,
+        Blank::new(8),
+        &inst,
+        Capacity::Full,
+        workers,
+        room,
+        trial,
+    )
 }
 
 #[test]
 fn over_lists(rt: HostRuntime) -> Result<(), Fail> {
-    for (room, trial) in [
-        (4, Trial::All),
-        (0, Trial::RefusedPut),
-        (4, Trial::TwoShares),
-        (4, Trial::Spoiled),
+    for (workers, room, trial) in [
+        (1, 4, Trial::All),
+        (8, 4, Trial::All),
+        (1, 0, Trial::RefusedPut),
+        (2, 4, Trial::TwoWorkers),
+        (1, 4, Trial::Spoiled),
     ] {
-        assert!(rt; small_does(rt.alloc(), room, trial)?);
+        assert!(rt; small_does(rt.alloc(), workers, room, trial)?);
     }
     Ok(())
 }
@@ -268,13 +292,25 @@ fn enters_posted<J: Naming, R: Wait + Copy + Drop>(
 ) -> Result<bool, MailFault>
     requires instance { inst.now ≡ J.inst }
     requires capacity { cap ≡ J.cap }
+    requires workers { J.workers ≡ 1 }
     requires blank { (blank.name ≡ J.name) × (blank.parts ≡ J.parts) × (J.parts ≡ 8) }
 {
     let (offer_ends, _offers) = mailboxes::<OfferNote, R>(alloc, rt, 3, 4)?;
     let (answer_ends, _answers) = mailboxes::<AnswerNote, R>(alloc, rt, 2, 4)?;
-    match Ledger::<J, _, _>::open(alloc, blank, inst, cap, offer_ends, answer_ends) {
-        Ok((ledger, tally)) => Ok(enters_all(ledger, inst, tally, &nineteen_events())),
-        Err(_) => Ok(false),
+    let Ok((ledger, mut tallies)) = Ledger::<J, _, _>::open(
+        alloc,
+        blank,
+        inst,
+        cap,
+        1,
+        offer_ends,
+        answer_ends,
+    ) else {
+        return Ok(false);
+    };
+    match tallies.pop() {
+        Some(tally) => Ok(enters_all(ledger, inst, tally, &nineteen_events())),
+        None => Ok(false),
     }
 }
 
@@ -299,15 +335,17 @@ fn not_opened<J: Naming>(
     blank: Blank,
     inst: &Instance,
     cap: Capacity,
+    workers: u32,
     residents: u32,
 ) -> Result<Option<(LedgerFault, usize, usize)>, MailFault>
     requires instance { inst.now ≡ J.inst }
     requires capacity { cap ≡ J.cap }
+    requires workers { workers ≡ J.workers }
     requires blank { (blank.name ≡ J.name) × (blank.parts ≡ J.parts) × (J.parts ≡ 8) }
 {
     let offer_ends = lists::<OfferNote>(alloc, residents, 4)?;
     let answer_ends = lists::<AnswerNote>(alloc, 2, 4)?;
-    match Ledger::<J, _, _>::open(alloc, blank, inst, cap, offer_ends, answer_ends) {
+    match Ledger::<J, _, _>::open(alloc, blank, inst, cap, workers, offer_ends, answer_ends) {
         Ok(_) => Ok(None),
         Err(
             LedgerRefused {
@@ -323,16 +361,25 @@ fn not_opened<J: Naming>(
 fn refused_opening(rt: HostRuntime) -> Result<(), Fail> {
     let alloc = rt.alloc();
     let inst = made(alloc, TWO_BY_TWO)?;
-    for (residents, cap, fault) in [
-        (1, Capacity::Full, LedgerFault::WrongEnds),
-        (1, Capacity::Each(0), LedgerFault::WrongEnds),
-        (2, Capacity::Each(0), LedgerFault::BadCapacity),
-        (2, Capacity::Each(1_025), LedgerFault::BadCapacity),
+    for (residents, cap, workers, fault) in [
+        (1, Capacity::Full, 1, LedgerFault::WrongEnds),
+        (1, Capacity::Each(0), 0, LedgerFault::WrongEnds),
+        (2, Capacity::Each(0), 1, LedgerFault::BadCapacity),
+        (2, Capacity::Each(1_025), 0, LedgerFault::BadCapacity),
+        (2, Capacity::Full, 0, LedgerFault::BadWorkers),
+        (2, Capacity::Full, 9, LedgerFault::BadWorkers),
     ] {
-        let refused = not_opened::<Brand>(alloc, Blank::new(8), &inst, cap, residents);
+        let refused = not_opened::<Brand>(
+            alloc,
+            Blank::new(8),
+            &inst,
+            cap,
+            workers,
+            residents,
+        );
         assert!(rt;
             refused == Ok(Some((fault, residents as usize, 2))),
-            "{cap:?}"
+            "{cap:?}, {workers} workers"
         );
     }
     Ok(())
@@ -346,6 +393,7 @@ fn texts(rt: HostRuntime) -> Result<(), Fail> {
             "a ledger needs one end for each desk",
         ),
         (LedgerFault::BadCapacity, "bad capacity"),
+        (LedgerFault::BadWorkers, "bad number of workers"),
         (LedgerFault::Memory, "out of memory"),
     ] {
         assert!(rt; fault.to_string(rt.alloc())?.as_str() == text, "{text}");

@@ -300,18 +300,23 @@ fn exchange<J: Naming, R: Wait + Copy>(
 ) -> Result<Option<usize>, MailFault>
     requires instance { inst.now ≡ J.inst }
     requires capacity { J.cap ≡ Full }
+    requires workers { J.workers ≡ 1 }
     requires blank { (blank.name ≡ J.name) × (blank.parts ≡ J.parts) × (J.parts ≡ 8) }
 {
     let (offers, mut residents) = open_residents::<J, R>(alloc, rt, inst)?;
     let (answers, mut programmes) = open_programmes::<J, R>(alloc, rt, inst)?;
-    let Ok((mut ledger, mut tally)) = Ledger::open(
+    let Ok((mut ledger, mut tallies)) = Ledger::open(
         alloc,
         blank,
         inst,
         Capacity::Full,
+        1,
         offers,
         answers,
     ) else {
+        return Ok(None);
+    };
+    let Some(mut tally) = tallies.pop() else {
         return Ok(None);
     };
     let served = serve_to_close(

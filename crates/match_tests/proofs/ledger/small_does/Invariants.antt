@@ -4,4 +4,4 @@ abbrev pub ghosts-does-J-Ledger : goal.ghosts-does-J-Ledger
 ghosts-does-J-Ledger a = record { name = a.blank.name; parts = a.blank.parts }
 
 abbrev pub ghosts-does-J-Naming : goal.ghosts-does-J-Naming
-ghosts-does-J-Naming a = record { inst = a.inst.now; cap = a.cap }
+ghosts-does-J-Naming a = record { inst = a.inst.now; cap = a.cap; workers = a.workers }

@@ -5,4 +5,4 @@ abbrev pub ghosts-exchange-J-Ledger : goal.ghosts-exchange-J-Ledger
 ghosts-exchange-J-Ledger g a = record { name = a.blank.name; parts = a.blank.parts }
 
 abbrev pub ghosts-exchange-J-Naming : goal.ghosts-exchange-J-Naming
-ghosts-exchange-J-Naming g a = record { inst = a.inst.now; cap = Full }
+ghosts-exchange-J-Naming g a = record { inst = a.inst.now; cap = Full; workers = 1 }
