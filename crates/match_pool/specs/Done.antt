@@ -1,6 +1,7 @@
 -- What a run gives.
 use Rattle.exchange_core.specs.Shown.{is_capacity}
-use Rattle.std.specs.Prelude.{◌≡◌, ◌≢◌, ℕ, true, false, ◌↔◌, List, ◌∷◌, [], ◌++◌, length, slice_get, Some, Option}
+use Rattle.std.specs.List.{All}
+use Rattle.std.specs.Prelude.{◌≡◌, ◌⊎◌, ◌<◌, ◌≤◌, ◌==◌, ℕ, sum, count_by, true, false, ◌↔◌, List, ◌∷◌, [], ◌++◌, length, slice_get, Some, Option}
 use Rattle.match_model.specs.Instance.{Instance}
 use Rattle.exchange_core.specs.declared.event.Event.{Event}
 use Rattle.exchange_core.specs.declared.event.Event.TheVariants.{Take, Hear, Close}
@@ -45,6 +46,13 @@ pub record IsSettledRun (inst : Instance) (journal : List Event) (assignment : L
   pub stable : IsStable inst assignment
   pub settled : IsSettled inst assignment
 
+-- each event has the number of its worker, one of so many, and each worker the number of events that have its number, which are all events together
+pub record AreCounted (workers : ℕ) (journal : List Event) (who entered : List ℕ) : Type 0 where
+  pub one_worker_each : length who ≡ length journal
+  pub among_the_workers : All (λ w. w < workers) who
+  pub counted : Each entered workers (λ w n. n ≡ count_by (λ v. v == w) who)
+  pub all_counted : sum entered ≡ length journal
+
 -- a receipt: an offer is taken, or an answer heard
 abbrev pub IsReceipt : Event → Type 0
 IsReceipt (Take r p) = Unit {0}
@@ -61,8 +69,8 @@ IsFault inst cap (OutOfStep journal event) = IsLegal inst cap journal.items × I
 IsFault inst cap (Torn desk) = Unit {0}
 IsFault inst cap (MailGone desk) = Unit {0}
 
--- another number of workers than two comes first, then a capacity that isn't admitted; else it is a fault of the run
+-- a number of workers that isn't 1 to 8 comes first, then a capacity that isn't admitted; else it is a fault of the run
 abbrev pub IsRunFault : Instance → Capacity → ℕ → RunFault → Type 0
-IsRunFault inst cap workers BadWorkers = workers ≢ 2
-IsRunFault inst cap workers BadCapacity = (workers ≡ 2) × (is_capacity cap ≡ false)
-IsRunFault inst cap workers fault = (workers ≡ 2) × (is_capacity cap ≡ true) × IsFault inst cap fault
+IsRunFault inst cap workers BadWorkers = (workers ≡ 0) ⊎ (8 < workers)
+IsRunFault inst cap workers BadCapacity = (1 ≤ workers) × (workers ≤ 8) × (is_capacity cap ≡ false)
+IsRunFault inst cap workers fault = (1 ≤ workers) × (workers ≤ 8) × (is_capacity cap ≡ true) × IsFault inst cap fault

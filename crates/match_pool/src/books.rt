@@ -73,6 +73,15 @@ impl<J: Naming, P: PutEnd<OfferNote>, Q: PutEnd<AnswerNote>> Books<J, P, Q> {
         self.has_front(inst, hear)
     }
 
+    /// A programme's desk comes into a worker's hands, and waits for room no more. Whether answers wait at it, as far as
+    /// the core has it, and whether it was called for room.
+    pub(crate) fn programme_comes(&mut self, inst: &Instance, programme: ProgrammeNo) -> (bool, bool)
+        requires { inst.now ≡ J.inst }
+    {
+        let is_called = self.waits.comes(desk_of_programme(inst, programme));
+        (self.answers_wait(inst, programme), is_called)
+    }
+
     // Whether a take or a hear isn't refused for want of a message.
     fn has_front(&self, inst: &Instance, receipt: Event) -> bool
         requires { inst.now ≡ J.inst }
@@ -207,7 +216,7 @@ impl<J: Naming, P: PutEnd<OfferNote>, Q: PutEnd<AnswerNote>> Books<J, P, Q> {
         match made {
             Ok(()) => Entry::Made {
                 more: false,
-                woken: self.waits.leave_first(receiver),
+                woken: self.waits.call_first(receiver),
             },
             Err(EntryRefused::Spoiled) => Entry::Ended,
             Err(_) => {

@@ -45,6 +45,8 @@ where
     pub ending: Ending,
     /// Every event, in the order of the ledger's lock.
     pub journal: Vec<Event>,
+    /// For each event, the number of the worker that entered it.
+    pub who: Vec<u8>,
     /// What each resident holds after the journal.
     pub assignment: Assignment,
     /// By worker, how many events it entered.

@@ -1,9 +1,9 @@
 //! A run: mailboxes, agents, ledger and workers, from an instance to what the ends put and took.
-ghost use Rattle.std.specs.Prelude.{◌≡◌, ◌≤◌, ℕ, sum, length, true, IfOk, IfErr, OnOk};
+ghost use Rattle.std.specs.Prelude.{◌≡◌, ◌≤◌, ℕ, true, IfOk, IfErr, OnOk};
 ghost use Rattle.exchange_core.specs.Mail.{Answered};
 ghost use Rattle.exchange_core.specs.Left.{given};
 ghost use Rattle.mailbox_rule.specs.Mail.{PutSide, TakeSide};
-ghost use Rattle.match_pool.specs.Done.{IsRunOf, IsSettledRun, IsFault, IsRunFault};
+ghost use Rattle.match_pool.specs.Done.{IsRunOf, IsSettledRun, AreCounted, IsFault, IsRunFault};
 ghost use Rattle.exchange_core.specs.Shown.{is_capacity};
 
 use crate::done::{Done, Ending};
@@ -22,8 +22,8 @@ use std::sync::Wait;
 use std::sync::ledger::Blank;
 use std::thread::Threads;
 
-/// How many workers a run has.
-const WORKERS: usize = 2;
+/// How many workers a run has at most.
+const MOST_WORKERS: usize = 8;
 
 /// What a run over ruled mailboxes gives.
 pub type RuledDone<R> = Done<
@@ -33,7 +33,7 @@ pub type RuledDone<R> = Done<
     RuledTake<AnswerNote, R>,
 >;
 
-/// Runs the exchange of an instance by this many workers, which is 2, until it is closed or the gate stops it.
+/// Runs the exchange of an instance by this many workers, from 1 to 8, until it is closed or the gate stops it.
 pub fn run<G: Gate + Sync, R: Threads + Wait + Sync + Send + Copy>(
     rt: R,
     alloc: Global,
@@ -45,12 +45,12 @@ pub fn run<G: Gate + Sync, R: Threads + Wait + Sync + Send + Copy>(
     ensures run { IfOk result (λ done. IsRunOf (PutSide ℕ) (TakeSide ℕ) (PutSide Answered) (TakeSide Answered) (λ end. end.puts) (λ end. end.taken) (λ end. end.puts) (λ end. end.taken) inst.now cap done.ending done.journal.items done.ends.offer_puts.items done.ends.residents.items done.ends.answer_puts.items done.ends.programmes.items) }
     ensures stopped { IfOk result (λ done. done.ending ≡ Ending.Stopped → G.MAY_STOP ≡ true) }
     ensures given { IfOk result (λ done. done.assignment ≡ given inst.now done.journal.items) }
-    ensures counts { IfOk result (λ done. (length done.entered.items ≡ workers) × (sum done.entered.items ≡ length done.journal.items)) }
+    ensures counts { IfOk result (λ done. AreCounted workers done.journal.items done.who.items done.entered.items) }
     ensures settled { IfOk result (λ done. done.ending ≡ Ending.Closed → IsSettledRun inst.now done.journal.items done.assignment) }
-    ensures admitted { OnOk result ((workers ≡ 2) × (is_capacity cap ≡ true)) }
+    ensures admitted { OnOk result ((1 ≤ workers) × (workers ≤ 8) × (is_capacity cap ≡ true)) }
     ensures fault { IfErr result (IsRunFault inst.now cap workers) }
 {
-    if workers != WORKERS {
+    if workers == 0 || workers > MOST_WORKERS {
         return Err(RunFault::BadWorkers);
     }
     if !cap.is_admitted() {
@@ -71,17 +71,17 @@ fn run_named<J: Naming + Send + Sync, G: Gate + Sync, R: Threads + Wait + Sync +
 ) -> Result<RuledDone<R>, RunFault>
     requires instance { inst.now ≡ J.inst }
     requires capacity { cap ≡ J.cap }
-    requires workers { (workers ≡ J.workers) × (workers ≤ 8) }
+    requires workers { (workers ≡ J.workers) × (1 ≤ workers) × (workers ≤ 8) }
     requires blank { (blank.name ≡ J.name) × (blank.parts ≡ J.parts) × (J.parts ≡ 8) }
     ensures run { IfOk result (λ done. IsRunOf (PutSide ℕ) (TakeSide ℕ) (PutSide Answered) (TakeSide Answered) (λ end. end.puts) (λ end. end.taken) (λ end. end.puts) (λ end. end.taken) inst.now cap done.ending done.journal.items done.ends.offer_puts.items done.ends.residents.items done.ends.answer_puts.items done.ends.programmes.items) }
     ensures stopped { IfOk result (λ done. done.ending ≡ Ending.Stopped → G.MAY_STOP ≡ true) }
     ensures given { IfOk result (λ done. done.assignment ≡ given inst.now done.journal.items) }
-    ensures counts { IfOk result (λ done. (length done.entered.items ≡ workers) × (sum done.entered.items ≡ length done.journal.items)) }
+    ensures counts { IfOk result (λ done. AreCounted workers done.journal.items done.who.items done.entered.items) }
     ensures settled { IfOk result (λ done. done.ending ≡ Ending.Closed → IsSettledRun inst.now done.journal.items done.assignment) }
     ensures fault { IfErr result (IsFault inst.now cap) }
 {
     let reserve = Reserve::new(alloc, inst, workers)?;
     let (floor, tallies) = open_floor::<J, R, G>(rt, alloc, blank, inst, cap, workers as u32)?;
     let tallies = drive(&rt, alloc, inst, &floor, gate, tallies)?;
-    reserve.finish(inst, floor, tallies, workers)
+    reserve.finish(inst, floor, tallies)
 }

@@ -1,11 +1,11 @@
 //! What a run reserves at its start for what it does after the joins, and what it does then.
-ghost use Rattle.std.specs.Prelude.{◌≡◌, ◌↔◌, ◌+◌, List, ℕ, [], sum, length, true, IfOk, IfErr, IfSome, OnOk, ◌⊎◌};
+ghost use Rattle.std.specs.Prelude.{◌≡◌, ◌↔◌, length, replicate, true, IfOk, IfErr, IfSome};
 ghost use Rattle.exchange_core.specs.declared.event.Event.{Event};
 ghost use Rattle.exchange_core.specs.Legal.{IsClosed};
 ghost use Rattle.exchange_core.specs.Left.{given};
 ghost use Rattle.exchange_core.specs.Mail.{takes, hears};
 ghost use Rattle.match_pool.specs.Compare.{AreLogs, LogsAreTaken, LogsAreHeard, taken_of, heard_of};
-ghost use Rattle.match_pool.specs.Done.{IsRunOf, IsSettledRun, IsFault, IsReceipt};
+ghost use Rattle.match_pool.specs.Done.{IsRunOf, IsSettledRun, AreCounted, IsFault, IsReceipt};
 ghost use Rattle.match_pool.specs.declared.fault.RunFault.TheVariants.{Memory, Thread};
 
 use crate::compare::Cursors;
@@ -29,7 +29,6 @@ pub(crate) struct Reserve<T: TakeEnd<OfferNote>, U: TakeEnd<AnswerNote>> {
     logs: Logs<T, U>,
     assignment: Assignment,
     entered: Vec<u64>,
-    ghost none_entered: { entered.items ≡ [] },
 }
 
 /// The agents of a run, out of their locks, and the walk that compares them with its journal.
@@ -102,7 +101,7 @@ impl<T: TakeEnd<OfferNote> + Drop, U: TakeEnd<AnswerNote> + Drop> Logs<T, U> {
         requires ending { (outcome.ending ≡ Ending.Closed) ↔ IsClosed outcome.ledger.journal }
         ensures run { IfOk result (λ done. IsRunOf P T Q U P.puts T.taken Q.puts U.taken inst.now J.cap done.ending done.journal.items done.ends.offer_puts.items done.ends.residents.items done.ends.answer_puts.items done.ends.programmes.items) }
         ensures given { IfOk result (λ done. done.assignment ≡ given inst.now done.journal.items) }
-        ensures same { IfOk result (λ done. (done.journal.items ≡ outcome.ledger.journal) × (done.ending ≡ outcome.ending) × (done.entered ≡ outcome.entered)) }
+        ensures same { IfOk result (λ done. (done.journal.items ≡ outcome.ledger.journal) × (done.who.items ≡ outcome.ledger.who) × (done.ending ≡ outcome.ending) × (done.entered ≡ outcome.entered)) }
         ensures settled { IfOk result (λ done. done.ending ≡ Ending.Closed → IsSettledRun inst.now done.journal.items done.assignment) }
         ensures fault { IfErr result (IsFault inst.now J.cap) }
     {
@@ -126,10 +125,11 @@ impl<T: TakeEnd<OfferNote> + Drop, U: TakeEnd<AnswerNote> + Drop> Reserve<T, U> 
         workers: usize,
     ) -> Result<Reserve<T, U>, RunFault>
         ensures made { IfOk result (λ reserve. length reserve.assignment ≡ length inst.now.resident_lists) }
+        ensures uncounted { IfOk result (λ reserve. reserve.entered.items ≡ replicate workers 0) }
         ensures fault { IfErr result (λ fault. fault ≡ Memory) }
     {
         let logs = Logs::with_room(alloc, inst)?;
-        let entered = Vec::with_capacity(alloc, workers)?;
+        let entered = vec![in alloc; 0_u64; workers]?;
         match Assignment::new(alloc, inst.residents()) {
             Ok(assignment) => Ok(Reserve {
                 logs,
@@ -151,15 +151,15 @@ impl<T: TakeEnd<OfferNote> + Drop, U: TakeEnd<AnswerNote> + Drop> Reserve<T, U> 
         inst: &Instance,
         floor: Floor<'_, J, P, Q, T, U, G>,
         tallies: Vec<Tally<J>>,
-        workers: usize,
     ) -> Result<Done<P, T, Q, U>, RunFault>
         requires instance { inst.now ≡ J.inst }
         requires parts { J.parts ≡ 8 }
+        requires uncounted { self.entered.items ≡ replicate J.workers 0 }
         requires room { length self.assignment ≡ length inst.now.resident_lists }
         ensures run { IfOk result (λ done. IsRunOf P T Q U P.puts T.taken Q.puts U.taken inst.now J.cap done.ending done.journal.items done.ends.offer_puts.items done.ends.residents.items done.ends.answer_puts.items done.ends.programmes.items) }
         ensures stopped { IfOk result (λ done. done.ending ≡ Ending.Stopped → G.MAY_STOP ≡ true) }
         ensures given { IfOk result (λ done. done.assignment ≡ given inst.now done.journal.items) }
-        ensures counts { IfOk result (λ done. (length done.entered.items ≡ workers) × (sum done.entered.items ≡ length done.journal.items)) }
+        ensures counts { IfOk result (λ done. AreCounted J.workers done.journal.items done.who.items done.entered.items) }
         ensures settled { IfOk result (λ done. done.ending ≡ Ending.Closed → IsSettledRun inst.now done.journal.items done.assignment) }
         ensures fault { IfErr result (IsFault inst.now J.cap) }
     {
@@ -169,7 +169,7 @@ impl<T: TakeEnd<OfferNote> + Drop, U: TakeEnd<AnswerNote> + Drop> Reserve<T, U> 
             entered,
         } = self;
         let (residents, programmes, ledger, hands) = floor.into_parts();
-        let outcome = outcome_of(inst, ledger, &hands, tallies, entered, workers)?;
+        let outcome = outcome_of(inst, ledger, &hands, tallies, entered)?;
         logs.fill(residents, programmes)?;
         logs.result(inst, outcome, assignment)
     }
@@ -212,7 +212,7 @@ impl<J: Naming, P: PutEnd<OfferNote> + Drop, Q: PutEnd<AnswerNote> + Drop> Outco
         requires heard { LogsAreHeard U.taken programmes.items }
         ensures run { IsRunOf P T Q U P.puts T.taken Q.puts U.taken inst.now J.cap result.ending result.journal.items result.ends.offer_puts.items result.ends.residents.items result.ends.answer_puts.items result.ends.programmes.items }
         ensures given { result.assignment ≡ given inst.now result.journal.items }
-        ensures same { (result.journal.items ≡ self.ledger.journal) × (result.ending ≡ self.ending) × (result.entered ≡ self.entered) }
+        ensures same { (result.journal.items ≡ self.ledger.journal) × (result.who.items ≡ self.ledger.who) × (result.ending ≡ self.ending) × (result.entered ≡ self.entered) }
         ensures settled { result.ending ≡ Ending.Closed → IsSettledRun inst.now result.journal.items result.assignment }
     {
         law_orderly();
@@ -225,10 +225,11 @@ impl<J: Naming, P: PutEnd<OfferNote> + Drop, Q: PutEnd<AnswerNote> + Drop> Outco
         } = self;
         let mut assignment = assignment;
         ledger.core().assignment(&mut assignment);
-        let (journal, _, offer_puts, answer_puts, _) = ledger.into_parts();
+        let (journal, _, offer_puts, answer_puts, who) = ledger.into_parts();
         Done {
             ending,
             journal,
+            who,
             assignment,
             entered,
             ends: Ends {
@@ -248,14 +249,13 @@ fn outcome_of<J: Naming, P: PutEnd<OfferNote> + Drop, Q: PutEnd<AnswerNote> + Dr
     hands: &Hands<'_, G>,
     tallies: Vec<Tally<J>>,
     entered: Vec<u64>,
-    workers: usize,
 ) -> Result<Outcome<J, P, Q>, RunFault>
     requires instance { inst.now ≡ J.inst }
     requires parts { J.parts ≡ 8 }
-    requires empty { entered.items ≡ [] }
+    requires uncounted { entered.items ≡ replicate J.workers 0 }
     ensures closed { IfOk result (λ outcome. (outcome.ending ≡ Ending.Closed) ↔ IsClosed outcome.ledger.journal) }
     ensures stopped { IfOk result (λ outcome. outcome.ending ≡ Ending.Stopped → G.MAY_STOP ≡ true) }
-    ensures counts { IfOk result (λ outcome. (length outcome.entered.items ≡ workers) × (sum outcome.entered.items ≡ length outcome.ledger.journal)) }
+    ensures counts { IfOk result (λ outcome. AreCounted J.workers outcome.ledger.journal outcome.ledger.who outcome.entered.items) }
     ensures fault { IfErr result (IsFault inst.now J.cap) }
 {
     if let Some(trouble) = hands.trouble() {
@@ -266,37 +266,45 @@ fn outcome_of<J: Naming, P: PutEnd<OfferNote> + Drop, Q: PutEnd<AnswerNote> + Dr
         ledger,
         entered,
     };
-    count(&mut outcome.ledger, tallies, &mut outcome.entered, workers)?;
+    join_all(&mut outcome.ledger, tallies)?;
+    count(&outcome.ledger, &mut outcome.entered);
     Ok(outcome)
 }
 
-// The count of each worker, once all their tallies are joined to one that has every part.
-fn count<J: Naming, P: PutEnd<OfferNote> + Drop, Q: PutEnd<AnswerNote> + Drop>(
+// Joins the tallies to one that has every part, which counts the whole journal.
+fn join_all<J: Naming, P: PutEnd<OfferNote> + Drop, Q: PutEnd<AnswerNote> + Drop>(
     ledger: &mut Ledger<J, P, Q>,
     tallies: Vec<Tally<J>>,
-    entered: &mut Vec<u64>,
-    workers: usize,
 ) -> Result<(), RunFault>
-    requires parts { J.parts ≡ 8 }
-    requires empty { entered.old.items ≡ [] }
-    ensures counts { OnOk result ((length entered.new.items ≡ workers) × (sum entered.new.items ≡ length ledger.new.journal)) }
+    requires { J.parts ≡ 8 }
     ensures same { ledger.new ≡ ledger.old }
-    ensures fault { IfErr result (λ fault. (fault ≡ Memory) ⊎ (fault ≡ Thread)) }
+    ensures fault { IfErr result (λ fault. fault ≡ Thread) }
 {
     let mut tallies = tallies.into_iter();
     let Some(mut whole) = tallies.next() else {
         return Err(RunFault::Thread);
     };
-    entered.push(whole.entered())?;
     for tally in tallies {
-        entered.push(tally.entered())?;
         ledger.join(&mut whole, tally);
     }
-    if whole.parts() != PARTS || entered.len() != workers {
+    if whole.parts() != PARTS {
         return Err(RunFault::Thread);
     }
-    ledger.entered(&mut whole);
     Ok(())
+}
+
+// Counts the events of each worker.
+fn count<J: Naming, P: PutEnd<OfferNote> + Drop, Q: PutEnd<AnswerNote> + Drop>(
+    ledger: &Ledger<J, P, Q>,
+    entered: &mut Vec<u64>,
+)
+    requires { entered.old.items ≡ replicate J.workers 0 }
+    ensures { AreCounted J.workers ledger.now.journal ledger.now.who entered.new.items }
+{
+    let who = ledger.who();
+    for worker in who {
+        entered[usize::from(*worker)] += 1;
+    }
 }
 
 // How a run ended: closed, or stopped where it was stopped; else the desk that was left pending.

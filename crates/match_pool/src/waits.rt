@@ -1,8 +1,9 @@
 //! Desks that wait for room in a mailbox, in the order in which they were refused.
 use std::alloc::{AllocError, Global};
+use std::mem;
 
 /// For each mailbox the first and the last of the desks whose put was refused as full, and for each desk the mailbox
-/// for which it waits, and who waits before and behind it; and how many wait in all, so that nothing is looked up while
+/// for which it waits, and who waits before and behind it, and whether it was called for room; and how many wait in all, so that nothing is looked up while
 /// nobody does. Mailboxes and desks go by the number of the desk. Each desk waits for one mailbox at most.
 #[derive(Debug, Drop)]
 pub(crate) struct Waits {
@@ -11,6 +12,7 @@ pub(crate) struct Waits {
     mailbox: Vec<Option<u32>>,
     before: Vec<Option<u32>>,
     behind: Vec<Option<u32>>,
+    called: Vec<bool>,
     count: usize,
 }
 
@@ -23,6 +25,7 @@ impl Waits {
             mailbox: vec![in alloc; None; desks]?,
             before: vec![in alloc; None; desks]?,
             behind: vec![in alloc; None; desks]?,
+            called: vec![in alloc; false; desks]?,
             count: 0,
         })
     }
@@ -67,14 +70,26 @@ impl Waits {
         self.count = self.count.saturating_sub(1);
     }
 
-    /// The desk that has waited longest for room in a mailbox waits no more.
-    pub(crate) fn leave_first(&mut self, mailbox: u32) -> Option<u32> {
+    /// The desk that has waited longest for room in a mailbox is called, and waits no more.
+    pub(crate) fn call_first(&mut self, mailbox: u32) -> Option<u32> {
         if self.count == 0 {
             return None;
         }
         let desk = linked(&self.first, mailbox)?;
         self.leave(desk);
+        if let Some(called) = self.called.get_mut(desk as usize) {
+            *called = true;
+        }
         Some(desk)
+    }
+
+    /// A desk comes into a worker's hands, and waits no more. Whether it was called since it came last.
+    pub(crate) fn comes(&mut self, desk: u32) -> bool {
+        self.leave(desk);
+        match self.called.get_mut(desk as usize) {
+            Some(called) => mem::take(called),
+            None => false,
+        }
     }
 }
 

@@ -149,12 +149,19 @@ where
         unreachable!()
     }
 
-    // Hears every answer that waits, and offers while there is a wish.
+    // Hears every answer that waits, and offers while there is a wish. Room that it was called for is used first: no
+    // receipt may hold it up, since others wait for room behind it.
     fn visit_programme(&mut self, seat: &mut ProgrammeSeat<J, U>, programme: ProgrammeNo) -> bool {
-        let mut more = self
+        let (mut more, is_called) = self
             .floor
             .lock_books(self.rt)
-            .answers_wait(self.inst, programme);
+            .programme_comes(self.inst, programme);
+        if more && is_called {
+            match self.offer_next(seat, programme) {
+                Step::Made { more: now } => more = now,
+                Step::Leave { .. } => return true,
+            }
+        }
         for _ in self.rt.forever() {
             if self.floor.is_ending() {
                 return false;
@@ -162,10 +169,7 @@ where
             let step = if more {
                 self.hear(seat, programme)
             } else {
-                match seat.wish(self.inst) {
-                    Some(resident) => self.offer(seat, programme, resident),
-                    None => return false,
-                }
+                self.offer_next(seat, programme)
             };
             match step {
                 Step::Made { more: now } => more = now,
@@ -195,7 +199,15 @@ where
         self.after_put(entry, Desk::Resident(resident), Desk::Programme(programme))
     }
 
-    // Offers to the next resident.
+    // Offers to the next resident, if there is a wish.
+    fn offer_next(&mut self, seat: &mut ProgrammeSeat<J, U>, programme: ProgrammeNo) -> Step {
+        match seat.wish(self.inst) {
+            Some(resident) => self.offer(seat, programme, resident),
+            None => LEAVE,
+        }
+    }
+
+    // Offers to this resident, who is the next.
     fn offer(
         &mut self,
         seat: &mut ProgrammeSeat<J, U>,
@@ -395,7 +407,8 @@ where
         unreachable!()
     }
 
-    // Takes this desk into a hand; where another worker has it, waits until a desk is listed or the run ends.
+    // Takes this desk into a hand; where another worker has it, waits until a desk is listed or the run ends. Whoever
+    // lists desks wakes one worker, so one that wakes and leaves a desk listed wakes the next.
     fn claim_or_wait(&self, desk: u32) -> Next {
         let mut hands = self.floor.lock_hands(self.rt);
         if hands.ended {
@@ -410,7 +423,13 @@ where
             .news
             .wait_while(self.rt, hands, |hands| !hands.has_news());
         hands.wait_ends();
-        hands.next()
+        let next = hands.next();
+        let wakes = hands.wakes_one();
+        drop(hands);
+        if wakes {
+            self.floor.news.notify_one();
+        }
+        next
     }
 }
 

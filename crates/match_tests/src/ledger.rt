@@ -172,7 +172,7 @@ fn counts_apart<J: Naming, P: PutEnd<OfferNote>, Q: PutEnd<AnswerNote>>(
     ledger.join(tally, other);
     are_right
         && shows(ledger, tally, &all)
-        && ledger.who() == &[0, 0, 0, 0, 0, 1, 1, 1, 1]
+        && ledger.who() == [0, 0, 0, 0, 0, 1, 1, 1, 1].as_slice()
         && tally.worker() == 0
         && tally.parts() == PARTS
 }

@@ -23,3 +23,5 @@ mod markets;
 mod models;
 #[cfg(test)]
 mod pool;
+#[cfg(test)]
+mod workers;

@@ -13,15 +13,16 @@ use std::thread::Threads;
 
 // What is told of a run, its ends and agents aside.
 #[derive(Drop)]
-struct Told {
-    ending: Ending,
-    journal: Vec<Event>,
-    assignment: Assignment,
-    entered: Vec<u64>,
+pub(super) struct Told {
+    pub(super) ending: Ending,
+    pub(super) journal: Vec<Event>,
+    pub(super) who: Vec<u8>,
+    pub(super) assignment: Assignment,
+    pub(super) entered: Vec<u64>,
 }
 
 // Runs the exchange of an instance.
-fn ran_on<G: Gate + Sync, R: Threads + Wait + Sync + Send + Copy>(
+pub(super) fn ran_on<G: Gate + Sync, R: Threads + Wait + Sync + Send + Copy>(
     rt: R,
     alloc: Global,
     inst: &Instance,
@@ -33,6 +34,7 @@ fn ran_on<G: Gate + Sync, R: Threads + Wait + Sync + Send + Copy>(
         Ok(done) => Ok(Told {
             ending: done.ending,
             journal: done.journal,
+            who: done.who,
             assignment: done.assignment,
             entered: done.entered,
         }),
@@ -41,7 +43,7 @@ fn ran_on<G: Gate + Sync, R: Threads + Wait + Sync + Send + Copy>(
 }
 
 // Runs the exchange of these members.
-fn ran<G: Gate + Sync, R: Threads + Wait + Sync + Send + Copy>(
+pub(super) fn ran<G: Gate + Sync, R: Threads + Wait + Sync + Send + Copy>(
     rt: R,
     alloc: Global,
     members: Members,
@@ -61,17 +63,19 @@ fn ends_with<R: Threads + Wait + Sync + Send + Copy>(
     alloc: Global,
     members: Members,
     cap: Capacity,
+    workers: usize,
     places: &[Option<u32>],
 ) -> bool {
-    match ran(rt, alloc, members, cap, 2, &OpenGate) {
+    match ran(rt, alloc, members, cap, workers, &OpenGate) {
         Ok(told) => told.ending == Ending::Closed && has_places(&told.assignment, places),
         Err(_) => false,
     }
 }
 
 // Markets, and which programme each resident holds at the end: among them one with no place, one where nobody ranks
-// anybody, and one in which a place and a resident are left.
-const MARKETS: [(Members, &[Option<u32>]); 5] = [
+// anybody, one in which a place and a resident are left, and three in which all rank all, whose placements a plain
+// deferred acceptance gave.
+const MARKETS: [(Members, &[Option<u32>]); 8] = [
     (TWO_BY_TWO, &[Some(0), Some(1)]),
     (TWO_PLACES, &[Some(1), Some(0), Some(0)]),
     ((&[(0, &[0]), (1, &[0])], &[&[0, 1]]), &[Some(1)]),
@@ -80,13 +84,30 @@ const MARKETS: [(Members, &[Option<u32>]); 5] = [
         (&[(2, &[0]), (1, &[0, 1])], &[&[1, 0], &[1]]),
         &[Some(1), None],
     ),
+    ((
+        &[(1, &[3, 1, 2, 0, 4]), (2, &[0, 1, 2, 4, 3]), (1, &[0, 4, 3, 2, 1])],
+        &[&[2, 1, 0], &[2, 0, 1], &[0, 1, 2], &[0, 2, 1], &[1, 2, 0]],
+    ), &[Some(2), Some(1), Some(1), Some(0), None]),
+    ((
+        &[(1, &[0, 1, 2, 5, 6, 4, 3]), (1, &[0, 6, 4, 3, 2, 5, 1]), (2, &[6, 3, 2, 1, 5, 0, 4]), (1, &[0, 2, 5, 4, 1, 3, 6])],
+        &[&[2, 0, 3, 1], &[1, 2, 3, 0], &[1, 0, 2, 3], &[0, 2, 1, 3], &[2, 3, 0, 1], &[3, 0, 1, 2], &[3, 0, 2, 1]],
+    ), &[Some(0), None, Some(3), Some(2), Some(1), None, Some(2)]),
+    ((
+        &[(1, &[1, 5, 3, 0, 4, 2]), (1, &[2, 4, 3, 5, 0, 1]), (1, &[3, 1, 5, 0, 4, 2]), (1, &[3, 2, 1, 0, 4, 5]), (2, &[4, 2, 3, 0, 5, 1])],
+        &[&[0, 4, 2, 3, 1], &[2, 1, 4, 3, 0], &[1, 4, 2, 3, 0], &[3, 2, 0, 1, 4], &[4, 2, 3, 0, 1], &[3, 1, 0, 2, 4]],
+    ), &[Some(4), Some(2), Some(1), Some(3), Some(4), Some(0)]),
 ];
 
 #[test]
 fn closes(rt: HostRuntime) {
     for (members, places) in MARKETS {
         for cap in [Capacity::Full, Capacity::Each(1), Capacity::Each(1024)] {
-            assert!(rt; ends_with(rt, rt.alloc(), members, cap, places), "{cap:?}");
+            for workers in 1..=8 {
+                assert!(rt;
+                    ends_with(rt, rt.alloc(), members, cap, workers, places),
+                    "{cap:?}, {workers} workers"
+                );
+            }
         }
     }
 }
@@ -109,8 +130,8 @@ fn is_refused<R: Threads + Wait + Sync + Send + Copy>(
 fn refuses_a_bad_number_of_workers_or_capacity(rt: HostRuntime) {
     let cases = [
         (Capacity::Full, 0, RunFault::BadWorkers),
-        (Capacity::Full, 1, RunFault::BadWorkers),
-        (Capacity::Full, 3, RunFault::BadWorkers),
+        (Capacity::Full, 9, RunFault::BadWorkers),
+        (Capacity::Each(0), 9, RunFault::BadWorkers),
         (Capacity::Each(0), 2, RunFault::BadCapacity),
         (Capacity::Each(1025), 2, RunFault::BadCapacity),
     ];
@@ -122,16 +143,23 @@ fn refuses_a_bad_number_of_workers_or_capacity(rt: HostRuntime) {
     }
 }
 
-// Whether a run was held and is closed, and each worker entered as many events as the gate saw, and some.
+// Whether a run was held and is closed, each worker entered as many events as the gate saw, all together the journal's,
+// and two of them some.
 fn is_seen(told: &Told, held: &Held) -> bool {
-    let counts = [held.count(0), held.count(1)];
-    let sum = counts[0].saturating_add(counts[1]);
+    let mut busy = 0_usize;
+    for (worker, entered) in told.entered.iter().enumerate() {
+        if *entered != held.count(worker) {
+            return false;
+        }
+        if *entered > 0 {
+            busy = busy.saturating_add(1);
+        }
+    }
     held.has_held()
         && told.ending == Ending::Closed
-        && counts[0] > 0
-        && counts[1] > 0
-        && told.entered.as_slice() == counts.as_slice()
-        && told.journal.len() as u64 == sum
+        && busy >= 2
+        && told.journal.len() as u64 == held.count_all()
+        && told.who.len() == told.journal.len()
 }
 
 // How many events a run has that is seen so by its gate.
@@ -139,10 +167,11 @@ fn seen<G: Gate + Sync, R: Threads + Wait + Sync + Send + Copy>(
     rt: R,
     alloc: Global,
     members: Members,
+    workers: usize,
     gate: &G,
     held: &Held,
 ) -> Option<usize> {
-    let Ok(told) = ran(rt, alloc, members, Capacity::Full, 2, gate) else {
+    let Ok(told) = ran(rt, alloc, members, Capacity::Full, workers, gate) else {
         return None;
     };
     if is_seen(&told, held) {
@@ -155,13 +184,15 @@ fn seen<G: Gate + Sync, R: Threads + Wait + Sync + Send + Copy>(
 #[test]
 fn two_at_once(rt: HostRuntime) {
     let alloc = rt.alloc();
-    for (members, counts) in [(TWO_BY_TWO, [9, 9]), (TWO_PLACES, [17, 19])] {
-        let firm = Firm(Held::new(0));
-        let events = seen(rt, alloc, members, &firm, &firm.0);
-        assert!(rt; events.is_some_and(|n| counts.contains(&n)), "{counts:?}");
-        let loose = Loose(Held::new(0));
-        let events = seen(rt, alloc, members, &loose, &loose.0);
-        assert!(rt; events.is_some_and(|n| counts.contains(&n)), "{counts:?}");
+    for workers in 2..=8 {
+        for (members, counts) in [(TWO_BY_TWO, [9, 9]), (TWO_PLACES, [17, 19])] {
+            let firm = Firm(Held::new(0));
+            let events = seen(rt, alloc, members, workers, &firm, &firm.0);
+            assert!(rt; events.is_some_and(|n| counts.contains(&n)), "{counts:?}, {workers}");
+            let loose = Loose(Held::new(0));
+            let events = seen(rt, alloc, members, workers, &loose, &loose.0);
+            assert!(rt; events.is_some_and(|n| counts.contains(&n)), "{counts:?}, {workers}");
+        }
     }
 }
 

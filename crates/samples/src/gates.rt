@@ -9,14 +9,53 @@ use std::thread;
 /// How often a gate looks whether another worker has gone on.
 const TURNS: u32 = 10_000_000;
 
-/// What a gate has seen that holds one pass until another worker has entered two events.
+/// How many events each of at most eight workers has entered, as a gate sees it.
+#[derive(Drop)]
+struct Counts([AtomicU64; 8]);
+
+impl Counts {
+    fn none() -> Counts {
+        Counts([
+            AtomicU64::new(0),
+            AtomicU64::new(0),
+            AtomicU64::new(0),
+            AtomicU64::new(0),
+            AtomicU64::new(0),
+            AtomicU64::new(0),
+            AtomicU64::new(0),
+            AtomicU64::new(0),
+        ])
+    }
+
+    fn add(&self, worker: usize) {
+        if let Some(count) = self.0.get(worker) {
+            count.fetch_add(1, Ordering::SeqCst);
+        }
+    }
+
+    fn of(&self, worker: usize) -> u64 {
+        match self.0.get(worker) {
+            Some(count) => count.load(Ordering::SeqCst),
+            None => 0,
+        }
+    }
+
+    fn of_all(&self) -> u64 {
+        let mut sum = 0_u64;
+        for count in &self.0 {
+            sum = sum.saturating_add(count.load(Ordering::SeqCst));
+        }
+        sum
+    }
+}
+
+/// What a gate has seen that holds one pass until other workers have entered two events.
 #[derive(Drop)]
 pub struct Held {
     place: u64,
     passed: AtomicU64,
     held: AtomicBool,
-    first: AtomicU64,
-    second: AtomicU64,
+    counts: Counts,
 }
 
 impl Held {
@@ -26,8 +65,7 @@ impl Held {
             place,
             passed: AtomicU64::new(0),
             held: AtomicBool::new(false),
-            first: AtomicU64::new(0),
-            second: AtomicU64::new(0),
+            counts: Counts::none(),
         }
     }
 
@@ -38,30 +76,27 @@ impl Held {
 
     /// How many events this worker has entered.
     pub fn count(&self, worker: usize) -> u64 {
-        self.counter(worker).load(Ordering::SeqCst)
+        self.counts.of(worker)
     }
 
-    fn counter(&self, worker: usize) -> &AtomicU64 {
-        if worker == 0 {
-            &self.first
-        } else {
-            &self.second
-        }
+    /// How many events the workers have entered together.
+    pub fn count_all(&self) -> u64 {
+        self.counts.of_all()
     }
 
-    fn entered(&self, worker: usize) {
-        self.counter(worker).fetch_add(1, Ordering::SeqCst);
+    // How many events the others have entered.
+    fn count_others(&self, worker: usize) -> u64 {
+        self.counts.of_all().saturating_sub(self.counts.of(worker))
     }
 
-    // Holds the pass at its place. Whether the gate has given up on the other worker.
+    // Holds the pass at its place. Whether the gate has given up on the other workers.
     fn gives_up(&self, worker: usize) -> bool {
         if self.passed.fetch_add(1, Ordering::SeqCst) != self.place {
             return false;
         }
-        let other = if worker == 0 { 1 } else { 0 };
-        let before = self.count(other);
+        let before = self.count_others(worker);
         for _ in 0..TURNS {
-            if self.count(other).wrapping_sub(before) >= 2 {
+            if self.count_others(worker).saturating_sub(before) >= 2 {
                 self.held.store(true, Ordering::SeqCst);
                 return false;
             }
@@ -86,7 +121,7 @@ impl Gate for Firm {
     }
 
     fn entered(&self, worker: usize) {
-        self.0.entered(worker);
+        self.0.counts.add(worker);
     }
 }
 
@@ -108,7 +143,114 @@ impl Gate for Loose {
     }
 
     fn entered(&self, worker: usize) {
-        self.0.entered(worker);
+        self.0.counts.add(worker);
+    }
+}
+
+/// In which order a gate lets go the workers that it holds.
+#[derive(Clone, Copy, Debug, PartialEq, Eq)]
+pub enum Order {
+    /// As they came.
+    FirstFirst,
+    /// The last that came goes first.
+    LastFirst,
+    /// Every other one, and then the rest.
+    EveryOther,
+}
+
+/// A gate for a market of pairs, each of a programme with one place and of a resident, who rank one another alone. It
+/// holds all workers but the last that comes, each in a pass of its own, until all is entered that doesn't need the
+/// held; and then lets one after another go, each once all is entered again that doesn't need those it still holds.
+#[derive(Drop)]
+pub struct AllButOne {
+    pairs: u64,
+    held: u64,
+    order: Order,
+    came: AtomicU64,
+    is_held: AtomicU64,
+    blocked: AtomicU64,
+    gone: AtomicU64,
+    gave_up: AtomicBool,
+    counts: Counts,
+}
+
+impl AllButOne {
+    /// Nothing is seen yet of a run of so many pairs, of which so many workers are to be held.
+    pub fn new(pairs: u64, held: u64, order: Order) -> AllButOne {
+        AllButOne {
+            pairs,
+            held,
+            order,
+            came: AtomicU64::new(0),
+            is_held: AtomicU64::new(0),
+            blocked: AtomicU64::new(0),
+            gone: AtomicU64::new(0),
+            gave_up: AtomicBool::new(false),
+            counts: Counts::none(),
+        }
+    }
+
+    /// Whether each of these workers was held and let go, and the gate gave none of them up.
+    pub fn has_held_all(&self) -> bool {
+        self.gone.load(Ordering::SeqCst) == self.held && !self.gave_up.load(Ordering::SeqCst)
+    }
+
+    // The place in the order of letting go of the worker that came at this one.
+    fn place_of(&self, came: u64) -> u64 {
+        match self.order {
+            Order::FirstFirst => came,
+            Order::LastFirst => self.held.saturating_sub(came.saturating_add(1)),
+            Order::EveryOther if came % 2 == 0 => came / 2,
+            Order::EveryOther => self.held.div_ceil(2).saturating_add(came / 2),
+        }
+    }
+
+    // Whether all workers are held that are to be, so many of them were let go, and all is entered that can be.
+    fn is_turn_of(&self, place: u64) -> bool {
+        let entered = self.counts.of_all();
+        let blocked = self.blocked.load(Ordering::SeqCst);
+        self.is_held.load(Ordering::SeqCst) == self.held
+            && self.gone.load(Ordering::SeqCst) == place
+            && entered.saturating_add(blocked) >= self.pairs.saturating_mul(4)
+    }
+
+    // Holds a worker before so many events that need it.
+    fn hold(&self, came: u64, events: u64) {
+        self.blocked.fetch_add(events, Ordering::SeqCst);
+        self.is_held.fetch_add(1, Ordering::SeqCst);
+        let place = self.place_of(came);
+        for _ in 0..TURNS {
+            if self.is_turn_of(place) {
+                self.blocked.fetch_sub(events, Ordering::SeqCst);
+                self.gone.fetch_add(1, Ordering::SeqCst);
+                return;
+            }
+            thread::yield_now();
+        }
+        self.gave_up.store(true, Ordering::SeqCst);
+    }
+}
+
+impl Gate for AllButOne {
+    ghost MAY_STOP = { false };
+
+    const MAY_STOP: bool = false;
+
+    fn pass(&self, _worker: usize, desk: Desk) -> Go {
+        let came = self.came.fetch_add(1, Ordering::SeqCst);
+        if came < self.held {
+            // a pair's offer is entered before its take, and its answer too before its hear
+            let events = match desk {
+                Desk::Resident(_) => 3,
+                Desk::Programme(_) => 1,
+            };
+            self.hold(came, events);
+        }
+        Go::On
+    }
+
+    fn entered(&self, worker: usize) {
+        self.counts.add(worker);
     }
 }
 

@@ -1,10 +1,6 @@
-use Rattle.std.proofs.Common.{◌≡◌}
-use Rattle.std.specs.Prelude.{sum}
+use Rattle.match_pool.proofs.WorkerCounts.{AreSoFar}
 use Rattle.match_pool.proofs.reserve.count.Given as goal
 
--- the counts so far add up to what is joined, and the ledger is as it was
-abbrev pub invariant-loop-tally : goal.invariant-loop-tally
-invariant-loop-tally g l = record {
-  added_up : sum l.entered.items ≡ l.whole.entered;
-  same : l.ledger ≡ l.initial.ledger;
-}
+-- the events so far are counted
+abbrev pub invariant-loop-worker : goal.invariant-loop-worker
+invariant-loop-worker g l = AreSoFar g.J.Naming.workers l.who l.entered.items l.worker-index
