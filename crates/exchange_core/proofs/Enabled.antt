@@ -1,5 +1,5 @@
 -- Each desk has one event at most that may follow, the one in front there.
-use Rattle.std.proofs.Common.{◌≡◌, ◌≢◌, ℕ, Bool, true, false, not, ltb, Option, Some, None, List, [], ◌∷◌, length, sym, ◌∙◌, subst}
+use Rattle.std.proofs.Common.{◌≡◌, ◌≢◌, ℕ, Bool, true, false, not, ltb, Option, Some, None, List, [], ◌∷◌, length, refl, sym, ap, ◌∙◌, subst}
 use Rattle.std.specs.Prelude.{is_none, slice_get, if◌then◌else◌}
 use Rattle.std.proofs.lemmas.Bool.{not-false}
 use Rattle.match_model.specs.Instance.{Instance, IsInstance, IsProgramme, IsResident, quota, list_of_programme}
@@ -11,10 +11,10 @@ use Rattle.exchange_core.specs.declared.event.Refused.TheVariants.{Closed, NoSuc
 use Rattle.exchange_core.specs.Mail.{Answered}
 use Rattle.exchange_core.specs.Legal.{is_closed, MayFollow}
 use Rattle.exchange_core.specs.Left.{Left}
-use Rattle.exchange_core.specs.Refusal.{cause, is_number, is_answer, is_nil, strange_desk}
-use Rattle.exchange_core.specs.Steps.{resident_at, programme_at, event_fault_left, fault_left, next_offer_left, HasNoResidentEvent, HasNoProgrammeEvent}
+use Rattle.exchange_core.specs.Refusal.{cause, is_number, is_answer, is_nil, strange_desk, still_pending}
+use Rattle.exchange_core.specs.Steps.{resident_at, programme_at, event_fault_left, fault_left, next_offer_left, pending_left, HasNoResidentEvent, HasNoProgrammeEvent}
 use Rattle.exchange_core.specs.Shown.{Shows, IsCapacity}
-use Rattle.exchange_core.proofs.Refusal.{three_none, four_none, head_none, rest_none, cause_none, number_from, answer_from}
+use Rattle.exchange_core.proofs.Refusal.{three_none, four_none, head_none, rest_none, first_none, cause_none, cause_from, number_from, answer_from}
 use Rattle.exchange_core.proofs.Left.{no_fault_from}
 use Rattle.exchange_core.proofs.NoJam.{next_event}
 
@@ -66,8 +66,8 @@ module _ (inst : Instance) (left : Left) where
   unfolding next_offer_left
   offer_next p r h =
       let next : Option ℕ = slice_get (list_of_programme inst p) (programme_at left p).offered in
-      let free = four_none (strange_desk inst p r) (not (ltb (programme_at left p).out (quota inst p))) (not (is_number next r)) (not (ltb (length (resident_at left r).waiting) (resident_at left r).room)) NoSuchDesk NoPlace NotNext MailboxFull (own (Offer p r) h) in
-      pick left.closed (ltb (programme_at left p).out (quota inst p)) next (is_open (Offer p r) h) (not-false _ free.1) (number_from next r (not-false _ free.2))
+      let free = four_none (strange_desk inst p r) (not (ltb (programme_at left p).out (programme_at left p).places)) (not (is_number next r)) (not (ltb (length (resident_at left r).waiting) (resident_at left r).room)) NoSuchDesk NoPlace NotNext MailboxFull (own (Offer p r) h) in
+      pick left.closed (ltb (programme_at left p).out (programme_at left p).places) next (is_open (Offer p r) h) (not-false _ free.1) (number_from next r (not-false _ free.2))
     where
       pick : (shut place : Bool) (o : Option ℕ) → shut ≡ false → place ≡ true → o ≡ Some r → (if shut then None else (if place then o else None)) ≡ Some r
       pick true b o e f g = cc
@@ -98,6 +98,11 @@ module _ (inst : Instance) (left : Left) where
 
   pub offer_none : (p : ℕ) → next_offer_left inst left p ≡ None → (r : ℕ) → fault_left inst left (Offer p r) ≢ None
   offer_none p none r h = some_none r (sym (offer_next p r h) ∙ none)
+
+-- where nothing is pending there is no cause against a close
+pub close_at_rest : (inst : Instance) (left : Left) → left.closed ≡ false → pending_left inst left ≡ None → fault_left inst left Close ≡ None
+unfolding fault_left
+close_at_rest inst left still_open rest = first_none (cause left.closed Closed) (still_pending (pending_left inst left) ∷ []) (cause_from left.closed Closed still_open) (first_none (still_pending (pending_left inst left)) [] (ap still_pending rest) refl)
 
 -- where no desk has an event and no close stands in the list, a close may follow
 module _ (inst : Instance) (cap : Capacity) (j : List Event) (left : Left) (is_instance : IsInstance inst) (is_capacity : IsCapacity cap) (shows : Shows inst cap j left)

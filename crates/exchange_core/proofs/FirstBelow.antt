@@ -1,4 +1,5 @@
 -- The first answer at the numbers below a bound.
+use Rattle.std.specs.Prelude.{is_some, true}
 use Rattle.std.proofs.Common.{◌≡◌, ℕ, suc, zero, ◌+◌, ◌<◌, ◌≤◌, Option, Some, None, [], ◌∷◌, refl, sym, subst, arith, add-one, ◌⊎◌, ⊎_elim}
 use Rattle.std.proofs.lemmas.Bool.{cases_lt}
 use Rattle.exchange_core.specs.Refusal.{first_of, first_below}
@@ -27,6 +28,11 @@ first_below_found {X} f (suc n) i x h none here = split (cases_lt i n) (λ l. fi
     split c found = ⊎_elim (λ (l : i < n). first_of_first (first_below f n) (f n) x (found l))
         (λ (l : n ≤ i). let e : i ≡ n = omega arith in
         first_of_second (first_below f n) (f n) x (subst (λ (k : ℕ). first_below f k ≡ None) e none) (subst (λ (k : ℕ). f k ≡ Some x) e here)) c
+
+-- so what is found at i is the answer
+pub first_below_is : {X : Type 0} (f : ℕ → Option X) (n i : ℕ) (o : Option X) → i < n → first_below f i ≡ None → o ≡ f i → is_some o ≡ true → o ≡ first_below f n
+first_below_is f n i None h none here some = cc
+first_below_is f n i (Some x) h none here some = sym (first_below_found f n i x h none (sym here))
 
 -- one number more
 pub first_below_more : {X : Type 0} (f : ℕ → Option X) (n : ℕ) → first_below f n ≡ None → f n ≡ None → first_below f (n + 1) ≡ None

@@ -1,23 +1,27 @@
 -- What isn't pending where nothing waits and nothing is due.
 use Rattle.std.specs.Prelude.{IfSome}
-use Rattle.std.proofs.Common.{◌≡◌, ◌≢◌, ◌+◌, ℕ, ◌<◌, suc, zero, Option, Some, None, List, [], ◌∷◌, true, false, not, refl, sym, ap, ◌∙◌, subst, arith, length, map, cond, zero-add, Bool, slice_get}
+use Rattle.std.proofs.Common.{◌≡◌, ◌≢◌, ◌+◌, ℕ, ◌<◌, suc, zero, Option, Some, None, List, [], ◌∷◌, ◌++◌, true, false, not, refl, sym, ap, ◌∙◌, subst, arith, length, map, cond, zero-add, Bool, slice_get}
 use Rattle.std.specs.List.{All, count_by, range_with_len}
 use Rattle.match_model.specs.Instance.{Instance, IsResident, IsProgramme}
 use Rattle.exchange_core.specs.declared.event.Pending.TheVariants.{Offers, Due, Answers, Wish}
 use Rattle.exchange_core.specs.Mail.{Answered}
-use Rattle.exchange_core.specs.Left.{Left, ProgrammeLeft}
+use Rattle.exchange_core.specs.Left.{Left}
 use Rattle.exchange_core.specs.Seats.{opened_resident, opened_programme}
 use Rattle.exchange_core.specs.Refusal.{first_of, cause, first_below, is_nil}
-use Rattle.exchange_core.specs.Pending.{IsQuiet}
-use Rattle.exchange_core.specs.Steps.{IsCoreOf, resident_at, programme_at, resident_pending_at, programme_pending_at, wishes, HasNoResidentEvent, HasNoProgrammeEvent, HaveNoEvent}
-use Rattle.std.proofs.lemmas.List.Sums.{sum_by-cons}
+use Rattle.exchange_core.specs.Pending.{IsQuiet, IsContent, has_wish}
+use Rattle.exchange_core.specs.Steps.{IsCoreOf, resident_at, programme_at, resident_pending_at, programme_pending_at, pending_left, HasNoResidentEvent, HasNoProgrammeEvent, HaveNoEvent}
+use Rattle.std.proofs.lemmas.List.Sums.{sum_by-cons, sum_by_push}
 use Rattle.exchange_core.proofs.Enabled.{take_none, answer_none}
-use Rattle.exchange_core.proofs.FirstBelow.{none_below}
+use Rattle.exchange_core.proofs.FirstBelow.{none_below, first_of_none}
 
 -- where each fails the test none is counted
 pub none_made : {X : Type 0} (p : X → Bool) (f : ℕ → X) → ((k : ℕ) → p (f k) ≡ false) → (a n : ℕ) → 0 ≡ count_by p (map f (range_with_len a n))
 none_made p f fails a zero = refl
 none_made p f fails a (suc n) = sym (sum_by-cons (λ x. cond (p x) 1 0) (f a) (map f (range_with_len (a + 1) n)) ∙ ap (λ (b : Bool). cond b 1 0 + count_by p (map f (range_with_len (a + 1) n))) (fails a) ∙ zero-add (count_by p (map f (range_with_len (a + 1) n))) ∙ sym (none_made p f fails (a + 1) n))
+
+-- one item more is counted where it passes the test
+pub counted_more : {X : Type 0} (p : X → Bool) (xs : List X) (x : X) (n m : ℕ) → n ≡ count_by p xs → m ≡ n + cond (p x) 1 0 → m ≡ count_by p (xs ++ x ∷ [])
+counted_more p xs x n m counted more = more ∙ ap (λ (k : ℕ). k + cond (p x) 1 0) counted ∙ sym (sum_by_push (λ y. cond (p y) 1 0) xs x)
 
 module _ (inst : Instance) (left : Left) where
   quiet_at : All IsQuiet left.residents → (r : ℕ) → r < length left.residents → IsQuiet (resident_at left r)
@@ -41,21 +45,23 @@ module _ (inst : Instance) (left : Left) where
         no_answer = answer_none inst left r (ap (λ (xs : List Answered). slice_get xs 0) at.1);
       }
 
-  heard_at : All (λ (seat : ProgrammeLeft). seat.waiting ≡ []) left.programmes → IsCoreOf inst left → (p : ℕ) → IsProgramme inst p → (programme_at left p).waiting ≡ []
-  heard_at heard core p member = heard p (opened_programme 0) (omega (arith, core.programme_seats))
+  content_at : All IsContent left.programmes → (p : ℕ) → p < length left.programmes → IsContent (programme_at left p)
+  content_at content p h = content p (opened_programme 0 0 0) h
 
-  -- where all was heard a programme's desk is pending by its wish alone
-  pub wish_pending : All (λ (seat : ProgrammeLeft). seat.waiting ≡ []) left.programmes → IsCoreOf inst left → (p : ℕ) → IsProgramme inst p → wishes inst left p ≡ true → programme_pending_at inst left p ≡ Some (Wish p)
-  wish_pending heard core p member wish = pending (programme_at left p).waiting (wishes inst left p) (heard_at heard core p member) wish
+  -- no programme's desk is pending
+  pub content_programmes : IsCoreOf inst left → All IsContent left.programmes → first_below (programme_pending_at left) (length inst.quotas) ≡ None
+  content_programmes core content = none_below (programme_pending_at left) (length inst.quotas) (λ p h.
+      let at = content_at content p (omega (arith, core.programme_seats)) in
+      nothing p (programme_at left p).waiting (has_wish (programme_at left p)) at.0 at.1)
     where
-      pending : (waiting : List Answered) (b : Bool) → waiting ≡ [] → b ≡ true → first_of (cause (not (is_nil waiting)) (Answers p) ∷ cause b (Wish p) ∷ []) ≡ Some (Wish p)
-      pending waiting b e f = rw (e, f) refl
+      nothing : (p : ℕ) (waiting : List Answered) (b : Bool) → waiting ≡ [] → b ≡ false → first_of (cause (not (is_nil waiting)) (Answers p) ∷ cause b (Wish p) ∷ []) ≡ None
+      nothing p waiting b e f = rw (e, f) refl
 
-  pub no_wish_pending : All (λ (seat : ProgrammeLeft). seat.waiting ≡ []) left.programmes → IsCoreOf inst left → (p : ℕ) → IsProgramme inst p → wishes inst left p ≡ false → programme_pending_at inst left p ≡ None
-  no_wish_pending heard core p member wish = pending (programme_at left p).waiting (wishes inst left p) (heard_at heard core p member) wish
-    where
-      pending : (waiting : List Answered) (b : Bool) → waiting ≡ [] → b ≡ false → first_of (cause (not (is_nil waiting)) (Answers p) ∷ cause b (Wish p) ∷ []) ≡ None
-      pending waiting b e f = rw (e, f) refl
+  -- no desk is pending
+  pub all_at_rest : IsCoreOf inst left → All IsQuiet left.residents → All IsContent left.programmes → pending_left inst left ≡ None
+  unfolding pending_left
+  all_at_rest core quiet content = first_of_none (first_below (resident_pending_at left) (length inst.resident_lists)) (first_below (programme_pending_at left) (length inst.quotas))
+      (quiet_residents core quiet) (content_programmes core content)
 
   -- the desks that were looked at
   pub resident_looked_at : (desks : Option (ℕ × ℕ)) (r : ℕ) → IfSome desks (λ (d : ℕ × ℕ). d.1 ≡ r) × (desks ≢ None) → IfSome desks (HaveNoEvent inst left) → HasNoResidentEvent inst left r

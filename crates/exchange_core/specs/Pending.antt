@@ -1,5 +1,5 @@
 -- What is pending at a desk, as the core counts it.
-use Rattle.std.specs.Prelude.{◌≡◌, not, Bool, []}
+use Rattle.std.specs.Prelude.{◌≡◌, ◌&&◌, nat_lt, not, Bool, false, []}
 use Rattle.exchange_core.specs.Left.{ResidentLeft, ProgrammeLeft}
 use Rattle.exchange_core.specs.Refusal.{is_nil}
 
@@ -18,3 +18,11 @@ has_answers seat = not (is_nil seat.waiting)
 -- no offer waits at the desk, and it owes no answer
 abbrev pub IsQuiet : ResidentLeft → Type 0
 IsQuiet seat = (seat.waiting ≡ []) × (seat.due ≡ [])
+
+-- whether the desk has a free place and somebody left to offer it to
+abbrev pub has_wish : ProgrammeLeft → Bool
+has_wish seat = nat_lt seat.out seat.places && nat_lt seat.offered seat.listed
+
+-- no answer waits at the desk, and it has no wish
+abbrev pub IsContent : ProgrammeLeft → Type 0
+IsContent seat = (seat.waiting ≡ []) × (has_wish seat ≡ false)

@@ -2,6 +2,8 @@
 ghost use Rattle.std.specs.Prelude.{◌≡◌, ◌+◌, ◌*◌, ◌^◌, ◌<◌, [], true, length, map, slice_get, slice_set, IfOk, not, nat_lt};
 ghost use Rattle.std.specs.List.{All, range_with_len};
 ghost use Rattle.exchange_core.specs.Legal.{programme_capacity};
+ghost use Rattle.exchange_core.specs.Pending.{has_wish, IsContent};
+ghost use Rattle.match_model.specs.Instance.{quota, list_of_programme};
 ghost use Rattle.exchange_core.specs.Seats.{opened_programme, seat_of_programme, made_offer, sent_answer, heard_answer};
 
 use crate::event::{AnswerKind, Capacity};
@@ -10,24 +12,28 @@ use match_model::{Instance, ProgrammeNo, ResidentNo};
 use std::alloc::{AllocError, Global};
 use std::marker::Model;
 
-/// A seat for each programme, and how many of them have answers waiting.
+/// A seat for each programme, and how many of them have answers waiting, and a wish.
 #[derive(Drop)]
 pub(crate) struct ProgrammeDesks {
     seats: Vec<ProgrammeSeat>,
     with_answers: usize,
+    with_wish: usize,
 }
 
 impl Model for ProgrammeDesks {
     ghost use Rattle.std.specs.Prelude.{◌≡◌, List};
     ghost use Rattle.std.specs.List.{count_by};
     ghost use Rattle.exchange_core.specs.Left.{ProgrammeLeft};
-    ghost use Rattle.exchange_core.specs.Pending.{has_answers};
+    ghost use Rattle.exchange_core.specs.Pending.{has_answers, has_wish};
 
     ghost Value = { List ProgrammeLeft };
 
     ghost view = { λ d. d.seats.items };
 
-    ghost invariant = { λ d. d.with_answers ≡ count_by has_answers d.seats.items };
+    ghost invariant = { λ d. record {
+      answers_counted : d.with_answers ≡ count_by has_answers d.seats.items;
+      wishes_counted : d.with_wish ≡ count_by has_wish d.seats.items;
+    } };
 }
 
 impl ProgrammeDesks {
@@ -37,25 +43,32 @@ impl ProgrammeDesks {
         inst: &Instance,
         cap: Capacity,
     ) -> Result<ProgrammeDesks, AllocError>
-        ensures { IfOk result (λ desks. desks ≡ map (λ p. opened_programme (programme_capacity inst.now cap p)) (range_with_len 0 (length inst.now.quotas))) }
+        ensures { IfOk result (λ desks. desks ≡ map (λ p. opened_programme (programme_capacity inst.now cap p) (quota inst.now p) (length (list_of_programme inst.now p))) (range_with_len 0 (length inst.now.quotas))) }
     {
         let count = inst.programmes();
         let mut seats = Vec::with_capacity(alloc, count as usize)?;
+        let mut with_wish = 0;
         for p in 0..count {
-            let list = inst.list_of_programme(ProgrammeNo(p));
-            seats.push(ProgrammeSeat::open(alloc, room(cap, 2 * list.len()))?)?;
+            let listed = inst.list_of_programme(ProgrammeNo(p)).len();
+            let room = room(cap, 2 * listed);
+            let seat = ProgrammeSeat::open(alloc, room, inst.quota(ProgrammeNo(p)), listed as u32)?;
+            if seat.has_wish() {
+                with_wish += 1;
+            }
+            seats.push(seat)?;
         }
         Ok(ProgrammeDesks {
             seats,
             with_answers: 0,
+            with_wish,
         })
     }
 
-    /// Whether no answer waits anywhere.
-    pub(crate) fn have_heard_all(&self) -> bool
-        ensures { result ≡ true → All (λ seat. seat.waiting ≡ []) self.now }
+    /// Whether no answer waits anywhere, and nobody has a wish.
+    pub(crate) fn are_content(&self) -> bool
+        ensures { result ≡ true → All IsContent self.now }
     {
-        self.with_answers == 0
+        self.with_answers == 0 && self.with_wish == 0
     }
 
     /// Whether as many answers wait as there is room for.
@@ -82,22 +95,35 @@ impl ProgrammeDesks {
         self.seats[programme.0 as usize].offered()
     }
 
-    /// How many offers are out.
-    pub(crate) fn out(&self, programme: ProgrammeNo) -> u32
+    /// Whether a programme has a free place.
+    pub(crate) fn has_place(&self, programme: ProgrammeNo) -> bool
         requires { programme < length self.now }
-        ensures { result ≡ (seat_of_programme self.now programme).out }
+        ensures { result ≡ nat_lt (seat_of_programme self.now programme).out (seat_of_programme self.now programme).places }
     {
-        self.seats[programme.0 as usize].out()
+        self.seats[programme.0 as usize].has_place()
+    }
+
+    /// Whether a programme has a free place and somebody left to offer it to.
+    pub(crate) fn has_wish(&self, programme: ProgrammeNo) -> bool
+        requires { programme < length self.now }
+        ensures { result ≡ has_wish (seat_of_programme self.now programme) }
+    {
+        self.seats[programme.0 as usize].has_wish()
     }
 
     /// One offer more is made, and is out.
     pub(crate) fn offer(&mut self, programme: ProgrammeNo)
         requires member { programme < length self.old }
         requires offered { (seat_of_programme self.old programme).offered + 1 < 2 ^ 32 }
-        requires out { (seat_of_programme self.old programme).out + 1 < 2 ^ 32 }
+        requires place { (seat_of_programme self.old programme).out < (seat_of_programme self.old programme).places }
         ensures { self.new ≡ slice_set self.old programme (made_offer (seat_of_programme self.old programme)) }
     {
-        self.seats[programme.0 as usize].offer();
+        let seat = &mut self.seats[programme.0 as usize];
+        let wished = seat.has_wish();
+        seat.offer();
+        if wished && !seat.has_wish() {
+            self.with_wish -= 1;
+        }
     }
 
     /// An answer comes in.
@@ -120,9 +146,13 @@ impl ProgrammeDesks {
     {
         let seat = &mut self.seats[programme.0 as usize];
         let waited = seat.first_waiting().is_some();
+        let wished = seat.has_wish();
         seat.hear(resident, kind);
         if waited && seat.first_waiting().is_none() {
             self.with_answers -= 1;
+        }
+        if !wished && seat.has_wish() {
+            self.with_wish += 1;
         }
     }
 }

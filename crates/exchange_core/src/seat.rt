@@ -3,6 +3,7 @@ ghost use Rattle.std.specs.Prelude.{◌≡◌, ◌≢◌, ◌+◌, ◌^◌, ◌<
 ghost use Rattle.std.specs.Option.{option_to_list};
 ghost use Rattle.exchange_core.specs.Calls.{release_of as released};
 ghost use Rattle.exchange_core.specs.Legal.{room_for};
+ghost use Rattle.exchange_core.specs.Pending.{has_wish};
 ghost use Rattle.exchange_core.specs.Seats.{opened_resident, opened_programme, due_of, sent_offer, took_offer, gave_answer, made_offer, sent_answer, heard_answer};
 
 use crate::event::{AnswerKind, Capacity};
@@ -136,13 +137,16 @@ fn release_of(held: Option<ProgrammeNo>) -> Option<(ProgrammeNo, AnswerKind)>
     }
 }
 
-/// At a programme's desk: how many offers it made and has out, and the answers that wait.
+/// At a programme's desk: how many offers it made and has out, the answers that wait, and how many places and how long
+/// a list it has.
 #[derive(Drop)]
 pub(crate) struct ProgrammeSeat {
     offered: u32,
     out: u32,
     waiting: VecDeque<(ResidentNo, AnswerKind)>,
     room: u32,
+    places: u32,
+    listed: u32,
 }
 
 impl Model for ProgrammeSeat {
@@ -152,22 +156,43 @@ impl Model for ProgrammeSeat {
 
     ghost Value = { ProgrammeLeft };
 
-    ghost view = { λ s. record { offered = s.offered; out = s.out; waiting = s.waiting.items; room = s.room } };
+    ghost view = { λ s. record { offered = s.offered; out = s.out; waiting = s.waiting.items; room = s.room; places = s.places; listed = s.listed } };
 
     ghost invariant = { λ s. s.room ≤ deque_capacity s.waiting };
 }
 
 impl ProgrammeSeat {
-    /// A desk with room for this many answers.
-    pub(crate) fn open(alloc: Global, room: u32) -> Result<ProgrammeSeat, AllocError>
-        ensures { IfOk result (λ seat. seat ≡ opened_programme room) }
+    /// A desk with room for this many answers, with so many places and so long a list.
+    pub(crate) fn open(
+        alloc: Global,
+        room: u32,
+        places: u32,
+        listed: u32,
+    ) -> Result<ProgrammeSeat, AllocError>
+        ensures { IfOk result (λ seat. seat ≡ opened_programme room places listed) }
     {
         Ok(ProgrammeSeat {
             offered: 0,
             out: 0,
             waiting: VecDeque::with_capacity(alloc, room as usize)?,
             room,
+            places,
+            listed,
         })
+    }
+
+    /// Whether there is a free place.
+    pub(crate) fn has_place(&self) -> bool
+        ensures { result ≡ nat_lt self.now.out self.now.places }
+    {
+        self.out < self.places
+    }
+
+    /// Whether there is a free place and somebody left to offer it to.
+    pub(crate) fn has_wish(&self) -> bool
+        ensures { result ≡ has_wish self.now }
+    {
+        self.out < self.places && self.offered < self.listed
     }
 
     /// Whether as many answers wait as there is room for.
@@ -191,17 +216,10 @@ impl ProgrammeSeat {
         self.offered
     }
 
-    /// How many offers are out.
-    pub(crate) fn out(&self) -> u32
-        ensures { result ≡ self.now.out }
-    {
-        self.out
-    }
-
     /// One offer more is made, and is out.
     pub(crate) fn offer(&mut self)
         requires offered { self.old.offered + 1 < 2 ^ 32 }
-        requires out { self.old.out + 1 < 2 ^ 32 }
+        requires place { self.old.out < self.old.places }
         ensures { self.new ≡ made_offer self.old }
     {
         self.offered += 1;
