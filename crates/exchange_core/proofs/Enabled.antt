@@ -108,10 +108,10 @@ close_at_rest inst left still_open rest = first_none (cause left.closed Closed) 
 module _ (inst : Instance) (cap : Capacity) (j : List Event) (left : Left) (is_instance : IsInstance inst) (is_capacity : IsCapacity cap) (shows : Shows inst cap j left)
     (residents : (r : ℕ) → IsResident inst r → HasNoResidentEvent inst left r) (programmes : (p : ℕ) → IsProgramme inst p → HasNoProgrammeEvent inst left p) where
   it_is_close : (e : Event) → MayFollow inst cap j e → MayFollow inst cap j Close
-  it_is_close (Offer p r) may = absurd ((programmes p may.allowed.by_programme).no_offer r (no_fault_from inst left (Offer p r) cap j shows may))
-  it_is_close (Take r p) may = absurd ((residents r may.allowed.by_resident).no_take p (no_fault_from inst left (Take r p) cap j shows may))
-  it_is_close (Answer r p k) may = absurd ((residents r may.allowed.by_resident).no_answer p k (no_fault_from inst left (Answer r p k) cap j shows may))
-  it_is_close (Hear p r k) may = absurd ((programmes p may.allowed.by_programme).no_hear r k (no_fault_from inst left (Hear p r k) cap j shows may))
+  it_is_close (Offer p r) may = absurd ((programmes p may.allowed.by_programme).no_offer r (no_fault_from inst left is_instance (Offer p r) cap j shows may))
+  it_is_close (Take r p) may = absurd ((residents r may.allowed.by_resident).no_take p (no_fault_from inst left is_instance (Take r p) cap j shows may))
+  it_is_close (Answer r p k) may = absurd ((residents r may.allowed.by_resident).no_answer p k (no_fault_from inst left is_instance (Answer r p k) cap j shows may))
+  it_is_close (Hear p r k) may = absurd ((programmes p may.allowed.by_programme).no_hear r k (no_fault_from inst left is_instance (Hear p r k) cap j shows may))
   it_is_close Close may = may
 
   pub close_where_none : is_closed j ≡ false → MayFollow inst cap j Close

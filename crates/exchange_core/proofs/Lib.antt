@@ -10,6 +10,7 @@ pub mod InOrder
 pub mod Rejections
 pub mod Closing
 pub mod Totals
+pub mod Bounds
 mod ListExamples
 pub mod FirstBelow
 pub mod Refusal
@@ -19,5 +20,8 @@ pub mod Steps
 pub mod Left
 pub mod NoJam
 pub mod Enabled
+mod Notes
+mod Rows
+mod NoteCodes
 mod Seats
 mod Quiet

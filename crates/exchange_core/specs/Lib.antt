@@ -2,6 +2,8 @@ pub mod Mail
 pub mod Calls
 pub mod Legal
 pub mod Left
+pub mod Notes
+pub mod Rows
 pub mod Seats
 pub mod Refusal
 pub mod Pending

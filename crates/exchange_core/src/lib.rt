@@ -7,9 +7,11 @@
 mod event;
 mod exchange;
 mod note;
+mod part;
+mod programme_row;
 mod programmes;
+mod resident_row;
 mod residents;
-mod seat;
 
 pub use event::{AnswerKind, Capacity, Desk, Event, Pending, Refused};
 pub use exchange::{Core, CoreFault};

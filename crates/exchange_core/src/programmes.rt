@@ -1,13 +1,13 @@
 //! What the core keeps of the programmes' desks.
 ghost use Rattle.std.specs.Prelude.{◌≡◌, ◌+◌, ◌*◌, ◌^◌, ◌<◌, [], true, length, map, slice_get, slice_set, IfOk, not, nat_lt};
 ghost use Rattle.std.specs.List.{All, range_with_len};
-ghost use Rattle.exchange_core.specs.Legal.{programme_capacity};
-ghost use Rattle.exchange_core.specs.Pending.{has_wish, IsContent};
+ghost use Rattle.exchange_core.specs.Left.{room_within};
+ghost use Rattle.exchange_core.specs.Pending.{has_answers, has_wish, IsContent};
 ghost use Rattle.match_model.specs.Instance.{quota, list_of_programme};
 ghost use Rattle.exchange_core.specs.Seats.{opened_programme, seat_of_programme, made_offer, sent_answer, heard_answer};
 
 use crate::event::{AnswerKind, Capacity};
-use crate::seat::{ProgrammeSeat, room};
+use crate::programme_row::ProgrammeRow;
 use match_model::{Instance, ProgrammeNo, ResidentNo};
 use std::alloc::{AllocError, Global};
 use std::marker::Model;
@@ -15,24 +15,25 @@ use std::marker::Model;
 /// A seat for each programme, and how many of them have answers waiting, and a wish.
 #[derive(Drop)]
 pub(crate) struct ProgrammeDesks {
-    seats: Vec<ProgrammeSeat>,
+    row: ProgrammeRow,
     with_answers: usize,
     with_wish: usize,
 }
 
 impl Model for ProgrammeDesks {
-    ghost use Rattle.std.specs.Prelude.{◌≡◌, List};
+    ghost use Rattle.std.specs.Prelude.{◌≡◌, ◌<◌, ◌^◌, length, List};
     ghost use Rattle.std.specs.List.{count_by};
     ghost use Rattle.exchange_core.specs.Left.{ProgrammeLeft};
     ghost use Rattle.exchange_core.specs.Pending.{has_answers, has_wish};
 
     ghost Value = { List ProgrammeLeft };
 
-    ghost view = { λ d. d.seats.items };
+    ghost view = { λ d. d.row };
 
     ghost invariant = { λ d. record {
-      answers_counted : d.with_answers ≡ count_by has_answers d.seats.items;
-      wishes_counted : d.with_wish ≡ count_by has_wish d.seats.items;
+      few : length d.row < 2 ^ 32;
+      answers_counted : d.with_answers ≡ count_by has_answers d.row;
+      wishes_counted : d.with_wish ≡ count_by has_wish d.row;
     } };
 }
 
@@ -43,22 +44,17 @@ impl ProgrammeDesks {
         inst: &Instance,
         cap: Capacity,
     ) -> Result<ProgrammeDesks, AllocError>
-        ensures { IfOk result (λ desks. desks ≡ map (λ p. opened_programme (programme_capacity inst.now cap p) (quota inst.now p) (length (list_of_programme inst.now p))) (range_with_len 0 (length inst.now.quotas))) }
+        ensures { IfOk result (λ desks. desks ≡ map (λ p. opened_programme (room_within cap (2 * length (list_of_programme inst.now p))) (quota inst.now p) (length (list_of_programme inst.now p))) (range_with_len 0 (length inst.now.quotas))) }
     {
-        let count = inst.programmes();
-        let mut seats = Vec::with_capacity(alloc, count as usize)?;
+        let row = ProgrammeRow::open(alloc, inst, cap)?;
         let mut with_wish = 0;
-        for p in 0..count {
-            let listed = inst.list_of_programme(ProgrammeNo(p)).len();
-            let room = room(cap, 2 * listed);
-            let seat = ProgrammeSeat::open(alloc, room, inst.quota(ProgrammeNo(p)), listed as u32)?;
-            if seat.has_wish() {
+        for p in 0..inst.programmes() {
+            if row.has_wish(ProgrammeNo(p)) {
                 with_wish += 1;
             }
-            seats.push(seat)?;
         }
         Ok(ProgrammeDesks {
-            seats,
+            row,
             with_answers: 0,
             with_wish,
         })
@@ -71,12 +67,20 @@ impl ProgrammeDesks {
         self.with_answers == 0 && self.with_wish == 0
     }
 
-    /// Whether as many answers wait as there is room for.
+    /// Whether as many answers wait as ever can.
     pub(crate) fn is_full(&self, programme: ProgrammeNo) -> bool
         requires { programme < length self.now }
         ensures { result ≡ not (nat_lt (length (seat_of_programme self.now programme).waiting) (seat_of_programme self.now programme).room) }
     {
-        self.seats[programme.0 as usize].is_full()
+        self.row.is_full(programme)
+    }
+
+    /// Whether answers wait.
+    pub(crate) fn has_waiting(&self, programme: ProgrammeNo) -> bool
+        requires { programme < length self.now }
+        ensures { result ≡ has_answers (seat_of_programme self.now programme) }
+    {
+        self.row.has_waiting(programme)
     }
 
     /// The answer in front, with its resident.
@@ -84,7 +88,7 @@ impl ProgrammeDesks {
         requires { programme < length self.now }
         ensures { result ≡ slice_get (seat_of_programme self.now programme).waiting 0 }
     {
-        self.seats[programme.0 as usize].first_waiting()
+        self.row.first_waiting(programme)
     }
 
     /// How many offers were made.
@@ -92,7 +96,7 @@ impl ProgrammeDesks {
         requires { programme < length self.now }
         ensures { result ≡ (seat_of_programme self.now programme).offered }
     {
-        self.seats[programme.0 as usize].offered()
+        self.row.offered(programme)
     }
 
     /// Whether a programme has a free place.
@@ -100,7 +104,7 @@ impl ProgrammeDesks {
         requires { programme < length self.now }
         ensures { result ≡ nat_lt (seat_of_programme self.now programme).out (seat_of_programme self.now programme).places }
     {
-        self.seats[programme.0 as usize].has_place()
+        self.row.has_place(programme)
     }
 
     /// Whether a programme has a free place and somebody left to offer it to.
@@ -108,7 +112,7 @@ impl ProgrammeDesks {
         requires { programme < length self.now }
         ensures { result ≡ has_wish (seat_of_programme self.now programme) }
     {
-        self.seats[programme.0 as usize].has_wish()
+        self.row.has_wish(programme)
     }
 
     /// One offer more is made, and is out.
@@ -118,10 +122,9 @@ impl ProgrammeDesks {
         requires place { (seat_of_programme self.old programme).out < (seat_of_programme self.old programme).places }
         ensures { self.new ≡ slice_set self.old programme (made_offer (seat_of_programme self.old programme)) }
     {
-        let seat = &mut self.seats[programme.0 as usize];
-        let wished = seat.has_wish();
-        seat.offer();
-        if wished && !seat.has_wish() {
+        let wished = self.row.has_wish(programme);
+        self.row.offer(programme);
+        if wished && !self.row.has_wish(programme) {
             self.with_wish -= 1;
         }
     }
@@ -129,14 +132,14 @@ impl ProgrammeDesks {
     /// An answer comes in.
     pub(crate) fn receive(&mut self, programme: ProgrammeNo, resident: ResidentNo, kind: AnswerKind)
         requires member { programme < length self.old }
+        requires number { resident < 2 ^ 30 }
         requires room { length (seat_of_programme self.old programme).waiting < (seat_of_programme self.old programme).room }
         ensures { self.new ≡ slice_set self.old programme (sent_answer (seat_of_programme self.old programme) (resident, kind)) }
     {
-        let seat = &mut self.seats[programme.0 as usize];
-        if seat.first_waiting().is_none() {
+        if !self.row.has_waiting(programme) {
             self.with_answers += 1;
         }
-        seat.receive(resident, kind);
+        self.row.receive(programme, resident, kind);
     }
 
     /// The answer in front, which is this one, is heard; a rejection frees its place.
@@ -144,14 +147,13 @@ impl ProgrammeDesks {
         requires { programme < length self.old }
         ensures { self.new ≡ slice_set self.old programme (heard_answer (seat_of_programme self.old programme) (resident, kind)) }
     {
-        let seat = &mut self.seats[programme.0 as usize];
-        let waited = seat.first_waiting().is_some();
-        let wished = seat.has_wish();
-        seat.hear(resident, kind);
-        if waited && seat.first_waiting().is_none() {
+        let waited = self.row.has_waiting(programme);
+        let wished = self.row.has_wish(programme);
+        self.row.hear(programme, resident, kind);
+        if waited && !self.row.has_waiting(programme) {
             self.with_answers -= 1;
         }
-        if !wished && seat.has_wish() {
+        if !wished && self.row.has_wish(programme) {
             self.with_wish += 1;
         }
     }

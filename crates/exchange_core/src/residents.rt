@@ -1,12 +1,13 @@
 //! What the core keeps of the residents' desks.
 ghost use Rattle.std.specs.Prelude.{◌≡◌, ◌<◌, [], true, length, map, slice_get, slice_set, IfOk, not, nat_lt};
 ghost use Rattle.std.specs.List.{All, range_with_len};
-ghost use Rattle.exchange_core.specs.Legal.{resident_capacity};
+ghost use Rattle.match_model.specs.Instance.{list_of_resident};
+ghost use Rattle.exchange_core.specs.Left.{room_within};
 ghost use Rattle.exchange_core.specs.Seats.{opened_resident, seat_of_resident, sent_offer, took_offer, gave_answer};
-ghost use Rattle.exchange_core.specs.Pending.{IsQuiet};
+ghost use Rattle.exchange_core.specs.Pending.{has_offers, IsQuiet};
 
 use crate::event::{AnswerKind, Capacity};
-use crate::seat::{ResidentSeat, room};
+use crate::resident_row::ResidentRow;
 use match_model::{Instance, ProgrammeNo, ResidentNo};
 use std::alloc::{AllocError, Global};
 use std::marker::Model;
@@ -14,24 +15,25 @@ use std::marker::Model;
 /// A seat for each resident, and how many of them have something pending.
 #[derive(Drop)]
 pub(crate) struct ResidentDesks {
-    seats: Vec<ResidentSeat>,
+    row: ResidentRow,
     with_offers: usize,
     with_due: usize,
 }
 
 impl Model for ResidentDesks {
-    ghost use Rattle.std.specs.Prelude.{◌≡◌, List};
+    ghost use Rattle.std.specs.Prelude.{◌≡◌, ◌<◌, ◌^◌, length, List};
     ghost use Rattle.std.specs.List.{count_by};
     ghost use Rattle.exchange_core.specs.Left.{ResidentLeft};
     ghost use Rattle.exchange_core.specs.Pending.{has_offers, has_due};
 
     ghost Value = { List ResidentLeft };
 
-    ghost view = { λ d. d.seats.items };
+    ghost view = { λ d. d.row };
 
     ghost invariant = { λ d. record {
-      offers_counted : d.with_offers ≡ count_by has_offers d.seats.items;
-      due_counted : d.with_due ≡ count_by has_due d.seats.items;
+      few : length d.row < 2 ^ 32;
+      offers_counted : d.with_offers ≡ count_by has_offers d.row;
+      due_counted : d.with_due ≡ count_by has_due d.row;
     } };
 }
 
@@ -42,16 +44,12 @@ impl ResidentDesks {
         inst: &Instance,
         cap: Capacity,
     ) -> Result<ResidentDesks, AllocError>
-        ensures { IfOk result (λ desks. desks ≡ map (λ r. opened_resident (resident_capacity inst.now cap r)) (range_with_len 0 (length inst.now.resident_lists))) }
+        ensures { IfOk result (λ desks. desks ≡ map (λ r. opened_resident (room_within cap (length (list_of_resident inst.now r)))) (range_with_len 0 (length inst.now.resident_lists))) }
     {
-        let count = inst.residents();
-        let mut seats = Vec::with_capacity(alloc, count as usize)?;
-        for r in 0..count {
-            let list = inst.list_of_resident(ResidentNo(r));
-            seats.push(ResidentSeat::open(alloc, room(cap, list.len()))?)?;
-        }
+        // For the proof alone: an instance keeps its limits.
+        let _members = inst.residents();
         Ok(ResidentDesks {
-            seats,
+            row: ResidentRow::open(alloc, inst, cap)?,
             with_offers: 0,
             with_due: 0,
         })
@@ -64,12 +62,20 @@ impl ResidentDesks {
         self.with_offers == 0 && self.with_due == 0
     }
 
-    /// Whether as many offers wait as there is room for.
+    /// Whether as many offers wait as ever can.
     pub(crate) fn is_full(&self, resident: ResidentNo) -> bool
         requires { resident < length self.now }
         ensures { result ≡ not (nat_lt (length (seat_of_resident self.now resident).waiting) (seat_of_resident self.now resident).room) }
     {
-        self.seats[resident.0 as usize].is_full()
+        self.row.is_full(resident)
+    }
+
+    /// Whether offers wait.
+    pub(crate) fn has_waiting(&self, resident: ResidentNo) -> bool
+        requires { resident < length self.now }
+        ensures { result ≡ has_offers (seat_of_resident self.now resident) }
+    {
+        self.row.has_waiting(resident)
     }
 
     /// The programme of the offer in front.
@@ -77,7 +83,7 @@ impl ResidentDesks {
         requires { resident < length self.now }
         ensures { result ≡ slice_get (seat_of_resident self.now resident).waiting 0 }
     {
-        self.seats[resident.0 as usize].first_waiting()
+        self.row.first_waiting(resident)
     }
 
     /// The first answer due.
@@ -85,7 +91,7 @@ impl ResidentDesks {
         requires { resident < length self.now }
         ensures { result ≡ slice_get (seat_of_resident self.now resident).due 0 }
     {
-        self.seats[resident.0 as usize].first_due()
+        self.row.first_due(resident)
     }
 
     /// The programme of the last hold that was given.
@@ -93,7 +99,7 @@ impl ResidentDesks {
         requires { resident < length self.now }
         ensures { result ≡ (seat_of_resident self.now resident).held }
     {
-        self.seats[resident.0 as usize].held()
+        self.row.held(resident)
     }
 
     /// An offer comes in.
@@ -102,11 +108,10 @@ impl ResidentDesks {
         requires room { length (seat_of_resident self.old resident).waiting < (seat_of_resident self.old resident).room }
         ensures { self.new ≡ slice_set self.old resident (sent_offer (seat_of_resident self.old resident) programme) }
     {
-        let seat = &mut self.seats[resident.0 as usize];
-        if seat.first_waiting().is_none() {
+        if !self.row.has_waiting(resident) {
             self.with_offers += 1;
         }
-        seat.receive(programme);
+        self.row.receive(resident, programme);
     }
 
     /// The offer in front, which is this programme's, is taken, and calls for its answers.
@@ -115,10 +120,9 @@ impl ResidentDesks {
         requires due { (seat_of_resident self.old resident).due ≡ [] }
         ensures { self.new ≡ slice_set self.old resident (took_offer (seat_of_resident self.old resident) better programme) }
     {
-        let seat = &mut self.seats[resident.0 as usize];
-        let waited = seat.first_waiting().is_some();
-        seat.take(programme, better);
-        if waited && seat.first_waiting().is_none() {
+        let waited = self.row.has_waiting(resident);
+        self.row.take(resident, programme, better);
+        if waited && !self.row.has_waiting(resident) {
             self.with_offers -= 1;
         }
         self.with_due += 1;
@@ -129,10 +133,9 @@ impl ResidentDesks {
         requires { resident < length self.old }
         ensures { self.new ≡ slice_set self.old resident (gave_answer (seat_of_resident self.old resident) (programme, kind)) }
     {
-        let seat = &mut self.seats[resident.0 as usize];
-        let owed = seat.first_due().is_some();
-        seat.answer(programme, kind);
-        if owed && seat.first_due().is_none() {
+        let owed = self.row.first_due(resident).is_some();
+        self.row.answer(resident, programme, kind);
+        if owed && self.row.first_due(resident).is_none() {
             self.with_due -= 1;
         }
     }

@@ -1,0 +1,46 @@
+use Rattle.std.proofs.Common.{◌≡◌, ◌∙◌, ◌++◌, ◌∷◌, [], ◌<◌, ◌*◌, ◌+◌, ◌-◌, ℕ, Option, Some, None, List, map, slice_set, length, sym, ap, refl, subst, arith, zero-add, slice_get}
+use Rattle.std.specs.Prelude.{if◌then◌else◌}
+use Rattle.std.specs.List.{range_with_len}
+use Rattle.std.proofs.lemmas.List.{length-set, length-map, map_push}
+use Rattle.std.proofs.lemmas.List.FromFn.{map-range_with_len_more}
+use Rattle.exchange_core.specs.declared.part.Part.{Part}
+use Rattle.exchange_core.specs.declared.programme_row.ProgrammeSeat.{ProgrammeSeat}
+use Rattle.exchange_core.specs.Left.{ProgrammeLeft, room_within}
+use Rattle.exchange_core.specs.Calls.{is_rejection}
+use Rattle.exchange_core.specs.Notes.{IsRing, AreLaid, waiting_in, place_in, pushed, span}
+use Rattle.exchange_core.specs.Rows.{shown_programme, programme_span, answer_of}
+use Rattle.exchange_core.specs.Seats.{opened_programme, due_of, seat_of_programme, sent_offer, took_offer, gave_answer, made_offer, sent_answer, heard_answer}
+use Rattle.exchange_core.proofs.Notes.{length-waiting, ring_opened, ring_pushed, ring_popped, span_popped, waiting_pushed, waiting_popped, laid_more}
+use Rattle.exchange_core.proofs.Rows.{index_within, part_within, ring_at, laid_set, rings_set, shown_pushed, now_at, same_seat, updated, changed, all_more, nonempty, front_some, front_none}
+use Rattle.exchange_core.proofs.Steps.{same_programme_left}
+use Rattle.exchange_core.proofs.programme_row.ProgrammeRow.hear.Goals as goal
+use Rattle.std.proofs.lemmas.List.{drop-map}
+use Rattle.std.specs.Prelude.{drop}
+
+pub invariant_of-self : goal.invariant_of-self
+invariant_of-self c =
+    let part : ProgrammeSeat → Part = λ s. s.part in
+    let notes : List ℕ = c.self.inside.notes.items in
+    let seats : List ProgrammeSeat = c.self.inside.seats.items in
+    let seat : ProgrammeSeat = c.index_mut-seat.result.now in
+    let h = index_within (shown_programme notes) seats c.args.self.now c.programme.inside.0 c.args.programme c.self.view_is c.programme.view_is c.requires in
+    let ring = ring_at part shown_programme seats c.programme.inside.0 seat h c.index_mut-seat.ensures.value c.self.invariant.rings in
+    record {
+      laid = laid_set part shown_programme seats (length notes) c.programme.inside.0 seat _ c.index_mut-seat.ensures.value (ap span c.pop-seat.ensures ∙ span_popped seat.part) c.self.invariant.laid;
+      rings = rings_set part shown_programme seats c.programme.inside.0 _ (subst IsRing (sym c.pop-seat.ensures) (ring_popped seat.part ring)) c.self.invariant.rings;
+    }
+
+pub returns : goal.returns
+returns c =
+    let part : ProgrammeSeat → Part = λ s. s.part in
+    let notes : List ℕ = c.self.inside.notes.items in
+    let seats : List ProgrammeSeat = c.self.inside.seats.items in
+    let seat : ProgrammeSeat = c.index_mut-seat.result.now in
+    let h = index_within (shown_programme notes) seats c.args.self.now c.programme.inside.0 c.args.programme c.self.view_is c.programme.view_is c.requires in
+    let ring = ring_at part shown_programme seats c.programme.inside.0 seat h c.index_mut-seat.ensures.value c.self.invariant.rings in
+    let new : ProgrammeSeat = record { part = c.pop-seat.result; offered = seat.offered; out = c.out_after-seat.result; places = seat.places; listed = seat.listed } in
+    changed (shown_programme notes) seats c.args.self.now c.programme.inside.0 c.args.programme seat new (λ (s : ProgrammeLeft). heard_answer s (c.args.resident, c.args.kind)) (opened_programme 0 0 0)
+    c.self.view_is c.programme.view_is c.requires c.index_mut-seat.ensures.value
+    (same_programme_left (shown_programme notes new) (heard_answer (shown_programme notes seat) (c.args.resident, c.args.kind)) refl c.out_after-seat.ensures
+    (ap (λ (p : Part). map answer_of (waiting_in notes p)) c.pop-seat.ensures ∙ ap (λ (xs : List ℕ). map answer_of xs) (waiting_popped notes seat.part ring) ∙ sym (drop-map answer_of 1 (waiting_in notes seat.part)))
+    (ap (λ (p : Part). (span p).1) c.pop-seat.ensures ∙ ap (λ (s : ℕ × ℕ). s.1) (span_popped seat.part)) refl refl)

@@ -1,0 +1,45 @@
+use Rattle.std.proofs.Common.{◌≡◌, ◌∙◌, ◌++◌, ◌∷◌, [], ◌<◌, ◌*◌, ◌+◌, ◌-◌, ℕ, Option, Some, None, List, map, slice_set, length, sym, ap, refl, subst, arith, zero-add, slice_get}
+use Rattle.std.specs.Prelude.{if◌then◌else◌}
+use Rattle.std.specs.List.{range_with_len}
+use Rattle.std.proofs.lemmas.List.{length-set, length-map, map_push}
+use Rattle.std.proofs.lemmas.List.FromFn.{map-range_with_len_more}
+use Rattle.exchange_core.specs.declared.part.Part.{Part}
+use Rattle.exchange_core.specs.declared.programme_row.ProgrammeSeat.{ProgrammeSeat}
+use Rattle.exchange_core.specs.Left.{ProgrammeLeft, room_within}
+use Rattle.exchange_core.specs.Calls.{is_rejection}
+use Rattle.exchange_core.specs.Notes.{IsRing, AreLaid, waiting_in, place_in, pushed, span}
+use Rattle.exchange_core.specs.Rows.{shown_programme, programme_span, answer_of}
+use Rattle.exchange_core.specs.Seats.{opened_programme, due_of, seat_of_programme, sent_offer, took_offer, gave_answer, made_offer, sent_answer, heard_answer}
+use Rattle.exchange_core.proofs.Notes.{length-waiting, ring_opened, ring_pushed, ring_popped, span_popped, waiting_pushed, waiting_popped, laid_more}
+use Rattle.exchange_core.proofs.Rows.{index_within, part_within, ring_at, laid_set, rings_set, shown_pushed, now_at, same_seat, updated, changed, all_more, nonempty, front_some, front_none}
+use Rattle.exchange_core.proofs.Steps.{same_programme_left}
+use Rattle.exchange_core.proofs.programme_row.ProgrammeRow.offer.Goals as goal
+
+pub one_more-seat-requires : goal.one_more-seat-requires
+one_more-seat-requires c =
+    let notes : List ℕ = c.self.inside.notes.items in
+    let shown = now_at (shown_programme notes) c.self.inside.seats.items c.args.self.now c.programme.inside.0 c.args.programme c.index_mut-seat.result.now (opened_programme 0 0 0) c.self.view_is c.programme.view_is c.requires.member c.index_mut-seat.ensures.value in
+    subst (λ (s : ProgrammeLeft). s.out < s.places) shown c.requires.place
+
+pub invariant_of-self : goal.invariant_of-self
+invariant_of-self c =
+    let part : ProgrammeSeat → Part = λ s. s.part in
+    let notes : List ℕ = c.self.inside.notes.items in
+    let seats : List ProgrammeSeat = c.self.inside.seats.items in
+    let seat : ProgrammeSeat = c.index_mut-seat.result.now in
+    let h = index_within (shown_programme notes) seats c.args.self.now c.programme.inside.0 c.args.programme c.self.view_is c.programme.view_is c.requires.member in
+    record {
+      laid = laid_set part shown_programme seats (length notes) c.programme.inside.0 seat _ c.index_mut-seat.ensures.value refl c.self.invariant.laid;
+      rings = rings_set part shown_programme seats c.programme.inside.0 _ (ring_at part shown_programme seats c.programme.inside.0 seat h c.index_mut-seat.ensures.value c.self.invariant.rings) c.self.invariant.rings;
+    }
+
+pub returns : goal.returns
+returns c =
+    let part : ProgrammeSeat → Part = λ s. s.part in
+    let notes : List ℕ = c.self.inside.notes.items in
+    let seats : List ProgrammeSeat = c.self.inside.seats.items in
+    let seat : ProgrammeSeat = c.index_mut-seat.result.now in
+    let new : ProgrammeSeat = record { part = seat.part; offered = seat.offered + 1; out = c.one_more-seat.result; places = seat.places; listed = seat.listed } in
+    changed (shown_programme notes) seats c.args.self.now c.programme.inside.0 c.args.programme seat new (λ (s : ProgrammeLeft). made_offer s) (opened_programme 0 0 0)
+    c.self.view_is c.programme.view_is c.requires.member c.index_mut-seat.ensures.value
+    (same_programme_left (shown_programme notes new) (made_offer (shown_programme notes seat)) refl c.one_more-seat.ensures refl refl refl refl)

@@ -1,0 +1,59 @@
+-- What the seats of one side show over the row of notes.
+use Rattle.std.specs.Prelude.{ℕ, ◌+◌, ◌*◌, ◌/◌, ◌%◌, nat_eq, if◌then◌else◌, List, map}
+use Rattle.exchange_core.specs.declared.event.AnswerKind.{AnswerKind}
+use Rattle.exchange_core.specs.declared.event.AnswerKind.TheVariants.{Hold, Decline, Release}
+use Rattle.exchange_core.specs.declared.resident_row.ResidentSeat.{ResidentSeat}
+use Rattle.exchange_core.specs.declared.programme_row.ProgrammeSeat.{ProgrammeSeat}
+use Rattle.exchange_core.specs.Mail.{Answered}
+use Rattle.exchange_core.specs.Left.{ResidentLeft, ProgrammeLeft}
+use Rattle.exchange_core.specs.Notes.{waiting_in, span, IsRing}
+use Rattle.exchange_core.specs.Seats.{due_of}
+
+-- a resident's seat: an offer's note is the number of its programme
+abbrev pub shown_resident : List ℕ → ResidentSeat → ResidentLeft
+shown_resident notes seat = record { waiting = waiting_in notes seat.part; due = due_of seat.first_due seat.second_due; held = seat.held; room = seat.part.room }
+
+-- where its part starts, and how many places it has
+abbrev pub resident_span : ResidentSeat → ℕ × ℕ
+resident_span seat = span seat.part
+
+-- its part is a ring
+abbrev pub IsResidentRing : ResidentSeat → Type 0
+IsResidentRing seat = IsRing seat.part
+
+-- the number of a kind of answer
+abbrev pub code_of : AnswerKind → ℕ
+code_of Hold = 0
+code_of Decline = 1
+code_of Release = 2
+
+-- the kind of this number
+abbrev pub kind_of : ℕ → AnswerKind
+kind_of code = if nat_eq code 0 then Hold else (if nat_eq code 1 then Decline else Release)
+
+-- an answer's note: the number of its resident four times, and of its kind
+abbrev pub note_of : Answered → ℕ
+note_of answer = answer.0 * 4 + code_of answer.1
+
+-- the answer of a note
+abbrev pub answer_of : ℕ → Answered
+answer_of note = (note / 4, kind_of (note % 4))
+
+-- a programme's seat
+abbrev pub shown_programme : List ℕ → ProgrammeSeat → ProgrammeLeft
+shown_programme notes seat = record {
+  offered = seat.offered;
+  out = seat.out;
+  waiting = map answer_of (waiting_in notes seat.part);
+  room = seat.part.room;
+  places = seat.places;
+  listed = seat.listed;
+}
+
+-- where its part starts, and how many places it has
+abbrev pub programme_span : ProgrammeSeat → ℕ × ℕ
+programme_span seat = span seat.part
+
+-- its part is a ring
+abbrev pub IsProgrammeRing : ProgrammeSeat → Type 0
+IsProgrammeRing seat = IsRing seat.part

@@ -1,0 +1,106 @@
+//! One desk's part of a row of notes, and what waits there.
+ghost use Rattle.std.specs.Prelude.{◌≡◌, ◌+◌, ◌^◌, ◌<◌, ◌≤◌, length, slice_get, slice_set};
+ghost use Rattle.exchange_core.specs.Left.{room_within};
+ghost use Rattle.exchange_core.specs.Notes.{IsRing, place_in, opened, pushed, popped, waiting_in};
+
+use crate::event::Capacity;
+
+/// Where a desk's notes stand: the first of so many places of the row, the place of the note in front, counted from
+/// there, and how many notes wait. Past the last place the notes go on at the first.
+#[derive(Clone, Copy)]
+pub(crate) struct Part {
+    pub(crate) start: usize,
+    pub(crate) room: u32,
+    pub(crate) front: u32,
+    pub(crate) len: u32,
+}
+
+impl Part {
+    /// An empty part of so many places.
+    pub(crate) fn open(start: usize, room: u32) -> Part
+        ensures { result ≡ opened start room }
+    {
+        Part {
+            start,
+            room,
+            front: 0,
+            len: 0,
+        }
+    }
+
+    /// The place of this note, counted from the one in front.
+    fn place(self, number: u32) -> usize
+        requires ring { IsRing self }
+        requires number { number < self.room }
+        requires small { self.start + self.room < 2 ^ 64 }
+        ensures { result ≡ place_in self number }
+    {
+        let room = self.room as usize;
+        let from_start = self.front as usize + number as usize;
+        if from_start < room {
+            return self.start + from_start;
+        }
+        self.start + (from_start - room)
+    }
+
+    /// The note in front.
+    pub(crate) fn first(self, notes: &Vec<u32>) -> Option<u32>
+        requires ring { IsRing self }
+        requires within { self.start + self.room ≤ length notes.now.items }
+        ensures { result ≡ slice_get (waiting_in notes.now.items self) 0 }
+    {
+        if self.len == 0 {
+            return None;
+        }
+        Some(notes[self.place(0)])
+    }
+
+    /// One note more, at the end of those that wait.
+    pub(crate) fn push(self, notes: &mut Vec<u32>, note: u32) -> Part
+        requires ring { IsRing self }
+        requires within { self.start + self.room ≤ length notes.old.items }
+        requires room { self.len < self.room }
+        ensures part { result ≡ pushed self }
+        ensures notes { notes.new.items ≡ slice_set notes.old.items (place_in self self.len) note }
+    {
+        let place = self.place(self.len);
+        notes[place] = note;
+        Part {
+            len: self.len + 1,
+            ..self
+        }
+    }
+
+    /// Without the note in front, if one waits.
+    pub(crate) fn pop(self) -> Part
+        requires { IsRing self }
+        ensures { result ≡ popped self }
+    {
+        if self.len == 0 {
+            return self;
+        }
+        let from_front = self.room - self.front;
+        let front = if from_front > 1 {
+            self.front + 1
+        } else {
+            1 - from_front
+        };
+        Part {
+            front,
+            len: self.len - 1,
+            ..self
+        }
+    }
+}
+
+/// How many messages can ever wait in a mailbox, where this many can ever be sent there.
+pub(crate) fn room(cap: Capacity, most: usize) -> u32
+    requires { most ≤ 400000 }
+    ensures { result ≡ room_within cap most }
+{
+    let room = match cap {
+        Capacity::Full => most.max(1),
+        Capacity::Each(n) => n as usize,
+    };
+    room.min(most) as u32
+}

@@ -1,0 +1,213 @@
+//! What the core keeps of each programme's desk, with one row of notes for all their mailboxes.
+ghost use Rattle.std.specs.Prelude.{◌≡◌, ◌+◌, ◌-◌, if◌then◌else◌, ◌*◌, ◌^◌, ◌<◌, [], length, map, slice_get, slice_set, IfOk, not, nat_lt};
+ghost use Rattle.std.specs.List.{range_with_len};
+ghost use Rattle.match_model.specs.Instance.{quota, list_of_programme};
+ghost use Rattle.exchange_core.specs.Calls.{is_rejection};
+ghost use Rattle.exchange_core.specs.Left.{room_within};
+ghost use Rattle.exchange_core.specs.Pending.{has_answers, has_wish};
+ghost use Rattle.exchange_core.specs.Rows.{note_of, answer_of};
+ghost use Rattle.exchange_core.specs.Seats.{opened_programme, seat_of_programme, made_offer, sent_answer, heard_answer};
+
+use crate::event::{AnswerKind, Capacity};
+use crate::part::{Part, room};
+use match_model::{Instance, ProgrammeNo, ResidentNo};
+use std::alloc::{AllocError, Global};
+use std::marker::Model;
+
+/// At a programme's desk: the part of the row where its answers wait, how many offers it made and has out, and how many
+/// places and how long a list it has.
+#[derive(Clone, Copy)]
+pub(crate) struct ProgrammeSeat {
+    part: Part,
+    offered: u32,
+    out: u32,
+    places: u32,
+    listed: u32,
+}
+
+/// A seat for each programme, and the residents and kinds of all answers that wait.
+#[derive(Drop)]
+pub(crate) struct ProgrammeRow {
+    seats: Vec<ProgrammeSeat>,
+    notes: Vec<u32>,
+}
+
+impl Model for ProgrammeRow {
+    ghost use Rattle.std.specs.Prelude.{List, map, length};
+    ghost use Rattle.std.specs.List.{All};
+    ghost use Rattle.exchange_core.specs.Left.{ProgrammeLeft};
+    ghost use Rattle.exchange_core.specs.Notes.{AreLaid};
+    ghost use Rattle.exchange_core.specs.Rows.{shown_programme, programme_span, IsProgrammeRing};
+
+    ghost Value = { List ProgrammeLeft };
+
+    ghost view = { λ d. map (shown_programme d.notes.items) d.seats.items };
+
+    ghost invariant = { λ d. record {
+      laid : AreLaid (map programme_span d.seats.items) (length d.notes.items);
+      rings : All IsProgrammeRing d.seats.items;
+    } };
+}
+
+impl ProgrammeRow {
+    /// A desk for each programme, to which nothing was sent.
+    pub(crate) fn open(
+        alloc: Global,
+        inst: &Instance,
+        cap: Capacity,
+    ) -> Result<ProgrammeRow, AllocError>
+        ensures { IfOk result (λ desks. desks ≡ map (λ p. opened_programme (room_within cap (2 * length (list_of_programme inst.now p))) (quota inst.now p) (length (list_of_programme inst.now p))) (range_with_len 0 (length inst.now.quotas))) }
+    {
+        let count = inst.programmes();
+        let mut seats = Vec::with_capacity(alloc, count as usize)?;
+        let mut total = 0;
+        for p in 0..count {
+            let listed = inst.list_of_programme(ProgrammeNo(p)).len();
+            let room = room(cap, 2 * listed);
+            seats.push(ProgrammeSeat {
+                part: Part::open(total, room),
+                offered: 0,
+                out: 0,
+                places: inst.quota(ProgrammeNo(p)),
+                listed: listed as u32,
+            })?;
+            total += room as usize;
+        }
+        Ok(ProgrammeRow {
+            seats,
+            notes: vec![in alloc; 0; total]?,
+        })
+    }
+
+    /// Whether as many answers wait as ever can.
+    pub(crate) fn is_full(&self, programme: ProgrammeNo) -> bool
+        requires { programme < length self.now }
+        ensures { result ≡ not (nat_lt (length (seat_of_programme self.now programme).waiting) (seat_of_programme self.now programme).room) }
+    {
+        let part = self.seats[programme.0 as usize].part;
+        !(part.len < part.room)
+    }
+
+    /// Whether answers wait.
+    pub(crate) fn has_waiting(&self, programme: ProgrammeNo) -> bool
+        requires { programme < length self.now }
+        ensures { result ≡ has_answers (seat_of_programme self.now programme) }
+    {
+        self.seats[programme.0 as usize].part.len > 0
+    }
+
+    /// The answer in front, with its resident.
+    pub(crate) fn first_waiting(&self, programme: ProgrammeNo) -> Option<(ResidentNo, AnswerKind)>
+        requires { programme < length self.now }
+        ensures { result ≡ slice_get (seat_of_programme self.now programme).waiting 0 }
+    {
+        let part = self.seats[programme.0 as usize].part;
+        match part.first(&self.notes) {
+            Some(note) => Some(answer_of(note)),
+            None => None,
+        }
+    }
+
+    /// How many offers were made.
+    pub(crate) fn offered(&self, programme: ProgrammeNo) -> u32
+        requires { programme < length self.now }
+        ensures { result ≡ (seat_of_programme self.now programme).offered }
+    {
+        self.seats[programme.0 as usize].offered
+    }
+
+    /// Whether a programme has a free place.
+    pub(crate) fn has_place(&self, programme: ProgrammeNo) -> bool
+        requires { programme < length self.now }
+        ensures { result ≡ nat_lt (seat_of_programme self.now programme).out (seat_of_programme self.now programme).places }
+    {
+        let seat = &self.seats[programme.0 as usize];
+        seat.out < seat.places
+    }
+
+    /// Whether a programme has a free place and somebody left to offer it to.
+    pub(crate) fn has_wish(&self, programme: ProgrammeNo) -> bool
+        requires { programme < length self.now }
+        ensures { result ≡ has_wish (seat_of_programme self.now programme) }
+    {
+        let seat = &self.seats[programme.0 as usize];
+        seat.out < seat.places && seat.offered < seat.listed
+    }
+
+    /// One offer more is made, and is out.
+    pub(crate) fn offer(&mut self, programme: ProgrammeNo)
+        requires member { programme < length self.old }
+        requires offered { (seat_of_programme self.old programme).offered + 1 < 2 ^ 32 }
+        requires place { (seat_of_programme self.old programme).out < (seat_of_programme self.old programme).places }
+        ensures { self.new ≡ slice_set self.old programme (made_offer (seat_of_programme self.old programme)) }
+    {
+        let seat = &mut self.seats[programme.0 as usize];
+        seat.offered += 1;
+        seat.out = one_more(seat.out, seat.places);
+    }
+
+    /// An answer comes in.
+    pub(crate) fn receive(&mut self, programme: ProgrammeNo, resident: ResidentNo, kind: AnswerKind)
+        requires member { programme < length self.old }
+        requires number { resident < 2 ^ 30 }
+        requires room { length (seat_of_programme self.old programme).waiting < (seat_of_programme self.old programme).room }
+        ensures { self.new ≡ slice_set self.old programme (sent_answer (seat_of_programme self.old programme) (resident, kind)) }
+    {
+        let part = self.seats[programme.0 as usize].part;
+        let part = part.push(&mut self.notes, note_of(resident, kind));
+        self.seats[programme.0 as usize].part = part;
+    }
+
+    /// The answer in front, which is this one, is heard; a rejection frees its place.
+    pub(crate) fn hear(&mut self, programme: ProgrammeNo, resident: ResidentNo, kind: AnswerKind)
+        requires { programme < length self.old }
+        ensures { self.new ≡ slice_set self.old programme (heard_answer (seat_of_programme self.old programme) (resident, kind)) }
+    {
+        let seat = &mut self.seats[programme.0 as usize];
+        seat.part = seat.part.pop();
+        seat.out = out_after(seat.out, resident, kind);
+    }
+}
+
+/// How many offers are out after one more, where there is a free place.
+fn one_more(out: u32, places: u32) -> u32
+    requires { out < places }
+    ensures { result ≡ out + 1 }
+{
+    out + 1
+}
+
+/// How many offers are out after this answer: a rejection frees its place.
+fn out_after(out: u32, _resident: ResidentNo, kind: AnswerKind) -> u32
+    ensures { result ≡ out - (if is_rejection (_resident, kind) then 1 else 0) }
+{
+    match kind {
+        AnswerKind::Hold => out,
+        AnswerKind::Decline | AnswerKind::Release => out.saturating_sub(1),
+    }
+}
+
+/// The note of an answer.
+fn note_of(resident: ResidentNo, kind: AnswerKind) -> u32
+    requires { resident < 2 ^ 30 }
+    ensures { result ≡ note_of (resident, kind) }
+{
+    let code = match kind {
+        AnswerKind::Hold => 0,
+        AnswerKind::Decline => 1,
+        AnswerKind::Release => 2,
+    };
+    resident.0 * 4 + code
+}
+
+/// The answer of a note.
+fn answer_of(note: u32) -> (ResidentNo, AnswerKind)
+    ensures { result ≡ answer_of note }
+{
+    let kind = match note % 4 {
+        0 => AnswerKind::Hold,
+        1 => AnswerKind::Decline,
+        _ => AnswerKind::Release,
+    };
+    (ResidentNo(note / 4), kind)
+}

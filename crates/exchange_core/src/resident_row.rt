@@ -1,0 +1,213 @@
+//! What the core keeps of each resident's desk, with one row of notes for all their mailboxes.
+ghost use Rattle.std.specs.Prelude.{◌≡◌, ◌<◌, [], length, map, slice_get, slice_set, IfOk, not, nat_lt, drop, None};
+ghost use Rattle.std.specs.List.{range_with_len};
+ghost use Rattle.std.specs.Option.{option_to_list};
+ghost use Rattle.exchange_core.specs.Pending.{has_offers};
+ghost use Rattle.match_model.specs.Instance.{list_of_resident};
+ghost use Rattle.exchange_core.specs.Calls.{held_after, release_of as released};
+ghost use Rattle.exchange_core.specs.Left.{room_within};
+ghost use Rattle.exchange_core.specs.Seats.{opened_resident, called_for, due_of, seat_of_resident, sent_offer, took_offer, gave_answer};
+
+use crate::event::{AnswerKind, Capacity};
+use crate::part::{Part, room};
+use match_model::{Instance, ProgrammeNo, ResidentNo};
+use std::alloc::{AllocError, Global};
+use std::marker::Model;
+
+/// At a resident's desk: the part of the row where its offers wait, the answers that are due, of which an offer calls
+/// for two at most, and the programme held.
+#[derive(Clone, Copy)]
+pub(crate) struct ResidentSeat {
+    part: Part,
+    first_due: Option<(ProgrammeNo, AnswerKind)>,
+    second_due: Option<(ProgrammeNo, AnswerKind)>,
+    held: Option<ProgrammeNo>,
+}
+
+/// A seat for each resident, and the programmes of all offers that wait.
+#[derive(Drop)]
+pub(crate) struct ResidentRow {
+    seats: Vec<ResidentSeat>,
+    notes: Vec<u32>,
+}
+
+impl Model for ResidentRow {
+    ghost use Rattle.std.specs.Prelude.{List, map, length};
+    ghost use Rattle.std.specs.List.{All};
+    ghost use Rattle.exchange_core.specs.Left.{ResidentLeft};
+    ghost use Rattle.exchange_core.specs.Notes.{AreLaid};
+    ghost use Rattle.exchange_core.specs.Rows.{shown_resident, resident_span, IsResidentRing};
+
+    ghost Value = { List ResidentLeft };
+
+    ghost view = { λ d. map (shown_resident d.notes.items) d.seats.items };
+
+    ghost invariant = { λ d. record {
+      laid : AreLaid (map resident_span d.seats.items) (length d.notes.items);
+      rings : All IsResidentRing d.seats.items;
+    } };
+}
+
+impl ResidentRow {
+    /// A desk for each resident, to whom nothing was sent.
+    pub(crate) fn open(
+        alloc: Global,
+        inst: &Instance,
+        cap: Capacity,
+    ) -> Result<ResidentRow, AllocError>
+        ensures { IfOk result (λ desks. desks ≡ map (λ r. opened_resident (room_within cap (length (list_of_resident inst.now r)))) (range_with_len 0 (length inst.now.resident_lists))) }
+    {
+        let count = inst.residents();
+        let mut seats = Vec::with_capacity(alloc, count as usize)?;
+        let mut total = 0;
+        for r in 0..count {
+            let room = room(cap, inst.list_of_resident(ResidentNo(r)).len());
+            seats.push(ResidentSeat {
+                part: Part::open(total, room),
+                first_due: None,
+                second_due: None,
+                held: None,
+            })?;
+            total += room as usize;
+        }
+        Ok(ResidentRow {
+            seats,
+            notes: vec![in alloc; 0; total]?,
+        })
+    }
+
+    /// Whether as many offers wait as ever can.
+    pub(crate) fn is_full(&self, resident: ResidentNo) -> bool
+        requires { resident < length self.now }
+        ensures { result ≡ not (nat_lt (length (seat_of_resident self.now resident).waiting) (seat_of_resident self.now resident).room) }
+    {
+        let part = self.seats[resident.0 as usize].part;
+        !(part.len < part.room)
+    }
+
+    /// Whether offers wait.
+    pub(crate) fn has_waiting(&self, resident: ResidentNo) -> bool
+        requires { resident < length self.now }
+        ensures { result ≡ has_offers (seat_of_resident self.now resident) }
+    {
+        self.seats[resident.0 as usize].part.len > 0
+    }
+
+    /// The programme of the offer in front.
+    pub(crate) fn first_waiting(&self, resident: ResidentNo) -> Option<ProgrammeNo>
+        requires { resident < length self.now }
+        ensures { result ≡ slice_get (seat_of_resident self.now resident).waiting 0 }
+    {
+        let part = self.seats[resident.0 as usize].part;
+        match part.first(&self.notes) {
+            Some(note) => Some(ProgrammeNo(note)),
+            None => None,
+        }
+    }
+
+    /// The first answer due.
+    pub(crate) fn first_due(&self, resident: ResidentNo) -> Option<(ProgrammeNo, AnswerKind)>
+        requires { resident < length self.now }
+        ensures { result ≡ slice_get (seat_of_resident self.now resident).due 0 }
+    {
+        self.seats[resident.0 as usize].first_due
+    }
+
+    /// The programme of the last hold that was given.
+    pub(crate) fn held(&self, resident: ResidentNo) -> Option<ProgrammeNo>
+        requires { resident < length self.now }
+        ensures { result ≡ (seat_of_resident self.now resident).held }
+    {
+        self.seats[resident.0 as usize].held
+    }
+
+    /// An offer comes in.
+    pub(crate) fn receive(&mut self, resident: ResidentNo, programme: ProgrammeNo)
+        requires member { resident < length self.old }
+        requires room { length (seat_of_resident self.old resident).waiting < (seat_of_resident self.old resident).room }
+        ensures { self.new ≡ slice_set self.old resident (sent_offer (seat_of_resident self.old resident) programme) }
+    {
+        let part = self.seats[resident.0 as usize].part;
+        let part = part.push(&mut self.notes, programme.0);
+        self.seats[resident.0 as usize].part = part;
+    }
+
+    /// The offer in front, which is this programme's, is taken, and calls for its answers.
+    pub(crate) fn take(&mut self, resident: ResidentNo, programme: ProgrammeNo, better: bool)
+        requires member { resident < length self.old }
+        requires due { (seat_of_resident self.old resident).due ≡ [] }
+        ensures { self.new ≡ slice_set self.old resident (took_offer (seat_of_resident self.old resident) better programme) }
+    {
+        let seat = &mut self.seats[resident.0 as usize];
+        let due = called_for(better, seat.held, programme);
+        seat.part = seat.part.pop();
+        seat.first_due = due.0;
+        seat.second_due = due.1;
+    }
+
+    /// The first answer due, which is this one, is given.
+    pub(crate) fn answer(&mut self, resident: ResidentNo, programme: ProgrammeNo, kind: AnswerKind)
+        requires { resident < length self.old }
+        ensures { self.new ≡ slice_set self.old resident (gave_answer (seat_of_resident self.old resident) (programme, kind)) }
+    {
+        let seat = &mut self.seats[resident.0 as usize];
+        seat.first_due = due_next(seat.first_due, seat.second_due);
+        seat.second_due = None;
+        seat.held = held_after(seat.held, programme, kind);
+    }
+}
+
+/// What an offer calls for: where it is better a hold and then a release of the one held, else a decline.
+fn called_for(
+    better: bool,
+    held: Option<ProgrammeNo>,
+    programme: ProgrammeNo,
+) -> (
+    Option<(ProgrammeNo, AnswerKind)>,
+    Option<(ProgrammeNo, AnswerKind)>,
+)
+    ensures { due_of result.0 result.1 ≡ called_for better held programme }
+{
+    if better {
+        return (Some((programme, AnswerKind::Hold)), release_of(held));
+    }
+    (Some((programme, AnswerKind::Decline)), None)
+}
+
+/// The programme that is held after one more answer.
+fn held_after(
+    held: Option<ProgrammeNo>,
+    programme: ProgrammeNo,
+    kind: AnswerKind,
+) -> Option<ProgrammeNo>
+    ensures { result ≡ held_after held (programme, kind) }
+{
+    match kind {
+        AnswerKind::Hold => Some(programme),
+        AnswerKind::Decline | AnswerKind::Release => held,
+    }
+}
+
+/// What is due first after the first of these.
+#[tactic(auto, using(crate::proofs::Seats::due_after_first))]
+fn due_next(
+    first: Option<(ProgrammeNo, AnswerKind)>,
+    second: Option<(ProgrammeNo, AnswerKind)>,
+) -> Option<(ProgrammeNo, AnswerKind)>
+    ensures { due_of result None ≡ drop 1 (due_of first second) }
+{
+    match first {
+        Some(_) => second,
+        None => None,
+    }
+}
+
+/// The release of a programme, if there is one.
+fn release_of(held: Option<ProgrammeNo>) -> Option<(ProgrammeNo, AnswerKind)>
+    ensures { option_to_list result ≡ released held }
+{
+    match held {
+        Some(displaced) => Some((displaced, AnswerKind::Release)),
+        None => None,
+    }
+}
