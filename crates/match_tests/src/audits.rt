@@ -1,7 +1,7 @@
 //! Sheets and lists of events with known answers: programme 0 is `A`, 1 is `B`, and residents 0 to 2 are `X`, `Y` and `Z`.
 use crate::instances::{Members, TWO_BY_TWO, TWO_PLACES, made};
 use exchange_core::{AnswerKind, Capacity, Event, Pending, Refused};
-use match_audit::{AuditFault, AuditReport, ReplayFault, audit, check, replay};
+use match_audit::{AuditFault, AuditReport, ReplayFault, audit, check, counts, replay};
 use match_model::{Assignment, ModelFault, ProgrammeNo, ResidentNo};
 use samples::events::{A, B, X, Y, Z, answer, hear, nine_events, nineteen_events, offer, take};
 use std::alloc::{AllocError, Global};
@@ -287,6 +287,35 @@ fn checks_sheets(rt: HostRuntime) {
     }
     let settled = [Some(1), Some(0), Some(0)];
     assert!(rt; checked(rt.alloc(), TWO_PLACES, &nineteen_events(), &settled) == Ok(19));
+}
+
+// Whether these workers, who are as many as there are wanted counts, made so many events each.
+fn counts_are(alloc: Global, who: &[u8], wanted: &[u64]) -> bool {
+    let Ok(workers) = u32::try_from(wanted.len()) else {
+        return false;
+    };
+    for worker in who {
+        if *worker as u32 >= workers {
+            return false;
+        }
+    }
+    match counts(alloc, workers, who) {
+        Ok(counts) => counts.as_slice() == wanted,
+        Err(_) => false,
+    }
+}
+
+#[test]
+fn counts_events_of_workers(rt: HostRuntime) {
+    let cases: [(&[u8], &[u64]); 4] = [
+        (&[0, 1, 0, 1, 0, 1, 0, 1, 0], &[5, 4]),
+        (&[], &[0]),
+        (&[2, 2, 7], &[0, 0, 2, 0, 0, 0, 0, 1]),
+        (&[], &[]),
+    ];
+    for (who, wanted) in cases {
+        assert!(rt; counts_are(rt.alloc(), who, wanted));
+    }
 }
 
 #[test]
