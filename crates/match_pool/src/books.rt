@@ -75,7 +75,11 @@ impl<J: Naming, P: PutEnd<OfferNote>, Q: PutEnd<AnswerNote>> Books<J, P, Q> {
 
     /// A programme's desk comes into a worker's hands, and waits for room no more. Whether answers wait at it, as far as
     /// the core has it, and whether it was called for room.
-    pub(crate) fn programme_comes(&mut self, inst: &Instance, programme: ProgrammeNo) -> (bool, bool)
+    pub(crate) fn programme_comes(
+        &mut self,
+        inst: &Instance,
+        programme: ProgrammeNo,
+    ) -> (bool, bool)
         requires { inst.now ≡ J.inst }
     {
         let is_called = self.waits.comes(desk_of_programme(inst, programme));

@@ -248,12 +248,7 @@ fn does<J: Naming>(
 }
 
 // Whether a ledger of two by two does as tried, over ends with room for so many notes.
-fn small_does(
-    alloc: Global,
-    workers: u32,
-    room: u32,
-    trial: Trial,
-) -> Result<bool, MailFault> {
+fn small_does(alloc: Global, workers: u32, room: u32, trial: Trial) -> Result<bool, MailFault> {
     let Ok(inst) = made(alloc, TWO_BY_TWO) else {
         return Err(MailFault::Memory);
     };
@@ -369,14 +364,7 @@ fn refused_opening(rt: HostRuntime) -> Result<(), Fail> {
         (2, Capacity::Full, 0, LedgerFault::BadWorkers),
         (2, Capacity::Full, 9, LedgerFault::BadWorkers),
     ] {
-        let refused = not_opened::<Brand>(
-            alloc,
-            Blank::new(8),
-            &inst,
-            cap,
-            workers,
-            residents,
-        );
+        let refused = not_opened::<Brand>(alloc, Blank::new(8), &inst, cap, workers, residents);
         assert!(rt;
             refused == Ok(Some((fault, residents as usize, 2))),
             "{cap:?}, {workers} workers"

@@ -28,7 +28,14 @@ fn is_counted(told: &Told, workers: usize) -> bool {
 #[test]
 fn one_worker_and_eight(rt: HostRuntime) {
     for workers in [1, 8] {
-        let told = ran(rt, rt.alloc(), TWO_PLACES, Capacity::Full, workers, &OpenGate);
+        let told = ran(
+            rt,
+            rt.alloc(),
+            TWO_PLACES,
+            Capacity::Full,
+            workers,
+            &OpenGate,
+        );
         assert!(rt;
             told.is_ok_and(|told| told.ending == Ending::Closed
                 && has_places(&told.assignment, &[Some(1), Some(0), Some(0)])
@@ -40,8 +47,42 @@ fn one_worker_and_eight(rt: HostRuntime) {
 
 // Pairs of a programme with one place and a resident, who rank one another alone.
 const PAIRS: Members = (
-    &[(1, &[0]), (1, &[1]), (1, &[2]), (1, &[3]), (1, &[4]), (1, &[5]), (1, &[6]), (1, &[7]), (1, &[8]), (1, &[9]), (1, &[10]), (1, &[11]), (1, &[12]), (1, &[13]), (1, &[14]), (1, &[15])],
-    &[&[0], &[1], &[2], &[3], &[4], &[5], &[6], &[7], &[8], &[9], &[10], &[11], &[12], &[13], &[14], &[15]],
+    &[
+        (1, &[0]),
+        (1, &[1]),
+        (1, &[2]),
+        (1, &[3]),
+        (1, &[4]),
+        (1, &[5]),
+        (1, &[6]),
+        (1, &[7]),
+        (1, &[8]),
+        (1, &[9]),
+        (1, &[10]),
+        (1, &[11]),
+        (1, &[12]),
+        (1, &[13]),
+        (1, &[14]),
+        (1, &[15]),
+    ],
+    &[
+        &[0],
+        &[1],
+        &[2],
+        &[3],
+        &[4],
+        &[5],
+        &[6],
+        &[7],
+        &[8],
+        &[9],
+        &[10],
+        &[11],
+        &[12],
+        &[13],
+        &[14],
+        &[15],
+    ],
 );
 
 // Whether all workers but one were held, in this order let go, and the run is closed after four events for each pair.
