@@ -1,5 +1,5 @@
--- The row that a replay writes.
-use Rattle.std.specs.Prelude.{ℕ, ◌+◌, Option, Some, None, Result, Ok, Err, List, [], ◌∷◌, length, codes, decimal}
+-- The rows that a replay writes.
+use Rattle.std.specs.Prelude.{ℕ, ◌+◌, Option, Some, None, Result, Ok, Err, List, [], ◌∷◌, ◌++◌, length, codes, decimal}
 use Rattle.exchange_core.specs.declared.event.Pending.{Pending}
 use Rattle.exchange_core.specs.declared.event.Pending.TheVariants.{Offers, Due, Answers, Wish}
 use Rattle.exchange_core.specs.declared.event.Refused.{Refused}
@@ -70,9 +70,24 @@ abbrev pub answer_fields : Contents → Result Replayed ReplayFault → List (Li
 answer_fields d (Ok replayed) = codes "G" ∷ decimal replayed.events ∷ []
 answer_fields d (Err fault) = fault_fields d fault
 
--- the row of an answer
-unfoldable pub replay_text : Contents → Result Replayed ReplayFault → List ℕ
-replay_text d answer = row (answer_fields d answer)
+-- the row of a worker: its number, and how many events it made
+unfoldable pub worker_row : ℕ → ℕ → List ℕ
+worker_row worker events = row (codes "K" ∷ decimal worker ∷ decimal events ∷ [])
+
+-- the row of each worker from this number on, one for each count
+unfoldable pub worker_rows : ℕ → List ℕ → List ℕ
+worker_rows first [] = []
+worker_rows first (events ∷ counts) = worker_row first events ++ worker_rows (first + 1) counts
+
+-- what follows the row of an answer: where there are counts, after a good one the row of each worker
+unfoldable pub count_rows : Result Replayed ReplayFault → Option (List ℕ) → List ℕ
+count_rows (Ok replayed) None = []
+count_rows (Ok replayed) (Some counts) = worker_rows 0 counts
+count_rows (Err fault) counts = []
+
+-- the rows of an answer
+unfoldable pub replay_text : Contents → Result Replayed ReplayFault → Option (List ℕ) → List ℕ
+replay_text d answer counts = row (answer_fields d answer) ++ count_rows answer counts
 
 -- whoever the answer names is a member of the docket
 abbrev pub IsAnswerOf : Contents → Result Replayed ReplayFault → Type 0

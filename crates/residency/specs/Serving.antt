@@ -1,5 +1,5 @@
 -- What a call wrote, and why another wrote nothing.
-use Rattle.std.specs.Prelude.{◌≡◌, ◌⊎◌, ◌↔◌, ℕ, Bool, if◌then◌else◌, ◌++◌, Option, Some, None, Result, Ok, Err, List, IsSome}
+use Rattle.std.specs.Prelude.{◌≡◌, ◌⊎◌, ◌↔◌, ℕ, Bool, if◌then◌else◌, ◌++◌, Option, Some, None, Result, Ok, Err, List, IsSome, option_map}
 use Rattle.std.specs.Io.KnownBytes.{Appends}
 use Rattle.match_model.specs.Instance.{Instance}
 use Rattle.exchange_core.specs.declared.event.Capacity.{Capacity}
@@ -17,6 +17,7 @@ use Rattle.docket.specs.declared.fault.DocketFault.{DocketFault}
 use Rattle.docket.specs.declared.fault.DocketFault.TheVariants as docket
 use Rattle.match_audit.specs.Report.{Reports}
 use Rattle.match_audit.specs.Replay.{IsGood, IsReplayOf, IsListFault, IsCheckFault}
+use Rattle.match_audit.specs.WorkerCounts.{counts_of}
 use Rattle.match_audit.specs.declared.report.AuditReport.{AuditReport}
 use Rattle.match_audit.specs.declared.replayer.Replayed.{Replayed}
 use Rattle.match_audit.specs.declared.replayer.ReplayFault.{ReplayFault}
@@ -30,7 +31,7 @@ use Rattle.residency.specs.Answer.{replay_text}
 
 -- the sheet, and after it the journal where it is wanted
 abbrev pub match_text : Contents → Capacity → Bool → List (Option ℕ) → List Event → List ℕ
-match_text d cap wanted m j = if wanted then (sheet_text d m ++ journal_text d cap j) else sheet_text d m
+match_text d cap wanted m j = if wanted then (sheet_text d m ++ journal_text d cap j None) else sheet_text d m
 
 -- what was appended, where it is known, is the sheet of what one exchange over the docket gives, its one settled assignment, and the journal of this exchange where it is wanted
 pub record WritesMatch (d : Contents) (cap : Capacity) (wanted : Bool) (old new : Option (List ℕ)) : Type 0 where
@@ -60,19 +61,24 @@ IsReplayAnswer inst j (Some sheet) (Ok replayed) =
     IsGood inst j.capacity j.events × IsReplayOf inst j.events replayed × (sheet ≡ given inst j.events)
 IsReplayAnswer inst j (Some sheet) (Err fault) = IsCheckFault inst j.capacity j.events sheet fault
 
+-- how many events each worker made, where the journal is by worker
+abbrev pub counts_in : JournalParts → Option (List ℕ)
+counts_in j = option_map (λ by. counts_of by.workers by.who) j.by
+
 -- the status of an answer
 abbrev pub replay_status : Result Replayed ReplayFault → Status
 replay_status (Ok replayed) = ReplayGood
 replay_status (Err fault) = ReplayBad
 
--- what was appended, where it is known, is the row of the answer on the docket's journal
+-- what was appended, where it is known, is the row of the answer on the docket's journal, and after a good one of a journal
+-- by worker how many events each made
 pub record WritesReplay (d : Contents) (status : Status) (old new : Option (List ℕ)) : Type 0 where
   pub journal : JournalParts
   pub has_journal : d.journal ≡ Some journal
   pub answer : Result Replayed ReplayFault
   pub answers : IsReplayAnswer d.instance journal d.sheet answer
   pub tells : status ≡ replay_status answer
-  pub appended : Appends old new (replay_text d answer)
+  pub appended : Appends old new (replay_text d answer (counts_in journal))
 
 -- the fault is of memory or the writer
 abbrev pub IsWriteFault : DocketFault → Type 0

@@ -1,9 +1,9 @@
 //! Writing what a replay answered.
-ghost use Rattle.std.specs.Prelude.{◌≡◌, ◌++◌, ◌∷◌, [], ◌+◌, ◌<◌, ◌^◌, codes, decimal, OnOk, IfErr};
+ghost use Rattle.std.specs.Prelude.{◌≡◌, ◌++◌, ◌∷◌, [], ◌+◌, ◌<◌, ◌^◌, codes, decimal, option_copied, OnOk, IfErr};
 ghost use Rattle.std.specs.Io.KnownBytes.{Appends};
 ghost use Rattle.docket.specs.RowText.{row};
 ghost use Rattle.match_audit.specs.Replay.{NamesMember, RefusesMember, IsPendingMember};
-ghost use Rattle.residency.specs.Answer.{replay_text, refusal_word as word_of, refusal_fields, pending_word as kind_of, pending_name as name_of, event_count as count_of, fault_fields, IsAnswerOf};
+ghost use Rattle.residency.specs.Answer.{replay_text, answer_fields, worker_row, worker_rows, count_rows, refusal_word as word_of, refusal_fields, pending_word as kind_of, pending_name as name_of, event_count as count_of, fault_fields, IsAnswerOf};
 ghost use Rattle.residency.specs.Serving.{IsWriteFault};
 
 use docket::{Docket, DocketFault, RowText};
@@ -144,7 +144,6 @@ fn push_good(alloc: Global, rows: &mut RowText, events: usize) -> Result<(), Doc
     rows.push(&[b"G", events.as_bytes()])
 }
 
-#[tactic(auto, unfolding(crate::specs::Answer::replay_text))]
 // Adds the row of an answer.
 fn push_answer(
     alloc: Global,
@@ -153,7 +152,7 @@ fn push_answer(
     answer: &Result<Replayed, ReplayFault>,
 ) -> Result<(), DocketFault>
     requires member { IsAnswerOf docket.now answer.now }
-    ensures row { OnOk result (rows.new ≡ rows.old ++ replay_text docket.now answer.now) }
+    ensures row { OnOk result (rows.new ≡ rows.old ++ row (answer_fields docket.now answer.now)) }
     ensures err { IfErr result (λ fault. fault ≡ DocketFault.Memory) }
 {
     match answer {
@@ -162,20 +161,67 @@ fn push_answer(
     }
 }
 
-/// Writes what a replay of the docket's journal answered, in one row.
+// Adds the row of a worker.
+#[tactic(auto, unfolding(crate::specs::Answer::worker_row))]
+fn push_worker(
+    alloc: Global,
+    rows: &mut RowText,
+    worker: usize,
+    events: u64,
+) -> Result<(), DocketFault>
+    ensures row { OnOk result (rows.new ≡ rows.old ++ worker_row worker events) }
+    ensures err { IfErr result (λ fault. fault ≡ DocketFault.Memory) }
+{
+    let worker = worker.to_string(alloc)?;
+    let events = events.to_string(alloc)?;
+    rows.push(&[b"K", worker.as_bytes(), events.as_bytes()])
+}
+
+// Adds the row of each worker.
+fn push_workers(alloc: Global, rows: &mut RowText, counts: &[u64]) -> Result<(), DocketFault>
+    ensures rows { OnOk result (rows.new ≡ rows.old ++ worker_rows 0 counts.now) }
+    ensures err { IfErr result (λ fault. fault ≡ DocketFault.Memory) }
+{
+    for worker in 0..counts.len() {
+        push_worker(alloc, rows, worker, counts[worker])?;
+    }
+    Ok(())
+}
+
+// Adds what follows the row of an answer.
+#[tactic(auto, unfolding(crate::specs::Answer::count_rows))]
+fn push_counts(
+    alloc: Global,
+    rows: &mut RowText,
+    answer: &Result<Replayed, ReplayFault>,
+    counts: Option<&[u64]>,
+) -> Result<(), DocketFault>
+    ensures rows { OnOk result (rows.new ≡ rows.old ++ count_rows answer.now (option_copied counts.entry)) }
+    ensures err { IfErr result (λ fault. fault ≡ DocketFault.Memory) }
+{
+    match (answer, counts) {
+        (Ok(_), Some(counts)) => push_workers(alloc, rows, counts),
+        _ => Ok(()),
+    }
+}
+
+/// Writes what a replay of the docket's journal answered: one row, and where there are counts, after a good answer one row
+/// for each worker, with how many events it made.
 ///
 /// Whoever the answer names is a member of the docket. How much was written before a fault isn't told.
 pub fn write_replay<W: Write>(
     alloc: Global,
     docket: &Docket,
     answer: &Result<Replayed, ReplayFault>,
+    counts: Option<&[u64]>,
     writer: &mut W,
 ) -> Result<(), DocketFault>
     requires { IsAnswerOf docket.now answer.now }
-    ensures ok { OnOk result (Appends (W.contents writer.old) (W.contents writer.new) (replay_text docket.now answer.now)) }
+    ensures ok { OnOk result (Appends (W.contents writer.old) (W.contents writer.new) (replay_text docket.now answer.now (option_copied counts.entry))) }
     ensures fault { IfErr result IsWriteFault }
 {
     let mut rows = RowText::new(alloc);
     push_answer(alloc, &mut rows, docket, answer)?;
+    push_counts(alloc, &mut rows, answer, counts)?;
     rows.send(writer)
 }

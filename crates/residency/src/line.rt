@@ -38,8 +38,9 @@ Example: cat examples/market.csv result.csv | residency audit";
 
 const REPLAY_HELP: &str =
     "Reads a docket with a journal on standard input: C and E records beside its own, and maybe a sheet.
-Writes G and the number of events, or N and the first event that may not follow and why, or D and
-the first resident at whom the sheet differs.
+Writes G and the number of events, and of a journal by worker K, each worker and how many events it
+made; or N and the first event that may not follow and why, or D and the first resident at whom the
+sheet differs.
 
 Exit status: 0 for a good journal; 4 for a bad one; 3 for a docket at fault or without a journal;
 2 for a wrong command line; 1 where memory, reading or writing failed.

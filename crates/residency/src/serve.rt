@@ -1,19 +1,20 @@
 //! The calls from bytes to bytes.
-ghost use Rattle.std.specs.Prelude.{◌≡◌, ℕ, List, Some, false, length, IfOk, IfErr, OnOk};
+ghost use Rattle.std.specs.Prelude.{◌≡◌, ℕ, List, Some, false, length, option_copied, option_map, IfOk, IfErr, IfSome, OnOk};
 ghost use Rattle.std.specs.List.{All};
+ghost use Rattle.std.specs.Global.{Vec};
 ghost use Rattle.std.specs.Io.KnownBytes.{Appends};
 ghost use Rattle.match_audit.specs.Report.{Reports};
-ghost use Rattle.docket.specs.Whole.{IsSheetOf, NamesMembers};
-ghost use Rattle.residency.specs.Serving.{WritesMatch, match_text, IsWriteFault, WritesReport, WritesReplay, IsMatchFault, IsAuditFault, IsReplayFault, AreDocket, IsFaultOf, IsBeforeWriting, IsAnswerTo};
+ghost use Rattle.docket.specs.Whole.{IsSheetOf, NamesMembers, IsByWorker};
+ghost use Rattle.residency.specs.Serving.{WritesMatch, match_text, IsWriteFault, WritesReport, WritesReplay, IsMatchFault, IsAuditFault, IsReplayFault, AreDocket, IsFaultOf, IsBeforeWriting, IsAnswerTo, counts_in};
 
 use crate::answer::write_replay;
 use crate::fault::ServeFault;
 use crate::options::{MatchOptions, Order};
 use crate::report::write_report;
 use crate::status::Status;
-use docket::{Docket, DocketFault, read_docket, write_journal, write_sheet};
+use docket::{Docket, DocketFault, Journal, read_docket, write_journal, write_sheet};
 use exchange_core::Event;
-use match_audit::{AuditFault, AuditReport, ReplayFault, audit, check, replay};
+use match_audit::{AuditFault, AuditReport, ReplayFault, audit, check, counts, replay};
 use match_model::Assignment;
 use match_pool::{Ending, Gate, run};
 use settle_law::law_one_settled;
@@ -38,7 +39,7 @@ fn write_match<W: Write>(
 {
     write_sheet(alloc, docket, assignment, writer)?;
     if options.journal {
-        write_journal(alloc, docket, options.capacity, journal, writer)?;
+        write_journal(alloc, docket, options.capacity, journal, None, writer)?;
     }
     Ok(())
 }
@@ -123,6 +124,31 @@ fn audit_docket<W: Write>(
     }
 }
 
+// How many events each worker made, where the journal is by worker. An error is want of memory.
+fn counts_of(alloc: Global, journal: &Journal) -> Result<Option<Vec<u64>>, ServeFault>
+    requires { IfSome journal.now.by (IsByWorker journal.now.events) }
+    ensures counts { IfOk result (λ counts. option_map (λ (v : Vec ℕ). v.items) counts ≡ counts_in journal.now) }
+    ensures fault { IfErr result (λ fault. fault ≡ ServeFault.Memory) }
+{
+    let Some(by) = &journal.by else {
+        return Ok(None);
+    };
+    match counts(alloc, by.workers, by.who.as_slice()) {
+        Ok(counts) => Ok(Some(counts)),
+        Err(_) => Err(ServeFault::Memory),
+    }
+}
+
+// The counts, as they are lent.
+fn lent(counts: &Option<Vec<u64>>) -> Option<&[u64]>
+    ensures { option_copied result ≡ option_map (λ (v : Vec ℕ). v.items) counts.now }
+{
+    match counts {
+        Some(counts) => Some(counts.as_slice()),
+        None => None,
+    }
+}
+
 // Writes whether a docket's journal is a good exchange and, where the docket has a sheet, whether the exchange gives it.
 fn replay_docket<W: Write>(
     alloc: Global,
@@ -144,7 +170,8 @@ fn replay_docket<W: Write>(
     if let Err(ReplayFault::Memory) = answer {
         return Err(ServeFault::Memory);
     }
-    match write_replay(alloc, docket, &answer, writer) {
+    let counts = counts_of(alloc, journal)?;
+    match write_replay(alloc, docket, &answer, lent(&counts), writer) {
         Ok(()) if answer.is_ok() => Ok(Status::ReplayGood),
         Ok(()) => Ok(Status::ReplayBad),
         Err(fault) => Err(ServeFault::Docket(fault)),

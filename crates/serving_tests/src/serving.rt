@@ -5,8 +5,8 @@ mod withdrawn;
 
 use crate::devices::{CutReader, CutWriter};
 use crate::texts::{
-    CLOSE, ELEVEN, FULL, OTHER_SHEET, QUOTAS, SMALL, SMALL_JOURNAL, SMALL_SHEET, TO_EIGHTEEN,
-    TO_THIRTEEN, VERSION_2, further, joined,
+    CLOSE, EIGHT_BY_TWO, ELEVEN, FULL, OTHER_SHEET, QUOTAS, SMALL, SMALL_JOURNAL, SMALL_SHEET,
+    TO_EIGHTEEN, TO_THIRTEEN, VERSION_2, further, joined,
 };
 use docket::DocketFault;
 use exchange_core::Capacity;
@@ -206,6 +206,80 @@ fn audits(rt: HostRuntime) -> Result<(), Fail> {
         assert!(rt;
             serves_both(rt, rt.alloc(), Order::Audit, texts, ending)?,
             "{report}"
+        );
+    }
+    Ok(())
+}
+
+#[test]
+fn replays_journals_by_worker(rt: HostRuntime) -> Result<(), Fail> {
+    let cases: [(&[&str], Status, &str, u8); 5] = [
+        (
+            &[SMALL, EIGHT_BY_TWO, "E,close,0\n"],
+            Status::ReplayGood,
+            "G,9\nK,0,5\nK,1,4\n",
+            0,
+        ),
+        (
+            &[SMALL, EIGHT_BY_TWO, "E,close,1\n", SMALL_SHEET],
+            Status::ReplayGood,
+            "G,9\nK,0,4\nK,1,5\n",
+            0,
+        ),
+        (
+            &["C,full,3\nE,close,1\n"],
+            Status::ReplayGood,
+            "G,1\nK,0,0\nK,1,1\nK,2,0\n",
+            0,
+        ),
+        (
+            &[SMALL, EIGHT_BY_TWO],
+            Status::ReplayBad,
+            "N,9,not-closed\n",
+            4,
+        ),
+        (
+            &[SMALL, EIGHT_BY_TWO, "E,close,0\n", OTHER_SHEET],
+            Status::ReplayBad,
+            "D,x\n",
+            4,
+        ),
+    ];
+    for (texts, status, rows, exit) in cases {
+        let ending = (Ok(status), rows, exit);
+        assert!(rt;
+            serves(rt, rt.alloc(), Order::Replay, texts, ending)?,
+            "{rows}"
+        );
+    }
+    Ok(())
+}
+
+#[test]
+fn refuses_wrong_workers(rt: HostRuntime) -> Result<(), Fail> {
+    let cases: [(&[&str], DocketFault); 4] = [
+        (
+            &[SMALL, EIGHT_BY_TWO, "E,close,2\n"],
+            DocketFault::BadEvent { place: 16 },
+        ),
+        (
+            &[SMALL, EIGHT_BY_TWO, "E,close\n"],
+            DocketFault::FieldCount { place: 16 },
+        ),
+        (
+            &[SMALL, EIGHT_BY_TWO, "E,close,0,0\n"],
+            DocketFault::FieldCount { place: 16 },
+        ),
+        (
+            &[SMALL, "C,full,9\n", "E,close,0\n"],
+            DocketFault::BadEvent { place: 7 },
+        ),
+    ];
+    for (texts, fault) in cases {
+        let ending = (Err(ServeFault::Docket(fault)), "", 3);
+        assert!(rt;
+            serves(rt, rt.alloc(), Order::Replay, texts, ending)?,
+            "{fault}"
         );
     }
     Ok(())

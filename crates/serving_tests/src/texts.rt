@@ -14,6 +14,10 @@ pub(super) const OTHER_SHEET: &str = "M,x,b\nM,y,a\nF,a,1,1\nF,b,1,1\n";
 pub(super) const SMALL_JOURNAL: &str =
     "E,offer,a,x\nE,offer,b,y\nE,take,x,a\nE,take,y,b\nE,answer,x,a,hold\nE,answer,y,b,hold\nE,hear,a,x,hold\nE,hear,b,y,hold\nE,close\n";
 
+/// The same journal by two workers in turn, without its last event.
+pub(super) const EIGHT_BY_TWO: &str =
+    "C,full,2\nE,offer,a,x,0\nE,offer,b,y,1\nE,take,x,a,0\nE,take,y,b,1\nE,answer,x,a,hold,0\nE,answer,y,b,hold,1\nE,hear,a,x,hold,0\nE,hear,b,y,hold,1\n";
+
 /// A programme of two places that all rank, and one that displaces a resident from it.
 pub(super) const QUOTAS: &str = "Q,a,2\nQ,b,1\nP,a,x,y,z\nP,b,x\nR,x,b,a\nR,y,a\nR,z,a\n";
 

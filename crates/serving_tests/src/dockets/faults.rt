@@ -22,7 +22,7 @@ U,x,a = record 1: wrong number of fields
 F,a,1 = record 1: wrong number of fields
 F,a,1,1,1 = record 1: wrong number of fields
 C = record 1: wrong number of fields
-C,full,full = record 1: wrong number of fields
+C,full,2,2 = record 1: wrong number of fields
 E = record 1: wrong number of fields
 E,offer,a = record 1: wrong number of fields
 E,offer,a,x,hold = record 1: wrong number of fields
@@ -70,6 +70,33 @@ E,stop = record 1: bad journal row
 E, = record 1: bad journal row
 C,full E,answer,x,a,keep = record 2: bad journal row
 C,full E,hear,a,x, = record 2: bad journal row";
+
+const WORKERS: &str = "\
+C,full,8 = read
+C,1,008 = read
+C,full,0 = record 1: bad journal row
+C,full,9 = record 1: bad journal row
+C,full, = record 1: bad journal row
+C,full,x = record 1: bad journal row
+C,0,2 = record 1: bad journal row
+C,full,2 C,full = record 2: bad journal row
+C,full,2 E,close,1 = read
+C,full,8 E,close,007 E,close,0 = read
+C,full,2 E,close,2 = record 2: bad journal row
+C,full,1 E,close,1 = record 2: bad journal row
+C,full,2 E,close, = record 2: bad journal row
+C,full,2 E,close,+1 = record 2: bad journal row
+C,full,2 E,close,4294967296 = record 2: bad journal row
+C,full,2 E,close = record 2: wrong number of fields
+C,full,2 E,close,1,1 = record 2: wrong number of fields
+C,full,2 E,offer,a,x = record 2: wrong number of fields
+C,full,2 E,answer,x,a,hold = record 2: wrong number of fields
+C,full,2 E,answer,x,a,keep,1 = record 2: bad journal row
+C,full,2 E,hear,a,/,hold,2 = record 2: bad name
+C,full,2 E,take,x,a,0 = record 2: unknown name
+C,full E,close,0 = record 2: wrong number of fields
+E,close,0 C,full,2 = record 1: wrong number of fields
+E,close C,full,2 = record 1: bad journal row";
 
 const ROWS_BEFORE: &str = "\
 E,close = record 1: bad journal row
@@ -131,7 +158,7 @@ fn faults_of_one_record(rt: HostRuntime) -> Result<(), Fail> {
 
 #[test]
 fn faults_among_records(rt: HostRuntime) -> Result<(), Fail> {
-    for lines in [ROWS_BEFORE, LISTS, SHEETS, EVENTS] {
+    for lines in [WORKERS, ROWS_BEFORE, LISTS, SHEETS, EVENTS] {
         assert!(rt; first_wrong(rt.alloc(), lines)? == None);
         assert!(rt; first_wrong_of_version_2(rt.alloc(), lines)? == None);
     }

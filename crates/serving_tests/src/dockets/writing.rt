@@ -2,8 +2,8 @@
 use super::read;
 use crate::devices::CutWriter;
 use crate::texts::{
-    CLOSE, ELEVEN, FULL, OTHER_SHEET, QUOTAS, SMALL, SMALL_JOURNAL, TO_EIGHTEEN, TO_THIRTEEN,
-    joined,
+    CLOSE, EIGHT_BY_TWO, ELEVEN, FULL, OTHER_SHEET, QUOTAS, SMALL, SMALL_JOURNAL, TO_EIGHTEEN,
+    TO_THIRTEEN, joined,
 };
 use docket::{Docket, DocketFault, RowText, write_journal, write_sheet};
 use exchange_core::{AnswerKind, Capacity, Event};
@@ -44,6 +44,7 @@ fn write_own_journal<W: Write>(
             docket,
             journal.capacity,
             journal.events.as_slice(),
+            journal.by.as_ref(),
             writer,
         ),
         None => Ok(()),
@@ -150,6 +151,48 @@ fn keeps_journals(rt: HostRuntime) -> Result<(), Fail> {
             is_kept(rt.alloc(), members, rows, capacity, events)?,
             "{members}"
         );
+    }
+    Ok(())
+}
+
+// Whether what is read has a journal by this many workers, each event by the worker in its place.
+fn has_workers(alloc: Global, input: &str, workers: u32, who: &[u8]) -> bool {
+    match read(alloc, input) {
+        Ok(docket) => is_by(&docket, workers, who),
+        Err(_) => false,
+    }
+}
+
+// Whether the docket has a journal by these workers.
+fn is_by(docket: &Docket, workers: u32, who: &[u8]) -> bool {
+    match docket.journal() {
+        Some(journal) => match &journal.by {
+            Some(by) => by.workers == workers && by.who.as_slice() == who,
+            None => false,
+        },
+        None => false,
+    }
+}
+
+#[test]
+fn keeps_journals_by_worker(rt: HostRuntime) -> Result<(), Fail> {
+    let alloc = rt.alloc();
+    let cases: [(&str, &[&str], u32, &[u8]); 4] = [
+        (
+            SMALL,
+            &[EIGHT_BY_TWO, "E,close,0\n"],
+            2,
+            &[0, 1, 0, 1, 0, 1, 0, 1, 0],
+        ),
+        ("", &["C,full,1\n", "E,close,0\n"], 1, &[0]),
+        ("", &["C,1024,8\n", "E,close,7\nE,close,3\n"], 8, &[7, 3]),
+        ("", &["C,1,8\n"], 8, &[]),
+    ];
+    for (members, rows, workers, who) in cases {
+        let journal = joined(alloc, rows)?;
+        let text = joined(alloc, &[members, journal.as_str()])?;
+        assert!(rt; has_workers(alloc, text.as_str(), workers, who));
+        assert!(rt; writes_journal(alloc, text.as_str(), journal.as_str()));
     }
     Ok(())
 }
