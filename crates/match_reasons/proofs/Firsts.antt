@@ -1,0 +1,201 @@
+-- There is one first answer, and what is told of a programme's members decides between the last two.
+use Rattle.std.proofs.Common.{◌≡◌, ℕ, ◌<◌, ◌≤◌, inl, inr, List, arith, refl, sym, ap, ◌∙◌, subst}
+use Rattle.std.specs.Prelude.{Option, Some, None}
+use Rattle.std.proofs.lemmas.Bool.{cases_lt}
+use Rattle.std.proofs.lemmas.Option.{same_Some}
+use Rattle.match_model.specs.Ranking.{place, IsListed, IsBefore}
+use Rattle.match_model.specs.Instance.{Instance, IsInstance, list_of_programme, list_of_resident, quota, rank}
+use Rattle.match_model.specs.Placement.{programme_of, IsMemberOf}
+use Rattle.exchange_core.proofs.Rankings.{same_from_place}
+use Rattle.match_model.proofs.Instances.{acceptable_programme}
+use Rattle.settle_law.specs.Stable.{Prefers, IsStable, HasRoomFor}
+use Rattle.match_reasons.proofs.Ranks.{ranked, place_unranked}
+use Rattle.match_reasons.specs.Reason.{HasBetter, IsLastRank, Holds, turn, IsFirst, Wants, TellsFull, NamesProgramme, IsTold, IsPast}
+use Rattle.match_reasons.specs.declared.members.Members.{Members}
+use Rattle.match_reasons.specs.declared.reason.Why.{Why}
+use Rattle.match_reasons.specs.declared.reason.Why.TheVariants.{NotAcceptable, Matched, PrefersOwn, Full, Blocking}
+
+-- a last rank is one
+same_last : (inst : Instance) (m : List (Option ℕ)) (p : ℕ) (a b : Option ℕ) → IsLastRank inst m p a → IsLastRank inst m p b → a ≡ b
+same_last inst m p None None h k = refl
+same_last inst m p None (Some b) h k = absurd (h k.0.0 k.0.1)
+same_last inst m p (Some a) None h k = absurd (k h.0.0 h.0.1)
+same_last inst m p (Some a) (Some b) h k =
+    let l = h.1 k.0.0 k.0.1 in let g = k.1 h.0.0 h.0.1 in let e = h.0.2 in let f = k.0.2 in
+    ap Some (omega arith)
+
+-- two answers of one turn that hold are one
+same_holding : (inst : Instance) (m : List (Option ℕ)) (r p : ℕ) (a b : Why) → Holds inst m r p a → Holds inst m r p b → turn a ≡ turn b → a ≡ b
+same_holding inst m r p NotAcceptable NotAcceptable h k e = refl
+same_holding inst m r p NotAcceptable Matched h k e = absurd (omega arith)
+same_holding inst m r p NotAcceptable (PrefersOwn o i j) h k e = absurd (omega arith)
+same_holding inst m r p NotAcceptable (Full i l q) h k e = absurd (omega arith)
+same_holding inst m r p NotAcceptable Blocking h k e = absurd (omega arith)
+same_holding inst m r p Matched NotAcceptable h k e = absurd (omega arith)
+same_holding inst m r p Matched Matched h k e = refl
+same_holding inst m r p Matched (PrefersOwn o i j) h k e = absurd (omega arith)
+same_holding inst m r p Matched (Full i l q) h k e = absurd (omega arith)
+same_holding inst m r p Matched Blocking h k e = absurd (omega arith)
+same_holding inst m r p (PrefersOwn o i j) NotAcceptable h k e = absurd (omega arith)
+same_holding inst m r p (PrefersOwn o i j) Matched h k e = absurd (omega arith)
+same_holding inst m r p (PrefersOwn o i j) (PrefersOwn o' i' j') h k e =
+    let f : o ≡ o' = same_Some o o' (sym h.has_own ∙ k.has_own) in
+    let x : i ≡ i' = same_Some i i' (sym h.own_ranked ∙ ap (rank (list_of_resident inst r)) f ∙ k.own_ranked) in
+    let y : j ≡ j' = same_Some j j' (sym h.ranked ∙ k.ranked) in cc
+same_holding inst m r p (PrefersOwn o i j) (Full i' l q) h k e = absurd (omega arith)
+same_holding inst m r p (PrefersOwn o i j) Blocking h k e = absurd (omega arith)
+same_holding inst m r p (Full i l q) NotAcceptable h k e = absurd (omega arith)
+same_holding inst m r p (Full i l q) Matched h k e = absurd (omega arith)
+same_holding inst m r p (Full i l q) (PrefersOwn o i' j) h k e = absurd (omega arith)
+same_holding inst m r p (Full i l q) (Full i' l' q') h k e =
+    let x : i ≡ i' = same_Some i i' (sym h.ranked ∙ k.ranked) in
+    let y : l ≡ l' = same_last inst m p l l' h.last k.last in
+    let z : q ≡ q' = sym h.has_quota ∙ k.has_quota in cc
+same_holding inst m r p (Full i l q) Blocking h k e = absurd (omega arith)
+same_holding inst m r p Blocking NotAcceptable h k e = absurd (omega arith)
+same_holding inst m r p Blocking Matched h k e = absurd (omega arith)
+same_holding inst m r p Blocking (PrefersOwn o i j) h k e = absurd (omega arith)
+same_holding inst m r p Blocking (Full i l q) h k e = absurd (omega arith)
+same_holding inst m r p Blocking Blocking h k e = refl
+
+-- there is one first answer
+pub one_first : (inst : Instance) (m : List (Option ℕ)) (r p : ℕ) (a b : Why) → IsFirst inst m r p a → IsFirst inst m r p b → a ≡ b
+one_first inst m r p a b h k = elim (cases_lt (turn a) (turn b)) [
+  | inl c ↦ absurd (k.none_before a c h.holds)
+  | inr c ↦ elim (cases_lt (turn b) (turn a)) [
+    | inl d ↦ absurd (h.none_before b d k.holds)
+    | inr d ↦ same_holding inst m r p a b h.holds k.holds (omega arith)
+  ]
+]
+
+-- the first answer over a stable placement isn't that the two block it
+pub never_blocking : (inst : Instance) (m : List (Option ℕ)) (r p : ℕ) (a : Why) → IsFirst inst m r p a → IsStable inst m → a ≡ Blocking → ⊥
+never_blocking inst m r p a h stable e = stable.nothing_blocks r p (subst (Holds inst m r p) e h.holds)
+
+-- whoever would rather have the programme has none before it
+not_better : (inst : Instance) (m : List (Option ℕ)) (r p own i j : ℕ) → Wants inst m r p → HasBetter inst m r p own i j → ⊥
+not_better inst m r p own i j w h =
+    let list : List ℕ = list_of_resident inst r in
+    let before : IsBefore list p own = subst (Prefers list p) h.has_own w.would in
+    let x = ranked list own i (sym h.own_ranked) in
+    let y = ranked list p j (sym h.ranked) in
+    let l = h.before in omega arith
+
+-- r would rather have p than a programme that stands no earlier
+pub wants_over : (inst : Instance) → IsInstance inst → (m : List (Option ℕ)) (r p own i j : ℕ) → Some i ≡ rank (list_of_resident inst r) own →
+    Some j ≡ rank (list_of_resident inst r) p → (IsMemberOf m r p → ⊥) → programme_of m r ≡ Some own → j ≤ i → Wants inst m r p
+wants_over inst is m r p own i j e f not has l =
+    let list : List ℕ = list_of_resident inst r in
+    let x = ranked list own i e in
+    let y = ranked list p j f in record {
+      acceptable = (is.both_rank p r).1 y.0;
+      not_placed = not;
+      would = subst (Prefers list p) (sym has) (before x y);
+    }
+  where
+    before : IsListed (list_of_resident inst r) own × (place (list_of_resident inst r) own ≡ i) → IsListed (list_of_resident inst r) p × (place (list_of_resident inst r) p ≡ j) →
+        IsBefore (list_of_resident inst r) p own
+    before x y = elim (cases_lt (place (list_of_resident inst r) p) (place (list_of_resident inst r) own)) [
+      | inl c ↦ c
+      | inr c ↦
+          let same : p ≡ own = same_from_place (list_of_resident inst r) p own y.0 (let a = x.1 in let b = y.1 in omega arith) in
+          absurd (not (has ∙ ap Some (sym same)))
+    ]
+
+-- r would rather have p than nothing, or than a programme that it doesn't list
+pub wants_any : (inst : Instance) → IsInstance inst → (m : List (Option ℕ)) (r p j : ℕ) → Some j ≡ rank (list_of_resident inst r) p →
+    (IsMemberOf m r p → ⊥) → ((own : ℕ) → programme_of m r ≡ Some own → None ≡ rank (list_of_resident inst r) own) → Wants inst m r p
+wants_any inst is m r p j f not has =
+    let y = ranked (list_of_resident inst r) p j f in record {
+      acceptable = (is.both_rank p r).1 y.0;
+      not_placed = not;
+      would = would y.0 (programme_of m r) refl;
+    }
+  where
+    would : IsListed (list_of_resident inst r) p → (o : Option ℕ) → programme_of m r ≡ o → Prefers (list_of_resident inst r) p o
+    would l None e = tt
+    would l (Some own) e = let past = place_unranked (list_of_resident inst r) own (has own e) in omega arith
+
+-- whoever would rather have the programme is told none of the first three
+pub wants_none : (inst : Instance) (m : List (Option ℕ)) (r p : ℕ) (a : Why) → Wants inst m r p → turn a < 3 → Holds inst m r p a → ⊥
+wants_none inst m r p NotAcceptable w l h = h w.acceptable
+wants_none inst m r p Matched w l h = w.not_placed h
+wants_none inst m r p (PrefersOwn own i j) w l h = not_better inst m r p own i j w h
+wants_none inst m r p (Full i k q) w l h = absurd (omega arith)
+wants_none inst m r p Blocking w l h = absurd (omega arith)
+
+-- so over a stable placement they are told that all places were taken before them
+pub tells_full : (inst : Instance) (m : List (Option ℕ)) (r p : ℕ) (a : Why) → IsFirst inst m r p a → IsStable inst m → Wants inst m r p → TellsFull a
+tells_full inst m r p NotAcceptable h stable w = absurd (wants_none inst m r p NotAcceptable w (omega arith) h.holds)
+tells_full inst m r p Matched h stable w = absurd (wants_none inst m r p Matched w (omega arith) h.holds)
+tells_full inst m r p (PrefersOwn own i j) h stable w = absurd (wants_none inst m r p (PrefersOwn own i j) w (omega arith) h.holds)
+tells_full inst m r p (Full i k q) h stable w = tt
+tells_full inst m r p Blocking h stable w = absurd (stable.nothing_blocks r p h.holds)
+
+-- the programme would rather have r, who would rather have it
+pub first_blocking : (inst : Instance) (m : List (Option ℕ)) (r p : ℕ) → Wants inst m r p → HasRoomFor inst m p r → IsFirst inst m r p Blocking
+first_blocking inst m r p w room = record {
+  holds = record { acceptable = w.acceptable; not_placed = w.not_placed; resident_would = w.would; programme_would = room };
+  none_before = λ other l h. before other l h;
+}
+  where
+    before : (other : Why) → turn other < 4 → Holds inst m r p other → ⊥
+    before NotAcceptable l h = h w.acceptable
+    before Matched l h = w.not_placed h
+    before (PrefersOwn own i j) l h = not_better inst m r p own i j w h
+    before (Full i k q) l h = elim room [
+      | inl free ↦ let taken = h.all_taken in omega arith
+      | inr (s, is, after) ↦ let b = h.all_before s is in omega arith
+    ]
+    before Blocking l h = absurd (omega arith)
+
+-- the programme wouldn't: as many members as places, of whom the last stands no later than r, who isn't one
+pub first_full : (inst : Instance) (m : List (Option ℕ)) (r p i : ℕ) (members : Members) → Wants inst m r p → Some i ≡ rank (list_of_programme inst p) r →
+    IsTold inst m p members → quota inst p ≤ members.count → (IsPast i members.last_rank → ⊥) → IsFirst inst m r p (Full i members.last_rank (quota inst p))
+first_full inst m r p i members w e told taken past = record {
+  holds = record {
+    ranked = sym e;
+    last = told.last;
+    has_quota = refl;
+    all_taken = (let c = told.count in omega arith);
+    all_before = λ s is. before members.last_rank told.last past s is;
+  };
+  none_before = λ other l h. wants_none inst m r p other w l h;
+}
+  where
+    before : (last : Option ℕ) → IsLastRank inst m p last → (IsPast i last → ⊥) → (s : ℕ) → IsMemberOf m s p → IsBefore (list_of_programme inst p) s r
+    before None h n s is = absurd (h s is)
+    before (Some last) h n s is =
+        let at = ranked (list_of_programme inst p) r i e in
+        let up = h.1 s is in
+        elim (cases_lt (place (list_of_programme inst p) s) (place (list_of_programme inst p) r)) [
+          | inl c ↦ c
+          | inr c ↦
+              let out : last ≤ i = elim (cases_lt i last) [ inl d ↦ absurd (n d) | inr d ↦ d ] in
+              let same : r ≡ s = same_from_place (list_of_programme inst p) r s at.0 (let b = at.1 in omega arith) in
+              absurd (w.not_placed (subst (λ z. IsMemberOf m z p) (sym same) is))
+        ]
+
+-- what is told of the members decides whether the programme would
+pub room_by_count : (inst : Instance) (m : List (Option ℕ)) (r p : ℕ) (members : Members) → IsTold inst m p members →
+    members.count < quota inst p → HasRoomFor inst m p r
+room_by_count inst m r p members told l = inl (let c = told.count in omega arith)
+
+pub room_by_rank : (inst : Instance) (m : List (Option ℕ)) (r p i : ℕ) (members : Members) → Some i ≡ rank (list_of_programme inst p) r →
+    IsTold inst m p members → IsPast i members.last_rank → HasRoomFor inst m p r
+room_by_rank inst m r p i members e told past = after members.last_rank told.last past
+  where
+    after : (last : Option ℕ) → IsLastRank inst m p last → IsPast i last → HasRoomFor inst m p r
+    after None h past = absurd past
+    after (Some last) h past =
+        let at = ranked (list_of_programme inst p) r i e in
+        inr (h.0.0, h.0.1, let b = h.0.2 in let a = at.1 in omega arith)
+
+-- whoever the first answer names is on r's list, and so a programme
+pub names_programme : (inst : Instance) → IsInstance inst → (m : List (Option ℕ)) (r p : ℕ) (a : Why) → IsFirst inst m r p a → NamesProgramme inst a
+names_programme inst is m r p NotAcceptable h = tt
+names_programme inst is m r p Matched h = tt
+names_programme inst is m r p (PrefersOwn own i j) h =
+    acceptable_programme inst is r own ((is.both_rank own r).1 (ranked (list_of_resident inst r) own i (sym h.holds.own_ranked)).0)
+names_programme inst is m r p (Full i k q) h = tt
+names_programme inst is m r p Blocking h = tt

@@ -1,0 +1,89 @@
+-- Why a placement doesn't give a programme to a resident.
+use Rattle.std.specs.Prelude.{◌≡◌, ℕ, ◌<◌, ◌≤◌, max, Option, Some, None, List}
+use Rattle.match_model.specs.Ranking.{place, IsBefore}
+use Rattle.match_model.specs.Instance.{Instance, IsProgramme, Acceptable, list_of_programme, list_of_resident, quota as quota_of, rank as rank_in}
+use Rattle.match_model.specs.Placement.{programme_of, IsMemberOf, member_count}
+use Rattle.settle_law.specs.Stable.{Prefers, Blocks}
+use Rattle.match_reasons.specs.declared.members.Members.{Members}
+use Rattle.match_reasons.specs.declared.reason.Why.{Why}
+use Rattle.match_reasons.specs.declared.reason.Why.TheVariants.{NotAcceptable, Matched, PrefersOwn, Full, Blocking}
+
+-- r has a programme that stands before p in its list, and these are the places of the two
+pub record HasBetter (inst : Instance) (m : List (Option ℕ)) (r p own own_rank rank : ℕ) : Type 0 where
+  pub has_own : IsMemberOf m r own
+  pub own_ranked : rank_in (list_of_resident inst r) own ≡ Some own_rank
+  pub ranked : rank_in (list_of_resident inst r) p ≡ Some rank
+  pub before : own_rank < rank
+
+-- the last place that a member of p has in p's list, or none where p has no members
+abbrev pub IsLastRank : Instance → List (Option ℕ) → ℕ → Option ℕ → Type 0
+IsLastRank inst m p None = (s : ℕ) → ¬ IsMemberOf m s p
+IsLastRank inst m p (Some k) =
+    ((s : ℕ) × IsMemberOf m s p × (place (list_of_programme inst p) s ≡ k))
+    × ((s : ℕ) → IsMemberOf m s p → place (list_of_programme inst p) s ≤ k)
+
+-- all places of p went to residents who stand before r in its list: r's place, the last of theirs, and p's quota
+pub record IsFullBefore (inst : Instance) (m : List (Option ℕ)) (r p rank : ℕ) (last_rank : Option ℕ) (quota : ℕ) : Type 0 where
+  pub ranked : rank_in (list_of_programme inst p) r ≡ Some rank
+  pub last : IsLastRank inst m p last_rank
+  pub has_quota : quota_of inst p ≡ quota
+  pub all_taken : quota_of inst p ≤ member_count m p
+  pub all_before : (s : ℕ) → IsMemberOf m s p → IsBefore (list_of_programme inst p) s r
+
+-- the answer holds of r and p
+abbrev pub Holds : Instance → List (Option ℕ) → ℕ → ℕ → Why → Type 0
+Holds inst m r p NotAcceptable = ¬ Acceptable inst r p
+Holds inst m r p Matched = IsMemberOf m r p
+Holds inst m r p (PrefersOwn own own_rank rank) = HasBetter inst m r p own own_rank rank
+Holds inst m r p (Full rank last_rank quota) = IsFullBefore inst m r p rank last_rank quota
+Holds inst m r p Blocking = Blocks inst m r p
+
+-- the order in which answers are tried
+abbrev pub turn : Why → ℕ
+turn NotAcceptable = 0
+turn Matched = 1
+turn (PrefersOwn own own_rank rank) = 2
+turn (Full rank last_rank quota) = 3
+turn Blocking = 4
+
+-- the first answer that holds
+pub record IsFirst (inst : Instance) (m : List (Option ℕ)) (r p : ℕ) (answer : Why) : Type 0 where
+  pub holds : Holds inst m r p answer
+  pub none_before : (other : Why) → turn other < turn answer → ¬ Holds inst m r p other
+
+-- r and p rank one another, and r would rather have p than what it has
+pub record Wants (inst : Instance) (m : List (Option ℕ)) (r p : ℕ) : Type 0 where
+  pub acceptable : Acceptable inst r p
+  pub not_placed : ¬ IsMemberOf m r p
+  pub would : Prefers (list_of_resident inst r) p (programme_of m r)
+
+-- the answer is that all places went to residents who stand before the one who asks
+abbrev pub TellsFull : Why → Type 0
+TellsFull NotAcceptable = ⊥
+TellsFull Matched = ⊥
+TellsFull (PrefersOwn own own_rank rank) = ⊥
+TellsFull (Full rank last_rank quota) = Unit {0}
+TellsFull Blocking = ⊥
+
+-- whoever the answer names is a programme
+abbrev pub NamesProgramme : Instance → Why → Type 0
+NamesProgramme inst NotAcceptable = Unit {0}
+NamesProgramme inst Matched = Unit {0}
+NamesProgramme inst (PrefersOwn own own_rank rank) = IsProgramme inst own
+NamesProgramme inst (Full rank last_rank quota) = Unit {0}
+NamesProgramme inst Blocking = Unit {0}
+
+-- the number of p's members, and the last place that one of them has
+pub record IsTold (inst : Instance) (m : List (Option ℕ)) (p : ℕ) (members : Members) : Type 0 where
+  pub count : members.count ≡ member_count m p
+  pub last : IsLastRank inst m p members.last_rank
+
+-- the later of a rank, if there is one, and a place
+abbrev pub later : Option ℕ → ℕ → ℕ
+later None k = k
+later (Some last) k = max last k
+
+-- the rank stands before the last one, if there is one
+abbrev pub IsPast : ℕ → Option ℕ → Type 0
+IsPast rank None = ⊥
+IsPast rank (Some last) = rank < last
