@@ -1,0 +1,21 @@
+//! The program that tells a resident why: its words name whom, and the docket with its sheet is on standard input.
+#![tactic(auto)]
+
+use reasons_text::tell_words;
+use std::process::ExitCode;
+use std::{env, io};
+
+// The words after the program's own name.
+fn words(rt: &HostRuntime) -> io::Result<Vec<String>> {
+    Ok(env::args(rt)?.skip(1).collect(rt.alloc())?)
+}
+
+fn main(rt: HostRuntime) -> ExitCode {
+    tell_words(
+        rt.alloc(),
+        words(&rt),
+        rt.reader(),
+        &mut io::writer(&rt),
+        &rt,
+    )
+}
