@@ -4,16 +4,17 @@ use Rattle.std.specs.Prelude.{Option, Some, None}
 use Rattle.std.proofs.lemmas.Bool.{cases_lt}
 use Rattle.std.proofs.lemmas.Option.{same_Some}
 use Rattle.match_model.specs.Ranking.{place, IsListed, IsBefore}
-use Rattle.match_model.specs.Instance.{Instance, IsInstance, list_of_programme, list_of_resident, quota, rank}
+use Rattle.match_model.specs.Instance.{Instance, IsInstance, Acceptable, list_of_programme, list_of_resident, quota, rank}
 use Rattle.match_model.specs.Placement.{programme_of, IsMemberOf}
 use Rattle.exchange_core.proofs.Rankings.{same_from_place}
 use Rattle.match_model.proofs.Instances.{acceptable_programme}
+use Rattle.settle_law.proofs.Places.{IsListed-nil}
 use Rattle.settle_law.specs.Stable.{Prefers, IsStable, HasRoomFor}
 use Rattle.match_reasons.proofs.Ranks.{ranked, place_unranked}
-use Rattle.match_reasons.specs.Reason.{HasBetter, IsLastRank, Holds, turn, IsFirst, Wants, TellsFull, NamesProgramme, IsTold, IsPast}
+use Rattle.match_reasons.specs.Reason.{HasWithdrawn, HasBetter, IsLastRank, Holds, turn, IsFirst, Wants, TellsFull, NamesProgramme, IsTold, IsPast}
 use Rattle.match_reasons.specs.declared.members.Members.{Members}
 use Rattle.match_reasons.specs.declared.reason.Why.{Why}
-use Rattle.match_reasons.specs.declared.reason.Why.TheVariants.{NotAcceptable, Matched, PrefersOwn, Full, Blocking}
+use Rattle.match_reasons.specs.declared.reason.Why.TheVariants.{Withdrawn, NotAcceptable, Matched, PrefersOwn, Full, Blocking}
 
 -- a last rank is one
 same_last : (inst : Instance) (m : List (Option ℕ)) (p : ℕ) (a b : Option ℕ) → IsLastRank inst m p a → IsLastRank inst m p b → a ≡ b
@@ -26,16 +27,25 @@ same_last inst m p (Some a) (Some b) h k =
 
 -- two answers of one turn that hold are one
 same_holding : (inst : Instance) (m : List (Option ℕ)) (r p : ℕ) (a b : Why) → Holds inst m r p a → Holds inst m r p b → turn a ≡ turn b → a ≡ b
+same_holding inst m r p Withdrawn Withdrawn h k e = refl
+same_holding inst m r p Withdrawn NotAcceptable h k e = absurd (omega arith)
+same_holding inst m r p Withdrawn Matched h k e = absurd (omega arith)
+same_holding inst m r p Withdrawn (PrefersOwn o i j) h k e = absurd (omega arith)
+same_holding inst m r p Withdrawn (Full i l q) h k e = absurd (omega arith)
+same_holding inst m r p Withdrawn Blocking h k e = absurd (omega arith)
+same_holding inst m r p NotAcceptable Withdrawn h k e = absurd (omega arith)
 same_holding inst m r p NotAcceptable NotAcceptable h k e = refl
 same_holding inst m r p NotAcceptable Matched h k e = absurd (omega arith)
 same_holding inst m r p NotAcceptable (PrefersOwn o i j) h k e = absurd (omega arith)
 same_holding inst m r p NotAcceptable (Full i l q) h k e = absurd (omega arith)
 same_holding inst m r p NotAcceptable Blocking h k e = absurd (omega arith)
+same_holding inst m r p Matched Withdrawn h k e = absurd (omega arith)
 same_holding inst m r p Matched NotAcceptable h k e = absurd (omega arith)
 same_holding inst m r p Matched Matched h k e = refl
 same_holding inst m r p Matched (PrefersOwn o i j) h k e = absurd (omega arith)
 same_holding inst m r p Matched (Full i l q) h k e = absurd (omega arith)
 same_holding inst m r p Matched Blocking h k e = absurd (omega arith)
+same_holding inst m r p (PrefersOwn o i j) Withdrawn h k e = absurd (omega arith)
 same_holding inst m r p (PrefersOwn o i j) NotAcceptable h k e = absurd (omega arith)
 same_holding inst m r p (PrefersOwn o i j) Matched h k e = absurd (omega arith)
 same_holding inst m r p (PrefersOwn o i j) (PrefersOwn o' i' j') h k e =
@@ -44,6 +54,7 @@ same_holding inst m r p (PrefersOwn o i j) (PrefersOwn o' i' j') h k e =
     let y : j ≡ j' = same_Some j j' (sym h.ranked ∙ k.ranked) in cc
 same_holding inst m r p (PrefersOwn o i j) (Full i' l q) h k e = absurd (omega arith)
 same_holding inst m r p (PrefersOwn o i j) Blocking h k e = absurd (omega arith)
+same_holding inst m r p (Full i l q) Withdrawn h k e = absurd (omega arith)
 same_holding inst m r p (Full i l q) NotAcceptable h k e = absurd (omega arith)
 same_holding inst m r p (Full i l q) Matched h k e = absurd (omega arith)
 same_holding inst m r p (Full i l q) (PrefersOwn o i' j) h k e = absurd (omega arith)
@@ -52,6 +63,7 @@ same_holding inst m r p (Full i l q) (Full i' l' q') h k e =
     let y : l ≡ l' = same_last inst m p l l' h.last k.last in
     let z : q ≡ q' = sym h.has_quota ∙ k.has_quota in cc
 same_holding inst m r p (Full i l q) Blocking h k e = absurd (omega arith)
+same_holding inst m r p Blocking Withdrawn h k e = absurd (omega arith)
 same_holding inst m r p Blocking NotAcceptable h k e = absurd (omega arith)
 same_holding inst m r p Blocking Matched h k e = absurd (omega arith)
 same_holding inst m r p Blocking (PrefersOwn o i j) h k e = absurd (omega arith)
@@ -116,30 +128,40 @@ wants_any inst is m r p j f not has =
     would l None e = tt
     would l (Some own) e = let past = place_unranked (list_of_resident inst r) own (has own e) in omega arith
 
--- whoever would rather have the programme is told none of the first three
-pub wants_none : (inst : Instance) (m : List (Option ℕ)) (r p : ℕ) (a : Why) → Wants inst m r p → turn a < 3 → Holds inst m r p a → ⊥
-wants_none inst m r p NotAcceptable w l h = h w.acceptable
-wants_none inst m r p Matched w l h = w.not_placed h
-wants_none inst m r p (PrefersOwn own i j) w l h = not_better inst m r p own i j w h
-wants_none inst m r p (Full i k q) w l h = absurd (omega arith)
-wants_none inst m r p Blocking w l h = absurd (omega arith)
+-- who is withdrawn is in no acceptable pair
+not_withdrawn : (inst : Instance) → IsInstance inst → (r p : ℕ) → Acceptable inst r p → HasWithdrawn inst r p → ⊥
+not_withdrawn inst is r p a (inl c) =
+    IsListed-nil p (subst (λ (xs : List ℕ). IsListed xs p) (is.withdrawn_residents_rank_nobody r c) ((is.both_rank p r).0 a))
+not_withdrawn inst is r p a (inr c) =
+    IsListed-nil r (subst (λ (xs : List ℕ). IsListed xs r) (is.withdrawn_programmes_rank_nobody p c) a)
+
+-- whoever would rather have the programme is told none of the first four
+pub wants_none : (inst : Instance) → IsInstance inst → (m : List (Option ℕ)) (r p : ℕ) (a : Why) → Wants inst m r p → turn a < 4 → Holds inst m r p a → ⊥
+wants_none inst is m r p Withdrawn w l h = not_withdrawn inst is r p w.acceptable h
+wants_none inst is m r p NotAcceptable w l h = h w.acceptable
+wants_none inst is m r p Matched w l h = w.not_placed h
+wants_none inst is m r p (PrefersOwn own i j) w l h = not_better inst m r p own i j w h
+wants_none inst is m r p (Full i k q) w l h = absurd (omega arith)
+wants_none inst is m r p Blocking w l h = absurd (omega arith)
 
 -- so over a stable placement they are told that all places were taken before them
-pub tells_full : (inst : Instance) (m : List (Option ℕ)) (r p : ℕ) (a : Why) → IsFirst inst m r p a → IsStable inst m → Wants inst m r p → TellsFull a
-tells_full inst m r p NotAcceptable h stable w = absurd (wants_none inst m r p NotAcceptable w (omega arith) h.holds)
-tells_full inst m r p Matched h stable w = absurd (wants_none inst m r p Matched w (omega arith) h.holds)
-tells_full inst m r p (PrefersOwn own i j) h stable w = absurd (wants_none inst m r p (PrefersOwn own i j) w (omega arith) h.holds)
-tells_full inst m r p (Full i k q) h stable w = tt
-tells_full inst m r p Blocking h stable w = absurd (stable.nothing_blocks r p h.holds)
+pub tells_full : (inst : Instance) → IsInstance inst → (m : List (Option ℕ)) (r p : ℕ) (a : Why) → IsFirst inst m r p a → IsStable inst m → Wants inst m r p → TellsFull a
+tells_full inst is m r p Withdrawn h stable w = absurd (wants_none inst is m r p Withdrawn w (omega arith) h.holds)
+tells_full inst is m r p NotAcceptable h stable w = absurd (wants_none inst is m r p NotAcceptable w (omega arith) h.holds)
+tells_full inst is m r p Matched h stable w = absurd (wants_none inst is m r p Matched w (omega arith) h.holds)
+tells_full inst is m r p (PrefersOwn own i j) h stable w = absurd (wants_none inst is m r p (PrefersOwn own i j) w (omega arith) h.holds)
+tells_full inst is m r p (Full i k q) h stable w = tt
+tells_full inst is m r p Blocking h stable w = absurd (stable.nothing_blocks r p h.holds)
 
 -- the programme would rather have r, who would rather have it
-pub first_blocking : (inst : Instance) (m : List (Option ℕ)) (r p : ℕ) → Wants inst m r p → HasRoomFor inst m p r → IsFirst inst m r p Blocking
-first_blocking inst m r p w room = record {
+pub first_blocking : (inst : Instance) → IsInstance inst → (m : List (Option ℕ)) (r p : ℕ) → Wants inst m r p → HasRoomFor inst m p r → IsFirst inst m r p Blocking
+first_blocking inst is m r p w room = record {
   holds = record { acceptable = w.acceptable; not_placed = w.not_placed; resident_would = w.would; programme_would = room };
   none_before = λ other l h. before other l h;
 }
   where
-    before : (other : Why) → turn other < 4 → Holds inst m r p other → ⊥
+    before : (other : Why) → turn other < 5 → Holds inst m r p other → ⊥
+    before Withdrawn l h = not_withdrawn inst is r p w.acceptable h
     before NotAcceptable l h = h w.acceptable
     before Matched l h = w.not_placed h
     before (PrefersOwn own i j) l h = not_better inst m r p own i j w h
@@ -150,9 +172,9 @@ first_blocking inst m r p w room = record {
     before Blocking l h = absurd (omega arith)
 
 -- the programme wouldn't: as many members as places, of whom the last stands no later than r, who isn't one
-pub first_full : (inst : Instance) (m : List (Option ℕ)) (r p i : ℕ) (members : Members) → Wants inst m r p → Some i ≡ rank (list_of_programme inst p) r →
+pub first_full : (inst : Instance) → IsInstance inst → (m : List (Option ℕ)) (r p i : ℕ) (members : Members) → Wants inst m r p → Some i ≡ rank (list_of_programme inst p) r →
     IsTold inst m p members → quota inst p ≤ members.count → (IsPast i members.last_rank → ⊥) → IsFirst inst m r p (Full i members.last_rank (quota inst p))
-first_full inst m r p i members w e told taken past = record {
+first_full inst is m r p i members w e told taken past = record {
   holds = record {
     ranked = sym e;
     last = told.last;
@@ -160,7 +182,7 @@ first_full inst m r p i members w e told taken past = record {
     all_taken = (let c = told.count in omega arith);
     all_before = λ s is. before members.last_rank told.last past s is;
   };
-  none_before = λ other l h. wants_none inst m r p other w l h;
+  none_before = λ other l h. wants_none inst is m r p other w l h;
 }
   where
     before : (last : Option ℕ) → IsLastRank inst m p last → (IsPast i last → ⊥) → (s : ℕ) → IsMemberOf m s p → IsBefore (list_of_programme inst p) s r
@@ -193,6 +215,7 @@ room_by_rank inst m r p i members e told past = after members.last_rank told.las
 
 -- whoever the first answer names is on r's list, and so a programme
 pub names_programme : (inst : Instance) → IsInstance inst → (m : List (Option ℕ)) (r p : ℕ) (a : Why) → IsFirst inst m r p a → NamesProgramme inst a
+names_programme inst is m r p Withdrawn h = tt
 names_programme inst is m r p NotAcceptable h = tt
 names_programme inst is m r p Matched h = tt
 names_programme inst is m r p (PrefersOwn own i j) h =

@@ -1,12 +1,12 @@
 -- Why a placement doesn't give a programme to a resident.
-use Rattle.std.specs.Prelude.{◌≡◌, ℕ, ◌<◌, ◌≤◌, max, Option, Some, None, List}
+use Rattle.std.specs.Prelude.{◌≡◌, ℕ, ◌<◌, ◌≤◌, ◌⊎◌, true, max, Option, Some, None, List}
 use Rattle.match_model.specs.Ranking.{place, IsBefore}
-use Rattle.match_model.specs.Instance.{Instance, IsProgramme, Acceptable, list_of_programme, list_of_resident, quota as quota_of, rank as rank_in}
+use Rattle.match_model.specs.Instance.{Instance, IsProgramme, Acceptable, is_withdrawn, list_of_programme, list_of_resident, quota as quota_of, rank as rank_in}
 use Rattle.match_model.specs.Placement.{programme_of, IsMemberOf, member_count}
 use Rattle.settle_law.specs.Stable.{Prefers, Blocks}
 use Rattle.match_reasons.specs.declared.members.Members.{Members}
 use Rattle.match_reasons.specs.declared.reason.Why.{Why}
-use Rattle.match_reasons.specs.declared.reason.Why.TheVariants.{NotAcceptable, Matched, PrefersOwn, Full, Blocking}
+use Rattle.match_reasons.specs.declared.reason.Why.TheVariants.{Withdrawn, NotAcceptable, Matched, PrefersOwn, Full, Blocking}
 
 -- r has a programme that stands before p in its list, and these are the places of the two
 pub record HasBetter (inst : Instance) (m : List (Option ℕ)) (r p own own_rank rank : ℕ) : Type 0 where
@@ -30,8 +30,13 @@ pub record IsFullBefore (inst : Instance) (m : List (Option ℕ)) (r p rank : �
   pub all_taken : quota_of inst p ≤ member_count m p
   pub all_before : (s : ℕ) → IsMemberOf m s p → IsBefore (list_of_programme inst p) s r
 
+-- r or p is withdrawn
+abbrev pub HasWithdrawn : Instance → ℕ → ℕ → Type 0
+HasWithdrawn inst r p = (is_withdrawn inst.residents_withdrawn r ≡ true) ⊎ (is_withdrawn inst.programmes_withdrawn p ≡ true)
+
 -- the answer holds of r and p
 abbrev pub Holds : Instance → List (Option ℕ) → ℕ → ℕ → Why → Type 0
+Holds inst m r p Withdrawn = HasWithdrawn inst r p
 Holds inst m r p NotAcceptable = ¬ Acceptable inst r p
 Holds inst m r p Matched = IsMemberOf m r p
 Holds inst m r p (PrefersOwn own own_rank rank) = HasBetter inst m r p own own_rank rank
@@ -40,11 +45,12 @@ Holds inst m r p Blocking = Blocks inst m r p
 
 -- the order in which answers are tried
 abbrev pub turn : Why → ℕ
-turn NotAcceptable = 0
-turn Matched = 1
-turn (PrefersOwn own own_rank rank) = 2
-turn (Full rank last_rank quota) = 3
-turn Blocking = 4
+turn Withdrawn = 0
+turn NotAcceptable = 1
+turn Matched = 2
+turn (PrefersOwn own own_rank rank) = 3
+turn (Full rank last_rank quota) = 4
+turn Blocking = 5
 
 -- the first answer that holds
 pub record IsFirst (inst : Instance) (m : List (Option ℕ)) (r p : ℕ) (answer : Why) : Type 0 where
@@ -59,6 +65,7 @@ pub record Wants (inst : Instance) (m : List (Option ℕ)) (r p : ℕ) : Type 0 
 
 -- the answer is that all places went to residents who stand before the one who asks
 abbrev pub TellsFull : Why → Type 0
+TellsFull Withdrawn = ⊥
 TellsFull NotAcceptable = ⊥
 TellsFull Matched = ⊥
 TellsFull (PrefersOwn own own_rank rank) = ⊥
@@ -67,6 +74,7 @@ TellsFull Blocking = ⊥
 
 -- whoever the answer names is a programme
 abbrev pub NamesProgramme : Instance → Why → Type 0
+NamesProgramme inst Withdrawn = Unit {0}
 NamesProgramme inst NotAcceptable = Unit {0}
 NamesProgramme inst Matched = Unit {0}
 NamesProgramme inst (PrefersOwn own own_rank rank) = IsProgramme inst own

@@ -38,11 +38,15 @@ fn residents_reason(
     programme: ProgrammeNo,
 ) -> Option<Why>
     requires resident { IsResident inst.now resident }
+    requires programme { IsProgramme inst.now programme }
     requires one_place_each { length sheet.now ≡ length inst.now.resident_lists }
     ensures { MatchOption result (Wants inst.now sheet.now resident programme) (IsFirst inst.now sheet.now resident programme) }
 {
     // For the proof alone: rankings are mutual.
     let _residents = inst.residents();
+    if inst.resident_withdrawn(resident) || inst.programme_withdrawn(programme) {
+        return Some(Why::Withdrawn);
+    }
     let Some(rank) = inst.rank_at_resident(resident, programme) else {
         return Some(Why::NotAcceptable);
     };
@@ -73,6 +77,7 @@ fn programmes_reason(
     resident: ResidentNo,
     programme: ProgrammeNo,
 ) -> Why
+    requires instance { IsInstance inst.now }
     requires programme { IsProgramme inst.now programme }
     requires wants { Wants inst.now sheet.now resident programme }
     ensures { IsFirst inst.now sheet.now resident programme result }

@@ -5,6 +5,8 @@ use match_model::ProgrammeNo;
 /// Why a resident isn't with a programme, or that it is. Ranks are places, from 0, among those who rank one another.
 #[derive(Clone, Copy, Debug, PartialEq, Eq)]
 pub enum Why {
+    /// The resident or the programme is withdrawn.
+    Withdrawn,
     /// They don't rank one another.
     NotAcceptable,
     /// It is.

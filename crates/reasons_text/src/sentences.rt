@@ -72,6 +72,21 @@ fn full_sentence(
     )
 }
 
+// What is told where the programme or the resident is withdrawn.
+fn withdrawn_sentence(
+    alloc: Global,
+    docket: &Docket,
+    programme: ProgrammeNo,
+) -> Result<String, AllocError>
+    requires programme { IsProgramme docket.now.instance programme }
+{
+    if docket.instance().programme_withdrawn(programme) {
+        let name = docket.programme_name(programme);
+        return format!(in alloc; "{name} is withdrawn.\n");
+    }
+    format!(in alloc; "you are withdrawn.\n")
+}
+
 // The sentence on a programme.
 fn sentence(
     alloc: Global,
@@ -84,6 +99,7 @@ fn sentence(
 {
     let name = docket.programme_name(programme);
     match reason {
+        Why::Withdrawn => withdrawn_sentence(alloc, docket, programme),
         Why::NotAcceptable => format!(in alloc; "you and {name} don't rank one another.\n"),
         Why::Matched => format!(in alloc; "{name} has a place for you: you are matched there.\n"),
         Why::PrefersOwn {
@@ -136,6 +152,9 @@ pub(crate) fn push_all(
     // For the proof alone: the instance is one.
     let _residents = inst.residents();
     let list = inst.list_of_resident(resident);
+    if inst.resident_withdrawn(resident) {
+        return text.push_str("you are withdrawn.\n");
+    }
     if list.is_empty() {
         return text.push_str("no programme that you rank ranks you too.\n");
     }

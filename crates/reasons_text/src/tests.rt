@@ -37,6 +37,15 @@ const ONE_SIDED: &str = "Q,a,1\nP,a,x\nR,x\n";
 
 const ONE_SIDED_SHEET: &str = "M,x,a\nF,a,1,1\n";
 
+// The same market with a member withdrawn.
+const WITHOUT_B: &str = "V,2\nQ,a,2\nQ,b,1\nP,a,x,y,z\nP,b,x\nR,x,b,a\nR,y,a\nR,z,a\nW,P,b\n";
+
+const WITHOUT_B_SHEET: &str = "M,x,a\nM,y,a\nU,z\nF,a,2,2\nF,b,0,1\n";
+
+const WITHOUT_X: &str = "V,2\nQ,a,2\nQ,b,1\nP,a,x,y,z\nP,b,x\nR,x,b,a\nR,y,a\nR,z,a\nW,R,x\n";
+
+const WITHOUT_X_SHEET: &str = "U,x\nM,y,a\nM,z,a\nF,a,2,2\nF,b,0,1\n";
+
 const MATCHED_A: &str = "a has a place for you: you are matched there.\n";
 
 const MATCHED_B: &str = "b has a place for you: you are matched there.\n";
@@ -109,6 +118,27 @@ fn sentences(rt: HostRuntime) -> Result<(), Fail> {
             (ONE_SIDED, ONE_SIDED_SHEET),
             ("x", None),
             "no programme that you rank ranks you too.\n",
+        ),
+        ((WITHOUT_B, WITHOUT_B_SHEET), ("x", None), MATCHED_A),
+        (
+            (WITHOUT_B, WITHOUT_B_SHEET),
+            ("x", Some("b")),
+            "b is withdrawn.\n",
+        ),
+        (
+            (WITHOUT_B, WITHOUT_B_SHEET),
+            ("z", None),
+            "a has you 3rd of those who ranked it too; its 2 places went to residents up to the 2nd.\n",
+        ),
+        (
+            (WITHOUT_X, WITHOUT_X_SHEET),
+            ("x", None),
+            "you are withdrawn.\n",
+        ),
+        (
+            (WITHOUT_X, WITHOUT_X_SHEET),
+            ("x", Some("a")),
+            "you are withdrawn.\n",
         ),
     ];
     for (texts, asked, wanted) in rows {
