@@ -10,7 +10,7 @@ use Rattle.match_model.proofs.Rankings.{is_listed-true, is_listed_from}
 use Rattle.exchange_core.specs.declared.event.Event.{Event}
 use Rattle.exchange_core.specs.declared.event.Event.TheVariants.{Offer, Take, Answer, Hear, Close}
 use Rattle.exchange_core.specs.declared.event.AnswerKind.{AnswerKind}
-use Rattle.exchange_core.specs.declared.event.AnswerKind.TheVariants.{Hold, Decline, Release}
+use Rattle.exchange_core.specs.declared.event.AnswerKind.TheVariants.{Hold, Decline}
 use Rattle.exchange_core.specs.declared.event.Capacity.{Capacity}
 use Rattle.exchange_core.specs.Mail.{Answered, where_same, answered_by, answered_to, offers_of, offers_to, takes, answers_of, answers_to}
 use Rattle.exchange_core.specs.Calls.{beats_all, best_of, release_of, called_by, calls, is_rejection}
@@ -22,7 +22,7 @@ use Rattle.exchange_core.proofs.Mail.{where_same_at, where_same_apart}
 use Rattle.exchange_core.proofs.Calls.{calls_nil, calls_push, called_by_better, called_by_other}
 use Rattle.exchange_core.proofs.Members.{HasMembers, members_at, offers_to_members}
 use Rattle.exchange_core.proofs.InOrder.{offers_match, offers_in_order, takes_in_order, answers_in_order, offers_to_no_repeats, offer_ranked}
-use Rattle.exchange_core.proofs.Rejections.{is_rejection_of, rejections_of, rejections_of-cons, rejections_of-calls-le}
+use Rattle.exchange_core.proofs.Rejections.{rejections_of, rejections_of-cons, rejections_of-calls-le}
 use Rattle.exchange_core.proofs.Totals.{over_residents, sum_below-flat_map, sum_below-where_same}
 
 -- a list without repeats, whose items stand in another, is no longer

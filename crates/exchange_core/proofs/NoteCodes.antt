@@ -1,5 +1,5 @@
 -- An answer's note gives the answer back.
-use Rattle.std.proofs.Common.{◌≡◌, ℕ, ◌+◌, ◌*◌, ap, refl, arith}
+use Rattle.std.proofs.Common.{◌≡◌, ℕ, ◌+◌, ◌*◌, arith}
 use Rattle.std.specs.Prelude.{◌/◌, ◌%◌}
 use Rattle.exchange_core.specs.declared.event.AnswerKind.{AnswerKind}
 use Rattle.exchange_core.specs.declared.event.AnswerKind.TheVariants.{Hold, Decline, Release}

@@ -1,8 +1,8 @@
 -- What isn't pending where nothing waits and nothing is due.
 use Rattle.std.specs.Prelude.{IfSome}
-use Rattle.std.proofs.Common.{◌≡◌, ◌≢◌, ◌+◌, ℕ, ◌<◌, suc, zero, Option, Some, None, List, [], ◌∷◌, ◌++◌, true, false, not, refl, sym, ap, ◌∙◌, subst, arith, length, map, cond, zero-add, Bool, slice_get}
+use Rattle.std.proofs.Common.{◌≡◌, ◌≢◌, ◌+◌, ℕ, ◌<◌, suc, zero, Option, Some, None, List, [], ◌∷◌, ◌++◌, false, not, refl, sym, ap, ◌∙◌, subst, arith, length, map, cond, zero-add, Bool, slice_get}
 use Rattle.std.specs.List.{All, count_by, range_with_len}
-use Rattle.match_model.specs.Instance.{Instance, IsResident, IsProgramme}
+use Rattle.match_model.specs.Instance.{Instance, IsResident}
 use Rattle.exchange_core.specs.declared.event.Pending.TheVariants.{Offers, Due, Answers, Wish}
 use Rattle.exchange_core.specs.Mail.{Answered}
 use Rattle.exchange_core.specs.Left.{Left}

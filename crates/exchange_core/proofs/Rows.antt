@@ -1,14 +1,14 @@
 -- What the seats of one side show over the row of notes, read and changed at one seat.
-use Rattle.std.proofs.Common.{◌≡◌, ◌≢◌, ℕ, zero, suc, ◌+◌, ◌-◌, ◌*◌, ◌^◌, ◌<◌, ◌≤◌, Bool, true, false, not, ltb, ◌⊎◌, List, [], ◌∷◌, ◌++◌, Option, Some, None, ⊎_elim, length, drop, map, get_or, slice_get, refl, sym, ap, ◌∙◌, subst, arith}
+use Rattle.std.proofs.Common.{◌≡◌, ◌≢◌, ℕ, zero, suc, ◌+◌, ◌<◌, ◌≤◌, not, ◌⊎◌, List, [], ◌∷◌, ◌++◌, Option, Some, None, ⊎_elim, length, map, get_or, slice_get, refl, sym, ap, ◌∙◌, subst, arith}
 use Rattle.std.specs.Prelude.{slice_set, nat_lt}
 use Rattle.std.specs.List.{All}
 use Rattle.std.proofs.lemmas.Bool.{cases_lt, lt-ltb}
-use Rattle.std.proofs.lemmas.List.{length-set, length-map, length_push, get_or-map, get_or_append_left, get_or_at, map-set}
+use Rattle.std.proofs.lemmas.List.{length-map, length_push, get_or-map, get_or_append_left, get_or_at, map-set}
 use Rattle.std.proofs.lemmas.List.Elements.{All-set}
 use Rattle.std.proofs.Math.Seq.{map-set_same}
 use Rattle.exchange_core.specs.declared.part.Part.{Part}
 use Rattle.exchange_core.specs.Refusal.{is_nil}
-use Rattle.exchange_core.specs.Notes.{place_in, waiting_in, IsRing, pushed, popped, span, AreLaid}
+use Rattle.exchange_core.specs.Notes.{place_in, waiting_in, IsRing, span, AreLaid}
 use Rattle.exchange_core.proofs.Notes.{place_within, waiting_elsewhere, outside, shown_set}
 
 pub nonempty : {X : Type 0} (xs : List X) → nat_lt 0 (length xs) ≡ not (is_nil xs)

@@ -1,4 +1,4 @@
-use Rattle.std.proofs.Common.{◌≡◌, ◌∙◌, ℕ, length, map, sym, ap, not}
+use Rattle.std.proofs.Common.{◌∙◌, ℕ, length, sym, ap, not}
 use Rattle.std.specs.Prelude.{nat_lt}
 use Rattle.exchange_core.specs.Left.{ProgrammeLeft}
 use Rattle.exchange_core.specs.Rows.{shown_programme, answer_of}

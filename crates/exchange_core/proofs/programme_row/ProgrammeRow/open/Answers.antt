@@ -1,17 +1,15 @@
-use Rattle.std.proofs.Common.{◌≡◌, ◌∙◌, ◌++◌, ◌∷◌, [], ◌<◌, ◌*◌, ◌+◌, ◌-◌, ℕ, Option, Some, None, List, map, slice_set, length, sym, ap, refl, subst, arith, zero-add, slice_get}
-use Rattle.std.specs.Prelude.{if◌then◌else◌}
+use Rattle.std.proofs.Common.{◌≡◌, ◌∙◌, ◌++◌, ◌∷◌, [], ◌<◌, ◌*◌, ◌+◌, ℕ, List, map, length, sym, ap, refl, subst, arith, zero-add}
 use Rattle.std.specs.List.{range_with_len}
-use Rattle.std.proofs.lemmas.List.{length-set, length-map, map_push}
+use Rattle.std.proofs.lemmas.List.{map_push}
 use Rattle.std.proofs.lemmas.List.FromFn.{map-range_with_len_more}
 use Rattle.exchange_core.specs.declared.part.Part.{Part}
 use Rattle.exchange_core.specs.declared.programme_row.ProgrammeSeat.{ProgrammeSeat}
 use Rattle.exchange_core.specs.Left.{ProgrammeLeft, room_within}
-use Rattle.exchange_core.specs.Calls.{is_rejection}
-use Rattle.exchange_core.specs.Notes.{IsRing, AreLaid, waiting_in, place_in, pushed, span}
+use Rattle.exchange_core.specs.Notes.{IsRing, AreLaid, waiting_in, span}
 use Rattle.exchange_core.specs.Rows.{shown_programme, programme_span, answer_of}
-use Rattle.exchange_core.specs.Seats.{opened_programme, due_of, seat_of_programme, sent_offer, took_offer, gave_answer, made_offer, sent_answer, heard_answer}
-use Rattle.exchange_core.proofs.Notes.{length-waiting, ring_opened, ring_pushed, ring_popped, span_popped, waiting_pushed, waiting_popped, laid_more}
-use Rattle.exchange_core.proofs.Rows.{index_within, part_within, ring_at, laid_set, rings_set, shown_pushed, now_at, same_seat, updated, changed, all_more, nonempty, front_some, front_none}
+use Rattle.exchange_core.specs.Seats.{opened_programme}
+use Rattle.exchange_core.proofs.Notes.{ring_opened, laid_more}
+use Rattle.exchange_core.proofs.Rows.{all_more}
 use Rattle.exchange_core.proofs.Steps.{same_programme_left}
 use Rattle.exchange_core.proofs.programme_row.ProgrammeRow.open.Goals as goal
 use Rattle.match_model.specs.Instance.{quota, list_of_programme}

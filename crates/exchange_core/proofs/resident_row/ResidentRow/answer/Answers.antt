@@ -1,17 +1,10 @@
-use Rattle.std.proofs.Common.{◌≡◌, ◌∙◌, ◌++◌, ◌∷◌, [], ◌<◌, ◌*◌, ◌+◌, ◌-◌, ℕ, Option, Some, None, List, map, slice_set, length, sym, ap, refl, subst, arith, zero-add, slice_get}
-use Rattle.std.specs.Prelude.{if◌then◌else◌}
-use Rattle.std.specs.List.{range_with_len}
-use Rattle.std.proofs.lemmas.List.{length-set, length-map, map_push}
-use Rattle.std.proofs.lemmas.List.FromFn.{map-range_with_len_more}
+use Rattle.std.proofs.Common.{ℕ, None, List, length, refl}
 use Rattle.exchange_core.specs.declared.part.Part.{Part}
 use Rattle.exchange_core.specs.declared.resident_row.ResidentSeat.{ResidentSeat}
-use Rattle.exchange_core.specs.Left.{ResidentLeft, room_within}
-use Rattle.exchange_core.specs.Calls.{is_rejection}
-use Rattle.exchange_core.specs.Notes.{IsRing, AreLaid, waiting_in, place_in, pushed, span}
-use Rattle.exchange_core.specs.Rows.{shown_resident, resident_span, answer_of}
-use Rattle.exchange_core.specs.Seats.{opened_resident, due_of, seat_of_resident, sent_offer, took_offer, gave_answer, made_offer, sent_answer, heard_answer}
-use Rattle.exchange_core.proofs.Notes.{length-waiting, ring_opened, ring_pushed, ring_popped, span_popped, waiting_pushed, waiting_popped, laid_more}
-use Rattle.exchange_core.proofs.Rows.{index_within, part_within, ring_at, laid_set, rings_set, shown_pushed, now_at, same_seat, updated, changed, all_more, nonempty, front_some, front_none}
+use Rattle.exchange_core.specs.Left.{ResidentLeft}
+use Rattle.exchange_core.specs.Rows.{shown_resident}
+use Rattle.exchange_core.specs.Seats.{opened_resident, gave_answer}
+use Rattle.exchange_core.proofs.Rows.{index_within, ring_at, laid_set, rings_set, changed}
 use Rattle.exchange_core.proofs.Steps.{same_resident_left}
 use Rattle.exchange_core.proofs.resident_row.ResidentRow.answer.Goals as goal
 

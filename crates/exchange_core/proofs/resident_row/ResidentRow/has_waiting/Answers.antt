@@ -1,4 +1,4 @@
-use Rattle.std.proofs.Common.{◌≡◌, ◌∙◌, ℕ, length, sym, ap, not}
+use Rattle.std.proofs.Common.{◌∙◌, ℕ, sym, ap}
 use Rattle.std.specs.Prelude.{nat_lt}
 use Rattle.exchange_core.specs.Left.{ResidentLeft}
 use Rattle.exchange_core.specs.Notes.{waiting_in}

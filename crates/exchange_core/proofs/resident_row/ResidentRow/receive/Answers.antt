@@ -1,9 +1,9 @@
-use Rattle.std.proofs.Common.{◌≡◌, ◌∙◌, ◌++◌, ◌∷◌, [], ◌<◌, ℕ, List, length, map, slice_set, sym, ap, refl, subst, arith}
+use Rattle.std.proofs.Common.{◌≡◌, ◌∙◌, ◌<◌, ℕ, List, length, map, slice_set, sym, ap, refl, subst, arith}
 use Rattle.std.proofs.lemmas.List.{length-set, length-map}
 use Rattle.exchange_core.specs.declared.part.Part.{Part}
 use Rattle.exchange_core.specs.declared.resident_row.ResidentSeat.{ResidentSeat}
 use Rattle.exchange_core.specs.Left.{ResidentLeft}
-use Rattle.exchange_core.specs.Notes.{IsRing, AreLaid, waiting_in, place_in, pushed, span}
+use Rattle.exchange_core.specs.Notes.{IsRing, AreLaid, waiting_in, place_in, span}
 use Rattle.exchange_core.specs.Rows.{shown_resident, resident_span}
 use Rattle.exchange_core.specs.Seats.{opened_resident, due_of, sent_offer, seat_of_resident}
 use Rattle.exchange_core.proofs.Notes.{length-waiting, ring_pushed, waiting_pushed}

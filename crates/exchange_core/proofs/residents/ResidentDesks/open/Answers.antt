@@ -1,4 +1,4 @@
-use Rattle.std.proofs.Common.{◌≡◌, ◌∙◌, ℕ, List, length, map, sym, ap, refl, arith}
+use Rattle.std.proofs.Common.{◌∙◌, ℕ, List, length, sym, ap, refl, arith}
 use Rattle.std.proofs.lemmas.List.FromFn.{length-map-range_with_len}
 use Rattle.std.specs.List.{count_by}
 use Rattle.match_model.specs.Instance.{list_of_resident}
