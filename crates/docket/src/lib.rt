@@ -33,4 +33,4 @@ pub use kind::law_constants;
 pub use read::read_docket;
 pub use row_text::RowText;
 pub use words::capacity_of;
-pub use write::{write_journal, write_sheet};
+pub use write::{push_journal, push_sheet, write_journal, write_sheet};

@@ -1,5 +1,5 @@
 //! Rows of CSV, gathered in memory and then sent to a writer, so that want of memory and a writer's fault are told apart.
-ghost use Rattle.std.specs.Prelude.{◌≡◌, ◌++◌, ◌⊎◌, [], map, OnOk, OnErr, IfErr};
+ghost use Rattle.std.specs.Prelude.{◌≡◌, ◌≢◌, ◌++◌, ◌⊎◌, [], map, OnOk, OnErr, IfErr};
 ghost use Rattle.std.specs.Io.KnownBytes.{Appends};
 ghost use Rattle.match_model.specs.Instance.{IsProgramme};
 ghost use Rattle.docket.specs.RowText.{AreWhole, bytes_of, row};
@@ -98,10 +98,12 @@ impl RowText {
         self.push(&[kind, name, filled.as_bytes(), quota.as_bytes()])
     }
 
-    /// Sends the rows to a writer. The faults are `Memory` and `Write`.
+    /// Sends the rows to a writer, all by one call. The faults are `Memory` and `Write`; before any but the writer's nothing
+    /// was written.
     pub fn send<W: Write>(self, writer: &mut W) -> Result<(), DocketFault>
         ensures sent { OnOk result (Appends (W.contents writer.old) (W.contents writer.new) self) }
         ensures err { IfErr result (λ fault. (fault ≡ DocketFault.Memory) ⊎ (fault ≡ DocketFault.Write)) }
+        ensures before { IfErr result (λ fault. fault ≢ DocketFault.Write → writer.new ≡ writer.old) }
     {
         let RowText { alloc: _, rows } = self;
         let Ok(bytes) = rows.into_inner() else {

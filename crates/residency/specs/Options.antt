@@ -1,13 +1,14 @@
 -- The options of a match, and the order that a command line gives.
-use Rattle.std.specs.Prelude.{◌≡◌, true}
+use Rattle.std.specs.Prelude.{◌≡◌, ◌≤◌, true}
 use Rattle.exchange_core.specs.Shown.{is_capacity}
 use Rattle.residency.specs.declared.options.MatchOptions.{MatchOptions}
 use Rattle.residency.specs.declared.options.Order.{Order}
 use Rattle.residency.specs.declared.options.Order.TheVariants.{Match, Audit, Replay}
 
--- two workers, and mailboxes that are full or have from 1 to 1,024 places
+-- 1 to 8 workers, and mailboxes that are full or have from 1 to 1,024 places
 pub record IsWithinLimits (o : MatchOptions) : Type 0 where
-  pub workers : o.workers ≡ 2
+  pub some_worker : 1 ≤ o.workers
+  pub few_workers : o.workers ≤ 8
   pub capacity : is_capacity o.capacity ≡ true
 
 -- where the order is a match, its options are within the limits

@@ -1,5 +1,5 @@
 -- What a call wrote, and why another wrote nothing.
-use Rattle.std.specs.Prelude.{◌≡◌, ◌⊎◌, ◌↔◌, ℕ, Bool, if◌then◌else◌, ◌++◌, Option, Some, None, Result, Ok, Err, List, IsSome, option_map}
+use Rattle.std.specs.Prelude.{◌≡◌, ◌≢◌, ◌⊎◌, ◌↔◌, ℕ, Bool, if◌then◌else◌, ◌++◌, Option, Some, None, Result, Ok, Err, List, [], IsSome, option_map}
 use Rattle.std.specs.Io.KnownBytes.{Appends}
 use Rattle.match_model.specs.Instance.{Instance}
 use Rattle.exchange_core.specs.declared.event.Capacity.{Capacity}
@@ -7,10 +7,13 @@ use Rattle.exchange_core.specs.declared.event.Event.{Event}
 use Rattle.exchange_core.specs.Left.{given}
 use Rattle.match_pool.specs.Done.{IsRunFault}
 use Rattle.residency.specs.declared.options.MatchOptions.{MatchOptions}
+use Rattle.residency.specs.declared.options.JournalForm.{JournalForm}
+use Rattle.residency.specs.declared.options.JournalForm.TheVariants.{Absent, Plain, ByWorker}
 use Rattle.residency.specs.declared.options.Order.{Order}
 use Rattle.residency.specs.declared.options.Order.TheVariants.{Match, Audit, Replay}
 use Rattle.settle_law.specs.Stable.{IsStable}
-use Rattle.docket.specs.Contents.{Contents, JournalParts}
+use Rattle.docket.specs.Contents.{Contents, JournalParts, ByWorkerParts}
+use Rattle.docket.specs.Whole.{IsByWorker}
 use Rattle.docket.specs.Passes.{first_fault, docket_of}
 use Rattle.docket.specs.Texts.{sheet_text, journal_text}
 use Rattle.docket.specs.declared.fault.DocketFault.{DocketFault}
@@ -29,15 +32,26 @@ use Rattle.residency.specs.Outcome.{IsOutcome}
 use Rattle.residency.specs.Report.{report_text}
 use Rattle.residency.specs.Answer.{replay_text}
 
--- the sheet, and after it the journal where it is wanted
-abbrev pub match_text : Contents → Capacity → Bool → List (Option ℕ) → List Event → List ℕ
-match_text d cap wanted m j = if wanted then (sheet_text d m ++ journal_text d cap j None) else sheet_text d m
+-- the journal in the form that is wanted: none, its events, or its events with their workers
+abbrev pub wanted_text : Contents → Capacity → JournalForm → List Event → ByWorkerParts → List ℕ
+wanted_text d cap Absent j by = []
+wanted_text d cap Plain j by = journal_text d cap j None
+wanted_text d cap ByWorker j by = journal_text d cap j (Some by)
 
--- what was appended, where it is known, is the sheet of what one exchange over the docket gives, its one settled assignment, and the journal of this exchange where it is wanted
-pub record WritesMatch (d : Contents) (cap : Capacity) (wanted : Bool) (old new : Option (List ℕ)) : Type 0 where
+-- the sheet, and after it the journal in the form that is wanted
+abbrev pub match_text : Contents → Capacity → JournalForm → List (Option ℕ) → List Event → ByWorkerParts → List ℕ
+match_text d cap form m j by = sheet_text d m ++ wanted_text d cap form j by
+
+-- what was appended, where it is known, is the sheet of what one exchange over the docket gives, its one settled assignment,
+-- and the journal of this exchange in the form that is wanted; by worker it has some number below the number of workers for
+-- each event
+pub record WritesMatch (d : Contents) (o : MatchOptions) (old new : Option (List ℕ)) : Type 0 where
   pub assignment : List (Option ℕ)
-  pub outcome : IsOutcome d.instance cap assignment
-  pub appended : Appends old new (match_text d cap wanted assignment outcome.exchanged.journal)
+  pub outcome : IsOutcome d.instance o.capacity assignment
+  pub by : ByWorkerParts
+  pub workers : by.workers ≡ o.workers
+  pub by_worker : IsByWorker outcome.exchanged.journal by
+  pub appended : Appends old new (match_text d o.capacity o.journal assignment outcome.exchanged.journal by)
 
 -- the status tells whether the sheet is stable
 pub record TellsStable (inst : Instance) (sheet : List (Option ℕ)) (status : Status) : Type 0 where
@@ -124,10 +138,9 @@ IsReadFault bytes Memory = ⊥
 abbrev pub IsFaultOf : (Contents → ServeFault → Type 0) → List ℕ → ServeFault → Type 0
 IsFaultOf IsFault bytes fault = IsReadFault bytes fault ⊎ AreDocket (λ d. IsFault d fault) bytes
 
--- whether this fault is known to have come before anything was written: it isn't the writer's, nor want of memory, which
--- may come in reading the docket or in writing the answer
+-- whether this fault is known to have come before anything was written: it isn't the writer's
 abbrev pub IsBeforeWriting : ServeFault → Type 0
-IsBeforeWriting (Docket fault) = (fault ≡ docket.Memory → ⊥) × (fault ≡ docket.Write → ⊥)
+IsBeforeWriting (Docket fault) = fault ≢ docket.Write
 IsBeforeWriting NoSheet = Unit {0}
 IsBeforeWriting NoJournal = Unit {0}
 IsBeforeWriting (Run fault) = Unit {0}
@@ -135,7 +148,7 @@ IsBeforeWriting Memory = Unit {0}
 
 -- what was served of an order over a docket, with which status, and what was appended
 abbrev pub Serves : Order → Contents → Status → Option (List ℕ) → Option (List ℕ) → Type 0
-Serves (Match o) d status old new = (status ≡ Closed) × WritesMatch d o.capacity o.journal old new
+Serves (Match o) d status old new = (status ≡ Closed) × WritesMatch d o old new
 Serves Audit d status old new = WritesReport d status old new
 Serves Replay d status old new = WritesReplay d status old new
 

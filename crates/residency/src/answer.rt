@@ -1,5 +1,5 @@
 //! Writing what a replay answered.
-ghost use Rattle.std.specs.Prelude.{◌≡◌, ◌++◌, ◌∷◌, [], ◌+◌, ◌<◌, ◌^◌, codes, decimal, option_copied, OnOk, IfErr};
+ghost use Rattle.std.specs.Prelude.{◌≡◌, ◌≢◌, ◌++◌, ◌∷◌, [], ◌+◌, ◌<◌, ◌^◌, codes, decimal, option_copied, OnOk, IfErr};
 ghost use Rattle.std.specs.Io.KnownBytes.{Appends};
 ghost use Rattle.docket.specs.RowText.{row};
 ghost use Rattle.match_audit.specs.Replay.{NamesMember, RefusesMember, IsPendingMember};
@@ -208,7 +208,7 @@ fn push_counts(
 /// Writes what a replay of the docket's journal answered: one row, and where there are counts, after a good answer one row
 /// for each worker, with how many events it made.
 ///
-/// Whoever the answer names is a member of the docket. How much was written before a fault isn't told.
+/// Whoever the answer names is a member of the docket. Before a fault other than the writer's nothing was written.
 pub fn write_replay<W: Write>(
     alloc: Global,
     docket: &Docket,
@@ -219,6 +219,7 @@ pub fn write_replay<W: Write>(
     requires { IsAnswerOf docket.now answer.now }
     ensures ok { OnOk result (Appends (W.contents writer.old) (W.contents writer.new) (replay_text docket.now answer.now (option_copied counts.entry))) }
     ensures fault { IfErr result IsWriteFault }
+    ensures before { IfErr result (λ fault. fault ≢ DocketFault.Write → writer.new ≡ writer.old) }
 {
     let mut rows = RowText::new(alloc);
     push_answer(alloc, &mut rows, docket, answer)?;

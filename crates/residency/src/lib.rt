@@ -18,7 +18,7 @@ mod status;
 pub use answer::write_replay;
 pub use fault::ServeFault;
 pub use line::{LineFault, read_line};
-pub use options::{MatchOptions, Order};
+pub use options::{JournalForm, MatchOptions, Order};
 pub use program::serve_words;
 pub use report::write_report;
 pub use serve::{serve_audit, serve_match, serve_replay};

@@ -1,10 +1,10 @@
 //! The command line.
-ghost use Rattle.std.specs.Prelude.{◌≡◌, IfOk, IfErr, IfSome};
+ghost use Rattle.std.specs.Prelude.{◌≡◌, ◌≤◌, IfOk, IfErr, IfSome};
 ghost use Rattle.residency.specs.declared.line.LineFault.TheVariants.{Memory};
 ghost use Rattle.residency.specs.Options.{IsOrder, IsWithinLimits};
 ghost use Rattle.residency.specs.Status.{IsLineFault};
 
-use crate::options::{MatchOptions, Order};
+use crate::options::{JournalForm, MatchOptions, Order};
 use clap::error::ErrorKind;
 use clap::{Arg, ArgAction, ArgMatches, Command};
 use docket::capacity_of;
@@ -19,7 +19,8 @@ const VERSION: &str = "1.0.0";
 const MATCH_HELP: &str =
     "Reads a docket on standard input: Q, P and R records, and W records where V,2 is the first.
 A sheet or a journal in it is not used.
-Writes the sheet on standard output, and after it the journal where --journal asks for it.
+Writes the sheet on standard output, and after it the journal where --journal asks for it, or with
+--journal-by-worker the journal with the worker of each event.
 
 Exit status: 0 for a sheet; 1 where memory, a worker, reading or writing failed; 2 for a wrong
 command line; 3 for a docket at fault, whose record is named on standard error.
@@ -96,8 +97,8 @@ fn workers_option<'a>(alloc: Global) -> Arg<'a> {
     Arg::new(alloc, "workers")
         .long("workers")
         .value_name("N")
-        .help("How many threads work on it: 2")
-        .value_parser(clap::value_parser!(u64).range(2..=2))
+        .help("How many threads work on it: 1 to 8")
+        .value_parser(clap::value_parser!(u64).range(1..=8))
         .default_value("2")
 }
 
@@ -118,13 +119,22 @@ fn journal_option<'a>(alloc: Global) -> Arg<'a> {
         .action(ArgAction::SetTrue)
 }
 
+// Whether a match writes its journal with the worker of each event.
+fn by_worker_option<'a>(alloc: Global) -> Arg<'a> {
+    Arg::new(alloc, "journal-by-worker")
+        .long("journal-by-worker")
+        .help("Writes the journal with the worker of each event")
+        .action(ArgAction::SetTrue)
+}
+
 // The command that runs a match, with its options.
 fn match_command<'a>(alloc: Global) -> Result<Command<'a>, AllocError> {
     let about = "Writes the sheet of the settled match";
     let command = described(alloc, "match", "residency match", about, MATCH_HELP)?;
     let command = command.arg(workers_option(alloc))?;
     let command = command.arg(capacity_option(alloc))?;
-    command.arg(journal_option(alloc))
+    let command = command.arg(journal_option(alloc))?;
+    command.arg(by_worker_option(alloc))
 }
 
 // The command that audits a sheet.
@@ -160,7 +170,18 @@ fn commands<'a>(alloc: Global) -> Result<Command<'a>, AllocError> {
     with_command(auditing, replay_command(alloc)?)
 }
 
-// The options that the words of a match give. The number of workers is the one that its option admits.
+// The number of workers, which its option admits from 1 to 8, and 2 where there is none.
+fn workers_of(matches: &ArgMatches) -> usize
+    ensures some { 1 ≤ result }
+    ensures few { result ≤ 8 }
+{
+    match matches.get_one::<u64>("workers") {
+        Some(workers) => workers.clamp(1, 8) as usize,
+        None => 2,
+    }
+}
+
+// The options that the words of a match give.
 fn match_options(matches: &ArgMatches) -> Result<MatchOptions, LineFault>
     ensures options { IfOk result IsWithinLimits }
     ensures fault { IfErr result IsLineFault }
@@ -172,7 +193,14 @@ fn match_options(matches: &ArgMatches) -> Result<MatchOptions, LineFault>
             None => return Err(LineFault::BadCapacity),
         }
     }
-    options.journal = matches.get_flag("journal");
+    options.workers = workers_of(matches);
+    options.journal = if matches.get_flag("journal-by-worker") {
+        JournalForm::ByWorker
+    } else if matches.get_flag("journal") {
+        JournalForm::Plain
+    } else {
+        JournalForm::Absent
+    };
     Ok(options)
 }
 

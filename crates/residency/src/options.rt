@@ -2,15 +2,26 @@
 
 use exchange_core::Capacity;
 
+/// Which journal a match writes after its sheet.
+#[derive(Clone, Copy, Debug, PartialEq, Eq)]
+pub enum JournalForm {
+    /// None.
+    Absent,
+    /// Its events.
+    Plain,
+    /// Its events, each with the number of the worker that entered it.
+    ByWorker,
+}
+
 /// How a match is run.
 #[derive(Clone, Copy, Debug, PartialEq, Eq)]
 pub struct MatchOptions {
-    /// How many threads work on it: 2.
+    /// How many threads work on it: 1 to 8.
     pub workers: usize,
     /// The capacity of the mailboxes.
     pub capacity: Capacity,
-    /// Whether the journal is written after the sheet.
-    pub journal: bool,
+    /// The journal that is written after the sheet.
+    pub journal: JournalForm,
 }
 
 impl Default for MatchOptions {
@@ -22,7 +33,7 @@ impl Default for MatchOptions {
         MatchOptions {
             workers: 2,
             capacity: Capacity::Full,
-            journal: false,
+            journal: JournalForm::Absent,
         }
     }
 }

@@ -1,5 +1,5 @@
 //! Writing what an audit or a replay found.
-ghost use Rattle.std.specs.Prelude.{◌≡◌, ◌++◌, OnOk, IfErr};
+ghost use Rattle.std.specs.Prelude.{◌≡◌, ◌≢◌, ◌++◌, OnOk, IfErr};
 ghost use Rattle.std.specs.List.{All, flat_map};
 ghost use Rattle.std.specs.Io.KnownBytes.{Appends};
 ghost use Rattle.match_model.specs.Instance.{IsProgramme};
@@ -77,7 +77,7 @@ fn push_stability(rows: &mut RowText, report: &AuditReport) -> Result<(), Docket
 /// Writes what an audit found: whether the sheet is stable, the pairs that aren't acceptable, the programmes over their
 /// quota, and the blocking pairs.
 ///
-/// Whoever the report names is a member of the docket. How much was written before a fault isn't told.
+/// Whoever the report names is a member of the docket. Before a fault other than the writer's nothing was written.
 pub fn write_report<W: Write>(
     alloc: Global,
     docket: &Docket,
@@ -87,6 +87,7 @@ pub fn write_report<W: Write>(
     requires { IsReportOf docket.now report.now }
     ensures ok { OnOk result (Appends (W.contents writer.old) (W.contents writer.new) (report_text docket.now report.now)) }
     ensures fault { IfErr result IsWriteFault }
+    ensures before { IfErr result (λ fault. fault ≢ DocketFault.Write → writer.new ≡ writer.old) }
 {
     let mut rows = RowText::new(alloc);
     push_stability(&mut rows, report)?;

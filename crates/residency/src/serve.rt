@@ -1,18 +1,20 @@
 //! The calls from bytes to bytes.
-ghost use Rattle.std.specs.Prelude.{◌≡◌, ℕ, List, Some, false, length, option_copied, option_map, IfOk, IfErr, IfSome, OnOk};
+ghost use Rattle.std.specs.Prelude.{◌≡◌, ◌≢◌, ◌++◌, ℕ, List, Some, false, length, option_copied, option_map, IfOk, IfErr, IfSome, OnOk};
 ghost use Rattle.std.specs.List.{All};
 ghost use Rattle.std.specs.Global.{Vec};
 ghost use Rattle.std.specs.Io.KnownBytes.{Appends};
 ghost use Rattle.match_audit.specs.Report.{Reports};
 ghost use Rattle.docket.specs.Whole.{IsSheetOf, NamesMembers, IsByWorker};
-ghost use Rattle.residency.specs.Serving.{WritesMatch, match_text, IsWriteFault, WritesReport, WritesReplay, IsMatchFault, IsAuditFault, IsReplayFault, AreDocket, IsFaultOf, IsBeforeWriting, IsAnswerTo, counts_in};
+ghost use Rattle.residency.specs.Serving.{WritesMatch, match_text, wanted_text, IsWriteFault, WritesReport, WritesReplay, IsMatchFault, IsAuditFault, IsReplayFault, AreDocket, IsFaultOf, IsBeforeWriting, IsAnswerTo, counts_in};
 
 use crate::answer::write_replay;
 use crate::fault::ServeFault;
-use crate::options::{MatchOptions, Order};
+use crate::options::{JournalForm, MatchOptions, Order};
 use crate::report::write_report;
 use crate::status::Status;
-use docket::{Docket, DocketFault, Journal, read_docket, write_journal, write_sheet};
+use docket::{
+    ByWorker, Docket, DocketFault, Journal, RowText, push_journal, push_sheet, read_docket,
+};
 use exchange_core::Event;
 use match_audit::{AuditFault, AuditReport, ReplayFault, audit, check, counts, replay};
 use match_model::Assignment;
@@ -23,25 +25,51 @@ use std::io::{Read, Write};
 use std::sync::Wait;
 use std::thread::Threads;
 
-// Writes the sheet of what a closed exchange over the docket gave, and its journal where that is wanted.
+// Adds the journal of an exchange in the form that is wanted.
+fn push_wanted(
+    alloc: Global,
+    rows: &mut RowText,
+    docket: &Docket,
+    journal: &[Event],
+    by: &ByWorker,
+    options: &MatchOptions,
+) -> Result<(), DocketFault>
+    requires journal { All (NamesMembers docket.now.instance) journal.now }
+    requires by { IsByWorker journal.now by.now }
+    ensures rows { OnOk result (rows.new ≡ rows.old ++ wanted_text docket.now options.now.capacity options.now.journal journal.now by.now) }
+    ensures err { IfErr result (λ fault. fault ≡ DocketFault.Memory) }
+{
+    match options.journal {
+        JournalForm::Absent => Ok(()),
+        JournalForm::Plain => push_journal(alloc, rows, docket, options.capacity, journal, None),
+        JournalForm::ByWorker => {
+            push_journal(alloc, rows, docket, options.capacity, journal, Some(by))
+        }
+    }
+}
+
+// Writes the sheet of what a closed exchange over the docket gave, and its journal where that is wanted. Both are made
+// before the first byte is written, so that want of memory leaves nothing half written.
 fn write_match<W: Write>(
     alloc: Global,
     docket: &Docket,
     assignment: &Assignment,
     journal: &[Event],
+    by: &ByWorker,
     options: &MatchOptions,
     writer: &mut W,
 ) -> Result<(), DocketFault>
     requires sheet { IsSheetOf docket.now assignment.now }
     requires journal { All (NamesMembers docket.now.instance) journal.now }
-    ensures text { OnOk result (Appends (W.contents writer.old) (W.contents writer.new) (match_text docket.now options.now.capacity options.now.journal assignment.now journal.now)) }
+    requires by { IsByWorker journal.now by.now }
+    ensures text { OnOk result (Appends (W.contents writer.old) (W.contents writer.new) (match_text docket.now options.now.capacity options.now.journal assignment.now journal.now by.now)) }
     ensures fault { IfErr result IsWriteFault }
+    ensures before { IfErr result (λ fault. fault ≢ DocketFault.Write → writer.new ≡ writer.old) }
 {
-    write_sheet(alloc, docket, assignment, writer)?;
-    if options.journal {
-        write_journal(alloc, docket, options.capacity, journal, None, writer)?;
-    }
-    Ok(())
+    let mut rows = RowText::new(alloc);
+    push_sheet(alloc, &mut rows, docket, assignment)?;
+    push_wanted(alloc, &mut rows, docket, journal, by, options)?;
+    rows.send(writer)
 }
 
 // Runs the exchange over a docket to its close, and writes the sheet of what it gives, and its journal where that is wanted.
@@ -59,7 +87,7 @@ where
     H: Threads + Wait + Sync + Send + Copy,
     requires { G.MAY_STOP ≡ false }
     ensures status { IfOk result (λ status. status ≡ Status.Closed) }
-    ensures text { OnOk result (WritesMatch docket.now options.now.capacity options.now.journal (W.contents writer.old) (W.contents writer.new)) }
+    ensures text { OnOk result (WritesMatch docket.now options.now (W.contents writer.old) (W.contents writer.new)) }
     ensures fault { IfErr result (IsMatchFault options.now docket.now) }
     ensures before { IfErr result (λ fault. IsBeforeWriting fault → writer.new ≡ writer.old) }
 {
@@ -75,11 +103,16 @@ where
         Ending::Closed => {}
         Ending::Stopped => unreachable!("the gate may not stop a run"),
     }
+    let by = ByWorker {
+        workers: options.workers as u32,
+        who: done.who,
+    };
     match write_match(
         alloc,
         docket,
         &done.assignment,
         &done.journal,
+        &by,
         options,
         writer,
     ) {
@@ -199,7 +232,7 @@ where
     requires { G.MAY_STOP ≡ false }
     ensures status { IfOk result (λ status. status ≡ Status.Closed) }
     ensures text { OnOk result ((bytes : List ℕ) → R.remaining reader ≡ Some bytes
-        → AreDocket (λ d. WritesMatch d options.now.capacity options.now.journal (W.contents writer.old) (W.contents writer.new)) bytes) }
+        → AreDocket (λ d. WritesMatch d options.now (W.contents writer.old) (W.contents writer.new)) bytes) }
     ensures fault { IfErr result (λ fault. (bytes : List ℕ) → R.remaining reader ≡ Some bytes → IsFaultOf (IsMatchFault options.now) bytes fault) }
     ensures before { IfErr result (λ fault. IsBeforeWriting fault → writer.new ≡ writer.old) }
 {

@@ -13,8 +13,8 @@ use exchange_core::Capacity;
 use match_model::ModelFault;
 use match_pool::{OpenGate, RunFault};
 use residency::{
-    LineFault, MatchOptions, Order, ServeFault, Status, exit_status, line_status, read_line,
-    serve_audit, serve_match, serve_replay,
+    JournalForm, LineFault, MatchOptions, Order, ServeFault, Status, exit_status, line_status,
+    read_line, serve_audit, serve_match, serve_replay,
 };
 use std::alloc::{AllocError, Global};
 use std::io::{Read, Write};
@@ -34,25 +34,43 @@ const CHAIN: &str = "Q,a,1\nQ,b,1\nQ,c,1\nQ,d,1\nP,a,x\nP,b,x\nP,c,x\nP,d,x\nR,x
 pub(super) const MATCH: Order = Order::Match(MatchOptions {
     workers: 2,
     capacity: Capacity::Full,
-    journal: false,
+    journal: JournalForm::Absent,
 });
 
 const NARROW: Order = Order::Match(MatchOptions {
     workers: 2,
     capacity: Capacity::Each(1),
-    journal: false,
+    journal: JournalForm::Absent,
 });
 
 const NARROW_WITH_JOURNAL: Order = Order::Match(MatchOptions {
     workers: 2,
     capacity: Capacity::Each(1),
-    journal: true,
+    journal: JournalForm::Plain,
 });
 
 const WITH_JOURNAL: Order = Order::Match(MatchOptions {
     workers: 2,
     capacity: Capacity::Full,
-    journal: true,
+    journal: JournalForm::Plain,
+});
+
+const ALONE: Order = Order::Match(MatchOptions {
+    workers: 1,
+    capacity: Capacity::Full,
+    journal: JournalForm::Absent,
+});
+
+const ALONE_BY_WORKER: Order = Order::Match(MatchOptions {
+    workers: 1,
+    capacity: Capacity::Full,
+    journal: JournalForm::ByWorker,
+});
+
+const BY_WORKER: Order = Order::Match(MatchOptions {
+    workers: 2,
+    capacity: Capacity::Full,
+    journal: JournalForm::ByWorker,
 });
 
 // Does what is ordered over a reader and a writer.
@@ -169,6 +187,13 @@ fn matches_through_narrow_mailboxes(rt: HostRuntime) -> Result<(), Fail> {
 fn writes_the_journal_of_nothing(rt: HostRuntime) -> Result<(), Fail> {
     let ending = (Ok(Status::Closed), "C,full\nE,close\n", 0);
     assert!(rt; serves_both(rt, rt.alloc(), WITH_JOURNAL, &[], ending)?);
+    Ok(())
+}
+
+#[test]
+fn writes_the_journal_of_nothing_by_worker(rt: HostRuntime) -> Result<(), Fail> {
+    let ending = (Ok(Status::Closed), "C,full,1\nE,close,0\n", 0);
+    assert!(rt; serves(rt, rt.alloc(), ALONE_BY_WORKER, &[], ending)?);
     Ok(())
 }
 
@@ -682,7 +707,7 @@ fn order_of(alloc: Global, words: &[&str]) -> Result<Order, u8> {
 }
 
 // Command lines, and what they order, or the status of their fault.
-const LINES: [(&[&str], Result<Order, u8>); 15] = [
+const LINES: [(&[&str], Result<Order, u8>); 19] = [
     (&["match"], Ok(MATCH)),
     (&["match", "--workers", "2"], Ok(MATCH)),
     (
@@ -691,7 +716,17 @@ const LINES: [(&[&str], Result<Order, u8>); 15] = [
     ),
     (&["match", "--capacity", "0"], Err(2)),
     (&["match", "--capacity", "1025"], Err(2)),
-    (&["match", "--workers", "1"], Err(2)),
+    (&["match", "--workers", "1"], Ok(ALONE)),
+    (&["match", "--workers", "0"], Err(2)),
+    (&["match", "--journal-by-worker"], Ok(BY_WORKER)),
+    (
+        &["match", "--journal", "--journal-by-worker"],
+        Ok(BY_WORKER),
+    ),
+    (
+        &["match", "--journal-by-worker", "--journal"],
+        Ok(BY_WORKER),
+    ),
     (&["match", "--help"], Err(0)),
     (&["audit"], Ok(Order::Audit)),
     (&["replay"], Ok(Order::Replay)),

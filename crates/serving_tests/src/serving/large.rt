@@ -4,7 +4,7 @@ use super::{MATCH, NARROW, serve};
 use crate::markets::{in_one_order, sheet_in_one_order, widest};
 use crate::texts::{SMALL, SMALL_SHEET, rows};
 use exchange_core::Capacity;
-use residency::{MatchOptions, Order, ServeFault, Status, serve_match};
+use residency::{JournalForm, MatchOptions, Order, ServeFault, Status, serve_match};
 use samples::gates::{Firm, Held};
 use std::alloc::{AllocError, Global};
 use std::sync::Wait;
@@ -86,7 +86,7 @@ fn the_widest_docket(rt: HostRuntime) -> Result<(), Fail> {
 const ROOMY: Order = Order::Match(MatchOptions {
     workers: 2,
     capacity: Capacity::Each(1_024),
-    journal: true,
+    journal: JournalForm::Plain,
 });
 
 #[test]

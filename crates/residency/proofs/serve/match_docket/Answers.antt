@@ -34,5 +34,8 @@ returns-in-Ok-write_match-clause-text g c =
         stable = stable;
         settled = record { settled = settled; alone = λ other h. c.law_one_settled.ensures _ other c.in-Ok.done.assignment h settled };
       };
+      by = record { workers = c.args.options.now.workers; who = c.in-Ok.done.who.items };
+      workers = refl;
+      by_worker = record { one_number_each = c.in-Ok.ensures.counts.one_worker_each; workers = record { some = c.in-Ok.ensures.admitted.0; few = c.in-Ok.ensures.admitted.1; numbers = c.in-Ok.ensures.counts.among_the_workers } };
       appended = rw c.deref.ensures.value at c.in-Ok-write_match.ensures.text;
     }
