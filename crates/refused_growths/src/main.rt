@@ -1,0 +1,121 @@
+//! Makes one call of the libraries, or each in turn where no word says which, and tells what it did. Where a growth is
+//! refused meanwhile, the call has to answer Memory, to leave what it was lent as it was, and to give its right answer when
+//! it is made again.
+#![tactic(auto)]
+
+mod audits;
+mod builder;
+mod dockets;
+mod exchange;
+mod ledger;
+mod seen;
+mod serving;
+
+use seen::Seen;
+use std::alloc::Global;
+use std::io::Write;
+use std::process::ExitCode;
+use std::sync::Wait;
+use std::thread::Threads;
+use std::{env, io};
+
+// The calls, by name.
+const CALLS: [&str; 25] = [
+    "add_programme",
+    "add_resident",
+    "programme_list",
+    "resident_list",
+    "finish",
+    "assignment",
+    "read_docket",
+    "write_sheet",
+    "write_journal",
+    "core",
+    "mailbox",
+    "list_put",
+    "ledger",
+    "programme_agent",
+    "resident_agent",
+    "run",
+    "audit",
+    "write_report",
+    "serve_audit",
+    "replay",
+    "write_replay",
+    "serve_replay",
+    "check",
+    "serve_match",
+    "read_line",
+];
+
+// Makes the call of this name, with marks on `out` before and after it.
+fn made<H: Threads + Wait + Sync + Send + Copy + Drop, W: Write>(
+    rt: H,
+    alloc: Global,
+    name: &str,
+    out: &mut W,
+) -> Seen {
+    match name {
+        "add_programme" => builder::add_programme(alloc, out),
+        "add_resident" => builder::add_resident(alloc, out),
+        "programme_list" => builder::programme_list(alloc, out),
+        "resident_list" => builder::resident_list(alloc, out),
+        "finish" => builder::finish(alloc, out),
+        "assignment" => builder::assignment(alloc, out),
+        "read_docket" => dockets::read(alloc, out),
+        "write_sheet" => dockets::sheet(alloc, out),
+        "write_journal" => dockets::journal(alloc, out),
+        "core" => exchange::core(alloc, out),
+        "mailbox" => exchange::mailbox_of_two(rt, alloc, out),
+        "list_put" => exchange::list_put(alloc, out),
+        "ledger" => ledger::opened(alloc, out),
+        "programme_agent" => exchange::programme_agent(alloc, out),
+        "resident_agent" => exchange::resident_agent(alloc, out),
+        "run" => exchange::whole_run(rt, alloc, out),
+        "audit" => audits::audited(alloc, out),
+        "write_report" => audits::report(alloc, out),
+        "replay" => audits::replayed(alloc, out),
+        "write_replay" => audits::answer(alloc, out),
+        "check" => audits::checked(alloc, out),
+        _ => serving::made(rt, alloc, name, out),
+    }
+}
+
+// The words after the program's own name.
+fn words(rt: &HostRuntime) -> io::Result<Vec<String>> {
+    Ok(env::args(rt)?.skip(1).collect(rt.alloc())?)
+}
+
+// Makes the call of this name, and tells what it did. Whether that was right.
+fn told<H: Threads + Wait + Sync + Send + Copy + Drop, W: Write>(
+    rt: H,
+    alloc: Global,
+    name: &str,
+    out: &mut W,
+) -> bool {
+    let seen = made(rt, alloc, name, out);
+    let text = seen.text();
+    writeln!(out, "{name} {text}").is_ok() && seen != Seen::Wrong
+}
+
+fn main(rt: HostRuntime) -> ExitCode {
+    let Ok(words) = words(&rt) else {
+        return ExitCode::FAILURE;
+    };
+    let alloc = rt.alloc();
+    let out = &mut io::writer(&rt);
+    let mut are_right = true;
+    match words.first() {
+        Some(name) => are_right = told(rt, alloc, name.as_str(), out),
+        None => {
+            for name in CALLS {
+                are_right = told(rt, alloc, name, out) && are_right;
+            }
+        }
+    }
+    if are_right {
+        ExitCode::SUCCESS
+    } else {
+        ExitCode::FAILURE
+    }
+}

@@ -1,0 +1,149 @@
+//! The calls of the program.
+use crate::dockets::{SHEET, SMALL, joined, room};
+use crate::seen::{Seen, begin, end};
+use docket::DocketFault;
+use match_pool::{OpenGate, RunFault};
+use residency::{
+    LineFault, MatchOptions, Order, ServeFault, Status, line_status, read_line, serve_audit,
+    serve_match, serve_replay,
+};
+use std::alloc::Global;
+use std::io::Write;
+use std::sync::Wait;
+use std::thread::Threads;
+
+// A docket whose sheet has a blocking pair.
+const BLOCKED: &str = "Q,a,2\nP,a,x,y\nR,x,a\nR,y,a\nM,x,a\nU,y\nF,a,1,2\n";
+
+// The journal of nineteen events of a docket with two programmes and three residents.
+const NINETEEN: [&str; 3] = [
+    "Q,a,2\nQ,b,1\nP,a,x,y,z\nP,b,x\nR,x,b,a\nR,y,a\nR,z,a\nC,full\n",
+    "E,offer,a,x\nE,offer,a,y\nE,take,y,a\nE,take,x,a\nE,answer,y,a,hold\nE,answer,x,a,hold\nE,offer,b,x\nE,take,x,b\nE,answer,x,b,hold\nE,answer,x,a,release\nE,hear,a,y,hold\n",
+    "E,hear,a,x,hold\nE,hear,b,x,hold\nE,hear,a,x,release\nE,offer,a,z\nE,take,z,a\nE,answer,z,a,hold\nE,hear,a,z,hold\nE,close\n",
+];
+
+// Whether this is want of memory.
+fn is_memory(answer: &Result<Status, ServeFault>) -> bool {
+    matches!(
+        answer,
+        Err(
+            ServeFault::Memory
+                | ServeFault::Docket(DocketFault::Memory)
+                | ServeFault::Run(RunFault::Memory)
+        )
+    )
+}
+
+// What is served, with its status and what it writes.
+#[derive(Drop)]
+struct Trial<'a> {
+    order: Order,
+    input: &'a [u8],
+    status: Status,
+    text: &'a str,
+}
+
+impl Trial<'_> {
+    fn serve<H: Threads + Wait + Sync + Send + Copy>(
+        &self,
+        rt: H,
+        alloc: Global,
+        writer: &mut Vec<u8>,
+    ) -> Result<Status, ServeFault> {
+        match &self.order {
+            Order::Match(options) => {
+                serve_match(rt, alloc, self.input, writer, options, &OpenGate)
+            }
+            Order::Audit => serve_audit(alloc, self.input, writer),
+            Order::Replay => serve_replay(alloc, self.input, writer),
+        }
+    }
+
+    fn is_served(&self, answer: &Result<Status, ServeFault>, written: &[u8]) -> bool {
+        *answer == Ok(self.status) && written == self.text.as_bytes()
+    }
+
+    fn seen<H: Threads + Wait + Sync + Send + Copy, W: Write>(
+        &self,
+        rt: H,
+        alloc: Global,
+        out: &mut W,
+    ) -> Seen {
+        let Ok(mut room) = room(alloc) else {
+            return Seen::Wrong;
+        };
+        begin(out);
+        let answer = self.serve(rt, alloc, &mut room);
+        end(out);
+        let is_thread = matches!(answer, Err(ServeFault::Run(RunFault::Thread)));
+        if !is_thread && !is_memory(&answer) {
+            return Seen::at_once(self.is_served(&answer, room.as_slice()));
+        }
+        let untouched = room.is_empty();
+        let again = self.serve(rt, alloc, &mut room);
+        if !untouched || !self.is_served(&again, room.as_slice()) {
+            Seen::Wrong
+        } else if is_thread {
+            Seen::WantedThread
+        } else {
+            Seen::WantedMemory
+        }
+    }
+}
+
+// A command line with a wrong number of workers is read.
+fn line<W: Write>(alloc: Global, out: &mut W) -> Seen {
+    let words = ["match", "--workers", "9"];
+    begin(out);
+    let answer = read_line(alloc, &words);
+    end(out);
+    match answer {
+        Err(LineFault::Memory) => match read_line(alloc, &words) {
+            Err(fault) => Seen::after_memory(line_status(&fault) == 2),
+            Ok(_) => Seen::Wrong,
+        },
+        Err(fault) => Seen::at_once(line_status(&fault) == 2),
+        Ok(_) => Seen::Wrong,
+    }
+}
+
+/// Makes the call of this name; without one, nothing is right.
+pub(super) fn made<H: Threads + Wait + Sync + Send + Copy, W: Write>(
+    rt: H,
+    alloc: Global,
+    name: &str,
+    out: &mut W,
+) -> Seen {
+    let Ok(nineteen) = joined(alloc, &NINETEEN) else {
+        return Seen::Wrong;
+    };
+    let (order, input, status, text) = match name {
+        "serve_match" => (
+            Order::Match(MatchOptions::default()),
+            SMALL.as_bytes(),
+            Status::Closed,
+            SHEET,
+        ),
+        "serve_audit" => (
+            Order::Audit,
+            BLOCKED.as_bytes(),
+            Status::Unstable,
+            "S,unstable\nB,y,a\n",
+        ),
+        "serve_replay" => (
+            Order::Replay,
+            nineteen.as_slice(),
+            Status::ReplayGood,
+            "G,19\n",
+        ),
+        "read_line" => return line(alloc, out),
+        _ => return Seen::Wrong,
+    };
+    let trial = Trial {
+        order,
+        input,
+        status,
+        text,
+    };
+    trial.seen(rt, alloc, out)
+}

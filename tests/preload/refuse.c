@@ -1,0 +1,88 @@
+// A preloaded library for tests: it refuses growths of the process.
+//   REFUSE_AT=n    the n-th growth is refused
+//   REFUSE_FROM=n  every growth from the n-th on is refused
+//   REFUSE_TOLD=F  at the end the file F gets two numbers: the growths that were asked for, and those that were refused
+//   REFUSE_MARKED  where it is set, only growths between the lines `call` and `done` on standard output count
+// A growth is a call of malloc, calloc, realloc or an aligned form that asks for room.
+#define _GNU_SOURCE
+#include <errno.h>
+#include <fcntl.h>
+#include <stdatomic.h>
+#include <stddef.h>
+#include <stdio.h>
+#include <stdlib.h>
+#include <string.h>
+#include <sys/syscall.h>
+#include <unistd.h>
+
+extern void *__libc_malloc(size_t);
+extern void *__libc_calloc(size_t, size_t);
+extern void *__libc_realloc(void *, size_t);
+extern void *__libc_memalign(size_t, size_t);
+
+static atomic_long asked, refused;
+static long at, from;
+static const char *told;
+static atomic_int counts;
+static int is_marked;
+
+static long number(const char *name) {
+    const char *text = getenv(name);
+    return text ? atol(text) : 0;
+}
+
+__attribute__((constructor)) static void begin(void) {
+    at = number("REFUSE_AT");
+    from = number("REFUSE_FROM");
+    told = getenv("REFUSE_TOLD");
+    is_marked = getenv("REFUSE_MARKED") != NULL;
+    counts = !is_marked;
+}
+
+// Whether this growth is refused. What the system asks for before the program begins isn't counted.
+static int is_refused(void) {
+    if (!counts) return 0;
+    long place = atomic_fetch_add(&asked, 1) + 1;
+    if (place != at && !(from && place >= from)) return 0;
+    atomic_fetch_add(&refused, 1);
+    errno = ENOMEM;
+    return 1;
+}
+
+void *malloc(size_t size) { return is_refused() ? NULL : __libc_malloc(size); }
+void *calloc(size_t count, size_t size) { return is_refused() ? NULL : __libc_calloc(count, size); }
+void *realloc(void *old, size_t size) { return is_refused() ? NULL : __libc_realloc(old, size); }
+void *memalign(size_t align, size_t size) { return is_refused() ? NULL : __libc_memalign(align, size); }
+void *aligned_alloc(size_t align, size_t size) { return memalign(align, size); }
+
+int posix_memalign(void **made, size_t align, size_t size) {
+    void *room = memalign(align, size);
+    if (!room) return ENOMEM;
+    *made = room;
+    return 0;
+}
+
+static void tell(void) {
+    if (!told) return;
+    char text[64];
+    int length = snprintf(text, sizeof text, "%ld %ld\n", (long)asked, (long)refused);
+    int file = open(told, O_WRONLY | O_CREAT | O_TRUNC, 0600);
+    if (file < 0) return;
+    (void)!write(file, text, (size_t)length);
+    close(file);
+}
+
+// The program ends by this call, which runs no destructor.
+void _exit(int status) {
+    tell();
+    for (;;) syscall(SYS_exit_group, status);
+}
+
+// The marks are lines that are written whole.
+ssize_t write(int file, const void *text, size_t length) {
+    if (is_marked && file == STDOUT_FILENO && length == 5) {
+        if (memcmp(text, "call\n", 5) == 0) counts = 1;
+        if (memcmp(text, "done\n", 5) == 0) counts = 0;
+    }
+    return syscall(SYS_write, file, text, length);
+}
