@@ -2,7 +2,9 @@
 use crate::dockets::{SHEET, SMALL, docket_of, room};
 use crate::seen::{Seen, begin, end};
 use docket::{Docket, DocketFault};
-use match_audit::{AuditFault, AuditReport, ReplayFault, Replayed, audit, check, replay};
+use match_audit::{
+    AuditFault, AuditReport, ReplayFault, Replayed, audit, check, counts, replay,
+};
 use residency::{write_replay, write_report};
 use samples::events::{A, B, X, Y};
 use std::alloc::{AllocError, Global};
@@ -127,11 +129,11 @@ pub(super) fn answer<W: Write>(alloc: Global, out: &mut W) -> Seen {
     };
     let good = Ok(replayed);
     begin(out);
-    let answer = write_replay(alloc, &docket, &good, &mut room);
+    let answer = write_replay(alloc, &docket, &good, None, &mut room);
     end(out);
     if answer == Err(DocketFault::Memory) {
         let untouched = room.is_empty() && is_good(&good);
-        let again = write_replay(alloc, &docket, &good, &mut room);
+        let again = write_replay(alloc, &docket, &good, None, &mut room);
         let is_whole = again == Ok(()) && room.as_slice() == b"G,9\n".as_slice();
         return Seen::after_memory(untouched && is_whole);
     }
@@ -168,4 +170,36 @@ pub(super) fn checked<W: Write>(alloc: Global, out: &mut W) -> Seen {
         return Seen::after_memory(is_own_good && differs(&check_of(alloc, &other)));
     }
     Seen::at_once(is_own_good && differs(&answer))
+}
+
+// The same journal with the worker of each event, of two.
+const WORKED: &str = "C,full,2\nE,offer,a,x,0\nE,offer,b,y,1\nE,take,x,a,0\nE,take,y,b,1\nE,answer,x,a,hold,0\nE,answer,y,b,hold,1\nE,hear,a,x,hold,0\nE,hear,b,y,hold,1\nE,close,0\n";
+
+// How many events each worker of the docket's journal made, or of none.
+fn counts_of(alloc: Global, docket: &Docket) -> Result<Vec<u64>, AuditFault> {
+    let Some(journal) = docket.journal() else {
+        return Err(AuditFault::WrongSize);
+    };
+    match &journal.by {
+        Some(by) => counts(alloc, by.workers, by.who.as_slice()),
+        None => Err(AuditFault::WrongSize),
+    }
+}
+
+/// The events of two workers are counted.
+pub(super) fn counted<W: Write>(alloc: Global, out: &mut W) -> Seen {
+    let Some(docket) = docket_of(alloc, &[SMALL, WORKED]) else {
+        return Seen::Wrong;
+    };
+    begin(out);
+    let answer = counts_of(alloc, &docket);
+    end(out);
+    match answer {
+        Ok(counts) => Seen::at_once(counts.as_slice() == [5, 4].as_slice()),
+        Err(AuditFault::Memory) => match counts_of(alloc, &docket) {
+            Ok(counts) => Seen::after_memory(counts.as_slice() == [5, 4].as_slice()),
+            Err(_) => Seen::Wrong,
+        },
+        Err(_) => Seen::Wrong,
+    }
 }

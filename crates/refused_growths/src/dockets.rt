@@ -87,11 +87,11 @@ pub(super) fn journal<W: Write>(alloc: Global, out: &mut W) -> Seen {
     };
     let events = journal.events.as_slice();
     begin(out);
-    let answer = write_journal(alloc, &docket, journal.capacity, events, &mut room);
+    let answer = write_journal(alloc, &docket, journal.capacity, events, None, &mut room);
     end(out);
     if answer == Err(DocketFault::Memory) {
         let untouched = room.is_empty() && events.len() == 1;
-        let again = write_journal(alloc, &docket, journal.capacity, events, &mut room);
+        let again = write_journal(alloc, &docket, journal.capacity, events, None, &mut room);
         let is_whole = again == Ok(()) && room.as_slice() == CLOSED.as_bytes();
         return Seen::after_memory(untouched && is_whole);
     }

@@ -53,14 +53,18 @@ fn opened_as<J: Naming>(
 ) -> Result<bool, (LedgerFault, Ends)>
     requires instance { inst.now ≡ J.inst }
     requires capacity { cap ≡ J.cap }
+    requires workers { J.workers ≡ 2 }
     requires blank { (blank.name ≡ J.name) × (blank.parts ≡ J.parts) × (J.parts ≡ 8) }
     requires offer_ends { (i : ℕ) (end : PutList ℕ) → slice_get ends.0.items i ≡ Some end → end.puts ≡ [] }
     requires answer_ends { (i : ℕ) (end : PutList Answered) → slice_get ends.1.items i ≡ Some end → end.puts ≡ [] }
     ensures handed_back { IfErr result (λ refused. refused.1 ≡ ends) }
 {
     let (offer_ends, answer_ends) = ends;
-    match Ledger::<J, _, _>::open(alloc, blank, inst, cap, offer_ends, answer_ends) {
-        Ok((mut ledger, mut tally)) => Ok(enters_nothing(&mut ledger, inst, &mut tally)),
+    match Ledger::<J, _, _>::open(alloc, blank, inst, cap, 2, offer_ends, answer_ends) {
+        Ok((mut ledger, mut tallies)) => match tallies.first_mut() {
+            Some(tally) => Ok(enters_nothing(&mut ledger, inst, tally)),
+            None => Ok(false),
+        },
         Err(refused) => Err((refused.fault, (refused.offer_ends, refused.answer_ends))),
     }
 }

@@ -20,7 +20,7 @@ use std::thread::Threads;
 use std::{env, io};
 
 // The calls, by name.
-const CALLS: [&str; 25] = [
+const CALLS: [&str; 26] = [
     "add_programme",
     "add_resident",
     "programme_list",
@@ -44,6 +44,7 @@ const CALLS: [&str; 25] = [
     "write_replay",
     "serve_replay",
     "check",
+    "counts",
     "serve_match",
     "read_line",
 ];
@@ -77,6 +78,7 @@ fn made<H: Threads + Wait + Sync + Send + Copy + Drop, W: Write>(
         "replay" => audits::replayed(alloc, out),
         "write_replay" => audits::answer(alloc, out),
         "check" => audits::checked(alloc, out),
+        "counts" => audits::counted(alloc, out),
         _ => serving::made(rt, alloc, name, out),
     }
 }

@@ -4,4 +4,4 @@ abbrev pub ghosts-opened_as-J-Ledger : goal.ghosts-opened_as-J-Ledger
 ghosts-opened_as-J-Ledger a = record { name = a.blank.name; parts = a.blank.parts }
 
 abbrev pub ghosts-opened_as-J-Naming : goal.ghosts-opened_as-J-Naming
-ghosts-opened_as-J-Naming a = record { inst = a.inst.now; cap = a.cap }
+ghosts-opened_as-J-Naming a = record { inst = a.inst.now; cap = a.cap; workers = 2 }
