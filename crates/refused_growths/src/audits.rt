@@ -2,9 +2,7 @@
 use crate::dockets::{SHEET, SMALL, docket_of, room};
 use crate::seen::{Seen, begin, end};
 use docket::{Docket, DocketFault};
-use match_audit::{
-    AuditFault, AuditReport, ReplayFault, Replayed, audit, check, counts, replay,
-};
+use match_audit::{AuditFault, AuditReport, ReplayFault, Replayed, audit, check, counts, replay};
 use residency::{write_replay, write_report};
 use samples::events::{A, B, X, Y};
 use std::alloc::{AllocError, Global};
@@ -14,7 +12,8 @@ use std::io::Write;
 const OTHER_SHEET: &str = "M,x,b\nM,y,a\nF,a,1,1\nF,b,1,1\n";
 
 // The small docket's journal of nine events.
-const JOURNAL: &str = "C,full\nE,offer,a,x\nE,offer,b,y\nE,take,x,a\nE,take,y,b\nE,answer,x,a,hold\nE,answer,y,b,hold\nE,hear,a,x,hold\nE,hear,b,y,hold\nE,close\n";
+const JOURNAL: &str =
+    "C,full\nE,offer,a,x\nE,offer,b,y\nE,take,x,a\nE,take,y,b\nE,answer,x,a,hold\nE,answer,y,b,hold\nE,hear,a,x,hold\nE,hear,b,y,hold\nE,close\n";
 
 // A docket whose sheet has a blocking pair.
 const BLOCKED: &str = "Q,a,2\nP,a,x,y\nR,x,a\nR,y,a\nM,x,a\nU,y\nF,a,1,2\n";
@@ -173,7 +172,8 @@ pub(super) fn checked<W: Write>(alloc: Global, out: &mut W) -> Seen {
 }
 
 // The same journal with the worker of each event, of two.
-const WORKED: &str = "C,full,2\nE,offer,a,x,0\nE,offer,b,y,1\nE,take,x,a,0\nE,take,y,b,1\nE,answer,x,a,hold,0\nE,answer,y,b,hold,1\nE,hear,a,x,hold,0\nE,hear,b,y,hold,1\nE,close,0\n";
+const WORKED: &str =
+    "C,full,2\nE,offer,a,x,0\nE,offer,b,y,1\nE,take,x,a,0\nE,take,y,b,1\nE,answer,x,a,hold,0\nE,answer,y,b,hold,1\nE,hear,a,x,hold,0\nE,hear,b,y,hold,1\nE,close,0\n";
 
 // How many events each worker of the docket's journal made, or of none.
 fn counts_of(alloc: Global, docket: &Docket) -> Result<Vec<u64>, AuditFault> {

@@ -17,7 +17,11 @@ pub(super) enum Seen {
 impl Seen {
     /// The first answer was right, or wasn't.
     pub(super) fn at_once(is_right: bool) -> Seen {
-        if is_right { Seen::Answered } else { Seen::Wrong }
+        if is_right {
+            Seen::Answered
+        } else {
+            Seen::Wrong
+        }
     }
 
     /// The first answer was Memory, and the second was right, or wasn't.
