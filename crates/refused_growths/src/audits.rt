@@ -1,11 +1,15 @@
 //! The calls of the audit and of the replay, and what is written of both.
+ghost use Rattle.std.specs.Prelude.{IfSome};
+ghost use Rattle.docket.specs.Whole.{IsByWorker};
+ghost use Rattle.residency.specs.Report.{IsReportOf};
+
 use crate::dockets::{SHEET, SMALL, docket_of, room};
 use crate::seen::{Seen, begin, end};
-use docket::{Docket, DocketFault};
+use docket::{Docket, DocketFault, Journal};
 use match_audit::{AuditFault, AuditReport, ReplayFault, Replayed, audit, check, counts, replay};
 use residency::{write_replay, write_report};
 use samples::events::{A, B, X, Y};
-use std::alloc::{AllocError, Global};
+use std::alloc::Global;
 use std::io::Write;
 
 // The small docket's other stable sheet, which is not its result.
@@ -14,6 +18,9 @@ const OTHER_SHEET: &str = "M,x,b\nM,y,a\nF,a,1,1\nF,b,1,1\n";
 // The small docket's journal of nine events.
 const JOURNAL: &str =
     "C,full\nE,offer,a,x\nE,offer,b,y\nE,take,x,a\nE,take,y,b\nE,answer,x,a,hold\nE,answer,y,b,hold\nE,hear,a,x,hold\nE,hear,b,y,hold\nE,close\n";
+
+// What is written of a report that found nothing.
+const STABLE: &str = "S,stable\n";
 
 // A docket whose sheet has a blocking pair.
 const BLOCKED: &str = "Q,a,2\nP,a,x,y\nR,x,a\nR,y,a\nM,x,a\nU,y\nF,a,1,2\n";
@@ -47,39 +54,33 @@ pub(super) fn audited<W: Write>(alloc: Global, out: &mut W) -> Seen {
     }
 }
 
-// The report of that sheet.
-fn blocked_report(alloc: Global) -> Result<AuditReport, AllocError> {
-    Ok(AuditReport {
+// A report that found nothing, of a docket.
+fn stable_report(alloc: Global, docket: &Docket) -> AuditReport
+    ensures { IsReportOf docket.now result }
+{
+    AuditReport {
         unacceptable: Vec::new(alloc),
         over: Vec::new(alloc),
-        blocking: Vec::from_array(alloc, [(Y, A)])?,
-    })
+        blocking: Vec::new(alloc),
+    }
 }
 
-/// A report is written.
+/// A report is written that found nothing; that of a blocking pair is written by `serve_audit`.
 pub(super) fn report<W: Write>(alloc: Global, out: &mut W) -> Seen {
-    let text = "S,unstable\nB,y,a\n";
-    let (Some(docket), Ok(report), Ok(mut room)) = (
-        docket_of(alloc, &[BLOCKED]),
-        blocked_report(alloc),
-        room(alloc),
-    ) else {
+    let (Some(docket), Ok(mut room)) = (docket_of(alloc, &[SMALL]), room(alloc)) else {
         return Seen::Wrong;
     };
-    let inst = docket.instance();
-    if inst.programmes() != 1 || inst.residents() != 2 {
-        return Seen::Wrong;
-    }
+    let report = stable_report(alloc, &docket);
     begin(out);
     let answer = write_report(alloc, &docket, &report, &mut room);
     end(out);
     if answer == Err(DocketFault::Memory) {
-        let untouched = room.is_empty() && is_blocked(&report);
+        let untouched = room.is_empty() && report.is_stable();
         let again = write_report(alloc, &docket, &report, &mut room);
-        let is_whole = again == Ok(()) && room.as_slice() == text.as_bytes();
+        let is_whole = again == Ok(()) && room.as_slice() == STABLE.as_bytes();
         return Seen::after_memory(untouched && is_whole);
     }
-    Seen::at_once(answer == Ok(()) && room.as_slice() == text.as_bytes())
+    Seen::at_once(answer == Ok(()) && room.as_slice() == STABLE.as_bytes())
 }
 
 // Whether nine events were good, and gave the small docket's result.
@@ -175,11 +176,10 @@ pub(super) fn checked<W: Write>(alloc: Global, out: &mut W) -> Seen {
 const WORKED: &str =
     "C,full,2\nE,offer,a,x,0\nE,offer,b,y,1\nE,take,x,a,0\nE,take,y,b,1\nE,answer,x,a,hold,0\nE,answer,y,b,hold,1\nE,hear,a,x,hold,0\nE,hear,b,y,hold,1\nE,close,0\n";
 
-// How many events each worker of the docket's journal made, or of none.
-fn counts_of(alloc: Global, docket: &Docket) -> Result<Vec<u64>, AuditFault> {
-    let Some(journal) = docket.journal() else {
-        return Err(AuditFault::WrongSize);
-    };
+// How many events each worker made, where the journal is by worker.
+fn counts_of(alloc: Global, journal: &Journal) -> Result<Vec<u64>, AuditFault>
+    requires { IfSome journal.now.by (IsByWorker journal.now.events) }
+{
     match &journal.by {
         Some(by) => counts(alloc, by.workers, by.who.as_slice()),
         None => Err(AuditFault::WrongSize),
@@ -191,12 +191,15 @@ pub(super) fn counted<W: Write>(alloc: Global, out: &mut W) -> Seen {
     let Some(docket) = docket_of(alloc, &[SMALL, WORKED]) else {
         return Seen::Wrong;
     };
+    let Some(journal) = docket.journal() else {
+        return Seen::Wrong;
+    };
     begin(out);
-    let answer = counts_of(alloc, &docket);
+    let answer = counts_of(alloc, journal);
     end(out);
     match answer {
         Ok(counts) => Seen::at_once(counts.as_slice() == [5, 4].as_slice()),
-        Err(AuditFault::Memory) => match counts_of(alloc, &docket) {
+        Err(AuditFault::Memory) => match counts_of(alloc, journal) {
             Ok(counts) => Seen::after_memory(counts.as_slice() == [5, 4].as_slice()),
             Err(_) => Seen::Wrong,
         },

@@ -1,4 +1,7 @@
 //! The calls of the core, the mailboxes, the agents and the pool.
+ghost use Rattle.std.specs.Prelude.{◌≡◌, [], IfOk};
+ghost use Rattle.exchange_core.specs.Steps.{IsCoreOf};
+
 use crate::dockets::{SMALL, docket_of};
 use crate::seen::{Seen, begin, end};
 use exchange_core::{AnswerNote, Capacity, Core, CoreFault, OfferNote, Refused};
@@ -16,7 +19,9 @@ use std::sync::Wait;
 use std::thread::Threads;
 
 // Whether the core refuses a take by a resident who is none.
-fn refuses_a_stranger(mut core: Core, inst: &Instance) -> bool {
+fn refuses_a_stranger(mut core: Core, inst: &Instance) -> bool
+    requires { IsCoreOf inst.now core }
+{
     core.step(inst, take(ResidentNo(7), A)) == Err(Refused::NoSuchDesk)
 }
 
@@ -92,7 +97,9 @@ pub(super) fn list_put<W: Write>(alloc: Global, out: &mut W) -> Seen {
 const QUOTAS: &str = "Q,a,2\nQ,b,1\nP,a,x,y,z\nP,b,x\nR,x,b,a\nR,y,a\nR,z,a\n";
 
 // The answers that wait for the first programme.
-fn answers(alloc: Global) -> Result<ListTake<AnswerNote>, AllocError> {
+fn answers(alloc: Global) -> Result<ListTake<AnswerNote>, AllocError>
+    ensures { IfOk result (λ end. end.taken ≡ []) }
+{
     Ok(ListTake::of(Vec::from_array(
         alloc,
         [
@@ -138,7 +145,9 @@ pub(super) fn programme_agent<W: Write>(alloc: Global, out: &mut W) -> Seen {
 }
 
 // The offers that wait for the first resident.
-fn offers(alloc: Global) -> Result<ListTake<OfferNote>, AllocError> {
+fn offers(alloc: Global) -> Result<ListTake<OfferNote>, AllocError>
+    ensures { IfOk result (λ end. end.taken ≡ []) }
+{
     let notes = [OfferNote { programme: A }, OfferNote { programme: B }];
     Ok(ListTake::of(Vec::from_array(alloc, notes)?))
 }

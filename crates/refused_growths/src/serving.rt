@@ -107,6 +107,52 @@ fn line<W: Write>(alloc: Global, out: &mut W) -> Seen {
     }
 }
 
+// A match of the small docket.
+fn matched<H: Threads + Wait + Sync + Send + Copy, W: Write>(
+    rt: H,
+    alloc: Global,
+    out: &mut W,
+) -> Seen {
+    let trial = Trial {
+        order: Order::Match(MatchOptions::default()),
+        input: SMALL.as_bytes(),
+        status: Status::Closed,
+        text: SHEET,
+    };
+    trial.seen(rt, alloc, out)
+}
+
+// An audit of a sheet with a blocking pair.
+fn audited<H: Threads + Wait + Sync + Send + Copy, W: Write>(
+    rt: H,
+    alloc: Global,
+    out: &mut W,
+) -> Seen {
+    let trial = Trial {
+        order: Order::Audit,
+        input: BLOCKED.as_bytes(),
+        status: Status::Unstable,
+        text: "S,unstable\nB,y,a\n",
+    };
+    trial.seen(rt, alloc, out)
+}
+
+// A replay of nineteen events, which are these bytes.
+fn replayed<H: Threads + Wait + Sync + Send + Copy, W: Write>(
+    rt: H,
+    alloc: Global,
+    nineteen: &[u8],
+    out: &mut W,
+) -> Seen {
+    let trial = Trial {
+        order: Order::Replay,
+        input: nineteen,
+        status: Status::ReplayGood,
+        text: "G,19\n",
+    };
+    trial.seen(rt, alloc, out)
+}
+
 /// Makes the call of this name; without one, nothing is right.
 pub(super) fn made<H: Threads + Wait + Sync + Send + Copy, W: Write>(
     rt: H,
@@ -114,36 +160,14 @@ pub(super) fn made<H: Threads + Wait + Sync + Send + Copy, W: Write>(
     name: &str,
     out: &mut W,
 ) -> Seen {
-    let Ok(nineteen) = joined(alloc, &NINETEEN) else {
-        return Seen::Wrong;
-    };
-    let (order, input, status, text) = match name {
-        "serve_match" => (
-            Order::Match(MatchOptions::default()),
-            SMALL.as_bytes(),
-            Status::Closed,
-            SHEET,
-        ),
-        "serve_audit" => (
-            Order::Audit,
-            BLOCKED.as_bytes(),
-            Status::Unstable,
-            "S,unstable\nB,y,a\n",
-        ),
-        "serve_replay" => (
-            Order::Replay,
-            nineteen.as_slice(),
-            Status::ReplayGood,
-            "G,19\n",
-        ),
-        "read_line" => return line(alloc, out),
-        _ => return Seen::Wrong,
-    };
-    let trial = Trial {
-        order,
-        input,
-        status,
-        text,
-    };
-    trial.seen(rt, alloc, out)
+    match name {
+        "serve_match" => matched(rt, alloc, out),
+        "serve_audit" => audited(rt, alloc, out),
+        "serve_replay" => match joined(alloc, &NINETEEN) {
+            Ok(nineteen) => replayed(rt, alloc, nineteen.as_slice(), out),
+            Err(_) => Seen::Wrong,
+        },
+        "read_line" => line(alloc, out),
+        _ => Seen::Wrong,
+    }
 }
