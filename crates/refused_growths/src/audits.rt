@@ -1,5 +1,5 @@
 //! The calls of the audit and of the replay, and what is written of both.
-ghost use Rattle.std.specs.Prelude.{IfSome};
+ghost use Rattle.std.specs.Prelude.{◌≡◌, length, IfOk, IfSome};
 ghost use Rattle.docket.specs.Whole.{IsByWorker};
 ghost use Rattle.residency.specs.Report.{IsReportOf};
 
@@ -7,9 +7,10 @@ use crate::dockets::{SHEET, SMALL, docket_of, room};
 use crate::seen::{Seen, begin, end};
 use docket::{Docket, DocketFault, Journal};
 use match_audit::{AuditFault, AuditReport, ReplayFault, Replayed, audit, check, counts, replay};
+use match_model::{ProgrammeNo, ResidentNo};
 use residency::{write_replay, write_report};
 use samples::events::{A, B, X, Y};
-use std::alloc::Global;
+use std::alloc::{AllocError, Global};
 use std::io::Write;
 
 // The small docket's other stable sheet, which is not its result.
@@ -19,8 +20,8 @@ const OTHER_SHEET: &str = "M,x,b\nM,y,a\nF,a,1,1\nF,b,1,1\n";
 const JOURNAL: &str =
     "C,full\nE,offer,a,x\nE,offer,b,y\nE,take,x,a\nE,take,y,b\nE,answer,x,a,hold\nE,answer,y,b,hold\nE,hear,a,x,hold\nE,hear,b,y,hold\nE,close\n";
 
-// What is written of a report that found nothing.
-const STABLE: &str = "S,stable\n";
+// What is written of the report of that sheet.
+const UNSTABLE: &str = "S,unstable\nB,y,a\n";
 
 // A docket whose sheet has a blocking pair.
 const BLOCKED: &str = "Q,a,2\nP,a,x,y\nR,x,a\nR,y,a\nM,x,a\nU,y\nF,a,1,2\n";
@@ -54,33 +55,43 @@ pub(super) fn audited<W: Write>(alloc: Global, out: &mut W) -> Seen {
     }
 }
 
-// A report that found nothing, of a docket.
-fn stable_report(alloc: Global, docket: &Docket) -> AuditReport
-    ensures { IsReportOf docket.now result }
+// The report of that sheet: the second resident and the only programme block.
+fn blocked_report(alloc: Global, docket: &Docket) -> Result<AuditReport, AllocError>
+    requires residents { length docket.now.instance.resident_lists ≡ 2 }
+    requires programmes { length docket.now.instance.quotas ≡ 1 }
+    ensures { IfOk result (IsReportOf docket.now) }
 {
-    AuditReport {
+    let mut blocking = Vec::new(alloc);
+    blocking.push((ResidentNo(1), ProgrammeNo(0)))?;
+    Ok(AuditReport {
         unacceptable: Vec::new(alloc),
         over: Vec::new(alloc),
-        blocking: Vec::new(alloc),
-    }
+        blocking,
+    })
 }
 
-/// A report is written that found nothing; that of a blocking pair is written by `serve_audit`.
+/// The report of a sheet with a blocking pair is written.
 pub(super) fn report<W: Write>(alloc: Global, out: &mut W) -> Seen {
-    let (Some(docket), Ok(mut room)) = (docket_of(alloc, &[SMALL]), room(alloc)) else {
+    let (Some(docket), Ok(mut room)) = (docket_of(alloc, &[BLOCKED]), room(alloc)) else {
         return Seen::Wrong;
     };
-    let report = stable_report(alloc, &docket);
+    let inst = docket.instance();
+    if inst.programmes() != 1 || inst.residents() != 2 {
+        return Seen::Wrong;
+    }
+    let Ok(report) = blocked_report(alloc, &docket) else {
+        return Seen::Wrong;
+    };
     begin(out);
     let answer = write_report(alloc, &docket, &report, &mut room);
     end(out);
     if answer == Err(DocketFault::Memory) {
-        let untouched = room.is_empty() && report.is_stable();
+        let untouched = room.is_empty() && is_blocked(&report);
         let again = write_report(alloc, &docket, &report, &mut room);
-        let is_whole = again == Ok(()) && room.as_slice() == STABLE.as_bytes();
+        let is_whole = again == Ok(()) && room.as_slice() == UNSTABLE.as_bytes();
         return Seen::after_memory(untouched && is_whole);
     }
-    Seen::at_once(answer == Ok(()) && room.as_slice() == STABLE.as_bytes())
+    Seen::at_once(answer == Ok(()) && room.as_slice() == UNSTABLE.as_bytes())
 }
 
 // Whether nine events were good, and gave the small docket's result.
