@@ -174,6 +174,21 @@ fn is_by(docket: &Docket, workers: u32, who: &[u8]) -> bool {
     }
 }
 
+// Whether a journal by worker is read so with these members, and written again as it was.
+fn is_kept_by_worker(
+    alloc: Global,
+    members: &str,
+    journal: &str,
+    workers: u32,
+    who: &[u8],
+) -> Result<bool, AllocError> {
+    let text = joined(alloc, &[members, journal])?;
+    Ok(
+        has_workers(alloc, text.as_str(), workers, who)
+            && writes_journal(alloc, text.as_str(), journal),
+    )
+}
+
 #[test]
 fn keeps_journals_by_worker(rt: HostRuntime) -> Result<(), Fail> {
     let alloc = rt.alloc();
@@ -190,9 +205,7 @@ fn keeps_journals_by_worker(rt: HostRuntime) -> Result<(), Fail> {
     ];
     for (members, rows, workers, who) in cases {
         let journal = joined(alloc, rows)?;
-        let text = joined(alloc, &[members, journal.as_str()])?;
-        assert!(rt; has_workers(alloc, text.as_str(), workers, who));
-        assert!(rt; writes_journal(alloc, text.as_str(), journal.as_str()));
+        assert!(rt; is_kept_by_worker(alloc, members, journal.as_str(), workers, who)?);
     }
     Ok(())
 }
