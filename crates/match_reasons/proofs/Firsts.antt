@@ -1,18 +1,24 @@
 -- There is one first answer, and what is told of a programme's members decides between the last two.
-use Rattle.std.proofs.Common.{◌≡◌, ℕ, ◌<◌, ◌≤◌, inl, inr, List, arith, refl, sym, ap, ◌∙◌, subst}
+use Rattle.std.proofs.Common.{◌≡◌, ℕ, ◌+◌, ◌<◌, ◌≤◌, ◌⊎◌, inl, inr, List, [], ◌∷◌, length, take, drop, arith, refl, sym, ap, ◌∙◌, subst}
+use Rattle.std.specs.List.{count_by, filter}
+use Rattle.std.proofs.lemmas.List.{take-append-drop, length-take, length-take-le}
+use Rattle.std.proofs.lemmas.List.Sums.{length-filter, count_by-le-length}
 use Rattle.std.specs.Prelude.{Option, Some, None}
 use Rattle.std.proofs.lemmas.Bool.{cases_lt}
 use Rattle.std.proofs.lemmas.Option.{same_Some}
-use Rattle.match_model.specs.Ranking.{place, IsListed, IsBefore}
+use Rattle.match_model.specs.Ranking.{place, IsListed, is_listed, IsBefore, HasNoRepeats}
 use Rattle.match_model.specs.Instance.{Instance, IsInstance, Acceptable, list_of_programme, list_of_resident, quota, rank}
-use Rattle.match_model.specs.Placement.{programme_of, IsMemberOf}
-use Rattle.exchange_core.proofs.Rankings.{same_from_place}
+use Rattle.match_model.specs.Placement.{programme_of, IsMemberOf, member_count}
+use Rattle.exchange_core.proofs.Rankings.{same_from_place, place-append, no_repeats_before}
 use Rattle.match_model.proofs.Instances.{acceptable_programme}
-use Rattle.settle_law.proofs.Places.{IsListed-nil}
+use Rattle.settle_law.proofs.Places.{IsListed-nil, IsListed-cons, IsListed-cons_same, IsListed-cons_cases, IsListed-filter, HasNoRepeats-cons, HasNoRepeats-filter, listed_cases, place-append_other}
+use Rattle.settle_law.proofs.Counting.{different_among, different_pass}
+use Rattle.settle_law.proofs.Placements.{holds_true, same_from_holds, members_of, length-members_of, members_differ, member_listed, member_from_listed}
 use Rattle.settle_law.specs.Stable.{Prefers, IsStable, HasRoomFor}
 use Rattle.match_reasons.proofs.Ranks.{ranked, place_unranked}
-use Rattle.match_reasons.specs.Reason.{HasWithdrawn, HasBetter, IsLastRank, Holds, turn, IsFirst, Wants, TellsFull, NamesProgramme, IsTold, IsPast}
-use Rattle.match_reasons.specs.declared.members.Members.{Members}
+use Rattle.match_reasons.proofs.Tallies.{is_of}
+use Rattle.match_reasons.specs.Reason.{HasWithdrawn, HasBetter, IsLastRank, Holds, turn, IsFirst, Wants, TellsFull, NamesProgramme, IsLastAhead, IsAhead}
+use Rattle.match_reasons.specs.declared.members.Ahead.{Ahead}
 use Rattle.match_reasons.specs.declared.reason.Why.{Why}
 use Rattle.match_reasons.specs.declared.reason.Why.TheVariants.{Withdrawn, NotAcceptable, Matched, PrefersOwn, Full, Blocking}
 
@@ -171,47 +177,107 @@ first_blocking inst is m r p w room = record {
     ]
     before Blocking l h = absurd (omega arith)
 
--- the programme wouldn't: as many members as places, of whom the last stands no later than r, who isn't one
-pub first_full : (inst : Instance) → IsInstance inst → (m : List (Option ℕ)) (r p i : ℕ) (members : Members) → Wants inst m r p → Some i ≡ rank (list_of_programme inst p) r →
-    IsTold inst m p members → quota inst p ≤ members.count → (IsPast i members.last_rank → ⊥) → IsFirst inst m r p (Full i members.last_rank (quota inst p))
-first_full inst is m r p i members w e told taken past = record {
+-- the members that the list names before the i-th are no more than all, and one fewer where one doesn't stand there
+ahead_and_one : (m : List (Option ℕ)) (xs : List ℕ) (p i s : ℕ) → HasNoRepeats xs → IsMemberOf m s p → (IsListed (take i xs) s → ⊥) →
+    count_by (is_of m p) (take i xs) + 1 ≤ member_count m p
+ahead_and_one m xs p i s once is n =
+    let front : List ℕ = filter (is_of m p) (take i xs) in
+    let differ : HasNoRepeats (s ∷ front) = HasNoRepeats-cons s front (λ l. n (IsListed-filter (is_of m p) (take i xs) s l).0)
+    (HasNoRepeats-filter (is_of m p) (take i xs) (no_repeats_before (take i xs) (drop i xs) (subst HasNoRepeats (sym (take-append-drop i xs)) once))) in
+    let among = different_among (s ∷ front) (members_of m p) differ (λ x l. elim (IsListed-cons_cases s front x l) [
+      | inl e ↦ member_listed m p x (subst (λ z. IsMemberOf m z p) e is)
+      | inr c ↦ member_listed m p x (same_from_holds p (programme_of m x) (IsListed-filter (is_of m p) (take i xs) x c).1)
+    ]) in
+    let all = count_by-le-length (is_listed (s ∷ front)) (members_of m p) in
+    omega (arith, length-members_of m p, length-filter (is_of m p) (take i xs))
+
+-- of two lists without repeats the longer one has an item that the other doesn't have
+one_outside : (ys xs : List ℕ) → ((x : ℕ) → IsListed ys x → IsListed xs x) ⊎ ((x : ℕ) × IsListed ys x × (IsListed xs x → ⊥))
+one_outside [] xs = inl (λ x l. absurd (IsListed-nil x l))
+one_outside (y ∷ ys) xs = elim (listed_cases xs y) [
+  | inr n ↦ inr (y, IsListed-cons_same y ys, n)
+  | inl here ↦ elim (one_outside ys xs) [
+    | inr (x, l, n) ↦ inr (x, IsListed-cons y ys x l, n)
+    | inl rest ↦ inl (λ x l. elim (IsListed-cons_cases y ys x l) [
+      | inl e ↦ subst (IsListed xs) e here
+      | inr c ↦ rest x c
+    ])
+  ]
+]
+
+-- where fewer members than all stand before the i-th, one stands at it or after it
+member_past : (m : List (Option ℕ)) (xs : List ℕ) (p i : ℕ) → count_by (is_of m p) (take i xs) < member_count m p →
+    (s : ℕ) × IsMemberOf m s p × (IsListed (take i xs) s → ⊥)
+member_past m xs p i less = elim (one_outside (members_of m p) (take i xs)) [
+  | inr (s, l, n) ↦ (s, member_from_listed m p s l, n)
+  | inl within ↦
+      let pass = different_pass (members_of m p) (take i xs) (is_of m p) (members_differ m p)
+      (λ x l. (within x l, holds_true p (programme_of m x) (member_from_listed m p x l))) in
+      absurd (omega (arith, length-members_of m p))
+]
+
+-- who stands in the front of a list stands before its end
+front_place : (xs : List ℕ) (i x : ℕ) → IsListed (take i xs) x → place xs x < i
+front_place xs i x l =
+    let same = place-append (take i xs) (drop i xs) x l in
+    let whole = ap (λ (z : List ℕ). place z x) (take-append-drop i xs) in
+    let short = length-take i xs in
+    omega arith
+
+-- and who stands before its end stands in it
+place_front : (xs : List ℕ) (i x : ℕ) → i ≤ length xs → (IsListed (take i xs) x → ⊥) → i ≤ place xs x
+place_front xs i x l n =
+    let past = place-append_other (take i xs) (drop i xs) x n in
+    let whole = ap (λ (z : List ℕ). place z x) (take-append-drop i xs) in
+    let long = length-take-le i xs l in
+    omega arith
+
+-- the programme wouldn't: as many members as places, all of whom stand before r
+pub first_full : (inst : Instance) → IsInstance inst → (m : List (Option ℕ)) (r p : ℕ) (ahead : Ahead) → Wants inst m r p →
+    IsAhead m (list_of_programme inst p) r p ahead → quota inst p ≤ member_count m p → (ahead.count < member_count m p → ⊥) →
+    IsFirst inst m r p (Full ahead.rank ahead.last_rank (quota inst p))
+first_full inst is m r p ahead w h taken all = record {
   holds = record {
-    ranked = sym e;
-    last = told.last;
+    ranked = h.ranked;
+    last = last ahead.last_rank h.last;
     has_quota = refl;
-    all_taken = (let c = told.count in omega arith);
-    all_before = λ s is. before members.last_rank told.last past s is;
+    all_taken = taken;
+    all_before = λ s k. let b = within s k in let at = ranked (list_of_programme inst p) r ahead.rank (sym h.ranked) in let e = at.1 in omega arith;
   };
-  none_before = λ other l h. wants_none inst is m r p other w l h;
+  none_before = λ other l k. wants_none inst is m r p other w l k;
 }
   where
-    before : (last : Option ℕ) → IsLastRank inst m p last → (IsPast i last → ⊥) → (s : ℕ) → IsMemberOf m s p → IsBefore (list_of_programme inst p) s r
-    before None h n s is = absurd (h s is)
-    before (Some last) h n s is =
-        let at = ranked (list_of_programme inst p) r i e in
-        let up = h.1 s is in
-        elim (cases_lt (place (list_of_programme inst p) s) (place (list_of_programme inst p) r)) [
-          | inl c ↦ c
-          | inr c ↦
-              let out : last ≤ i = elim (cases_lt i last) [ inl d ↦ absurd (n d) | inr d ↦ d ] in
-              let same : r ≡ s = same_from_place (list_of_programme inst p) r s at.0 (let b = at.1 in omega arith) in
-              absurd (w.not_placed (subst (λ z. IsMemberOf m z p) (sym same) is))
-        ]
+    within : (s : ℕ) → IsMemberOf m s p → place (list_of_programme inst p) s < ahead.rank
+    within s k = elim (listed_cases (take ahead.rank (list_of_programme inst p)) s) [
+      | inl c ↦ front_place (list_of_programme inst p) ahead.rank s c
+      | inr n ↦ absurd (all (let more = ahead_and_one m (list_of_programme inst p) p ahead.rank s (is.programmes_rank_strictly p) k n in let c = h.count in omega arith))
+    ]
 
--- what is told of the members decides whether the programme would
-pub room_by_count : (inst : Instance) (m : List (Option ℕ)) (r p : ℕ) (members : Members) → IsTold inst m p members →
-    members.count < quota inst p → HasRoomFor inst m p r
-room_by_count inst m r p members told l = inl (let c = told.count in omega arith)
+    last : (o : Option ℕ) → IsLastAhead m (list_of_programme inst p) p ahead.rank o → IsLastRank inst m p o
+    last None l = λ s k. let b = within s k in let c = l s k in absurd (omega arith)
+    last (Some k) l = ((l.0.0, l.0.1, l.0.2), λ s j. l.1 s j (within s j))
 
-pub room_by_rank : (inst : Instance) (m : List (Option ℕ)) (r p i : ℕ) (members : Members) → Some i ≡ rank (list_of_programme inst p) r →
-    IsTold inst m p members → IsPast i members.last_rank → HasRoomFor inst m p r
-room_by_rank inst m r p i members e told past = after members.last_rank told.last past
-  where
-    after : (last : Option ℕ) → IsLastRank inst m p last → IsPast i last → HasRoomFor inst m p r
-    after None h past = absurd past
-    after (Some last) h past =
-        let at = ranked (list_of_programme inst p) r i e in
-        inr (h.0.0, h.0.1, let b = h.0.2 in let a = at.1 in omega arith)
+-- and it would, with a free place or with a member who stands after r
+pub room_by_count : (inst : Instance) (m : List (Option ℕ)) (r p : ℕ) → member_count m p < quota inst p → HasRoomFor inst m p r
+room_by_count inst m r p l = inl l
+
+pub room_by_rank : (inst : Instance) (m : List (Option ℕ)) (r p : ℕ) (ahead : Ahead) → (IsMemberOf m r p → ⊥) →
+    IsAhead m (list_of_programme inst p) r p ahead → ahead.count < member_count m p → HasRoomFor inst m p r
+room_by_rank inst m r p ahead not h less =
+    let list : List ℕ = list_of_programme inst p in
+    let at = ranked list r ahead.rank (sym h.ranked) in
+    let past = member_past m list p ahead.rank (let c = h.count in omega arith) in
+    let after = place_front list ahead.rank past.0 (let e = at.1 in let l = at.0 in omega arith) past.2 in
+    inr (
+      past.0,
+      past.1,
+      elim (cases_lt (place list r) (place list past.0)) [
+        | inl c ↦ c
+        | inr c ↦
+            let same : r ≡ past.0 = same_from_place list r past.0 at.0 (let e = at.1 in omega arith) in
+            absurd (not (subst (λ z. IsMemberOf m z p) (sym same) past.1))
+      ],
+    )
 
 -- whoever the first answer names is on r's list, and so a programme
 pub names_programme : (inst : Instance) → IsInstance inst → (m : List (Option ℕ)) (r p : ℕ) (a : Why) → IsFirst inst m r p a → NamesProgramme inst a

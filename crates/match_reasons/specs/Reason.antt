@@ -1,10 +1,11 @@
 -- Why a placement doesn't give a programme to a resident.
-use Rattle.std.specs.Prelude.{◌≡◌, ℕ, ◌<◌, ◌≤◌, ◌⊎◌, true, max, Option, Some, None, List}
+use Rattle.std.specs.Prelude.{◌≡◌, ℕ, ◌<◌, ◌≤◌, ◌⊎◌, true, Option, Some, None, List, take}
+use Rattle.std.specs.List.{count_by}
 use Rattle.match_model.specs.Ranking.{place, IsBefore}
 use Rattle.match_model.specs.Instance.{Instance, IsProgramme, Acceptable, is_withdrawn, list_of_programme, list_of_resident, quota as quota_of, rank as rank_in}
-use Rattle.match_model.specs.Placement.{programme_of, IsMemberOf, member_count}
+use Rattle.match_model.specs.Placement.{programme_of, IsMemberOf, holds, member_count}
 use Rattle.settle_law.specs.Stable.{Prefers, Blocks}
-use Rattle.match_reasons.specs.declared.members.Members.{Members}
+use Rattle.match_reasons.specs.declared.members.Ahead.{Ahead}
 use Rattle.match_reasons.specs.declared.reason.Why.{Why}
 use Rattle.match_reasons.specs.declared.reason.Why.TheVariants.{Withdrawn, NotAcceptable, Matched, PrefersOwn, Full, Blocking}
 
@@ -81,17 +82,15 @@ NamesProgramme inst (PrefersOwn own own_rank rank) = IsProgramme inst own
 NamesProgramme inst (Full rank last_rank quota) = Unit {0}
 NamesProgramme inst Blocking = Unit {0}
 
--- the number of p's members, and the last place that one of them has
-pub record IsTold (inst : Instance) (m : List (Option ℕ)) (p : ℕ) (members : Members) : Type 0 where
-  pub count : members.count ≡ member_count m p
-  pub last : IsLastRank inst m p members.last_rank
+-- the last place before the n-th that a member of p has in this list, or none where no member stands there
+abbrev pub IsLastAhead : List (Option ℕ) → List ℕ → ℕ → ℕ → Option ℕ → Type 0
+IsLastAhead m xs p n None = (s : ℕ) → IsMemberOf m s p → n ≤ place xs s
+IsLastAhead m xs p n (Some k) =
+    ((s : ℕ) × IsMemberOf m s p × (place xs s ≡ k) × (k < n))
+    × ((s : ℕ) → IsMemberOf m s p → place xs s < n → place xs s ≤ k)
 
--- the later of a rank, if there is one, and a place
-abbrev pub later : Option ℕ → ℕ → ℕ
-later None k = k
-later (Some last) k = max last k
-
--- the rank stands before the last one, if there is one
-abbrev pub IsPast : ℕ → Option ℕ → Type 0
-IsPast rank None = ⊥
-IsPast rank (Some last) = rank < last
+-- r's rank in this list, how many of p's members the list names before r, and the last place that one of these has
+pub record IsAhead (m : List (Option ℕ)) (xs : List ℕ) (r p : ℕ) (ahead : Ahead) : Type 0 where
+  pub ranked : rank_in xs r ≡ Some ahead.rank
+  pub count : ahead.count ≡ count_by (λ s. holds p (programme_of m s)) (take ahead.rank xs)
+  pub last : IsLastAhead m xs p ahead.rank ahead.last_rank

@@ -4,7 +4,7 @@ ghost use Rattle.match_model.specs.Instance.{IsInstance, IsProgramme, IsResident
 ghost use Rattle.settle_law.specs.Stable.{IsStable};
 ghost use Rattle.match_reasons.specs.Reason.{IsFirst, Wants, TellsFull, NamesProgramme};
 
-use crate::members::{is_member, members_of};
+use crate::members::{Ahead, is_member, members_ahead, members_of};
 use crate::reason::Why;
 use match_model::{Assignment, Instance, ProgrammeNo, ResidentNo};
 
@@ -79,20 +79,28 @@ fn programmes_reason(
 ) -> Why
     requires instance { IsInstance inst.now }
     requires programme { IsProgramme inst.now programme }
+    requires one_place_each { length sheet.now ≡ length inst.now.resident_lists }
     requires wants { Wants inst.now sheet.now resident programme }
     ensures { IsFirst inst.now sheet.now resident programme result }
 {
-    let Some(rank) = inst.rank_at_programme(programme, resident) else {
+    let Some(
+        Ahead {
+            rank,
+            count,
+            last_rank,
+        },
+    ) = members_ahead(inst, sheet, resident, programme)
+    else {
         return Why::NotAcceptable;
     };
     let quota = inst.quota(programme);
-    let members = members_of(inst, sheet, programme);
-    if members.count < quota || members.has_after(rank) {
+    let members = members_of(sheet, programme);
+    if members < quota || count < members {
         return Why::Blocking;
     }
     Why::Full {
         rank,
-        last_rank: members.last_rank,
+        last_rank,
         quota,
     }
 }
