@@ -20,11 +20,16 @@ abbrev pub unordered_status_of : Unordered → ℕ
 unordered_status_of NoText = 2
 unordered_status_of (Line fault) = line_status_of fault
 
+-- the status after words that order nothing: that of their fault, or 1 where help or the version was asked for and couldn't be written
+abbrev pub IsRefusedStatus : Unordered → ℕ → Type 0
+IsRefusedStatus fault status =
+    (status ≡ unordered_status_of fault) ⊎ ((unordered_status_of fault ≡ 0) × (status ≡ 1))
+
 -- the words order nothing: nothing was written, and the status tells why
 pub record EndsRefused (old new : Option (List ℕ)) (status : ℕ) : Type 0 where
   pub fault : Unordered
   pub nothing : new ≡ old
-  pub tells : status ≡ unordered_status_of fault
+  pub tells : IsRefusedStatus fault status
 
 -- the words order nothing, or what they order was served
 abbrev pub Ends : Option (List ℕ) → Option (List ℕ) → Option (List ℕ) → ℕ → Type 0

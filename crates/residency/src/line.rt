@@ -80,16 +80,16 @@ fn line_fault(error: clap::Error) -> LineFault
     }
 }
 
-// A command with what its help says of it.
+// A command with how it is called and what its help says of it.
 fn described<'a>(
     alloc: Global,
     name: &'a str,
-    call: &str,
+    call: &'a str,
     about: &'a str,
     help: &'a str,
-) -> Result<Command<'a>, AllocError> {
-    let command = Command::new(alloc, name).bin_name(call)?;
-    Ok(command.about(about).after_help(help))
+) -> Command<'a> {
+    let command = Command::new(alloc, name).override_usage(call);
+    command.about(about).after_help(help)
 }
 
 // How many threads work on a match.
@@ -130,7 +130,8 @@ fn by_worker_option<'a>(alloc: Global) -> Arg<'a> {
 // The command that runs a match, with its options.
 fn match_command<'a>(alloc: Global) -> Result<Command<'a>, AllocError> {
     let about = "Writes the sheet of the settled match";
-    let command = described(alloc, "match", "residency match", about, MATCH_HELP)?;
+    let call = "residency match [OPTIONS] < docket.csv";
+    let command = described(alloc, "match", call, about, MATCH_HELP);
     let command = command.arg(workers_option(alloc))?;
     let command = command.arg(capacity_option(alloc))?;
     let command = command.arg(journal_option(alloc))?;
@@ -138,24 +139,31 @@ fn match_command<'a>(alloc: Global) -> Result<Command<'a>, AllocError> {
 }
 
 // The command that audits a sheet.
-fn audit_command<'a>(alloc: Global) -> Result<Command<'a>, AllocError> {
+fn audit_command<'a>(alloc: Global) -> Command<'a> {
     let about = "Says whether the docket's sheet is stable";
-    described(alloc, "audit", "residency audit", about, AUDIT_HELP)
+    let call = "residency audit < docket-and-sheet.csv";
+    described(alloc, "audit", call, about, AUDIT_HELP)
 }
 
 // The command that replays a journal.
-fn replay_command<'a>(alloc: Global) -> Result<Command<'a>, AllocError> {
+fn replay_command<'a>(alloc: Global) -> Command<'a> {
     let about = "Says whether the docket's journal is a good exchange that gives its sheet";
-    described(alloc, "replay", "residency replay", about, REPLAY_HELP)
+    let call = "residency replay < docket-and-journal.csv";
+    described(alloc, "replay", call, about, REPLAY_HELP)
 }
 
-// The program, without its commands.
-fn program<'a>(alloc: Global) -> Command<'a> {
-    Command::new(alloc, "residency")
-        .about("Runs a residency match as an exchange of offers, over a docket on standard input")
-        .version(VERSION)
-        .no_binary_name(true)
-        .subcommand_required(true)
+// The program, without its commands. Its commands are named after it.
+fn program<'a>(alloc: Global) -> Result<Command<'a>, AllocError> {
+    let program = Command::new(alloc, "residency").bin_name("residency")?;
+    Ok(
+        program
+            .about(
+                "Runs a residency match as an exchange of offers, over a docket on standard input",
+            )
+            .version(VERSION)
+            .no_binary_name(true)
+            .subcommand_required(true),
+    )
 }
 
 // A program with one command more.
@@ -165,9 +173,9 @@ fn with_command<'a>(program: Command<'a>, command: Command<'a>) -> Result<Comman
 
 // The program with its commands.
 fn commands<'a>(alloc: Global) -> Result<Command<'a>, AllocError> {
-    let matching = with_command(program(alloc), match_command(alloc)?)?;
-    let auditing = with_command(matching, audit_command(alloc)?)?;
-    with_command(auditing, replay_command(alloc)?)
+    let matching = with_command(program(alloc)?, match_command(alloc)?)?;
+    let auditing = with_command(matching, audit_command(alloc))?;
+    with_command(auditing, replay_command(alloc))
 }
 
 // The number of workers, which its option admits from 1 to 8, and 2 where there is none.

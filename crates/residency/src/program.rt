@@ -2,12 +2,13 @@
 ghost use Rattle.std.specs.Prelude.{◌≡◌, IfOk};
 ghost use Rattle.std.specs.Process.{exit_status as exit_status_in};
 ghost use Rattle.residency.specs.Options.{IsOrder};
-ghost use Rattle.residency.specs.Program.{Ends, EndsServing, unordered_status_of};
+ghost use Rattle.residency.specs.Program.{Ends, EndsServing, IsRefusedStatus, unordered_status_of};
 
 use crate::line::{LineFault, read_line};
 use crate::options::Order;
 use crate::serve::serve;
 use crate::status::{exit_status, line_status};
+use docket::DocketFault;
 use match_pool::OpenGate;
 use std::alloc::Global;
 use std::io;
@@ -54,15 +55,20 @@ fn unordered_status(fault: &Unordered) -> u8
     }
 }
 
-// Tells why the words order nothing. A text that can't be written changes no exit status.
+// Tells why the words order nothing. Help and the version are an answer, so a text of them that can't be written is a fault.
 fn refuse<T: Print + Eprint>(told: &T, fault: &Unordered) -> ExitCode
-    ensures { exit_status_in result ≡ unordered_status_of fault.now }
+    ensures { IsRefusedStatus fault.now (exit_status_in result) }
 {
-    let _ = match fault {
-        Unordered::Line(LineFault::Line(error)) => error.print(told),
-        fault => eprintln!(told; "residency: {fault}"),
+    let is_told = match fault {
+        Unordered::Line(LineFault::Line(error)) => error.print(told).is_ok(),
+        fault => eprintln!(told; "residency: {fault}").is_ok(),
     };
-    ExitCode::from(unordered_status(fault))
+    let status = unordered_status(fault);
+    if status == 0 && !is_told {
+        let _ = eprintln!(told; "residency: {}", DocketFault::Write);
+        return ExitCode::from(1);
+    }
+    ExitCode::from(status)
 }
 
 // Serves an order, and tells why it couldn't. A text that can't be written changes no exit status.

@@ -1,0 +1,70 @@
+// A preloaded library for tests: standard input and output of the process behave as its environment says. For IN and OUT:
+//   DEVICE_IN_BYTES=n   a call moves n bytes at most
+//   DEVICE_IN_WAITS=n   before each call that does anything n calls are interrupted
+//   DEVICE_IN_FAILS=n   the n-th call that does anything, and each after it, fails
+//   DEVICE_TOLD=F       at the end the file F gets two numbers: the reads and the writes that did or failed something
+#define _GNU_SOURCE
+#include <errno.h>
+#include <fcntl.h>
+#include <stdio.h>
+#include <stdlib.h>
+#include <sys/syscall.h>
+#include <unistd.h>
+
+struct device {
+    long bytes, waits, fails;
+    long interrupted, done;
+};
+
+static struct device in, out;
+static const char *told;
+
+static long number(const char *name) {
+    const char *text = getenv(name);
+    return text ? atol(text) : 0;
+}
+
+__attribute__((constructor)) static void begin(void) {
+    in = (struct device){number("DEVICE_IN_BYTES"), number("DEVICE_IN_WAITS"), number("DEVICE_IN_FAILS"), 0, 0};
+    out = (struct device){number("DEVICE_OUT_BYTES"), number("DEVICE_OUT_WAITS"), number("DEVICE_OUT_FAILS"), 0, 0};
+    told = getenv("DEVICE_TOLD");
+}
+
+// Moves bytes by this call of the system, or does what the device does instead.
+static ssize_t move(struct device *device, long call, int file, void *text, size_t length) {
+    if (device->interrupted < device->waits) {
+        device->interrupted++;
+        errno = EINTR;
+        return -1;
+    }
+    device->interrupted = 0;
+    device->done++;
+    if (device->fails && device->done >= device->fails) {
+        errno = EIO;
+        return -1;
+    }
+    if (device->bytes && length > (size_t)device->bytes) length = (size_t)device->bytes;
+    return syscall(call, file, text, length);
+}
+
+ssize_t read(int file, void *text, size_t length) {
+    return file == STDIN_FILENO ? move(&in, SYS_read, file, text, length) : syscall(SYS_read, file, text, length);
+}
+
+ssize_t write(int file, const void *text, size_t length) {
+    return file == STDOUT_FILENO ? move(&out, SYS_write, file, (void *)text, length) : syscall(SYS_write, file, text, length);
+}
+
+// The program ends by this call, which runs no destructor.
+void _exit(int status) {
+    if (told) {
+        char text[64];
+        int length = snprintf(text, sizeof text, "%ld %ld\n", in.done, out.done);
+        int file = open(told, O_WRONLY | O_CREAT | O_TRUNC, 0600);
+        if (file >= 0) {
+            syscall(SYS_write, file, text, (size_t)length);
+            close(file);
+        }
+    }
+    for (;;) syscall(SYS_exit_group, status);
+}
