@@ -4,6 +4,7 @@ pub mod LongRecordFacts
 pub mod RowsFacts
 pub mod RowKindFacts
 pub mod NameFacts
+pub mod NameKeyFacts
 pub mod ReadFacts
 pub mod WithdrawalFacts
 pub mod DeclarationFacts

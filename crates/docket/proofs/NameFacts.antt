@@ -1,11 +1,12 @@
 -- Facts on lists of names.
-use Rattle.std.proofs.Common.{◌≡◌, ◌<◌, ◌+◌, ℕ, zero, suc, List, [], ◌∷◌, ◌++◌, Bool, true, false, length, get_or, map, arith, sym, ◌∙◌, refl, ap, Some, is_some, position, rules, cond}
+use Rattle.std.proofs.Common.{◌≡◌, ◌<◌, ◌≤◌, ◌+◌, ℕ, zero, suc, List, [], ◌∷◌, ◌++◌, Bool, true, false, length, get_or, map, arith, sym, ◌∙◌, refl, ap, Some, None, Option, is_some, position, rules, cond}
 use Rattle.std.specs.Prelude.{bytes_eq, slice_get, IsUtf8, ◌&&◌, ◌||◌, nat_le, nat_lt, ◌==◌, if◌then◌else◌}
 use Rattle.std.specs.List.{list_all, list_any, position_from}
-use Rattle.std.proofs.lemmas.List.{map-append, get_or_past}
+use Rattle.std.proofs.lemmas.List.{get_or_past}
 use Rattle.std.proofs.lemmas.Iterator.Adapters.{position_from-zero}
 use Rattle.std.proofs.lemmas.Str.{IsUtf8-from_ascii}
 use Rattle.std.proofs.lemmas.Bool.{and_parts}
+use Rattle.std.proofs.lemmas.Slice.Eq.{bytes_eq-Decides}
 use Rattle.docket.specs.Words.{is_name, is_name_byte}
 use Rattle.docket.specs.Contents.{number_in, is_declared}
 use Rattle.docket.proofs.WordFacts.{list_all_true_at}
@@ -41,21 +42,15 @@ pub is_declared-any : (names : List (List ℕ)) (name : List ℕ) → is_declare
 unfolding number_in
 is_declared-any names name = is_some-position (bytes_eq name) names
 
--- the number of a name, by the keys that hold the names
-pub number_in-map : {K : Type 0} (f : K → List ℕ) (keys : List K) (name : List ℕ) → number_in (map f keys) name ≡ position (λ k. bytes_eq name (f k)) keys
+-- the number of a text, by the keys that hold the texts
+pub number_in-map : {K : Type 0} (f : K → List ℕ) (keys : List K) (text : List ℕ) → number_in (map f keys) text ≡ position (λ k. bytes_eq text (f k)) keys
 unfolding number_in
-number_in-map f keys name = position-map (bytes_eq name) f keys
+number_in-map f keys text = position-map (bytes_eq text) f keys
 
--- the names after a key is inserted
-pub names_after : {K : Type 0} (f : K → List ℕ) (keys : List K) (k : K) (name : List ℕ) → f k ≡ name
-    → map f (if list_any (λ x. bytes_eq (f k) (f x)) keys then keys else keys ++ k ∷ [])
-    ≡ (if is_declared (map f keys) name then map f keys else map f keys ++ name ∷ [])
-names_after f keys k name e =
-    rw (is_declared-any (map f keys) name, list_any-map (bytes_eq name) f keys, ← e) (by (list_any (λ x. bytes_eq (f k) (f x)) keys))
-  where
-    by : (b : Bool) → map f (if b then keys else keys ++ k ∷ []) ≡ (if b then map f keys else map f keys ++ f k ∷ [])
-    by true = refl
-    by false = map-append f keys (k ∷ [])
+-- the names after one is added
+pub names_after : (names : List (List ℕ)) (name : List ℕ)
+    → (if list_any (bytes_eq name) names then names else names ++ name ∷ []) ≡ (if is_declared names name then names else names ++ name ∷ [])
+names_after names name = ap (λ b. if b then names else names ++ name ∷ []) (sym (is_declared-any names name))
 
 -- each byte of a name is ASCII
 pub ascii_byte : (c : ℕ) → is_name_byte c ≡ true → c < 128
@@ -92,11 +87,42 @@ IsUtf8-is_name name h = IsUtf8-from_ascii name (λ i. at i (nat_lt i (length nam
     at i true e = ascii_byte (get_or name i 0) (list_all_true_at is_name_byte name i 0 (search (rules, e)) bytes)
     at i false e = rw (get_or_past name i 0 (search (rules, e))) (omega arith)
 
--- a name among the keys is a name
-pub name_at : {K : Type 0} (f : K → List ℕ) (keys : List K) (i : ℕ) (k : K) → list_all is_name (map f keys) ≡ true → slice_get keys i ≡ Some k → is_name (f k) ≡ true
-name_at f [] i k all at = absurd (cc at)
-name_at f (x ∷ xs) zero k all at = let same : x ≡ k = cc at in rw (← same) (and_parts (is_name (f x)) (list_all is_name (map f xs)) all).0
-name_at f (x ∷ xs) (suc i) k all at = name_at f xs i k (and_parts (is_name (f x)) (list_all is_name (map f xs)) all).1 at
+-- a name among names is a name
+pub name_at : (names : List (List ℕ)) (i : ℕ) (name : List ℕ) → list_all is_name names ≡ true → slice_get names i ≡ Some name → is_name name ≡ true
+name_at [] i name all at = absurd (cc at)
+name_at (x ∷ xs) zero name all at = let same : x ≡ name = cc at in rw (← same) (and_parts (is_name x) (list_all is_name xs) all).0
+name_at (x ∷ xs) (suc i) name all at = name_at xs i name (and_parts (is_name x) (list_all is_name xs) all).1 at
+
+-- a name isn't longer than a name may be
+pub name_length : (name : List ℕ) → is_name name ≡ true → length name ≤ 32
+unfolding is_name
+name_length name h =
+    let sized = and_parts (nat_le 1 (length name) && nat_le (length name) 32) (list_all is_name_byte name) h in
+    let few = (and_parts (nat_le 1 (length name)) (nat_le (length name) 32) sized.0).1 in
+    search (rules, few)
+
+-- a longer text differs from it
+longer_differs : (text name : List ℕ) → length name < length text → bytes_eq text name ≡ false
+longer_differs text name h = by (bytes_eq text name) refl
+  where
+    by : (b : Bool) → bytes_eq text name ≡ b → b ≡ false
+    by true e = let same = ap length ((bytes_eq-Decides text name).0 e) in absurd (omega arith)
+    by false e = refl
+
+longer_nowhere : (names : List (List ℕ)) (text : List ℕ) → list_all is_name names ≡ true → 32 < length text → list_any (bytes_eq text) names ≡ false
+longer_nowhere [] text all h = refl
+longer_nowhere (x ∷ xs) text all h =
+    let parts = and_parts (is_name x) (list_all is_name xs) all in
+    let few = name_length x parts.0 in
+    rw (longer_differs text x (omega arith)) (longer_nowhere xs text parts.1 h)
+
+-- so it has no number
+pub longer_unnumbered : (names : List (List ℕ)) (text : List ℕ) → list_all is_name names ≡ true → 32 < length text → number_in names text ≡ None
+longer_unnumbered names text all h = none (number_in names text) (is_declared-any names text ∙ longer_nowhere names text all h)
+  where
+    none : (o : Option ℕ) → is_some o ≡ false → o ≡ None
+    none None e = refl
+    none (Some n) e = absurd (cc e)
 
 -- whether a name is declared, by the keys that hold the names
 pub is_declared-map : {K : Type 0} (f : K → List ℕ) (keys : List K) (name : List ℕ) → is_declared (map f keys) name ≡ list_any (λ k. bytes_eq name (f k)) keys

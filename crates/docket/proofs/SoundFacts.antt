@@ -4,7 +4,7 @@ use Rattle.std.specs.Prelude.{◌==◌, ◌⊎◌, ◌&&◌, is_some, nat_lt, un
 use Rattle.std.specs.List.{list_all}
 use Rattle.docket.specs.Words.{is_name, is_number, answer_of}
 use Rattle.std.specs.Option.{option_or}
-use Rattle.docket.specs.Fields.{Fields, field, kind_of, unless, counted, row_fault, list_row_fault, lists_names, filled_row_fault, event_row_fault, worded_row_fault, event_names_fault, answer_fault, event_word, width_of, version_kind, withdrawal_kind, event_width, worker_at}
+use Rattle.docket.specs.Fields.{Fields, field, kind_of, unless, counted, row_fault, list_row_fault, lists_names, filled_row_fault, event_row_fault, worded_row_fault, event_names_fault, answer_fault, event_word, version_kind, withdrawal_kind, event_width, worker_at}
 use Rattle.docket.specs.declared.kind.TheConstants.{QUOTA, PROGRAMME_LIST, RESIDENT_LIST, MATCHED, UNMATCHED, FILLED, CAPACITY, EVENT}
 use Rattle.docket.specs.declared.kind.EventWord.{EventWord}
 use Rattle.docket.specs.declared.kind.EventWord.TheVariants.{Offer, Take, Answer, Hear, Close}

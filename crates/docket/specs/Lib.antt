@@ -15,3 +15,4 @@ pub mod Marks
 pub mod Whole
 pub mod RowText
 pub mod Texts
+pub mod NameKeys

@@ -13,6 +13,7 @@ mod fault;
 mod journal;
 mod kind;
 mod long_record;
+mod name_key;
 mod names;
 mod numbers;
 mod ranking;

@@ -8,6 +8,7 @@ use crate::numbers::{Numbers, start_of};
 use crate::texts::Texts;
 use csv::ByteRecord;
 use std::alloc::{AllocError, Global};
+use std::hash::RandomState;
 use std::marker::Model;
 
 /// Rows in one long record, and where each of them ends in it.
@@ -42,12 +43,12 @@ fn append(fields: &mut Texts, row: &ByteRecord, from: usize) -> Result<(), Alloc
 }
 
 impl LongRecord {
-    /// No rows yet.
-    pub(crate) fn new(alloc: Global) -> LongRecord
+    /// No rows yet. Their texts are hashed by these keys.
+    pub(crate) fn new(alloc: Global, keys: RandomState) -> LongRecord
         ensures { result ≡ [] }
     {
         LongRecord {
-            fields: Texts::new(alloc),
+            fields: Texts::new(alloc, keys),
             ends: Numbers::new(alloc),
         }
     }

@@ -3,26 +3,28 @@ ghost use Rattle.std.specs.Prelude.{◌≡◌, ◌<◌, ◌+◌, ◌++◌, ◌�
 ghost use Rattle.docket.specs.Words as words;
 ghost use Rattle.docket.specs.Contents.{number_in, is_declared};
 
+use crate::name_key::{MAX_NAME, NameKey};
 use indexmap::IndexSet;
 use std::alloc::{AllocError, Global};
+use std::hash::RandomState;
 use std::marker::Model;
 use std::str;
 
 /// Names, numbered from 0 in the order in which they were first seen.
 pub(crate) struct Names {
-    seen: IndexSet<Vec<u8>>,
+    seen: IndexSet<NameKey, RandomState>,
 }
 
 impl Model for Names {
-    ghost use Rattle.std.specs.Prelude.{List, ℕ, map, true, ◌≡◌};
+    ghost use Rattle.std.specs.Prelude.{List, ℕ, true, ◌≡◌};
     ghost use Rattle.std.specs.List.{list_all};
     ghost use Rattle.docket.specs.Words as words;
 
     ghost Value = { List (List ℕ) };
 
-    ghost view = { λ a. map (λ k. k.items) a.seen.keys };
+    ghost view = { λ a. a.seen.keys };
 
-    ghost invariant = { λ a. list_all words.is_name (map (λ k. k.items) a.seen.keys) ≡ true };
+    ghost invariant = { λ a. list_all words.is_name a.seen.keys ≡ true };
 }
 
 // As one call, so that whoever lets names go proves nothing of their parts.
@@ -33,12 +35,12 @@ impl Drop for Names {
 }
 
 impl Names {
-    /// No names yet.
-    pub(crate) fn new(alloc: Global) -> Names
+    /// No names yet. They are hashed by these keys.
+    pub(crate) fn new(alloc: Global, keys: RandomState) -> Names
         ensures { result ≡ [] }
     {
         Names {
-            seen: IndexSet::new(alloc),
+            seen: IndexSet::with_hasher(alloc, keys),
         }
     }
 
@@ -54,18 +56,21 @@ impl Names {
         ensures number { result ≡ number_in self.now name.now }
         ensures within { IfSome result (λ i. i < length self.now) }
     {
-        self.seen.get_index_of(name)
+        let seen = &self.seen;
+        if name.len() > MAX_NAME {
+            return None;
+        }
+        seen.get_index_of(&NameKey::new(name))
     }
 
     /// Adds a name, and says whether it is new.
-    pub(crate) fn add(&mut self, alloc: Global, name: &[u8]) -> Result<bool, AllocError>
+    pub(crate) fn add(&mut self, name: &[u8]) -> Result<bool, AllocError>
         requires { words.is_name name.now ≡ true }
         ensures fresh { IfOk result (λ fresh. fresh ≡ not (is_declared self.old name.now)) }
         ensures names { OnOk result (self.new ≡ (if is_declared self.old name.now then self.old else self.old ++ name.now ∷ [])) }
         ensures err { OnErr result (self.new ≡ self.old) }
     {
-        let key = Vec::from_slice(alloc, name)?;
-        Ok(self.seen.insert(key)?)
+        Ok(self.seen.insert(NameKey::new(name))?)
     }
 
     /// The name of a number. The number was given to a name.
@@ -74,7 +79,7 @@ impl Names {
         ensures { slice_get self.now number ≡ Some result.now }
     {
         match self.seen.get_index(number) {
-            Some(name) => match str::from_utf8(name.as_slice()) {
+            Some(name) => match str::from_utf8(name.text()) {
                 Ok(text) => text,
                 Err(_) => unreachable!("a name is ASCII"),
             },

@@ -6,6 +6,7 @@ ghost use Rattle.docket.specs.LongRecord.{keys_of, StartsWith};
 use crate::numbers::{Numbers, start_of};
 use indexmap::IndexSet;
 use std::alloc::{AllocError, Global};
+use std::hash::RandomState;
 use std::marker::Model;
 
 // Texts, one after another, and where each of them ends.
@@ -82,7 +83,7 @@ impl PlainTexts {
 // The number of a text among those that were seen, which it joins where it is new.
 fn number_of_text(
     alloc: Global,
-    seen: &mut IndexSet<Vec<u8>>,
+    seen: &mut IndexSet<Vec<u8>, RandomState>,
     text: &[u8],
 ) -> Result<usize, AllocError>
     ensures number { IfOk result (λ n. slice_get (keys_of seen.new.keys) n ≡ Some text.now) }
@@ -100,7 +101,7 @@ fn number_of_text(
 #[derive(Drop)]
 struct SharedTexts {
     alloc: Global,
-    seen: IndexSet<Vec<u8>>,
+    seen: IndexSet<Vec<u8>, RandomState>,
     numbers: Numbers,
 }
 
@@ -116,13 +117,13 @@ impl Model for SharedTexts {
 }
 
 impl SharedTexts {
-    // No texts yet.
-    fn new(alloc: Global) -> SharedTexts
+    // No texts yet. They are hashed by these keys.
+    fn new(alloc: Global, keys: RandomState) -> SharedTexts
         ensures { result ≡ [] }
     {
         SharedTexts {
             alloc,
-            seen: IndexSet::new(alloc),
+            seen: IndexSet::with_hasher(alloc, keys),
             numbers: Numbers::new(alloc),
         }
     }
@@ -188,14 +189,14 @@ impl Model for Texts {
 }
 
 impl Texts {
-    /// No texts yet.
-    pub(crate) fn new(alloc: Global) -> Texts
+    /// No texts yet. They are hashed by these keys.
+    pub(crate) fn new(alloc: Global, keys: RandomState) -> Texts
         ensures { result ≡ [] }
     {
         Texts {
             count: 0,
             plain: PlainTexts::new(alloc),
-            shared: SharedTexts::new(alloc),
+            shared: SharedTexts::new(alloc, keys),
         }
     }
 

@@ -7,6 +7,7 @@ use crate::sentences::{push_all, push_sentence};
 use docket::{Docket, DocketFault, read_docket};
 use std::alloc::Global;
 use std::io::{Read, Write};
+use std::random::RandomSource;
 
 // What a resident is told of one programme or, where none is named, of each on its list.
 fn text_of(
@@ -57,7 +58,8 @@ fn answer<W: Write>(
 
 /// Reads a docket with a sheet, and writes why the resident isn't with a programme or, where none is named, with each of
 /// its list, best first: one sentence to a line. Nothing is written before a fault other than the writer's own.
-pub fn serve_why<R: Read + Drop, W: Write>(
+pub fn serve_why<R: Read + Drop, W: Write, H: RandomSource>(
+    rt: &H,
     alloc: Global,
     reader: R,
     writer: &mut W,
@@ -66,7 +68,7 @@ pub fn serve_why<R: Read + Drop, W: Write>(
 ) -> Result<(), WhyFault>
     ensures before { IfErr result (λ fault. fault ≢ WhyFault.Docket DocketFault.Write → writer.new ≡ writer.old) }
 {
-    match read_docket(alloc, reader) {
+    match read_docket(rt, alloc, reader) {
         Ok(docket) => answer(alloc, &docket, writer, resident, programme),
         Err(fault) => Err(WhyFault::Docket(fault)),
     }

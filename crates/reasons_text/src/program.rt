@@ -7,6 +7,7 @@ use std::alloc::Global;
 use std::io;
 use std::io::{Read, Write};
 use std::process::ExitCode;
+use std::random::RandomSource;
 
 const USAGE: &str = "usage: why RESIDENT [PROGRAMME] < docket-and-sheet
 Says why the resident isn't with the programme or, where none is named, with each of its list, best first.";
@@ -32,7 +33,8 @@ fn refuse<T: Eprint>(told: &T, fault: WhyFault, resident: &str, programme: &str)
 }
 
 // Serves a question, and tells why it couldn't.
-fn serve_and_tell<R: Read + Drop, W: Write, T: Eprint>(
+fn serve_and_tell<R: Read + Drop, W: Write, T: Eprint, H: RandomSource>(
+    rt: &H,
     alloc: Global,
     reader: R,
     writer: &mut W,
@@ -40,7 +42,7 @@ fn serve_and_tell<R: Read + Drop, W: Write, T: Eprint>(
     resident: &str,
     programme: Option<&str>,
 ) -> ExitCode {
-    match serve_why(alloc, reader, writer, resident, programme) {
+    match serve_why(rt, alloc, reader, writer, resident, programme) {
         Ok(()) => ExitCode::SUCCESS,
         Err(fault) => refuse(told, fault, resident, programme.unwrap_or("")),
     }
@@ -50,7 +52,8 @@ fn serve_and_tell<R: Read + Drop, W: Write, T: Eprint>(
 /// failed, 2 for a wrong command line, 3 for a docket at fault, without a sheet, or without the names.
 ///
 /// The words are those after the program's own name. Why nothing was told goes to standard error.
-pub fn tell_words<R: Read + Drop, W: Write, T: Print + Eprint>(
+pub fn tell_words<R: Read + Drop, W: Write, T: Print + Eprint, H: RandomSource>(
+    rt: &H,
     alloc: Global,
     words: io::Result<Vec<String>>,
     reader: R,
@@ -66,8 +69,9 @@ pub fn tell_words<R: Read + Drop, W: Write, T: Print + Eprint>(
             let _ = println!(told; "{USAGE}");
             ExitCode::SUCCESS
         }
-        [resident] => serve_and_tell(alloc, reader, writer, told, resident.as_str(), None),
+        [resident] => serve_and_tell(rt, alloc, reader, writer, told, resident.as_str(), None),
         [resident, programme] => serve_and_tell(
+            rt,
             alloc,
             reader,
             writer,

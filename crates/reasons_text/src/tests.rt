@@ -3,6 +3,7 @@ use crate::sentences::Place;
 use crate::{WhyFault, serve_why};
 use docket::DocketFault;
 use std::alloc::{AllocError, Global};
+use std::random::RandomSource;
 use std::test::Fail;
 
 // Two programmes and two residents, who rank them the other way round.
@@ -51,7 +52,8 @@ const MATCHED_A: &str = "a has a place for you: you are matched there.\n";
 const MATCHED_B: &str = "b has a place for you: you are matched there.\n";
 
 // Whether a resident is told this, of one programme or of all.
-fn tells(
+fn tells<H: RandomSource>(
+    rt: &H,
     alloc: Global,
     texts: (&str, &str),
     asked: (&str, Option<&str>),
@@ -61,7 +63,14 @@ fn tells(
     let (resident, programme) = asked;
     let docket = format!(in alloc; "{members}{sheet}")?;
     let mut output = Vec::new(alloc);
-    let answer = serve_why(alloc, docket.as_bytes(), &mut output, resident, programme);
+    let answer = serve_why(
+        rt,
+        alloc,
+        docket.as_bytes(),
+        &mut output,
+        resident,
+        programme,
+    );
     Ok(match wanted {
         Ok(text) => answer == Ok(()) && output.as_slice() == text.as_bytes(),
         Err(fault) => answer == Err(fault) && output.is_empty(),
@@ -142,7 +151,7 @@ fn sentences(rt: HostRuntime) -> Result<(), Fail> {
         ),
     ];
     for (texts, asked, wanted) in rows {
-        assert!(rt; tells(alloc, texts, asked, Ok(wanted))?, "{wanted}");
+        assert!(rt; tells(&rt, alloc, texts, asked, Ok(wanted))?, "{wanted}");
     }
     Ok(())
 }
@@ -162,7 +171,7 @@ fn faults(rt: HostRuntime) -> Result<(), Fail> {
         (("Q,a,1\nR,x,a\nP,a,q\n", ""), ("x", None), unknown),
     ];
     for (texts, asked, fault) in rows {
-        assert!(rt; tells(alloc, texts, asked, Err(fault))?, "{fault}");
+        assert!(rt; tells(&rt, alloc, texts, asked, Err(fault))?, "{fault}");
     }
     Ok(())
 }

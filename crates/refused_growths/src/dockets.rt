@@ -1,6 +1,7 @@
 //! The calls of the docket.
 use crate::seen::{Seen, begin, end};
 use docket::{Docket, DocketFault, read_docket, write_journal, write_sheet};
+use samples::randomness::OneByte;
 use std::alloc::{AllocError, Global};
 use std::io::Write;
 
@@ -27,7 +28,7 @@ pub(super) fn joined(alloc: Global, texts: &[&str]) -> Result<Vec<u8>, AllocErro
 /// The docket of these texts, read with ample memory.
 pub(super) fn docket_of(alloc: Global, texts: &[&str]) -> Option<Docket> {
     let text = joined(alloc, texts).ok()?;
-    read_docket(alloc, text.as_slice()).ok()
+    read_docket(&OneByte(7), alloc, text.as_slice()).ok()
 }
 
 // Whether this is the small docket.
@@ -43,11 +44,11 @@ fn is_small(docket: &Docket) -> bool {
 /// A docket is read.
 pub(super) fn read<W: Write>(alloc: Global, out: &mut W) -> Seen {
     begin(out);
-    let answer = read_docket(alloc, SMALL.as_bytes());
+    let answer = read_docket(&OneByte(7), alloc, SMALL.as_bytes());
     end(out);
     match answer {
         Ok(docket) => Seen::at_once(is_small(&docket)),
-        Err(DocketFault::Memory) => match read_docket(alloc, SMALL.as_bytes()) {
+        Err(DocketFault::Memory) => match read_docket(&OneByte(7), alloc, SMALL.as_bytes()) {
             Ok(docket) => Seen::after_memory(is_small(&docket)),
             Err(_) => Seen::Wrong,
         },

@@ -15,6 +15,7 @@ use seen::Seen;
 use std::alloc::Global;
 use std::io::Write;
 use std::process::ExitCode;
+use std::random::RandomSource;
 use std::sync::Wait;
 use std::thread::Threads;
 use std::{env, io};
@@ -50,7 +51,7 @@ const CALLS: [&str; 26] = [
 ];
 
 // Makes the call of this name, with marks on `out` before and after it.
-fn made<H: Threads + Wait + Sync + Send + Copy + Drop, W: Write>(
+fn made<H: Threads + Wait + RandomSource + Sync + Send + Copy + Drop, W: Write>(
     rt: H,
     alloc: Global,
     name: &str,
@@ -89,7 +90,7 @@ fn words(rt: &HostRuntime) -> io::Result<Vec<String>> {
 }
 
 // Makes the call of this name, and tells what it did. Whether that was right.
-fn told<H: Threads + Wait + Sync + Send + Copy + Drop, W: Write>(
+fn told<H: Threads + Wait + RandomSource + Sync + Send + Copy + Drop, W: Write>(
     rt: H,
     alloc: Global,
     name: &str,

@@ -9,6 +9,7 @@ use residency::{
 };
 use std::alloc::Global;
 use std::io::Write;
+use std::random::RandomSource;
 use std::sync::Wait;
 use std::thread::Threads;
 
@@ -44,7 +45,7 @@ struct Trial<'a> {
 }
 
 impl Trial<'_> {
-    fn serve<H: Threads + Wait + Sync + Send + Copy>(
+    fn serve<H: Threads + Wait + RandomSource + Sync + Send + Copy>(
         &self,
         rt: H,
         alloc: Global,
@@ -54,8 +55,8 @@ impl Trial<'_> {
             Order::Match(options) => {
                 serve_match(rt, alloc, self.input, writer, options, &OpenGate)
             }
-            Order::Audit => serve_audit(alloc, self.input, writer),
-            Order::Replay => serve_replay(alloc, self.input, writer),
+            Order::Audit => serve_audit(&rt, alloc, self.input, writer),
+            Order::Replay => serve_replay(&rt, alloc, self.input, writer),
         }
     }
 
@@ -63,7 +64,7 @@ impl Trial<'_> {
         *answer == Ok(self.status) && written == self.text.as_bytes()
     }
 
-    fn seen<H: Threads + Wait + Sync + Send + Copy, W: Write>(
+    fn seen<H: Threads + Wait + RandomSource + Sync + Send + Copy, W: Write>(
         &self,
         rt: H,
         alloc: Global,
@@ -108,7 +109,7 @@ fn line<W: Write>(alloc: Global, out: &mut W) -> Seen {
 }
 
 // A match of the small docket.
-fn matched<H: Threads + Wait + Sync + Send + Copy, W: Write>(
+fn matched<H: Threads + Wait + RandomSource + Sync + Send + Copy, W: Write>(
     rt: H,
     alloc: Global,
     out: &mut W,
@@ -123,7 +124,7 @@ fn matched<H: Threads + Wait + Sync + Send + Copy, W: Write>(
 }
 
 // An audit of a sheet with a blocking pair.
-fn audited<H: Threads + Wait + Sync + Send + Copy, W: Write>(
+fn audited<H: Threads + Wait + RandomSource + Sync + Send + Copy, W: Write>(
     rt: H,
     alloc: Global,
     out: &mut W,
@@ -138,7 +139,7 @@ fn audited<H: Threads + Wait + Sync + Send + Copy, W: Write>(
 }
 
 // A replay of nineteen events, which are these bytes.
-fn replayed<H: Threads + Wait + Sync + Send + Copy, W: Write>(
+fn replayed<H: Threads + Wait + RandomSource + Sync + Send + Copy, W: Write>(
     rt: H,
     alloc: Global,
     nineteen: &[u8],
@@ -154,7 +155,7 @@ fn replayed<H: Threads + Wait + Sync + Send + Copy, W: Write>(
 }
 
 /// Makes the call of this name; without one, nothing is right.
-pub(super) fn made<H: Threads + Wait + Sync + Send + Copy, W: Write>(
+pub(super) fn made<H: Threads + Wait + RandomSource + Sync + Send + Copy, W: Write>(
     rt: H,
     alloc: Global,
     name: &str,

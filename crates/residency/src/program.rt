@@ -14,6 +14,7 @@ use std::alloc::Global;
 use std::io;
 use std::io::{Read, Write};
 use std::process::ExitCode;
+use std::random::RandomSource;
 use std::sync::Wait;
 use std::thread::Threads;
 use thiserror::Error;
@@ -84,7 +85,7 @@ where
     R: Read + Drop,
     W: Write,
     T: Eprint,
-    H: Threads + Wait + Sync + Send + Copy,
+    H: Threads + Wait + RandomSource + Sync + Send + Copy,
     ensures { EndsServing order.now (R.remaining reader) (W.contents writer.old) (W.contents writer.new) (exit_status_in result) }
 {
     let answer = serve(rt, alloc, order, reader, writer, &OpenGate);
@@ -97,7 +98,7 @@ where
 /// Serves what the words order over a reader and a writer, and gives the exit status.
 ///
 /// The words are those after the program's own name. What help and version say goes to standard output, and why
-/// nothing, or not all, was served to standard error. The handle starts the threads of a match.
+/// nothing, or not all, was served to standard error. The handle starts the threads of a match, and gives the randomness by which a docket is read.
 pub fn serve_words<R, W, T, H>(
     rt: H,
     alloc: Global,
@@ -110,7 +111,7 @@ where
     R: Read + Drop,
     W: Write,
     T: Print + Eprint,
-    H: Threads + Wait + Sync + Send + Copy,
+    H: Threads + Wait + RandomSource + Sync + Send + Copy,
     ensures { Ends (R.remaining reader) (W.contents writer.old) (W.contents writer.new) (exit_status_in result) }
 {
     match order_of(alloc, words) {

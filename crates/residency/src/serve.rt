@@ -22,6 +22,7 @@ use match_pool::{Ending, Gate, run};
 use settle_law::law_one_settled;
 use std::alloc::Global;
 use std::io::{Read, Write};
+use std::random::RandomSource;
 use std::sync::Wait;
 use std::thread::Threads;
 
@@ -228,7 +229,7 @@ where
     R: Read + Drop,
     W: Write,
     G: Gate + Sync,
-    H: Threads + Wait + Sync + Send + Copy,
+    H: Threads + Wait + RandomSource + Sync + Send + Copy,
     requires { G.MAY_STOP ≡ false }
     ensures status { IfOk result (λ status. status ≡ Status.Closed) }
     ensures text { OnOk result ((bytes : List ℕ) → R.remaining reader ≡ Some bytes
@@ -236,7 +237,7 @@ where
     ensures fault { IfErr result (λ fault. (bytes : List ℕ) → R.remaining reader ≡ Some bytes → IsFaultOf (IsMatchFault options.now) bytes fault) }
     ensures before { IfErr result (λ fault. IsBeforeWriting fault → writer.new ≡ writer.old) }
 {
-    let docket = match read_docket(alloc, reader) {
+    let docket = match read_docket(&rt, alloc, reader) {
         Ok(docket) => docket,
         Err(fault) => return Err(ServeFault::Docket(fault)),
     };
@@ -246,7 +247,8 @@ where
 /// Reads a docket, and writes what keeps its sheet from being stable.
 ///
 /// A journal in the docket is read and must be well formed, and isn't used.
-pub fn serve_audit<R: Read + Drop, W: Write>(
+pub fn serve_audit<R: Read + Drop, W: Write, H: RandomSource>(
+    rt: &H,
     alloc: Global,
     reader: R,
     writer: &mut W,
@@ -256,7 +258,7 @@ pub fn serve_audit<R: Read + Drop, W: Write>(
     ensures fault { IfErr result (λ fault. (bytes : List ℕ) → R.remaining reader ≡ Some bytes → IsFaultOf IsAuditFault bytes fault) }
     ensures before { IfErr result (λ fault. IsBeforeWriting fault → writer.new ≡ writer.old) }
 {
-    match read_docket(alloc, reader) {
+    match read_docket(rt, alloc, reader) {
         Ok(docket) => audit_docket(alloc, &docket, writer),
         Err(fault) => Err(ServeFault::Docket(fault)),
     }
@@ -264,7 +266,8 @@ pub fn serve_audit<R: Read + Drop, W: Write>(
 
 /// Reads a docket, and writes whether its journal is a good exchange and, where it has a sheet, whether the exchange
 /// gives that sheet.
-pub fn serve_replay<R: Read + Drop, W: Write>(
+pub fn serve_replay<R: Read + Drop, W: Write, H: RandomSource>(
+    rt: &H,
     alloc: Global,
     reader: R,
     writer: &mut W,
@@ -274,7 +277,7 @@ pub fn serve_replay<R: Read + Drop, W: Write>(
     ensures fault { IfErr result (λ fault. (bytes : List ℕ) → R.remaining reader ≡ Some bytes → IsFaultOf IsReplayFault bytes fault) }
     ensures before { IfErr result (λ fault. IsBeforeWriting fault → writer.new ≡ writer.old) }
 {
-    match read_docket(alloc, reader) {
+    match read_docket(rt, alloc, reader) {
         Ok(docket) => replay_docket(alloc, &docket, writer),
         Err(fault) => Err(ServeFault::Docket(fault)),
     }
@@ -293,13 +296,13 @@ where
     R: Read + Drop,
     W: Write,
     G: Gate + Sync,
-    H: Threads + Wait + Sync + Send + Copy,
+    H: Threads + Wait + RandomSource + Sync + Send + Copy,
     requires { G.MAY_STOP ≡ false }
     ensures answer { (bytes : List ℕ) → R.remaining reader ≡ Some bytes → IsAnswerTo order.now bytes (W.contents writer.old) (W.contents writer.new) result }
 {
     match order {
         Order::Match(options) => serve_match(rt, alloc, reader, writer, options, gate),
-        Order::Audit => serve_audit(alloc, reader, writer),
-        Order::Replay => serve_replay(alloc, reader, writer),
+        Order::Audit => serve_audit(&rt, alloc, reader, writer),
+        Order::Replay => serve_replay(&rt, alloc, reader, writer),
     }
 }

@@ -12,6 +12,7 @@ fn words(rt: &HostRuntime) -> io::Result<Vec<String>> {
 
 fn main(rt: HostRuntime) -> ExitCode {
     tell_words(
+        &rt,
         rt.alloc(),
         words(&rt),
         rt.reader(),

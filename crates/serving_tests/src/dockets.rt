@@ -2,6 +2,7 @@
 mod faults;
 mod forms;
 mod limits;
+mod names;
 mod order;
 mod versions;
 mod whole;
@@ -11,16 +12,17 @@ use crate::devices::CutReader;
 use crate::texts::{further, joined};
 use docket::{Docket, DocketFault, capacity_of, read_docket};
 use exchange_core::Capacity;
+use samples::randomness::OneByte;
 use std::alloc::{AllocError, Global};
 
 /// Reads a docket at once.
 fn read(alloc: Global, input: &str) -> Result<Docket, DocketFault> {
-    read_docket(alloc, input.as_bytes())
+    read_docket(&OneByte(7), alloc, input.as_bytes())
 }
 
 /// Reads a docket byte by byte, by a reader that fails after `cut` bytes.
 fn read_slowly(alloc: Global, input: &str, cut: usize) -> Result<Docket, DocketFault> {
-    read_docket(alloc, CutReader::new(input.as_bytes(), cut))
+    read_docket(&OneByte(7), alloc, CutReader::new(input.as_bytes(), cut))
 }
 
 /// Whether this is told of what was read: its fault, or `read`.

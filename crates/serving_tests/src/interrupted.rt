@@ -3,6 +3,7 @@ use crate::devices::InterruptedReader;
 use crate::texts::{SMALL, SMALL_SHEET, joined};
 use docket::DocketFault;
 use residency::{ServeFault, Status, serve_audit};
+use samples::randomness::OneByte;
 use std::alloc::Global;
 use std::test::Fail;
 
@@ -16,7 +17,7 @@ fn audit(
     output: &mut Vec<u8>,
 ) -> Result<Status, ServeFault> {
     let reader = InterruptedReader::new(text.as_bytes(), every);
-    serve_audit(alloc, reader, output)
+    serve_audit(&OneByte(7), alloc, reader, output)
 }
 
 #[test]

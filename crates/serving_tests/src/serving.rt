@@ -18,6 +18,7 @@ use residency::{
 };
 use std::alloc::{AllocError, Global};
 use std::io::{Read, Write};
+use std::random::RandomSource;
 use std::sync::Wait;
 use std::test::Fail;
 use std::thread::Threads;
@@ -74,7 +75,7 @@ const BY_WORKER: Order = Order::Match(MatchOptions {
 });
 
 // Does what is ordered over a reader and a writer.
-fn serve<R: Read + Drop, W: Write, H: Threads + Wait + Sync + Send + Copy>(
+fn serve<R: Read + Drop, W: Write, H: Threads + Wait + RandomSource + Sync + Send + Copy>(
     rt: H,
     alloc: Global,
     order: Order,
@@ -83,13 +84,13 @@ fn serve<R: Read + Drop, W: Write, H: Threads + Wait + Sync + Send + Copy>(
 ) -> Result<Status, ServeFault> {
     match order {
         Order::Match(options) => serve_match(rt, alloc, reader, writer, &options, &OpenGate),
-        Order::Audit => serve_audit(alloc, reader, writer),
-        Order::Replay => serve_replay(alloc, reader, writer),
+        Order::Audit => serve_audit(&rt, alloc, reader, writer),
+        Order::Replay => serve_replay(&rt, alloc, reader, writer),
     }
 }
 
 /// Whether an order over these texts answers this, writes this text, and ends with this exit status.
-pub(super) fn serves<H: Threads + Wait + Sync + Send + Copy>(
+pub(super) fn serves<H: Threads + Wait + RandomSource + Sync + Send + Copy>(
     rt: H,
     alloc: Global,
     order: Order,
@@ -119,7 +120,7 @@ fn is_further(
 }
 
 // Whether an order answers this over these texts, and over the same in a docket of version 2.
-fn serves_both<H: Threads + Wait + Sync + Send + Copy>(
+fn serves_both<H: Threads + Wait + RandomSource + Sync + Send + Copy>(
     rt: H,
     alloc: Global,
     order: Order,
@@ -557,7 +558,7 @@ const ORDERS: [(Order, Status, &str); 3] = [
 ];
 
 // Whether a reader that fails after `cut` bytes is told of, at this record, with nothing written.
-fn tells_of_cut<H: Threads + Wait + Sync + Send + Copy>(
+fn tells_of_cut<H: Threads + Wait + RandomSource + Sync + Send + Copy>(
     rt: H,
     alloc: Global,
     order: Order,
@@ -579,7 +580,7 @@ fn tells_of_cut<H: Threads + Wait + Sync + Send + Copy>(
 }
 
 // The first count of bytes, up to all, after which a reader fails and this isn't told.
-fn first_untold_cut<H: Threads + Wait + Sync + Send + Copy>(
+fn first_untold_cut<H: Threads + Wait + RandomSource + Sync + Send + Copy>(
     rt: H,
     alloc: Global,
     order: Order,
@@ -618,7 +619,7 @@ fn tells_of_broken_readers(rt: HostRuntime) -> Result<(), Fail> {
 }
 
 // Whether a writer that fails after `good` calls is told of, and got a part of the text.
-fn tells_of_cut_output<H: Threads + Wait + Sync + Send + Copy>(
+fn tells_of_cut_output<H: Threads + Wait + RandomSource + Sync + Send + Copy>(
     rt: H,
     alloc: Global,
     order: Order,
@@ -634,7 +635,7 @@ fn tells_of_cut_output<H: Threads + Wait + Sync + Send + Copy>(
 }
 
 // Whether a writer that takes all has the text.
-fn writes_all<H: Threads + Wait + Sync + Send + Copy>(
+fn writes_all<H: Threads + Wait + RandomSource + Sync + Send + Copy>(
     rt: H,
     alloc: Global,
     order: Order,

@@ -111,7 +111,7 @@ fn fields_that_are_no_names(rt: HostRuntime) -> Result<(), Fail> {
     assert!(rt; first_wrong(rt.alloc(), FORMS)? == None);
     for (input, wanted) in BYTES {
         assert!(rt;
-            is_told(rt.alloc(), read_docket(rt.alloc(), input), wanted)?,
+            is_told(rt.alloc(), read_docket(&rt, rt.alloc(), input), wanted)?,
             "{wanted}"
         );
     }

@@ -4,12 +4,13 @@ use crate::markets::hundreds;
 use crate::texts::{CLOSE, OTHER_SHEET, QUOTAS, SMALL, SMALL_JOURNAL, SMALL_SHEET, joined, rows};
 use residency::{Order, Status};
 use std::alloc::{AllocError, Global};
+use std::random::RandomSource;
 use std::sync::Wait;
 use std::test::Fail;
 use std::thread::Threads;
 
 /// What a match writes for a docket, if it is closed.
-pub(super) fn matched<H: Threads + Wait + Sync + Send + Copy>(
+pub(super) fn matched<H: Threads + Wait + RandomSource + Sync + Send + Copy>(
     rt: H,
     alloc: Global,
     order: Order,
@@ -23,7 +24,7 @@ pub(super) fn matched<H: Threads + Wait + Sync + Send + Copy>(
 }
 
 // Whether an order over a docket ends so, and writes this text.
-fn tells<H: Threads + Wait + Sync + Send + Copy>(
+fn tells<H: Threads + Wait + RandomSource + Sync + Send + Copy>(
     rt: H,
     alloc: Global,
     order: Order,
@@ -37,7 +38,7 @@ fn tells<H: Threads + Wait + Sync + Send + Copy>(
 }
 
 /// Whether a sheet and a journal that were written, appended to these members, are stable and replayed whole.
-pub(super) fn is_good<H: Threads + Wait + Sync + Send + Copy>(
+pub(super) fn is_good<H: Threads + Wait + RandomSource + Sync + Send + Copy>(
     rt: H,
     alloc: Global,
     members: &str,

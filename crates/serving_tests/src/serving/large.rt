@@ -7,12 +7,13 @@ use exchange_core::Capacity;
 use residency::{JournalForm, MatchOptions, Order, ServeFault, Status, serve_match};
 use samples::gates::{Firm, Held};
 use std::alloc::{AllocError, Global};
+use std::random::RandomSource;
 use std::sync::Wait;
 use std::test::Fail;
 use std::thread::Threads;
 
 // Runs a match through a gate that holds a pass.
-fn matched_through<H: Threads + Wait + Sync + Send + Copy>(
+fn matched_through<H: Threads + Wait + RandomSource + Sync + Send + Copy>(
     rt: H,
     alloc: Global,
     text: &str,
@@ -56,7 +57,7 @@ fn is_widest_sheet(sheet: &[u8]) -> bool {
 }
 
 // Whether a sheet that was written, appended to its docket, is read and stable.
-fn is_stable<H: Threads + Wait + Sync + Send + Copy>(
+fn is_stable<H: Threads + Wait + RandomSource + Sync + Send + Copy>(
     rt: H,
     alloc: Global,
     text: &str,

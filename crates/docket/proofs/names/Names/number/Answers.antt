@@ -1,9 +1,12 @@
-use Rattle.std.proofs.Common.{◌∙◌, ap, sym}
+use Rattle.std.proofs.Common.{sym, rules}
 use Rattle.docket.specs.Contents.{number_in}
-use Rattle.docket.proofs.NameFacts.{number_in-map}
+use Rattle.docket.proofs.NameFacts.{longer_unnumbered}
 use Rattle.docket.proofs.names.Names.number.Goals as goal
 
+pub returns-then-name-gt-MAX_NAME-clause-number : goal.returns-then-name-gt-MAX_NAME-clause-number
+returns-then-name-gt-MAX_NAME-clause-number c =
+    rw (← c.self.view_is) (sym (longer_unnumbered c.self.inside.seen.keys c.args.name.now c.self.invariant (search rules)))
+
 pub returns-clause-number : goal.returns-clause-number
-returns-clause-number c =
-    c.get_index_of.ensures.index ∙ sym (number_in-map (λ k. k.items) c.self.inside.seen.keys c.args.name.now)
-    ∙ ap (λ names. number_in names c.args.name.now) c.self.view_is
+unfolding number_in
+returns-clause-number c = rw (← c.self.view_is, ← c.new.ensures) c.get_index_of.ensures.index

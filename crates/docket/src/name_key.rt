@@ -1,0 +1,111 @@
+//! What a name is found by.
+ghost use Rattle.std.specs.Prelude.{◌≡◌, ◌≤◌, ◌∷◌, [], length, take, bytes_eq};
+ghost use Rattle.std.specs.Int.{w64, to_le_bytes, from_le_bytes};
+ghost use Rattle.std.specs.Cmp.{partial_equiv_from_equiv};
+ghost use Rattle.std.specs.Cmp.Lexicographic.{nat_list_eq_equiv};
+ghost use Rattle.std.specs.Cmp.Rules.{hashing};
+ghost use Rattle.std.proofs.Common.{rules};
+ghost use Rattle.docket.specs.NameKeys.{hashed, width_hashed};
+
+use std::hash::{Hash, Hasher};
+use std::marker::Model;
+
+/// The most bytes of a name.
+pub(crate) const MAX_NAME: usize = 32;
+
+/// A text of at most as many bytes as a name, with zeros after it: it is hashed by whole words, which is one for most
+/// names, and so compared.
+#[derive(Drop)]
+pub(crate) struct NameKey {
+    bytes: [u8; MAX_NAME],
+    len: u8,
+}
+
+impl Model for NameKey {
+    ghost use Rattle.std.specs.Prelude.{List, ℕ, take};
+    ghost use Rattle.docket.specs.NameKeys.{IsFilled};
+
+    ghost Value = { List ℕ };
+
+    ghost view = { λ k. take k.len k.bytes };
+
+    ghost invariant = { λ k. IsFilled k.len k.bytes };
+}
+
+impl NameKey {
+    /// What a text is found by.
+    pub(crate) fn new(text: &[u8]) -> NameKey
+        requires { length text.now ≤ MAX_NAME }
+        ensures { result ≡ text.now }
+    {
+        let mut bytes = [0; MAX_NAME];
+        bytes[..text.len()].copy_from_slice(text);
+        NameKey {
+            bytes,
+            len: text.len() as u8,
+        }
+    }
+
+    /// The text.
+    pub(crate) fn text(&self) -> &[u8]
+        ensures { result.now ≡ self.now }
+    {
+        &self.bytes[..self.len as usize]
+    }
+}
+
+// The first eight bytes as one number.
+fn first_word(bytes: &[u8; MAX_NAME]) -> u64
+    ensures value { result ≡ from_le_bytes w64 (take 8 bytes.now) }
+    ensures bytes { to_le_bytes w64 result ≡ take 8 bytes.now }
+{
+    u64::from_le_bytes([
+        bytes[0], bytes[1], bytes[2], bytes[3], bytes[4], bytes[5], bytes[6], bytes[7],
+    ])
+}
+
+// How many bytes are hashed of a text of this length: one word, two, or all four.
+fn hashed_width(len: u8) -> usize
+    requires { len ≤ MAX_NAME }
+    ensures width { result ≡ width_hashed len }
+    ensures within { result ≤ MAX_NAME }
+{
+    if len <= 8 {
+        8
+    } else if len <= 16 {
+        16
+    } else {
+        MAX_NAME
+    }
+}
+
+// Two texts have one key exactly where they are equal.
+impl PartialEq for NameKey {
+    ghost eq = { bytes_eq };
+
+    ghost laws = { partial_equiv_from_equiv nat_list_eq_equiv };
+
+    fn eq(&self, other: &NameKey) -> bool {
+        if self.len != other.len {
+            return false;
+        }
+        if first_word(&self.bytes) != first_word(&other.bytes) {
+            return false;
+        }
+        self.len <= 8 || self.bytes == other.bytes
+    }
+}
+
+impl Eq for NameKey {
+    ghost laws = { nat_list_eq_equiv };
+}
+
+impl Hash for NameKey {
+    ghost hash_input = { λ text. hashed text ∷ [] };
+
+    ghost respects_eq = { Prim.search (hashing, rules) };
+
+    fn hash<H: Hasher>(&self, state: &mut H) {
+        state.write(&self.bytes[..hashed_width(self.len)]);
+    }
+}

@@ -1,0 +1,26 @@
+//! Randomness that a test chooses.
+use std::io;
+use std::random::RandomSource;
+
+/// Gives one byte over and over.
+#[derive(Clone, Copy)]
+pub struct OneByte(pub u8);
+
+impl RandomSource for OneByte {
+    fn fill_bytes(&self, buf: &mut [u8]) -> io::Result<()> {
+        for place in buf {
+            *place = self.0;
+        }
+        Ok(())
+    }
+}
+
+/// Has none to give.
+#[derive(Clone, Copy)]
+pub struct NoRandomness;
+
+impl RandomSource for NoRandomness {
+    fn fill_bytes(&self, _buf: &mut [u8]) -> io::Result<()> {
+        Err(io::Error::from(io::ErrorKind::Unsupported))
+    }
+}
