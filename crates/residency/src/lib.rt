@@ -13,6 +13,7 @@ mod options;
 mod program;
 mod report;
 mod serve;
+mod spent;
 mod status;
 
 pub use answer::write_replay;

@@ -11,6 +11,7 @@ use crate::answer::write_replay;
 use crate::fault::ServeFault;
 use crate::options::{JournalForm, MatchOptions, Order};
 use crate::report::write_report;
+use crate::spent::Spent;
 use crate::status::Status;
 use docket::{
     ByWorker, Docket, DocketFault, Journal, RowText, push_journal, push_sheet, read_docket,
@@ -81,6 +82,7 @@ fn match_docket<W, G, H>(
     writer: &mut W,
     options: &MatchOptions,
     gate: &G,
+    spent: Spent,
 ) -> Result<Status, ServeFault>
 where
     W: Write,
@@ -104,6 +106,7 @@ where
         Ending::Closed => {}
         Ending::Stopped => unreachable!("the gate may not stop a run"),
     }
+    spent.let_go(done.ends);
     let by = ByWorker {
         workers: options.workers as u32,
         who: done.who,
@@ -212,6 +215,37 @@ fn replay_docket<W: Write>(
     }
 }
 
+// What `serve_match` does, with what becomes of what the match has used.
+fn match_read<R, W, G, H>(
+    rt: H,
+    alloc: Global,
+    reader: R,
+    writer: &mut W,
+    options: &MatchOptions,
+    gate: &G,
+    spent: Spent,
+) -> Result<Status, ServeFault>
+where
+    R: Read + Drop,
+    W: Write,
+    G: Gate + Sync,
+    H: Threads + Wait + RandomSource + Sync + Send + Copy,
+    requires { G.MAY_STOP ≡ false }
+    ensures status { IfOk result (λ status. status ≡ Status.Closed) }
+    ensures text { OnOk result ((bytes : List ℕ) → R.remaining reader ≡ Some bytes
+        → AreDocket (λ d. WritesMatch d options.now (W.contents writer.old) (W.contents writer.new)) bytes) }
+    ensures fault { IfErr result (λ fault. (bytes : List ℕ) → R.remaining reader ≡ Some bytes → IsFaultOf (IsMatchFault options.now) bytes fault) }
+    ensures before { IfErr result (λ fault. IsBeforeWriting fault → writer.new ≡ writer.old) }
+{
+    let docket = match read_docket(&rt, alloc, reader) {
+        Ok(docket) => docket,
+        Err(fault) => return Err(ServeFault::Docket(fault)),
+    };
+    let answer = match_docket(rt, alloc, &docket, writer, options, gate, spent);
+    spent.let_go(docket);
+    answer
+}
+
 /// Reads a docket, runs its exchange to the close by threads, and writes the sheet of what it gives and, where the
 /// options want it, the journal of this very run. The gate never stops a run.
 ///
@@ -237,11 +271,7 @@ where
     ensures fault { IfErr result (λ fault. (bytes : List ℕ) → R.remaining reader ≡ Some bytes → IsFaultOf (IsMatchFault options.now) bytes fault) }
     ensures before { IfErr result (λ fault. IsBeforeWriting fault → writer.new ≡ writer.old) }
 {
-    let docket = match read_docket(&rt, alloc, reader) {
-        Ok(docket) => docket,
-        Err(fault) => return Err(ServeFault::Docket(fault)),
-    };
-    match_docket(rt, alloc, &docket, writer, options, gate)
+    match_read(rt, alloc, reader, writer, options, gate, Spent::GivenBack)
 }
 
 /// Reads a docket, and writes what keeps its sheet from being stable.
@@ -283,7 +313,8 @@ pub fn serve_replay<R: Read + Drop, W: Write, H: RandomSource>(
     }
 }
 
-/// Serves an order. The gate never stops a run.
+/// Serves an order of a program that ends then: what a match has used is left to the system, which takes it back faster
+/// than piece by piece. The gate never stops a run.
 pub fn serve<R, W, G, H>(
     rt: H,
     alloc: Global,
@@ -301,7 +332,17 @@ where
     ensures answer { (bytes : List ℕ) → R.remaining reader ≡ Some bytes → IsAnswerTo order.now bytes (W.contents writer.old) (W.contents writer.new) result }
 {
     match order {
-        Order::Match(options) => serve_match(rt, alloc, reader, writer, options, gate),
+        Order::Match(options) => {
+            match_read(
+                rt,
+                alloc,
+                reader,
+                writer,
+                options,
+                gate,
+                Spent::LeftToTheSystem,
+            )
+        }
         Order::Audit => serve_audit(&rt, alloc, reader, writer),
         Order::Replay => serve_replay(&rt, alloc, reader, writer),
     }
