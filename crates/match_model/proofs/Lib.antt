@@ -3,6 +3,7 @@ pub mod RankTables
 pub mod Drafts
 pub mod Remaining
 pub mod Mutual
+pub mod Noted
 pub mod Kept
 pub mod Instances
 pub mod SortedCopies

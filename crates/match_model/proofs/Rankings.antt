@@ -1,7 +1,7 @@
 -- Lemmas on rankings: the place that a walk finds, and ranks.
 use Rattle.std.proofs.Common.{◌≡◌, ◌≢◌, ℕ, ◌+◌, ◌<◌, ◌≤◌, Bool, true, false, cond, eqb, ltb, List, [], ◌∷◌, ◌++◌, length, get_or, take, Some, None, refl, sym, ap, ◌∙◌, suc, zero, arith, one-add, not, ◌&&◌, ◌||◌}
 use Rattle.std.specs.List.{list_any, list_all, filter, IsDistinct, AllByRecursion}
-use Rattle.std.proofs.lemmas.Bool.{and_parts, or_parts, not-true, eqb-true, ltb-true, ltb-false, lt-ltb}
+use Rattle.std.proofs.lemmas.Bool.{and_parts, or_parts, not-true, eqb-true, eq-eqb, ltb-true, ltb-false, lt-ltb}
 use Rattle.std.proofs.lemmas.List.{append-nil, take_more}
 use Rattle.std.proofs.lemmas.List.Elements.{filter-append}
 use Rattle.std.proofs.lemmas.Map.Made.{AllPairs-from_IsDistinct}
@@ -83,6 +83,19 @@ is_listed-append (z ∷ xs) ys x =
 
 pub is_listed_alone : (y x : ℕ) → is_listed (y ∷ []) x ≡ eqb y x
 is_listed_alone y x = grind arith
+
+-- an item that is found is listed, and one that is nowhere isn't
+pub is_listed_at : (xs : List ℕ) (x i : ℕ) → i < length xs → get_or xs i 0 ≡ x → is_listed xs x ≡ true
+is_listed_at [] x i h e = absurd (omega arith)
+is_listed_at (y ∷ ys) x zero h e = is_listed-cons y ys x ∙ ap (λ b. b || is_listed ys x) (eq-eqb y x e)
+is_listed_at (y ∷ ys) x (suc i) h e = is_listed-cons y ys x ∙ ap (λ b. eqb y x || b) (is_listed_at ys x i (omega arith) e) ∙ absorb (eqb y x)
+  where
+    absorb : (b : Bool) → b || true ≡ true
+    absorb true = refl
+    absorb false = refl
+
+pub is_listed_nowhere : (xs : List ℕ) (x : ℕ) → ((k : ℕ) → k < length xs → get_or xs k 0 ≢ x) → is_listed xs x ≡ false
+is_listed_nowhere xs x none = let p : place xs x ≡ length xs = place_past xs x none in grind arith
 
 -- equality of numbers doesn't care for order
 pub eqb_comm : (a b : ℕ) → eqb a b ≡ eqb b a

@@ -1,37 +1,24 @@
 -- Lemmas on sorted copies of lists.
-use Rattle.std.proofs.Common.{◌≡◌, ◌≢◌, ℕ, ◌<◌, ◌≤◌, Bool, true, false, List, [], ◌∷◌, length, get_or, refl, sym, ap, ◌∙◌, subst, arith, ◌||◌, suc, zero, ⊎_elim}
+use Rattle.std.proofs.Common.{◌≡◌, ℕ, ◌<◌, ◌≤◌, List, [], ◌∷◌, length, get_or, refl, sym, ap, ◌∙◌, subst, arith, suc, zero, ⊎_elim}
 use Rattle.std.specs.Prelude.{Result, Ok, Err, is_ok}
 use Rattle.std.specs.Global.{Vec}
 use Rattle.std.specs.List.{All, AllZip, filter}
 use Rattle.std.specs.List.Sorted.{IsPermutation, IsSorted, IsBinarySearchResult}
 use Rattle.std.specs.Ordering.{nat_cmp}
 use Rattle.std.proofs.Common.{eqb}
-use Rattle.std.proofs.lemmas.Bool.{cases_lt, eq-eqb}
+use Rattle.std.proofs.lemmas.Bool.{cases_lt}
 use Rattle.std.proofs.lemmas.List.{length-map, get_or-map}
 use Rattle.std.proofs.lemmas.List.Elements.{All-nil, All-cons, filter_agree}
 use Rattle.std.proofs.lemmas.List.Sorted.{IsNonDecreasingBy-from_sort, searched, list_any-IsPermutation}
-use Rattle.match_model.specs.Ranking.{place, is_listed}
+use Rattle.match_model.specs.Ranking.{is_listed}
 use Rattle.match_model.specs.Instance.{list_at}
 use Rattle.match_model.specs.SortedCopy.{IsSortedCopy}
 use Rattle.match_model.proofs.Mutual.{lists_of}
-use Rattle.match_model.proofs.Rankings.{place_past, is_listed-any, is_listed-cons}
+use Rattle.match_model.proofs.Rankings.{is_listed-any, is_listed_at, is_listed_nowhere}
 
 -- a list and its permutation list the same
 pub is_listed-IsPermutation : (xs ys : List ℕ) (x : ℕ) → IsPermutation xs ys → is_listed xs x ≡ is_listed ys x
 is_listed-IsPermutation xs ys x h = is_listed-any xs x ∙ list_any-IsPermutation (λ y. eqb y x) xs ys h ∙ sym (is_listed-any ys x)
-
--- an item that is found is listed, and one that is nowhere isn't
-pub is_listed_at : (xs : List ℕ) (x i : ℕ) → i < length xs → get_or xs i 0 ≡ x → is_listed xs x ≡ true
-is_listed_at [] x i h e = absurd (omega arith)
-is_listed_at (y ∷ ys) x zero h e = is_listed-cons y ys x ∙ ap (λ b. b || is_listed ys x) (eq-eqb y x e)
-is_listed_at (y ∷ ys) x (suc i) h e = is_listed-cons y ys x ∙ ap (λ b. eqb y x || b) (is_listed_at ys x i (omega arith) e) ∙ absorb (eqb y x)
-  where
-    absorb : (b : Bool) → b || true ≡ true
-    absorb true = refl
-    absorb false = refl
-
-pub is_listed_nowhere : (xs : List ℕ) (x : ℕ) → ((k : ℕ) → k < length xs → get_or xs k 0 ≢ x) → is_listed xs x ≡ false
-is_listed_nowhere xs x none = let p : place xs x ≡ length xs = place_past xs x none in grind arith
 
 -- what a search by halving finds in a rising list
 pub is_ok_searched : (xs : List ℕ) (x : ℕ) (r : Result ℕ ℕ) → IsBinarySearchResult (λ y. nat_cmp y x) xs r → IsSorted nat_cmp xs → is_ok r ≡ is_listed xs x

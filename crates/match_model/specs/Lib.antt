@@ -3,6 +3,7 @@ pub mod Instance
 pub mod RankTable
 pub mod Draft
 pub mod Placement
+pub mod Places
 pub mod Fault
 pub mod SortedCopy
 pub mod Withdrawals

@@ -20,6 +20,7 @@ pub struct InstanceBuilder {
     resident_lists: Vec<Option<Vec<u32>>>,
     programmes_withdrawn: Vec<bool>,
     residents_withdrawn: Vec<bool>,
+    places: Vec<usize>,
 }
 
 impl Model for InstanceBuilder {
@@ -57,6 +58,7 @@ impl InstanceBuilder {
             resident_lists: Vec::new(alloc),
             programmes_withdrawn: Vec::new(alloc),
             residents_withdrawn: Vec::new(alloc),
+            places: Vec::new(alloc),
         }
     }
 
@@ -122,7 +124,7 @@ impl InstanceBuilder {
         let owner = programme.0 as usize;
         ranking::test_owner(&self.programme_lists, owner)?;
         let items = ranking::numbers_of_residents(self.alloc, residents)?;
-        ranking::test_items(self.alloc, self.resident_lists.len(), &items)?;
+        ranking::test_items(&mut self.places, self.resident_lists.len(), &items)?;
         self.programme_lists[owner] = Some(items);
         Ok(())
     }
@@ -141,7 +143,7 @@ impl InstanceBuilder {
         let owner = resident.0 as usize;
         ranking::test_owner(&self.resident_lists, owner)?;
         let items = ranking::numbers_of_programmes(self.alloc, programmes)?;
-        ranking::test_items(self.alloc, self.quotas.len(), &items)?;
+        ranking::test_items(&mut self.places, self.quotas.len(), &items)?;
         self.resident_lists[owner] = Some(items);
         Ok(())
     }

@@ -14,6 +14,7 @@ mod flag_rows;
 mod instance;
 mod limits;
 mod member;
+mod places;
 mod rank_table;
 mod ranking;
 mod sorted_copies;

@@ -1,14 +1,15 @@
 //! Tests on lists as they are handed in, and their mutual parts.
-ghost use Rattle.std.specs.Prelude.{◌≡◌, ℕ, ◌<◌, ◌≤◌, ◌^◌, ◌⊎◌, nat_lt, length, map, unwrap_or, [], true, IfOk, IfErr};
+ghost use Rattle.std.specs.Prelude.{◌≡◌, ℕ, ◌<◌, ◌≤◌, ◌^◌, ◌⊎◌, nat_lt, length, map, unwrap_or, [], true, vec_len, OnOk, IfOk, IfErr};
 ghost use Rattle.std.specs.List.{list_all, sum_by};
 ghost use Rattle.std.specs.Global.{Vec};
-ghost use Rattle.match_model.specs.Draft.{items_of, AreLists, mutual_lists, has_no_repeats, lists_left, owner_fault, items_fault, withdrawal_fault, AnswersFirst, AnswersOrWantsMemory};
+ghost use Rattle.match_model.specs.Draft.{items_of, AreLists, mutual_lists, lists_left, owner_fault, items_fault, withdrawal_fault, AnswersFirst, AnswersOrWantsMemory};
 ghost use Rattle.match_model.specs.Fault.{AnswersExactly};
 ghost use Rattle.match_model.specs.Instance.{list_at};
 
 use crate::fault::ModelFault;
 use crate::limits::MAX_PAIRS;
 use crate::member::{ProgrammeNo, ResidentNo};
+use crate::places::are_distinct;
 use crate::{flag_rows, sorted_copies};
 use std::alloc::{AllocError, Global};
 
@@ -34,15 +35,30 @@ pub(crate) fn test_withdrawal(withdrawn: &[bool], member: usize) -> Result<(), M
     }
 }
 
-/// Whether each item is below `others`, and none stands in the list twice.
-pub(crate) fn test_items(alloc: Global, others: usize, items: &[u32]) -> Result<(), ModelFault>
+/// Whether each item is below `others`, and none stands in the list twice. Whatever the table of places has will do.
+pub(crate) fn test_items(
+    places: &mut Vec<usize>,
+    others: usize,
+    items: &[u32],
+) -> Result<(), ModelFault>
     ensures { AnswersOrWantsMemory (items_fault others items.now) result }
 {
     if !are_below(items, others) {
         return Err(ModelFault::NoSuchMember);
     }
-    if !is_distinct(alloc, others, items)? {
+    make_room(places, others)?;
+    if !are_distinct(places, items) {
         return Err(ModelFault::ListedTwice);
+    }
+    Ok(())
+}
+
+/// Makes a table of places at least so long.
+fn make_room(places: &mut Vec<usize>, others: usize) -> Result<(), AllocError>
+    ensures { OnOk result (others ≤ vec_len places.new) }
+{
+    if places.len() < others {
+        places.resize(others, 0)?;
     }
     Ok(())
 }
@@ -80,22 +96,6 @@ pub(crate) fn numbers_of_programmes(
         numbers.push(programme.0)?;
     }
     Ok(numbers)
-}
-
-/// Whether no item stands in the list twice, where each is below `others`.
-fn is_distinct(alloc: Global, others: usize, items: &[u32]) -> Result<bool, AllocError>
-    requires { list_all (λ x. nat_lt x others) items.now ≡ true }
-    ensures { IfOk result (λ b. b ≡ has_no_repeats items.now) }
-{
-    let mut seen = vec![in alloc; false; others]?;
-    for x in items {
-        let place = *x as usize;
-        if seen[place] {
-            return Ok(false);
-        }
-        seen[place] = true;
-    }
-    Ok(true)
 }
 
 /// A member's list, which is empty where the member is withdrawn.

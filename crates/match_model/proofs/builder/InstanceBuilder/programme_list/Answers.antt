@@ -5,8 +5,8 @@ use Rattle.match_model.proofs.Drafts.{IsDraft-with_programme_list, no_items_faul
 use Rattle.match_model.specs.Draft.{items_of, items_fault}
 use Rattle.match_model.proofs.builder.InstanceBuilder.programme_list.Goals as goal
 
-pub invariant_of-self : goal.invariant_of-self
-invariant_of-self c =
+pub invariant_of-self-2 : goal.invariant_of-self-2
+invariant_of-self-2 c =
     let n_is : c.len.result ≡ length (map items_of c.self.inside.resident_lists.items) = omega (arith, length-map c.self.inside.resident_lists.items items_of) in
     let fault : items_fault c.len.result c.deref-2.result.now ≡ None = c.in_ok-test_items.ensures in
     let fine = no_items_fault c.len.result c.deref-2.result.now fault in

@@ -4,8 +4,8 @@ use Rattle.match_model.proofs.Drafts.{IsDraft-with_resident_list, no_items_fault
 use Rattle.match_model.specs.Draft.{items_fault}
 use Rattle.match_model.proofs.builder.InstanceBuilder.resident_list.Goals as goal
 
-pub invariant_of-self : goal.invariant_of-self
-invariant_of-self c =
+pub invariant_of-self-2 : goal.invariant_of-self-2
+invariant_of-self-2 c =
     let n_is : c.len.result ≡ length c.self.inside.quotas.items = omega arith in
     let fault : items_fault c.len.result c.deref-2.result.now ≡ None = c.in_ok-test_items.ensures in
     let fine = no_items_fault c.len.result c.deref-2.result.now fault in

@@ -1,0 +1,46 @@
+//! Tables of places, by which a number is found in a list by one look.
+ghost use Rattle.std.specs.Prelude.{◌≡◌, ◌<◌, nat_lt, length, true};
+ghost use Rattle.std.specs.List.{list_all};
+ghost use Rattle.match_model.specs.Draft.{has_no_repeats};
+ghost use Rattle.match_model.specs.Instance.{rank};
+ghost use Rattle.match_model.specs.Places.{ArePlaces};
+
+/// The place of a number in the list whose items' places the table has, if it stands there.
+pub(crate) fn place_in(places: &[usize], list: &[u32], number: u32) -> Option<usize>
+    requires noted { ArePlaces list.now places.now }
+    requires below { number < length places.now }
+    ensures { result ≡ rank list.now number }
+{
+    let place = places[number as usize];
+    if place < list.len() && list[place] == number {
+        return Some(place);
+    }
+    None
+}
+
+/// Notes the place of each item of a list in which none stands twice. What was noted before is left where it is: it
+/// names no place at which the list has the number.
+pub(crate) fn note_places(places: &mut [usize], list: &[u32])
+    requires below { list_all (λ x. nat_lt x (length places.old)) list.now ≡ true }
+    requires distinct { has_no_repeats list.now ≡ true }
+    ensures noted { ArePlaces list.now places.new }
+    ensures length { length places.new ≡ length places.old }
+{
+    for (place, number) in list.iter().enumerate() {
+        places[*number as usize] = place;
+    }
+}
+
+/// Whether no item stands in the list twice. Notes places as it goes.
+pub(crate) fn are_distinct(places: &mut [usize], list: &[u32]) -> bool
+    requires { list_all (λ x. nat_lt x (length places.old)) list.now ≡ true }
+    ensures { result ≡ has_no_repeats list.now }
+{
+    for (place, number) in list.iter().enumerate() {
+        if place_in(places, &list[..place], *number).is_some() {
+            return false;
+        }
+        places[*number as usize] = place;
+    }
+    true
+}
