@@ -4,7 +4,7 @@ pub mod Drafts
 pub mod Remaining
 pub mod Mutual
 pub mod Noted
+pub mod Entered
 pub mod Kept
 pub mod Instances
-pub mod SortedCopies
 pub mod Struck

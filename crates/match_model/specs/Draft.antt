@@ -135,19 +135,6 @@ pub record AreLists (lists : List (Option (List ℕ))) (n : ℕ) : Type 0 where
   pub items_below : All (λ list. list_all (λ x. nat_lt x n) list ≡ true) (given_lists lists)
   pub no_repeats : All (λ list. has_no_repeats list ≡ true) (given_lists lists)
 
--- of each number below the count whether it stands in the list
-pub record AreFlags (count : ℕ) (list : List ℕ) (flags : List Bool) : Type 0 where
-  pub one_each : length flags ≡ count
-  pub flag : (x : ℕ) → x < count → slice_index_or flags x false ≡ is_listed list x
-
--- whether row x flags the number
-abbrev pub flag_at : List (List Bool) → ℕ → ℕ → Bool
-flag_at rows x o = slice_index_or (slice_index_or rows x []) o false
-
--- of each list the items whose rows flag the list's place
-unfoldable pub flagged_lists : List (List ℕ) → List (List Bool) → List (List ℕ)
-flagged_lists lists rows = map (λ (owned : ℕ × List ℕ). filter (λ x. flag_at rows x owned.0) owned.1) (enumerate_from 0 lists)
-
 -- what a builder keeps: a list or none for each member, of members, without repeats, a flag for each, and the limits
 pub record IsDraft (d : Draft) : Type 0 where
   pub one_list_each : length d.programme_lists ≡ length d.quotas

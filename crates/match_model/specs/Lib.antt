@@ -2,8 +2,8 @@ pub mod Ranking
 pub mod Instance
 pub mod RankTable
 pub mod Draft
+pub mod Owners
 pub mod Placement
 pub mod Places
 pub mod Fault
-pub mod SortedCopy
 pub mod Withdrawals

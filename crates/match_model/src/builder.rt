@@ -7,7 +7,7 @@ use crate::instance::Instance;
 use crate::limits::{MAX_PAIRS, MAX_PROGRAMMES, MAX_QUOTA, MAX_RESIDENTS};
 use crate::member::{ProgrammeNo, ResidentNo};
 use crate::rank_table::rank_tables;
-use crate::ranking;
+use crate::{mutual_parts, ranking};
 use std::alloc::Global;
 use std::marker::Model;
 
@@ -194,14 +194,14 @@ impl InstanceBuilder {
         ensures within { OnOk result (pair_count (instance_of self.now) ≤ MAX_PAIRS) }
         ensures cause { IfErr result (IsFinishFault self.now) }
     {
-        let (programmes, pairs) = ranking::counted_mutual(
+        let (programmes, pairs) = mutual_parts::counted_mutual(
             self.alloc,
             &self.programme_lists,
             &self.programmes_withdrawn,
             &self.resident_lists,
             &self.residents_withdrawn,
         )?;
-        let residents = ranking::mutual(
+        let residents = mutual_parts::mutual(
             self.alloc,
             &self.resident_lists,
             &self.residents_withdrawn,

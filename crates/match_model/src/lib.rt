@@ -10,14 +10,14 @@
 mod assignment;
 mod builder;
 mod fault;
-mod flag_rows;
 mod instance;
 mod limits;
 mod member;
+mod mutual_parts;
+mod owners;
 mod places;
 mod rank_table;
 mod ranking;
-mod sorted_copies;
 mod withdrawals;
 
 pub use assignment::Assignment;

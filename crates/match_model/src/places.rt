@@ -3,6 +3,7 @@ ghost use Rattle.std.specs.Prelude.{◌≡◌, ◌<◌, nat_lt, length, true};
 ghost use Rattle.std.specs.List.{list_all};
 ghost use Rattle.match_model.specs.Draft.{has_no_repeats};
 ghost use Rattle.match_model.specs.Instance.{rank};
+ghost use Rattle.match_model.specs.Ranking.{is_listed};
 ghost use Rattle.match_model.specs.Places.{ArePlaces};
 
 /// The place of a number in the list whose items' places the table has, if it stands there.
@@ -16,6 +17,15 @@ pub(crate) fn place_in(places: &[usize], list: &[u32], number: u32) -> Option<us
         return Some(place);
     }
     None
+}
+
+/// Whether a number stands in the list whose items' places the table has.
+pub(crate) fn stands_in(places: &[usize], list: &[u32], number: u32) -> bool
+    requires noted { ArePlaces list.now places.now }
+    requires below { number < length places.now }
+    ensures { result ≡ is_listed list.now number }
+{
+    place_in(places, list, number).is_some()
 }
 
 /// Notes the place of each item of a list in which none stands twice. What was noted before is left where it is: it
@@ -37,7 +47,7 @@ pub(crate) fn are_distinct(places: &mut [usize], list: &[u32]) -> bool
     ensures { result ≡ has_no_repeats list.now }
 {
     for (place, number) in list.iter().enumerate() {
-        if place_in(places, &list[..place], *number).is_some() {
+        if stands_in(places, &list[..place], *number) {
             return false;
         }
         places[*number as usize] = place;

@@ -1,16 +1,14 @@
-//! Tests on lists as they are handed in, and their mutual parts.
-ghost use Rattle.std.specs.Prelude.{◌≡◌, ℕ, ◌<◌, ◌≤◌, ◌^◌, ◌⊎◌, nat_lt, length, map, unwrap_or, [], true, vec_len, OnOk, IfOk, IfErr};
-ghost use Rattle.std.specs.List.{list_all, sum_by};
+//! Tests on lists as they are handed in, and what is left of them.
+ghost use Rattle.std.specs.Prelude.{◌≡◌, ℕ, ◌<◌, ◌≤◌, nat_lt, length, map, unwrap_or, [], vec_len, OnOk, IfOk};
+ghost use Rattle.std.specs.List.{list_all};
 ghost use Rattle.std.specs.Global.{Vec};
-ghost use Rattle.match_model.specs.Draft.{items_of, AreLists, mutual_lists, lists_left, owner_fault, items_fault, withdrawal_fault, AnswersFirst, AnswersOrWantsMemory};
+ghost use Rattle.match_model.specs.Draft.{items_of, lists_left, owner_fault, items_fault, withdrawal_fault, AnswersFirst, AnswersOrWantsMemory};
 ghost use Rattle.match_model.specs.Fault.{AnswersExactly};
 ghost use Rattle.match_model.specs.Instance.{list_at};
 
 use crate::fault::ModelFault;
-use crate::limits::MAX_PAIRS;
 use crate::member::{ProgrammeNo, ResidentNo};
 use crate::places::are_distinct;
-use crate::{flag_rows, sorted_copies};
 use std::alloc::{AllocError, Global};
 
 /// Whether this owner was added and has no list yet.
@@ -121,61 +119,6 @@ fn given(list: &Option<Vec<u32>>) -> &[u32]
     match list {
         Some(items) => items.as_slice(),
         None => &[],
-    }
-}
-
-/// Whether the lists have so many items that a row of flags for each, below `count`, takes less than sorted copies.
-fn is_dense(lists: &[Option<Vec<u32>>], count: usize) -> bool {
-    let mut items: usize = 0;
-    for list in lists {
-        items = items.saturating_add(given(list).len());
-    }
-    items >= lists.len().saturating_mul(count) / 16
-}
-
-/// Each member's list, in its order, with only those who list that member.
-pub(crate) fn mutual(
-    alloc: Global,
-    mine: &[Option<Vec<u32>>],
-    mine_withdrawn: &[bool],
-    theirs: &[Option<Vec<u32>>],
-    theirs_withdrawn: &[bool],
-) -> Result<Vec<Vec<u32>>, AllocError>
-    requires few { length mine.now < 2 ^ 32 }
-    requires flags { length mine_withdrawn.now ≡ length mine.now }
-    requires other_flags { length theirs_withdrawn.now ≡ length theirs.now }
-    requires lists { AreLists (map items_of mine.now) (length theirs.now) }
-    requires others { AreLists (map items_of theirs.now) (length mine.now) }
-    ensures { IfOk result (λ v. map (λ list. list.items) v.items ≡ mutual_lists (lists_left mine.now mine_withdrawn.now) (lists_left theirs.now theirs_withdrawn.now)) }
-{
-    if is_dense(theirs, mine.len()) {
-        flag_rows::mutual(alloc, mine, mine_withdrawn, theirs, theirs_withdrawn)
-    } else {
-        sorted_copies::mutual(alloc, mine, mine_withdrawn, theirs, theirs_withdrawn)
-    }
-}
-
-/// The same, and how many items these lists have, where these are no more than there may be pairs.
-pub(crate) fn counted_mutual(
-    alloc: Global,
-    mine: &[Option<Vec<u32>>],
-    mine_withdrawn: &[bool],
-    theirs: &[Option<Vec<u32>>],
-    theirs_withdrawn: &[bool],
-) -> Result<(Vec<Vec<u32>>, u32), ModelFault>
-    requires few { length mine.now < 2 ^ 32 }
-    requires flags { length mine_withdrawn.now ≡ length mine.now }
-    requires other_flags { length theirs_withdrawn.now ≡ length theirs.now }
-    requires lists { AreLists (map items_of mine.now) (length theirs.now) }
-    requires others { AreLists (map items_of theirs.now) (length mine.now) }
-    ensures lists { IfOk result (λ made. map (λ list. list.items) made.0.items ≡ mutual_lists (lists_left mine.now mine_withdrawn.now) (lists_left theirs.now theirs_withdrawn.now)) }
-    ensures count { IfOk result (λ made. (made.1 ≡ sum_by length (mutual_lists (lists_left mine.now mine_withdrawn.now) (lists_left theirs.now theirs_withdrawn.now))) × (made.1 ≤ MAX_PAIRS)) }
-    ensures cause { IfErr result (λ fault. (fault ≡ ModelFault.Memory) ⊎ ((fault ≡ ModelFault.TooManyPairs) × (MAX_PAIRS < sum_by length (mutual_lists (lists_left mine.now mine_withdrawn.now) (lists_left theirs.now theirs_withdrawn.now))))) }
-{
-    if is_dense(theirs, mine.len()) {
-        flag_rows::counted_mutual(alloc, mine, mine_withdrawn, theirs, theirs_withdrawn)
-    } else {
-        sorted_copies::counted_mutual(alloc, mine, mine_withdrawn, theirs, theirs_withdrawn)
     }
 }
 

@@ -1,10 +1,10 @@
-use Rattle.std.proofs.Common.{◌≡◌, ℕ, ◌+◌, List, Bool, take, drop, true, false, ◌++◌, ◌∷◌, [], not, ◌&&◌, get_or, is_some, sym, ap, ◌∙◌, refl, arith, take-append-drop}
+use Rattle.std.proofs.Common.{◌≡◌, ℕ, ◌+◌, List, Bool, take, drop, true, false, ◌++◌, ◌∷◌, [], not, ◌&&◌, get_or, sym, ap, ◌∙◌, refl, arith, take-append-drop}
 use Rattle.std.proofs.lemmas.List.{take_more, get_or-take, length-take}
 use Rattle.match_model.specs.Ranking.{is_listed}
 use Rattle.match_model.specs.Draft.{has_no_repeats}
 use Rattle.match_model.proofs.Rankings.{has_no_repeats-push, has_no_repeats-append}
 use Rattle.match_model.proofs.Mutual.{list_all_at}
-use Rattle.match_model.proofs.Noted.{ArePlaces-more, is_some-rank, unlisted_apart}
+use Rattle.match_model.proofs.Noted.{ArePlaces-more, unlisted_apart}
 use Rattle.match_model.proofs.places.are_distinct.Goals as goal
 
 -- one item more, which stood there before
@@ -17,12 +17,12 @@ repeated xs i x e h =
     absorb true = refl
     absorb false = refl
 
-pub returns-then-is_some : goal.returns-then-is_some
-returns-then-is_some c =
+pub returns-then-stands_in : goal.returns-then-stands_in
+returns-then-stands_in c =
     let i : ℕ = c.loop-place.place in
     let list : List ℕ = c.args.list.now in
     repeated list i (get_or list i 0) (take_more list i 0 c.loop-place-test.true)
-    (sym (is_some-rank (take i list) (get_or list i 0)) ∙ ap is_some (sym c.place_in.ensures) ∙ sym c.is_some.ensures ∙ c.if-is_some.true)
+    (sym c.stands_in.ensures ∙ c.if-stands_in.true)
 
 pub loop-place-preserved : goal.loop-place-preserved
 loop-place-preserved c =
@@ -31,7 +31,7 @@ loop-place-preserved c =
     let x : ℕ = get_or list i 0 in
     let e = take_more list i 0 c.loop-place-test.true in
     let new : is_listed (take i list) x ≡ false =
-    sym (is_some-rank (take i list) x) ∙ ap is_some (sym c.place_in.ensures) ∙ sym c.is_some.ensures ∙ c.if-is_some.false in
+    sym c.stands_in.ensures ∙ c.if-stands_in.false in
     let below = list_all_at _ list i c.requires c.loop-place-test.true in
     record {
       distinct = ap has_no_repeats e ∙ has_no_repeats-push (take i list) x ∙ ap (λ b. has_no_repeats (take i list) && not b) new ∙ ap (λ b. b && true) c.loop-place.invariant.distinct;

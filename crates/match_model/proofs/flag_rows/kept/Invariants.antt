@@ -1,9 +1,0 @@
-use Rattle.std.proofs.Common.{◌≡◌, map, take, Bool}
-use Rattle.std.specs.List.{filter}
-use Rattle.std.specs.Global.{Vec}
-use Rattle.match_model.specs.Draft.{flag_at}
-use Rattle.match_model.proofs.flag_rows.kept.Given as goal
-
-abbrev pub invariant-loop-item : goal.invariant-loop-item
-invariant-loop-item l =
-    l.kept.items ≡ filter (λ x. flag_at (map (λ (row : Vec Bool). row.items) l.rows) x l.owner) (take l.item-index l.items)

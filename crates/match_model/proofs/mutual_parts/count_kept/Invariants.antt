@@ -1,0 +1,10 @@
+use Rattle.std.proofs.Common.{◌≡◌, ◌≤◌, take, length}
+use Rattle.std.specs.List.{filter}
+use Rattle.match_model.specs.Ranking.{is_listed}
+use Rattle.match_model.proofs.mutual_parts.count_kept.Given as goal
+
+abbrev pub invariant-loop-item : goal.invariant-loop-item
+invariant-loop-item l = record {
+  counted : l.count ≡ length (filter (is_listed l.row) (take l.item-index l.items));
+  fits : l.count ≤ l.item-index;
+}

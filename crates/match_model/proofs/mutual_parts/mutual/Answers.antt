@@ -1,0 +1,29 @@
+use Rattle.std.proofs.Common.{◌≡◌, ℕ, ltb, true, length, subst, sym, arith}
+use Rattle.std.specs.List.{All, list_all}
+use Rattle.match_model.specs.Draft.{lists_left}
+use Rattle.match_model.specs.Owners.{AreRows}
+use Rattle.match_model.proofs.Mutual.{lists_of, left_below, left_distinct}
+use Rattle.match_model.proofs.Entered.{AreRows-owners, made_is}
+use Rattle.match_model.proofs.mutual_parts.mutual.Goals as goal
+
+pub owners-requires-clause-below : goal.owners-requires-clause-below
+owners-requires-clause-below c = left_below c.args.theirs.now c.args.theirs_withdrawn.now (length c.args.mine.now) c.requires.others
+
+pub owners-requires-clause-distinct : goal.owners-requires-clause-distinct
+owners-requires-clause-distinct c = left_distinct c.args.theirs.now c.args.theirs_withdrawn.now (length c.args.mine.now) c.requires.others
+
+pub all_kept-requires-clause-below : goal.all_kept-requires-clause-below
+all_kept-requires-clause-below c =
+    let room : length c.deref_mut.result.now ≡ length c.args.theirs.now = omega (arith, c.deref_mut.ensures.len, c.in_ok-places.ensures.len) in
+    subst (λ (n : ℕ). All (λ list. list_all (λ x. ltb x n) list ≡ true) (lists_left c.args.mine.now c.args.mine_withdrawn.now)) (sym room) (left_below c.args.mine.now c.args.mine_withdrawn.now (length c.args.theirs.now) c.requires.lists)
+
+pub all_kept-requires-clause-rows : goal.all_kept-requires-clause-rows
+all_kept-requires-clause-rows c =
+    let room : length c.deref_mut.result.now ≡ length c.args.theirs.now = omega (arith, c.deref_mut.ensures.len, c.in_ok-places.ensures.len) in
+    subst (λ (n : ℕ). AreRows (length c.args.mine.now) n (lists_of c.deref.result.now)) (sym room)
+    (rw c.deref.ensures.value (AreRows-owners (length c.args.mine.now) (length c.args.theirs.now) (lists_left c.args.theirs.now c.args.theirs_withdrawn.now) (lists_of c.in_ok-rows.rows.items) c.in_ok-rows.ensures))
+
+pub returns : goal.returns
+returns c =
+    let made = made_is c.args.mine.now c.args.theirs.now c.args.mine_withdrawn.now c.args.theirs_withdrawn.now c.in_ok-rows.rows.items c.in_ok-rows.ensures in
+    rw (← made, ← c.deref.ensures.value) c.all_kept.ensures.lists

@@ -1,0 +1,35 @@
+-- For each number the owners of the lists in which it stands.
+use Rattle.std.specs.Prelude.{◌≡◌, ℕ, ◌<◌, nat_lt, Bool, true, false, List, [], ◌∷◌, ◌++◌, length, map}
+use Rattle.std.specs.List.{filter, range_with_len, enumerate_from, All, list_all}
+use Rattle.match_model.specs.Ranking.{is_listed}
+use Rattle.match_model.specs.Instance.{list_at}
+use Rattle.match_model.specs.Draft.{has_no_repeats}
+
+-- the owners below n of the lists in which x stands, in rising order
+abbrev pub owners_below : ℕ → List (List ℕ) → ℕ → List ℕ
+owners_below n lists x = filter (λ owner. is_listed (list_at lists owner) x) (range_with_len 0 n)
+
+-- row x has the owners below n of the lists in which x stands, for each x below the count
+pub record AreOwners (count n : ℕ) (lists rows : List (List ℕ)) : Type 0 where
+  pub one_each : length rows ≡ count
+  pub row : (x : ℕ) → x < count → list_at rows x ≡ owners_below n lists x
+
+-- a row, with the owner at its end where its number is listed
+abbrev pub with_owner : ℕ → Bool → List ℕ → List ℕ
+with_owner owner true row = row ++ owner ∷ []
+with_owner owner false row = row
+
+-- the owner is at the end of the row of each number of its list, and the other rows are as they were
+pub record IsEntered (owner : ℕ) (list : List ℕ) (before after : List (List ℕ)) : Type 0 where
+  pub one_each : length after ≡ length before
+  pub row : (x : ℕ) → x < length before → list_at after x ≡ with_owner owner (is_listed list x) (list_at before x)
+
+-- of each list the items that stand in its owner's row
+unfoldable pub kept_lists : List (List ℕ) → List (List ℕ) → List (List ℕ)
+kept_lists lists rows = map (λ (owned : ℕ × List ℕ). filter (λ x. is_listed (list_at rows owned.0) x) owned.1) (enumerate_from 0 lists)
+
+-- so many rows, each of numbers below n, none of which stands in it twice
+pub record AreRows (count n : ℕ) (rows : List (List ℕ)) : Type 0 where
+  pub one_each : length rows ≡ count
+  pub below : All (λ row. list_all (λ x. nat_lt x n) row ≡ true) rows
+  pub distinct : All (λ row. has_no_repeats row ≡ true) rows

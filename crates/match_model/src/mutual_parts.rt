@@ -1,0 +1,143 @@
+//! The mutual parts of lists, where for each owner a row says who lists it.
+ghost use Rattle.std.specs.Prelude.{◌≡◌, ℕ, ◌<◌, ◌≤◌, ◌^◌, ◌⊎◌, nat_lt, List, length, map, true, IfOk, IfErr, IfSome, IfNone};
+ghost use Rattle.std.specs.List.{All, list_all, filter, sum_by};
+ghost use Rattle.std.specs.Global.{Vec};
+ghost use Rattle.match_model.specs.Ranking.{is_listed};
+ghost use Rattle.match_model.specs.Draft.{items_of, lists_left, AreLists, mutual_lists, has_no_repeats};
+ghost use Rattle.match_model.specs.Owners.{AreRows, kept_lists};
+ghost use Rattle.match_model.specs.Places.{ArePlaces};
+
+use crate::fault::ModelFault;
+use crate::limits::MAX_PAIRS;
+use crate::owners::owners;
+use crate::places::{note_places, stands_in};
+use crate::ranking::remaining;
+use std::alloc::{AllocError, Global};
+
+/// How many items of a list stand in a row whose places are noted.
+fn count_kept(items: &[u32], row: &[u32], places: &[usize]) -> usize
+    requires below { list_all (λ x. nat_lt x (length places.now)) items.now ≡ true }
+    requires noted { ArePlaces row.now places.now }
+    ensures { result ≡ length (filter (is_listed row.now) items.now) }
+{
+    let mut count = 0;
+    for item in items {
+        if stands_in(places, row, *item) {
+            count += 1;
+        }
+    }
+    count
+}
+
+/// The items of a list that stand in a row whose places are noted, in their order.
+fn kept(alloc: Global, items: &[u32], row: &[u32], places: &[usize]) -> Result<Vec<u32>, AllocError>
+    requires below { list_all (λ x. nat_lt x (length places.now)) items.now ≡ true }
+    requires noted { ArePlaces row.now places.now }
+    ensures { IfOk result (λ v. v.items ≡ filter (is_listed row.now) items.now) }
+{
+    let mut kept = Vec::with_capacity(alloc, items.len().min(row.len()))?;
+    for item in items {
+        if stands_in(places, row, *item) {
+            kept.push(*item)?;
+        }
+    }
+    Ok(kept)
+}
+
+/// How many items all lists keep by these rows, if these are no more than there may be pairs.
+fn count_all_kept(
+    lists: &[Option<Vec<u32>>],
+    withdrawn: &[bool],
+    rows: &[Vec<u32>],
+    places: &mut [usize],
+) -> Option<u32>
+    requires flags { length withdrawn.now ≡ length lists.now }
+    requires below { All (λ list. list_all (λ x. nat_lt x (length places.old)) list ≡ true) (lists_left lists.now withdrawn.now) }
+    requires rows { AreRows (length lists.now) (length places.old) (map (λ (row : Vec ℕ). row.items) rows.now) }
+    ensures same_room { length places.new ≡ length places.old }
+    ensures counted { IfSome result (λ n. (n ≡ sum_by length (kept_lists (lists_left lists.now withdrawn.now) (map (λ (row : Vec ℕ). row.items) rows.now))) × (n ≤ MAX_PAIRS)) }
+    ensures over { IfNone result (MAX_PAIRS < sum_by length (kept_lists (lists_left lists.now withdrawn.now) (map (λ (row : Vec ℕ). row.items) rows.now))) }
+{
+    let mut count = 0;
+    for owner in 0..lists.len() {
+        let row = rows[owner].as_slice();
+        note_places(places, row);
+        let kept = count_kept(remaining(lists, withdrawn, owner), row, places);
+        if kept > MAX_PAIRS - count {
+            return None;
+        }
+        count += kept;
+    }
+    Some(count as u32)
+}
+
+/// The items that each list keeps by these rows.
+fn all_kept(
+    alloc: Global,
+    lists: &[Option<Vec<u32>>],
+    withdrawn: &[bool],
+    rows: &[Vec<u32>],
+    places: &mut [usize],
+) -> Result<Vec<Vec<u32>>, AllocError>
+    requires flags { length withdrawn.now ≡ length lists.now }
+    requires below { All (λ list. list_all (λ x. nat_lt x (length places.old)) list ≡ true) (lists_left lists.now withdrawn.now) }
+    requires rows { AreRows (length lists.now) (length places.old) (map (λ (row : Vec ℕ). row.items) rows.now) }
+    ensures same_room { length places.new ≡ length places.old }
+    ensures lists { IfOk result (λ v. map (λ list. list.items) v.items ≡ kept_lists (lists_left lists.now withdrawn.now) (map (λ (row : Vec ℕ). row.items) rows.now)) }
+{
+    let mut kept_lists = Vec::with_capacity(alloc, lists.len())?;
+    for owner in 0..lists.len() {
+        let row = rows[owner].as_slice();
+        note_places(places, row);
+        let list = remaining(lists, withdrawn, owner);
+        kept_lists.push(kept(alloc, list, row, places)?)?;
+    }
+    Ok(kept_lists)
+}
+
+/// Each member's list, in its order, with only those who list that member.
+pub(crate) fn mutual(
+    alloc: Global,
+    mine: &[Option<Vec<u32>>],
+    mine_withdrawn: &[bool],
+    theirs: &[Option<Vec<u32>>],
+    theirs_withdrawn: &[bool],
+) -> Result<Vec<Vec<u32>>, AllocError>
+    requires few { length theirs.now < 2 ^ 32 }
+    requires flags { length mine_withdrawn.now ≡ length mine.now }
+    requires other_flags { length theirs_withdrawn.now ≡ length theirs.now }
+    requires lists { AreLists (map items_of mine.now) (length theirs.now) }
+    requires others { AreLists (map items_of theirs.now) (length mine.now) }
+    ensures { IfOk result (λ v. map (λ list. list.items) v.items ≡ mutual_lists (lists_left mine.now mine_withdrawn.now) (lists_left theirs.now theirs_withdrawn.now)) }
+{
+    let rows = owners(alloc, mine.len(), theirs, theirs_withdrawn)?;
+    let mut places = vec![in alloc; 0; theirs.len()]?;
+    all_kept(alloc, mine, mine_withdrawn, &rows, &mut places)
+}
+
+/// The same, and how many items these lists have, where these are no more than there may be pairs. They are counted
+/// before they are gathered.
+pub(crate) fn counted_mutual(
+    alloc: Global,
+    mine: &[Option<Vec<u32>>],
+    mine_withdrawn: &[bool],
+    theirs: &[Option<Vec<u32>>],
+    theirs_withdrawn: &[bool],
+) -> Result<(Vec<Vec<u32>>, u32), ModelFault>
+    requires few { length theirs.now < 2 ^ 32 }
+    requires flags { length mine_withdrawn.now ≡ length mine.now }
+    requires other_flags { length theirs_withdrawn.now ≡ length theirs.now }
+    requires lists { AreLists (map items_of mine.now) (length theirs.now) }
+    requires others { AreLists (map items_of theirs.now) (length mine.now) }
+    ensures lists { IfOk result (λ made. map (λ list. list.items) made.0.items ≡ mutual_lists (lists_left mine.now mine_withdrawn.now) (lists_left theirs.now theirs_withdrawn.now)) }
+    ensures count { IfOk result (λ made. (made.1 ≡ sum_by length (mutual_lists (lists_left mine.now mine_withdrawn.now) (lists_left theirs.now theirs_withdrawn.now))) × (made.1 ≤ MAX_PAIRS)) }
+    ensures cause { IfErr result (λ fault. (fault ≡ ModelFault.Memory) ⊎ ((fault ≡ ModelFault.TooManyPairs) × (MAX_PAIRS < sum_by length (mutual_lists (lists_left mine.now mine_withdrawn.now) (lists_left theirs.now theirs_withdrawn.now))))) }
+{
+    let rows = owners(alloc, mine.len(), theirs, theirs_withdrawn)?;
+    let mut places = vec![in alloc; 0; theirs.len()]?;
+    let Some(count) = count_all_kept(mine, mine_withdrawn, &rows, &mut places) else {
+        return Err(ModelFault::TooManyPairs);
+    };
+    let lists = all_kept(alloc, mine, mine_withdrawn, &rows, &mut places)?;
+    Ok((lists, count))
+}
