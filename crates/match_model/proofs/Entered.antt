@@ -1,7 +1,9 @@
 -- Lemmas on the owners of the lists in which a number stands.
 use Rattle.std.proofs.Common.{◌≡◌, ℕ, ◌+◌, ◌<◌, ◌≤◌, Bool, true, false, cond, eqb, ltb, List, [], ◌∷◌, ◌++◌, length, get_or, set, take, replicate, map, Option, refl, sym, ap, ◌∙◌, subst, arith, not, ◌&&◌, ◌||◌, suc, zero, zero-add, ⊎_elim}
 use Rattle.std.specs.Global.{Vec}
-use Rattle.std.specs.List.{filter, list_all, range_with_len, enumerate_from}
+use Rattle.std.specs.List.{All, filter, list_all, range_with_len, enumerate_from}
+use Rattle.std.specs.List.Sorted.{IsNonDecreasing}
+use Rattle.std.proofs.lemmas.List.Kept.{IsNonDecreasingBy-filter}
 use Rattle.std.proofs.lemmas.Bool.{cases_lt, eqb-true, lt-ltb, and_parts, and_from}
 use Rattle.std.proofs.lemmas.List.{length-map, get_or-map, length-replicate, get_or-replicate, length-set, get_or-set_other, get_or_past, get_or-take, length-take, take_more, append-nil, get_or_default}
 use Rattle.std.proofs.lemmas.Grind.{get_or-set_at}
@@ -10,7 +12,7 @@ use Rattle.std.proofs.lemmas.List.Elements.{filter-append, filter_agree}
 use Rattle.match_model.specs.Ranking.{is_listed}
 use Rattle.match_model.specs.Instance.{list_at}
 use Rattle.match_model.specs.Draft.{mutual_lists, lists_left, has_no_repeats}
-use Rattle.match_model.specs.Owners.{owners_below, AreOwners, IsEntered, with_owner, kept_lists, AreRows}
+use Rattle.match_model.specs.Owners.{owners_below, AreOwners, IsEntered, with_owner, kept_lists, AreRows, AreCovered}
 use Rattle.match_model.proofs.Mutual.{lists_of, list_at_vector, length-lists_left}
 use Rattle.match_model.proofs.Rankings.{is_listed-append, is_listed_alone, is_listed-filter, is_listed_at, is_listed_nowhere, has_no_repeats-filter, HasNoRepeats-from_test}
 
@@ -108,6 +110,13 @@ range_below : (a k n : ℕ) → a + k ≤ n → list_all (λ x. ltb x n) (range_
 range_below a zero n h = refl
 range_below a (suc k) n h = and_from (ltb a n) (list_all (λ x. ltb x n) (range_with_len (a + 1) k)) (lt-ltb a n (omega arith)) (range_below (a + 1) k n (omega arith))
 
+range_rises : (n : ℕ) → IsNonDecreasing (range_with_len 0 n)
+range_rises n = λ i j d l h.
+    let many = length-range_with_len 0 n in
+    let low = get_or-range_with_len 0 n i d (omega arith) in
+    let high = get_or-range_with_len 0 n j d (omega arith) in
+    omega arith
+
 -- what holds of each item holds of those that a filter keeps
 list_all-filter : (p q : ℕ → Bool) (xs : List ℕ) → list_all p xs ≡ true → list_all p (filter q xs) ≡ true
 list_all-filter p q [] h = refl
@@ -140,6 +149,8 @@ AreRows-owners count n lists rows a = record {
       (list_all-filter (λ x. ltb x n) (λ owner. is_listed (list_at lists owner) i) (range_with_len 0 n) (range_below 0 n n (omega arith)));
   distinct = λ i d h. subst (λ (row : List ℕ). has_no_repeats row ≡ true) (sym (a.row i (omega (arith, a.one_each))) ∙ get_or_default rows i [] d h)
       (has_no_repeats-filter (λ owner. is_listed (list_at lists owner) i) (range_with_len 0 n) (range_distinct 0 n));
+  rising = λ i d h. subst IsNonDecreasing (sym (a.row i (omega (arith, a.one_each))) ∙ get_or_default rows i [] d h)
+      (IsNonDecreasingBy-filter (λ x. x) (λ owner. is_listed (list_at lists owner) i) (range_with_len 0 n) (range_rises n));
 }
 
 -- what is kept by the rows of owners are the mutual lists
@@ -178,6 +189,32 @@ unfolding kept_lists
 get_or-kept_lists lists rows i h =
     get_or-map (kept_of rows) (enumerate_from 0 lists) i (0, []) [] (omega (arith, length-enumerate_from 0 lists))
     ∙ ap (kept_of rows) (get_or-enumerate_from 0 lists i (0, []) h) ∙ ap (λ n. kept_of rows (n, get_or lists i [])) (zero-add i)
+
+-- the lists that are kept have the items that they had, each once, and the rows have them
+pub kept_below : (lists rows : List (List ℕ)) (n : ℕ) → All (λ list. list_all (λ x. ltb x n) list ≡ true) lists → All (λ list. list_all (λ x. ltb x n) list ≡ true) (kept_lists lists rows)
+kept_below lists rows n a = λ i d h.
+    let within : i < length lists = omega (arith, length-kept_lists lists rows) in
+    subst (λ (list : List ℕ). list_all (λ x. ltb x n) list ≡ true) (sym (get_or-kept_lists lists rows i within) ∙ get_or_default (kept_lists lists rows) i [] d h)
+    (list_all-filter (λ x. ltb x n) (λ x. is_listed (list_at rows i) x) (list_at lists i) (a i [] within))
+
+pub kept_distinct : (lists rows : List (List ℕ)) → All (λ list. has_no_repeats list ≡ true) lists → All (λ list. has_no_repeats list ≡ true) (kept_lists lists rows)
+kept_distinct lists rows a = λ i d h.
+    let within : i < length lists = omega (arith, length-kept_lists lists rows) in
+    subst (λ (list : List ℕ). has_no_repeats list ≡ true) (sym (get_or-kept_lists lists rows i within) ∙ get_or_default (kept_lists lists rows) i [] d h)
+    (has_no_repeats-filter (λ x. is_listed (list_at rows i) x) (list_at lists i) (a i [] within))
+
+pub kept_covered : (lists rows : List (List ℕ)) → AreCovered (kept_lists lists rows) rows
+kept_covered lists rows = λ i x e. ⊎_elim
+    (λ (h : i < length lists).
+    (and_parts (is_listed (list_at lists i) x) (is_listed (list_at rows i) x)
+    (sym (is_listed-filter (λ y. is_listed (list_at rows i) y) (list_at lists i) x) ∙ sym (ap (λ (list : List ℕ). is_listed list x) (get_or-kept_lists lists rows i h)) ∙ e)).1)
+    (λ (h : length lists ≤ i).
+    let none : is_listed (list_at (kept_lists lists rows) i) x ≡ false = ap (λ (list : List ℕ). is_listed list x) (get_or_past (kept_lists lists rows) i [] (omega (arith, length-kept_lists lists rows))) in
+    absurd (true≢false (sym e ∙ none)))
+    (cases_lt i (length lists))
+  where
+    true≢false : true ≡ false → ⊥
+    true≢false h = cc
 
 -- the row of an owner, among vectors
 pub row_is : (rows : List (Vec ℕ)) (count n i : ℕ) (row : Vec ℕ) → AreRows count n (lists_of rows) → i < count → row ≡ get_or rows i row → list_at (lists_of rows) i ≡ row.items

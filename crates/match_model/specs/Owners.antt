@@ -1,6 +1,7 @@
 -- For each number the owners of the lists in which it stands.
 use Rattle.std.specs.Prelude.{◌≡◌, ℕ, ◌<◌, nat_lt, Bool, true, false, List, [], ◌∷◌, ◌++◌, length, map}
 use Rattle.std.specs.List.{filter, range_with_len, enumerate_from, All, list_all}
+use Rattle.std.specs.List.Sorted.{IsNonDecreasing}
 use Rattle.match_model.specs.Ranking.{is_listed}
 use Rattle.match_model.specs.Instance.{list_at}
 use Rattle.match_model.specs.Draft.{has_no_repeats}
@@ -28,8 +29,13 @@ pub record IsEntered (owner : ℕ) (list : List ℕ) (before after : List (List 
 unfoldable pub kept_lists : List (List ℕ) → List (List ℕ) → List (List ℕ)
 kept_lists lists rows = map (λ (owned : ℕ × List ℕ). filter (λ x. is_listed (list_at rows owned.0) x) owned.1) (enumerate_from 0 lists)
 
--- so many rows, each of numbers below n, none of which stands in it twice
+-- so many rows, each of numbers below n in rising order, none of which stands in it twice
 pub record AreRows (count n : ℕ) (rows : List (List ℕ)) : Type 0 where
   pub one_each : length rows ≡ count
   pub below : All (λ row. list_all (λ x. nat_lt x n) row ≡ true) rows
   pub distinct : All (λ row. has_no_repeats row ≡ true) rows
+  pub rising : All IsNonDecreasing rows
+
+-- the row in its place has each item of a list
+abbrev pub AreCovered : List (List ℕ) → List (List ℕ) → Type 0
+AreCovered lists rows = (i x : ℕ) → is_listed (list_at lists i) x ≡ true → is_listed (list_at rows i) x ≡ true

@@ -6,7 +6,6 @@ use crate::fault::ModelFault;
 use crate::instance::Instance;
 use crate::limits::{MAX_PAIRS, MAX_PROGRAMMES, MAX_QUOTA, MAX_RESIDENTS};
 use crate::member::{ProgrammeNo, ResidentNo};
-use crate::rank_table::rank_tables;
 use crate::{mutual_parts, ranking};
 use std::alloc::Global;
 use std::marker::Model;
@@ -194,22 +193,20 @@ impl InstanceBuilder {
         ensures within { OnOk result (pair_count (instance_of self.now) ≤ MAX_PAIRS) }
         ensures cause { IfErr result (IsFinishFault self.now) }
     {
-        let (programmes, pairs) = mutual_parts::counted_mutual(
+        let (programmes, programme_ranks, pairs) = mutual_parts::counted_mutual(
             self.alloc,
             &self.programme_lists,
             &self.programmes_withdrawn,
             &self.resident_lists,
             &self.residents_withdrawn,
         )?;
-        let residents = mutual_parts::mutual(
+        let (residents, resident_ranks) = mutual_parts::mutual(
             self.alloc,
             &self.resident_lists,
             &self.residents_withdrawn,
             &self.programme_lists,
             &self.programmes_withdrawn,
         )?;
-        let programme_ranks = rank_tables(self.alloc, &programmes)?;
-        let resident_ranks = rank_tables(self.alloc, &residents)?;
         Ok(Instance {
             quotas: Vec::from_slice(self.alloc, &self.quotas)?,
             programme_lists: ranking::residents_of(self.alloc, &programmes)?,

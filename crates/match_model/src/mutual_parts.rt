@@ -6,11 +6,13 @@ ghost use Rattle.match_model.specs.Ranking.{is_listed};
 ghost use Rattle.match_model.specs.Draft.{items_of, lists_left, AreLists, mutual_lists, has_no_repeats};
 ghost use Rattle.match_model.specs.Owners.{AreRows, kept_lists};
 ghost use Rattle.match_model.specs.Places.{ArePlaces};
+ghost use Rattle.match_model.specs.RankTable.{AreRankTables};
 
 use crate::fault::ModelFault;
 use crate::limits::MAX_PAIRS;
 use crate::owners::owners;
 use crate::places::{note_places, stands_in};
+use crate::rank_table::{RankTable, rank_tables};
 use crate::ranking::remaining;
 use std::alloc::{AllocError, Global};
 
@@ -95,24 +97,46 @@ fn all_kept(
     Ok(kept_lists)
 }
 
-/// Each member's list, in its order, with only those who list that member.
+/// The items that each list keeps by these rows, and the table of their ranks.
+fn ranked(
+    alloc: Global,
+    lists: &[Option<Vec<u32>>],
+    withdrawn: &[bool],
+    rows: &[Vec<u32>],
+    places: &mut [usize],
+) -> Result<(Vec<Vec<u32>>, Vec<RankTable>), AllocError>
+    requires few { length places.old < 2 ^ 32 }
+    requires flags { length withdrawn.now ≡ length lists.now }
+    requires below { All (λ list. list_all (λ x. nat_lt x (length places.old)) list ≡ true) (lists_left lists.now withdrawn.now) }
+    requires distinct { All (λ list. has_no_repeats list ≡ true) (lists_left lists.now withdrawn.now) }
+    requires rows { AreRows (length lists.now) (length places.old) (map (λ (row : Vec ℕ). row.items) rows.now) }
+    ensures lists { IfOk result (λ made. map (λ list. list.items) made.0.items ≡ kept_lists (lists_left lists.now withdrawn.now) (map (λ (row : Vec ℕ). row.items) rows.now)) }
+    ensures ranks { IfOk result (λ made. AreRankTables (map (λ list. list.items) made.0.items) made.1.items) }
+{
+    let kept = all_kept(alloc, lists, withdrawn, rows, places)?;
+    let ranks = rank_tables(alloc, &kept, rows, places)?;
+    Ok((kept, ranks))
+}
+
+/// Each member's list, in its order, with only those who list that member, and the table of their ranks.
 pub(crate) fn mutual(
     alloc: Global,
     mine: &[Option<Vec<u32>>],
     mine_withdrawn: &[bool],
     theirs: &[Option<Vec<u32>>],
     theirs_withdrawn: &[bool],
-) -> Result<Vec<Vec<u32>>, AllocError>
+) -> Result<(Vec<Vec<u32>>, Vec<RankTable>), AllocError>
     requires few { length theirs.now < 2 ^ 32 }
     requires flags { length mine_withdrawn.now ≡ length mine.now }
     requires other_flags { length theirs_withdrawn.now ≡ length theirs.now }
     requires lists { AreLists (map items_of mine.now) (length theirs.now) }
     requires others { AreLists (map items_of theirs.now) (length mine.now) }
-    ensures { IfOk result (λ v. map (λ list. list.items) v.items ≡ mutual_lists (lists_left mine.now mine_withdrawn.now) (lists_left theirs.now theirs_withdrawn.now)) }
+    ensures lists { IfOk result (λ made. map (λ list. list.items) made.0.items ≡ mutual_lists (lists_left mine.now mine_withdrawn.now) (lists_left theirs.now theirs_withdrawn.now)) }
+    ensures ranks { IfOk result (λ made. AreRankTables (map (λ list. list.items) made.0.items) made.1.items) }
 {
     let rows = owners(alloc, mine.len(), theirs, theirs_withdrawn)?;
     let mut places = vec![in alloc; 0; theirs.len()]?;
-    all_kept(alloc, mine, mine_withdrawn, &rows, &mut places)
+    ranked(alloc, mine, mine_withdrawn, &rows, &mut places)
 }
 
 /// The same, and how many items these lists have, where these are no more than there may be pairs. They are counted
@@ -123,14 +147,15 @@ pub(crate) fn counted_mutual(
     mine_withdrawn: &[bool],
     theirs: &[Option<Vec<u32>>],
     theirs_withdrawn: &[bool],
-) -> Result<(Vec<Vec<u32>>, u32), ModelFault>
+) -> Result<(Vec<Vec<u32>>, Vec<RankTable>, u32), ModelFault>
     requires few { length theirs.now < 2 ^ 32 }
     requires flags { length mine_withdrawn.now ≡ length mine.now }
     requires other_flags { length theirs_withdrawn.now ≡ length theirs.now }
     requires lists { AreLists (map items_of mine.now) (length theirs.now) }
     requires others { AreLists (map items_of theirs.now) (length mine.now) }
     ensures lists { IfOk result (λ made. map (λ list. list.items) made.0.items ≡ mutual_lists (lists_left mine.now mine_withdrawn.now) (lists_left theirs.now theirs_withdrawn.now)) }
-    ensures count { IfOk result (λ made. (made.1 ≡ sum_by length (mutual_lists (lists_left mine.now mine_withdrawn.now) (lists_left theirs.now theirs_withdrawn.now))) × (made.1 ≤ MAX_PAIRS)) }
+    ensures ranks { IfOk result (λ made. AreRankTables (map (λ list. list.items) made.0.items) made.1.items) }
+    ensures count { IfOk result (λ made. (made.2 ≡ sum_by length (mutual_lists (lists_left mine.now mine_withdrawn.now) (lists_left theirs.now theirs_withdrawn.now))) × (made.2 ≤ MAX_PAIRS)) }
     ensures cause { IfErr result (λ fault. (fault ≡ ModelFault.Memory) ⊎ ((fault ≡ ModelFault.TooManyPairs) × (MAX_PAIRS < sum_by length (mutual_lists (lists_left mine.now mine_withdrawn.now) (lists_left theirs.now theirs_withdrawn.now))))) }
 {
     let rows = owners(alloc, mine.len(), theirs, theirs_withdrawn)?;
@@ -138,6 +163,6 @@ pub(crate) fn counted_mutual(
     let Some(count) = count_all_kept(mine, mine_withdrawn, &rows, &mut places) else {
         return Err(ModelFault::TooManyPairs);
     };
-    let lists = all_kept(alloc, mine, mine_withdrawn, &rows, &mut places)?;
-    Ok((lists, count))
+    let (lists, ranks) = ranked(alloc, mine, mine_withdrawn, &rows, &mut places)?;
+    Ok((lists, ranks, count))
 }

@@ -1,12 +1,14 @@
 //! Tables of ranks, in which a rank is found by halving.
-ghost use Rattle.std.specs.Prelude.{◌≡◌, ℕ, ◌≤◌, List, length, map, IfOk};
-ghost use Rattle.std.specs.List.{All};
+ghost use Rattle.std.specs.Prelude.{◌≡◌, ℕ, ◌<◌, ◌≤◌, ◌^◌, nat_lt, List, length, map, true, IfOk};
+ghost use Rattle.std.specs.List.{All, list_all};
 ghost use Rattle.std.specs.Global.{Vec};
-ghost use Rattle.match_model.specs.Ranking.{HasNoRepeats};
+ghost use Rattle.match_model.specs.Draft.{has_no_repeats};
 ghost use Rattle.match_model.specs.Instance.{rank};
-ghost use Rattle.match_model.specs.RankTable.{IsRankTable, AreRankTables};
+ghost use Rattle.match_model.specs.Owners.{AreRows, AreCovered};
+ghost use Rattle.match_model.specs.Places.{ArePlaces};
+ghost use Rattle.match_model.specs.RankTable.{IsRankTable, AreRankTables, ranked};
 
-use crate::limits::MAX_PAIRS;
+use crate::places::{note_places, place_in};
 use std::alloc::{AllocError, Global};
 use std::marker::Model;
 
@@ -25,22 +27,30 @@ impl Model for RankTable {
 }
 
 impl RankTable {
-    /// The table of a list.
-    pub(crate) fn new(alloc: Global, list: &[u32]) -> Result<RankTable, AllocError>
-        requires { length list.now ≤ MAX_PAIRS }
-        ensures { IfOk result (IsRankTable list.now) }
+    /// The numbers of a row that stand in a list, with their places there, which are noted. They are in the row's order.
+    fn new(
+        alloc: Global,
+        list: &[u32],
+        row: &[u32],
+        places: &[usize],
+    ) -> Result<RankTable, AllocError>
+        requires few { length list.now ≤ 2 ^ 32 }
+        requires below { list_all (λ x. nat_lt x (length places.now)) row.now ≡ true }
+        requires noted { ArePlaces list.now places.now }
+        ensures { IfOk result (λ t. t ≡ ranked list.now row.now) }
     {
         let mut entries = Vec::with_capacity(alloc, list.len())?;
-        for (place, number) in list.iter().enumerate() {
-            entries.push((*number, place as u32))?;
+        for number in row {
+            if let Some(place) = place_in(places, list, *number) {
+                entries.push((*number, place as u32))?;
+            }
         }
-        entries.sort_by_key(|entry| entry.0)?;
         Ok(RankTable { entries })
     }
 
     /// The place of a number in the list, if it stands there.
     pub(crate) fn rank(&self, number: u32) -> Option<u32>
-        ensures { (list : List ℕ) → HasNoRepeats list → IsRankTable list self.now → result ≡ rank list number }
+        ensures { (list : List ℕ) → IsRankTable list self.now → result ≡ rank list number }
     {
         match self.entries.binary_search_by_key(&number, |entry| entry.0) {
             Ok(at) => Some(self.entries[at].1),
@@ -49,14 +59,26 @@ impl RankTable {
     }
 }
 
-/// The table of each list.
-pub(crate) fn rank_tables(alloc: Global, lists: &[Vec<u32>]) -> Result<Vec<RankTable>, AllocError>
-    requires { All (λ (list : List ℕ). length list ≤ MAX_PAIRS) (map (λ (list : Vec ℕ). list.items) lists.now) }
+/// The table of each list, by a rising row in which all its items stand: so no table is sorted.
+pub(crate) fn rank_tables(
+    alloc: Global,
+    lists: &[Vec<u32>],
+    rows: &[Vec<u32>],
+    places: &mut [usize],
+) -> Result<Vec<RankTable>, AllocError>
+    requires few { length places.old < 2 ^ 32 }
+    requires below { All (λ list. list_all (λ x. nat_lt x (length places.old)) list ≡ true) (map (λ (list : Vec ℕ). list.items) lists.now) }
+    requires distinct { All (λ list. has_no_repeats list ≡ true) (map (λ (list : Vec ℕ). list.items) lists.now) }
+    requires rows { AreRows (length lists.now) (length places.old) (map (λ (row : Vec ℕ). row.items) rows.now) }
+    requires covered { AreCovered (map (λ (list : Vec ℕ). list.items) lists.now) (map (λ (row : Vec ℕ). row.items) rows.now) }
     ensures { IfOk result (λ tables. AreRankTables (map (λ (list : Vec ℕ). list.items) lists.now) tables.items) }
 {
     let mut tables = Vec::with_capacity(alloc, lists.len())?;
-    for list in lists {
-        tables.push(RankTable::new(alloc, list)?)?;
+    for owner in 0..lists.len() {
+        let list = lists[owner].as_slice();
+        let row = rows[owner].as_slice();
+        note_places(places, list);
+        tables.push(RankTable::new(alloc, list, row, places)?)?;
     }
     Ok(tables)
 }

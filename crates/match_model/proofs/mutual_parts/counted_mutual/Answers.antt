@@ -26,16 +26,19 @@ count_all_kept-requires-clause-rows c =
     subst (λ (n : ℕ). AreRows (length c.args.mine.now) n (lists_of c.deref.result.now)) (sym room)
     (rw c.deref.ensures.value (AreRows-owners (length c.args.mine.now) (length c.args.theirs.now) (lists_left c.args.theirs.now c.args.theirs_withdrawn.now) (lists_of c.in_ok-rows.rows.items) c.in_ok-rows.ensures))
 
-pub all_kept-requires-clause-below : goal.all_kept-requires-clause-below
-all_kept-requires-clause-below c =
+pub ranked-requires-clause-below : goal.ranked-requires-clause-below
+ranked-requires-clause-below c =
     let room : length c.deref_mut-2.result.now ≡ length c.args.theirs.now = omega (arith, c.deref_mut-2.ensures.len, c.in-Some.ensures.same_room, c.deref_mut.ensures.len, c.in_ok-places.ensures.len) in
     subst (λ (n : ℕ). All (λ list. list_all (λ x. ltb x n) list ≡ true) (lists_left c.args.mine.now c.args.mine_withdrawn.now)) (sym room) (left_below c.args.mine.now c.args.mine_withdrawn.now (length c.args.theirs.now) c.requires.lists)
 
-pub all_kept-requires-clause-rows : goal.all_kept-requires-clause-rows
-all_kept-requires-clause-rows c =
+pub ranked-requires-clause-rows : goal.ranked-requires-clause-rows
+ranked-requires-clause-rows c =
     let room : length c.deref_mut-2.result.now ≡ length c.args.theirs.now = omega (arith, c.deref_mut-2.ensures.len, c.in-Some.ensures.same_room, c.deref_mut.ensures.len, c.in_ok-places.ensures.len) in
     subst (λ (n : ℕ). AreRows (length c.args.mine.now) n (lists_of c.deref-2.result.now)) (sym room)
     (rw c.deref-2.ensures.value (AreRows-owners (length c.args.mine.now) (length c.args.theirs.now) (lists_left c.args.theirs.now c.args.theirs_withdrawn.now) (lists_of c.in_ok-rows.rows.items) c.in_ok-rows.ensures))
+
+pub ranked-requires-clause-distinct : goal.ranked-requires-clause-distinct
+ranked-requires-clause-distinct c = left_distinct c.args.mine.now c.args.mine_withdrawn.now (length c.args.theirs.now) c.requires.lists
 
 pub returns-in_default-clause-cause : goal.returns-in_default-clause-cause
 returns-in_default-clause-cause c =

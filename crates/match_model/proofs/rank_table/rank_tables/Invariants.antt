@@ -3,5 +3,5 @@ use Rattle.std.specs.Global.{Vec}
 use Rattle.match_model.specs.RankTable.{AreRankTables}
 use Rattle.match_model.proofs.rank_table.rank_tables.Given as goal
 
-abbrev pub invariant-loop-list : goal.invariant-loop-list
-invariant-loop-list l = AreRankTables (map (λ (list : Vec ℕ). list.items) (take l.list-index l.lists)) l.tables.items
+abbrev pub invariant-loop-owner : goal.invariant-loop-owner
+invariant-loop-owner l = AreRankTables (map (λ (list : Vec ℕ). list.items) (take l.owner l.lists)) l.tables.items

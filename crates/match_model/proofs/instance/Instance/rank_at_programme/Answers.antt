@@ -1,7 +1,6 @@
 use Rattle.std.proofs.Common.{◌≡◌, ◌∙◌, ◌<◌, List, ℕ, length, map, get_or, [], arith, sym, ap, subst}
 use Rattle.std.specs.Global.{Vec}
 use Rattle.match_model.specs.Instance.{rank, Instance as Rankings, list_of_programme}
-use Rattle.match_model.specs.Ranking.{HasNoRepeats}
 use Rattle.match_model.specs.RankTable.{IsRankTable}
 use Rattle.match_model.proofs.RankTables.{table_at, length_tables}
 use Rattle.match_model.proofs.instance.Instance.rank_at_programme.Goals as goal
@@ -28,6 +27,5 @@ returns c =
     ap (λ (inst : Rankings). list_of_programme inst c.programme.inside.0) c.self.view_is ∙ ap (list_of_programme c.args.self.now) view in
     let table : IsRankTable (list_of_programme c.args.self.now c.args.programme) c.index.result.now = subst (λ (xs : List ℕ). IsRankTable xs c.index.result.now) list
     (table_at (lists_in c.self.inside.programme_lists.items) c.self.inside.programme_ranks.items c.self.invariant.programme_ranks c.programme.inside.0 c.index.result.now here c.index.ensures) in
-    c.rank.ensures (list_of_programme c.args.self.now c.args.programme)
-    (subst HasNoRepeats list (c.self.invariant.rankings.is_instance.programmes_rank_strictly c.programme.inside.0)) table
+    c.rank.ensures (list_of_programme c.args.self.now c.args.programme) table
     ∙ ap (λ (n : ℕ). rank (list_of_programme c.args.self.now c.args.programme) n) c.resident.view_is

@@ -1,7 +1,6 @@
 use Rattle.std.proofs.Common.{◌≡◌, ◌∙◌, ◌<◌, List, ℕ, length, map, get_or, [], arith, ap, subst}
 use Rattle.std.specs.Global.{Vec}
 use Rattle.match_model.specs.Instance.{rank, Instance as Rankings, list_of_resident}
-use Rattle.match_model.specs.Ranking.{HasNoRepeats}
 use Rattle.match_model.specs.RankTable.{IsRankTable}
 use Rattle.match_model.proofs.RankTables.{table_at, length_tables}
 use Rattle.match_model.proofs.instance.Instance.rank_at_resident.Goals as goal
@@ -26,6 +25,5 @@ returns c =
     ap (λ (inst : Rankings). list_of_resident inst c.resident.inside.0) c.self.view_is ∙ ap (list_of_resident c.args.self.now) view in
     let table : IsRankTable (list_of_resident c.args.self.now c.args.resident) c.index.result.now = subst (λ (xs : List ℕ). IsRankTable xs c.index.result.now) list
     (table_at (lists_in c.self.inside.resident_lists.items) c.self.inside.resident_ranks.items c.self.invariant.resident_ranks c.resident.inside.0 c.index.result.now here c.index.ensures) in
-    c.rank.ensures (list_of_resident c.args.self.now c.args.resident)
-    (subst HasNoRepeats list (c.self.invariant.rankings.is_instance.residents_rank_strictly c.resident.inside.0)) table
+    c.rank.ensures (list_of_resident c.args.self.now c.args.resident) table
     ∙ ap (λ (n : ℕ). rank (list_of_resident c.args.self.now c.args.resident) n) c.programme.view_is
