@@ -1,23 +1,24 @@
 //! What lies under the ledger's lock.
 ghost use Rattle.std.specs.Prelude.{◌≡◌};
 
+use crate::mailboxes::Mailboxes;
 use crate::waits::Waits;
-use exchange_core::{AnswerKind, AnswerNote, Event, OfferNote, Refused};
-use mailbox_rule::PutEnd;
+use exchange_core::{AnswerKind, Event, Refused};
 use match_model::{Instance, ProgrammeNo, ResidentNo};
 use offer_ledger::{EntryRefused, Ledger, Naming, PutRefusal, Tally};
 
 /// The ledger, and the desks that wait for room.
-pub(crate) struct Books<J: Naming, P: PutEnd<OfferNote>, Q: PutEnd<AnswerNote>> {
-    pub(crate) ledger: Ledger<J, P, Q>,
+pub(crate) struct Books<J: Naming, M: Mailboxes> {
+    pub(crate) ledger: Ledger<J, M::OfferPut, M::AnswerPut>,
     pub(crate) waits: Waits,
 }
 
 /// What became of an event that was to be entered.
 #[derive(Clone, Copy, Debug)]
 pub(crate) enum Entry {
-    /// It is entered. Whether the desk's mailbox has more, and which desk it woke: the receiver of a put whose mailbox
-    /// was empty, or who waited for the room that a receipt made.
+    /// It is entered. Whether the desk's mailbox has more, which isn't asked after a take, since an answer comes before
+    /// the next; and which desk it woke: the receiver of a put whose mailbox was empty, or who waited for the room that
+    /// a receipt made.
     Made { more: bool, woken: Option<u32> },
     /// The mailbox was full, and the desk waits for room.
     Later,
@@ -30,7 +31,7 @@ pub(crate) enum Entry {
 }
 
 // As one call, so that whoever lets books go proves nothing of its parts.
-impl<J: Naming, P: PutEnd<OfferNote> + Drop, Q: PutEnd<AnswerNote> + Drop> Drop for Books<J, P, Q> {
+impl<J: Naming, M: Mailboxes> Drop for Books<J, M> {
     fn drop(self) {
         let Books {
             ledger: _,
@@ -39,9 +40,9 @@ impl<J: Naming, P: PutEnd<OfferNote> + Drop, Q: PutEnd<AnswerNote> + Drop> Drop 
     }
 }
 
-impl<J: Naming, P: PutEnd<OfferNote> + Drop, Q: PutEnd<AnswerNote> + Drop> Books<J, P, Q> {
+impl<J: Naming, M: Mailboxes> Books<J, M> {
     /// The ledger alone.
-    pub(crate) fn into_ledger(self) -> Ledger<J, P, Q>
+    pub(crate) fn into_ledger(self) -> Ledger<J, M::OfferPut, M::AnswerPut>
         ensures { result ≡ self.ledger }
     {
         let Books { ledger, waits: _ } = self;
@@ -49,32 +50,23 @@ impl<J: Naming, P: PutEnd<OfferNote> + Drop, Q: PutEnd<AnswerNote> + Drop> Books
     }
 }
 
-impl<J: Naming, P: PutEnd<OfferNote>, Q: PutEnd<AnswerNote>> Books<J, P, Q> {
-    /// Whether offers wait at a resident, as far as the core has it.
+impl<J: Naming, M: Mailboxes> Books<J, M> {
+    /// Whether offers wait at a resident: put, and by the journal not taken yet.
     pub(crate) fn offers_wait(&self, inst: &Instance, resident: ResidentNo) -> bool
         requires { inst.now ≡ J.inst }
     {
-        let take = Event::Take {
-            resident,
-            programme: ProgrammeNo(0),
-        };
-        self.has_front(inst, take)
+        resident.0 < inst.residents() && self.ledger.core().has_offers(resident)
     }
 
-    /// Whether answers wait at a programme, as far as the core has it.
+    /// Whether answers wait at a programme: put, and by the journal not heard yet.
     pub(crate) fn answers_wait(&self, inst: &Instance, programme: ProgrammeNo) -> bool
         requires { inst.now ≡ J.inst }
     {
-        let hear = Event::Hear {
-            programme,
-            resident: ResidentNo(0),
-            kind: AnswerKind::Hold,
-        };
-        self.has_front(inst, hear)
+        programme.0 < inst.programmes() && self.ledger.core().has_answers(programme)
     }
 
-    /// A programme's desk comes into a worker's hands, and waits for room no more. Whether answers wait at it, as far as
-    /// the core has it, and whether it was called for room.
+    /// A programme's desk comes into a worker's hands, and waits for room no more. Whether answers wait at it, and
+    /// whether it was called for room.
     pub(crate) fn programme_comes(
         &mut self,
         inst: &Instance,
@@ -84,16 +76,6 @@ impl<J: Naming, P: PutEnd<OfferNote>, Q: PutEnd<AnswerNote>> Books<J, P, Q> {
     {
         let is_called = self.waits.comes(desk_of_programme(inst, programme));
         (self.answers_wait(inst, programme), is_called)
-    }
-
-    // Whether a take or a hear isn't refused for want of a message.
-    fn has_front(&self, inst: &Instance, receipt: Event) -> bool
-        requires { inst.now ≡ J.inst }
-    {
-        !matches!(
-            self.ledger.core().may(inst, receipt),
-            Err(Refused::NothingWaiting | Refused::NoSuchDesk | Refused::Closed)
-        )
     }
 
     /// Enters an offer.

@@ -1,6 +1,6 @@
 //! What a run gives.
-use exchange_core::{AnswerNote, Event, OfferNote};
-use mailbox_rule::{PutEnd, TakeEnd};
+use crate::mailboxes::Mailboxes;
+use exchange_core::Event;
 use match_agents::{ProgrammeAgent, ResidentAgent};
 use match_model::Assignment;
 
@@ -15,32 +15,20 @@ pub enum Ending {
 
 /// The ends and agents of a run: sending ends by receiver, agents by desk.
 #[derive(Drop)]
-pub struct Ends<P, T, Q, U>
-where
-    P: PutEnd<OfferNote>,
-    T: TakeEnd<OfferNote>,
-    Q: PutEnd<AnswerNote>,
-    U: TakeEnd<AnswerNote>,
-{
+pub struct Ends<M: Mailboxes> {
     /// By resident, the end that offers were put into.
-    pub offer_puts: Vec<P>,
+    pub offer_puts: Vec<M::OfferPut>,
     /// By resident, its agent.
-    pub residents: Vec<ResidentAgent<T>>,
+    pub residents: Vec<ResidentAgent<M::OfferTake>>,
     /// By programme, the end that answers were put into.
-    pub answer_puts: Vec<Q>,
+    pub answer_puts: Vec<M::AnswerPut>,
     /// By programme, its agent.
-    pub programmes: Vec<ProgrammeAgent<U>>,
+    pub programmes: Vec<ProgrammeAgent<M::AnswerTake>>,
 }
 
 /// What a run gives.
 #[derive(Drop)]
-pub struct Done<P, T, Q, U>
-where
-    P: PutEnd<OfferNote>,
-    T: TakeEnd<OfferNote>,
-    Q: PutEnd<AnswerNote>,
-    U: TakeEnd<AnswerNote>,
-{
+pub struct Done<M: Mailboxes> {
     /// How it ended.
     pub ending: Ending,
     /// Every event, in the order of the ledger's lock.
@@ -52,5 +40,5 @@ where
     /// By worker, how many events it entered.
     pub entered: Vec<u64>,
     /// The ends of the mailboxes, and the agents.
-    pub ends: Ends<P, T, Q, U>,
+    pub ends: Ends<M>,
 }

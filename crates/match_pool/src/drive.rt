@@ -5,9 +5,8 @@ ghost use Rattle.match_pool.specs.declared.fault.RunFault.TheVariants.{Memory, T
 use crate::fault::RunFault;
 use crate::floor::Floor;
 use crate::gate::Gate;
+use crate::mailboxes::Mailboxes;
 use crate::worker::Worker;
-use exchange_core::{AnswerNote, OfferNote};
-use mailbox_rule::{PutEnd, TakeEnd};
 use match_model::Instance;
 use offer_ledger::{Naming, Tally};
 use std::alloc::Global;
@@ -17,20 +16,21 @@ use std::thread::Threads;
 
 /// Starts a worker for each tally, and joins them all. The tallies come back by worker. Where the system refuses to
 /// start one, the others are ended and joined.
-pub(crate) fn drive<J, P, Q, T, U, G, R>(
+pub(crate) fn drive<J, M, G, R>(
     rt: &R,
     alloc: Global,
     inst: &Instance,
-    floor: &Floor<'_, J, P, Q, T, U, G>,
+    floor: &Floor<'_, J, M, G>,
     gate: &G,
     tallies: Vec<Tally<J>>,
 ) -> Result<Vec<Tally<J>>, RunFault>
 where
     J: Naming + Send + Sync,
-    P: PutEnd<OfferNote> + Drop + Send,
-    Q: PutEnd<AnswerNote> + Drop + Send,
-    T: TakeEnd<OfferNote> + Drop + Send,
-    U: TakeEnd<AnswerNote> + Drop + Send,
+    M: Mailboxes + Send + Sync,
+    M::OfferPut: Send,
+    M::OfferTake: Send,
+    M::AnswerPut: Send,
+    M::AnswerTake: Send,
     G: Gate + Sync,
     R: Threads + Wait + Sync,
     requires { inst.now ≡ J.inst }

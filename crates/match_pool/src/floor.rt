@@ -6,8 +6,7 @@ use crate::desks::{ProgrammeSeat, ResidentSeat};
 use crate::fault::Trouble;
 use crate::gate::Gate;
 use crate::hands::Hands;
-use exchange_core::{AnswerNote, OfferNote};
-use mailbox_rule::{PutEnd, TakeEnd};
+use crate::mailboxes::Mailboxes;
 use offer_ledger::{Ledger, Naming};
 use std::hint::spin_loop;
 use std::sync::atomic::{AtomicBool, Ordering};
@@ -52,41 +51,25 @@ fn lock_soon<'a, T, R: Wait>(rt: &R, lock: &'a Mutex<T>) -> MutexGuard<'a, T> {
 }
 
 /// What a floor is taken apart into: the desks of the residents and of the programmes, the ledger and the hands.
-pub(crate) type FloorParts<'a, J, P, Q, T, U, G> = (
-    Vec<Mutex<ResidentSeat<J, T>>>,
-    Vec<Mutex<ProgrammeSeat<J, U>>>,
-    Ledger<J, P, Q>,
+pub(crate) type FloorParts<'a, J, M, G> = (
+    Vec<Mutex<ResidentSeat<J, M>>>,
+    Vec<Mutex<ProgrammeSeat<J, M>>>,
+    Ledger<J, <M as Mailboxes>::OfferPut, <M as Mailboxes>::AnswerPut>,
     Hands<'a, G>,
 );
 
 /// The locks of a run. They are taken in the order desk, ledger; `hands` is never held while another is taken.
-pub(crate) struct Floor<'a, J, P, Q, T, U, G>
-where
-    J: Naming,
-    P: PutEnd<OfferNote>,
-    Q: PutEnd<AnswerNote>,
-    T: TakeEnd<OfferNote>,
-    U: TakeEnd<AnswerNote>,
-    G: Gate,
-{
-    pub(crate) residents: Vec<Mutex<ResidentSeat<J, T>>>,
-    pub(crate) programmes: Vec<Mutex<ProgrammeSeat<J, U>>>,
-    pub(crate) books: Mutex<Books<J, P, Q>>,
+pub(crate) struct Floor<'a, J: Naming, M: Mailboxes, G: Gate> {
+    pub(crate) residents: Vec<Mutex<ResidentSeat<J, M>>>,
+    pub(crate) programmes: Vec<Mutex<ProgrammeSeat<J, M>>>,
+    pub(crate) books: Mutex<Books<J, M>>,
     pub(crate) hands: Mutex<Hands<'a, G>>,
     pub(crate) news: Condvar,
     pub(crate) ending: AtomicBool,
 }
 
 // As one call, so that whoever lets a floor go proves nothing of its parts.
-impl<'a, J, P, Q, T, U, G> Drop for Floor<'a, J, P, Q, T, U, G>
-where
-    J: Naming,
-    P: PutEnd<OfferNote> + Drop,
-    Q: PutEnd<AnswerNote> + Drop,
-    T: TakeEnd<OfferNote> + Drop,
-    U: TakeEnd<AnswerNote> + Drop,
-    G: Gate,
-{
+impl<'a, J: Naming, M: Mailboxes, G: Gate> Drop for Floor<'a, J, M, G> {
     fn drop(self) {
         let Floor {
             residents: _,
@@ -99,17 +82,9 @@ where
     }
 }
 
-impl<'a, J, P, Q, T, U, G> Floor<'a, J, P, Q, T, U, G>
-where
-    J: Naming,
-    P: PutEnd<OfferNote> + Drop,
-    Q: PutEnd<AnswerNote> + Drop,
-    T: TakeEnd<OfferNote> + Drop,
-    U: TakeEnd<AnswerNote> + Drop,
-    G: Gate,
-{
+impl<'a, J: Naming, M: Mailboxes, G: Gate> Floor<'a, J, M, G> {
     /// The desks, the ledger and the hands, out of their locks but for the desks.
-    pub(crate) fn into_parts(self) -> FloorParts<'a, J, P, Q, T, U, G> {
+    pub(crate) fn into_parts(self) -> FloorParts<'a, J, M, G> {
         let Floor {
             residents,
             programmes,
@@ -123,22 +98,14 @@ where
     }
 }
 
-impl<'a, J, P, Q, T, U, G> Floor<'a, J, P, Q, T, U, G>
-where
-    J: Naming,
-    P: PutEnd<OfferNote>,
-    Q: PutEnd<AnswerNote>,
-    T: TakeEnd<OfferNote>,
-    U: TakeEnd<AnswerNote>,
-    G: Gate,
-{
+impl<'a, J: Naming, M: Mailboxes, G: Gate> Floor<'a, J, M, G> {
     /// Desks, books and hands, each under its lock.
     pub(crate) fn new(
-        residents: Vec<Mutex<ResidentSeat<J, T>>>,
-        programmes: Vec<Mutex<ProgrammeSeat<J, U>>>,
-        books: Books<J, P, Q>,
+        residents: Vec<Mutex<ResidentSeat<J, M>>>,
+        programmes: Vec<Mutex<ProgrammeSeat<J, M>>>,
+        books: Books<J, M>,
         hands: Hands<'a, G>,
-    ) -> Floor<'a, J, P, Q, T, U, G> {
+    ) -> Floor<'a, J, M, G> {
         Floor {
             residents,
             programmes,
@@ -150,7 +117,7 @@ where
     }
 
     /// The ledger and those who wait for room, under their lock.
-    pub(crate) fn lock_books<R: Wait>(&self, rt: &R) -> MutexGuard<'_, Books<J, P, Q>> {
+    pub(crate) fn lock_books<R: Wait>(&self, rt: &R) -> MutexGuard<'_, Books<J, M>> {
         lock_soon(rt, &self.books)
     }
 

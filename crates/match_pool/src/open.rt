@@ -1,7 +1,9 @@
 //! What a run has before its workers start: mailboxes, agents and books.
-ghost use Rattle.std.specs.Prelude.{◌≡◌, ◌≤◌, ◌++◌, ◌∷◌, ℕ, Some, [], length, slice_get, IfOk, IfErr, OnOk};
-ghost use Rattle.match_model.specs.Instance.{IsResident, IsProgramme};
+ghost use Rattle.std.specs.Prelude.{◌≡◌, ◌≢◌, ◌≤◌, ◌++◌, ◌∷◌, [], length, true, IfOk, IfErr, OnOk};
+ghost use Rattle.exchange_core.specs.Shown.{is_capacity};
+ghost use Rattle.match_model.specs.Instance.{IsResident, IsProgramme, list_of_resident, list_of_programme};
 ghost use Rattle.match_pool.specs.Done.{Each};
+ghost use Rattle.match_pool.specs.Rooms.{room_of, offer_room_of, answer_room_of};
 ghost use Rattle.match_pool.specs.declared.fault.RunFault.TheVariants.{Memory};
 
 use crate::books::Books;
@@ -10,37 +12,37 @@ use crate::fault::RunFault;
 use crate::floor::Floor;
 use crate::gate::Gate;
 use crate::hands::Hands;
+use crate::mailboxes::Mailboxes;
 use crate::waits::Waits;
-use exchange_core::{AnswerNote, Capacity, OfferNote};
-use mailbox_rule::{PutEnd, RuledPut, RuledTake, TakeEnd, mailbox};
+use exchange_core::Capacity;
 use match_agents::{ProgrammeAgent, ResidentAgent};
 use match_model::{Instance, ProgrammeNo, ResidentNo};
 use offer_ledger::{Ledger, Naming, Tally};
 use std::alloc::Global;
+use std::sync::Mutex;
 use std::sync::ledger::Blank;
-use std::sync::{Mutex, Wait};
 
 /// By receiver, the sending ends of the mailboxes of one kind, and the locks of the desks.
 #[derive(Drop)]
-struct Mailboxes<P: Drop, S: Drop> {
+struct Side<P: Drop, S: Drop> {
     puts: Vec<P>,
     seats: Vec<Mutex<S>>,
 }
 
-impl<P: Drop, S: Drop> Mailboxes<P, S> {
-    // Room for so many mailboxes.
-    fn with_room(alloc: Global, count: usize) -> Result<Mailboxes<P, S>, RunFault>
-        ensures none { IfOk result (λ boxes. boxes.puts.items ≡ []) }
+impl<P: Drop, S: Drop> Side<P, S> {
+    // Room for so many desks.
+    fn with_room(alloc: Global, count: usize) -> Result<Side<P, S>, RunFault>
+        ensures none { IfOk result (λ side. side.puts.items ≡ []) }
         ensures fault { IfErr result (λ fault. fault ≡ Memory) }
     {
-        Ok(Mailboxes {
+        Ok(Side {
             puts: Vec::with_capacity(alloc, count)?,
             seats: Vec::with_capacity(alloc, count)?,
         })
     }
 
-    // Adds one.
-    fn add(&mut self, desk: Desk<P, S>) -> Result<(), RunFault>
+    // Adds a desk: the sending end of its mailbox, and its lock.
+    fn add(&mut self, desk: (P, Mutex<S>)) -> Result<(), RunFault>
         ensures added { OnOk result (self.new.puts.items ≡ self.old.puts.items ++ desk.0 ∷ []) }
         ensures fault { IfErr result (λ fault. fault ≡ Memory) }
     {
@@ -51,88 +53,83 @@ impl<P: Drop, S: Drop> Mailboxes<P, S> {
     }
 }
 
-/// The sending end of one mailbox, and the lock of its receiver's desk.
-type Desk<P, S> = (P, Mutex<S>);
+/// The residents' desks.
+type Residents<J, M> = Side<<M as Mailboxes>::OfferPut, ResidentSeat<J, M>>;
 
-/// What the workers of a run over ruled mailboxes share.
-pub(crate) type RuledFloor<'a, J, R, G> = Floor<
-    'a,
-    J,
-    RuledPut<OfferNote, R>,
-    RuledPut<AnswerNote, R>,
-    RuledTake<OfferNote, R>,
-    RuledTake<AnswerNote, R>,
-    G,
->;
+/// The programmes' desks.
+type Programmes<J, M> = Side<<M as Mailboxes>::AnswerPut, ProgrammeSeat<J, M>>;
 
 /// Everything that the workers share, before any event, and their tallies.
-pub(crate) fn open_floor<'a, J: Naming, R: Wait + Copy, G: Gate>(
-    rt: R,
+pub(crate) fn open_floor<'a, J: Naming, M: Mailboxes, G: Gate>(
     alloc: Global,
     blank: Blank,
+    mailboxes: &M,
     inst: &Instance,
     cap: Capacity,
     workers: u32,
-) -> Result<(RuledFloor<'a, J, R, G>, Vec<Tally<J>>), RunFault>
+) -> Result<(Floor<'a, J, M, G>, Vec<Tally<J>>), RunFault>
     requires instance { inst.now ≡ J.inst }
     requires capacity { cap ≡ J.cap }
     requires workers { workers ≡ J.workers }
     requires blank { (blank.name ≡ J.name) × (blank.parts ≡ J.parts) × (J.parts ≡ 8) }
+    requires admitted { is_capacity cap ≡ true }
     ensures { IfErr result (λ fault. fault ≡ Memory) }
 {
     let hands = Hands::open(alloc, inst.residents(), inst.programmes())?;
-    let offers = offer_mailboxes::<J, R>(rt, alloc, inst, cap)?;
-    let answers = answer_mailboxes::<J, R>(rt, alloc, inst, cap)?;
-    let mailboxes = (offers.puts, answers.puts);
-    let (books, tallies) = open_books(alloc, blank, inst, cap, workers, mailboxes)?;
-    let floor = Floor::new(offers.seats, answers.seats, books, hands);
+    let residents = open_residents::<J, M>(alloc, mailboxes, inst, cap)?;
+    let programmes = open_programmes::<J, M>(alloc, mailboxes, inst, cap)?;
+    let puts = (residents.puts, programmes.puts);
+    let (books, tallies) = open_books(alloc, blank, inst, cap, workers, puts)?;
+    let floor = Floor::new(residents.seats, programmes.seats, books, hands);
     Ok((floor, tallies))
 }
 
 // A mailbox for each resident: its sending end, and a lock with the resident's agent over its receiving end.
-fn offer_mailboxes<J: Naming, R: Wait + Copy>(
-    rt: R,
+fn open_residents<J: Naming, M: Mailboxes>(
     alloc: Global,
+    mailboxes: &M,
     inst: &Instance,
     cap: Capacity,
-) -> Result<Mailboxes<RuledPut<OfferNote, R>, ResidentSeat<J, RuledTake<OfferNote, R>>>, RunFault>
-    requires { inst.now ≡ J.inst }
-    ensures puts { IfOk result (λ boxes. Each boxes.puts.items (length inst.now.resident_lists) (λ _ end. end.puts ≡ [])) }
+) -> Result<Residents<J, M>, RunFault>
+    requires instance { inst.now ≡ J.inst }
+    requires admitted { is_capacity cap ≡ true }
+    ensures puts { IfOk result (λ side. Each side.puts.items (length inst.now.resident_lists) (λ r end. (M.OfferPut.puts end ≡ []) × (M.offer_room end ≡ offer_room_of inst.now cap r))) }
     ensures fault { IfErr result (λ fault. fault ≡ Memory) }
 {
     let count = inst.residents();
-    let mut boxes = Mailboxes::with_room(alloc, count as usize)?;
+    let mut side = Side::with_room(alloc, count as usize)?;
     for r in 0..count {
-        boxes.add(resident_desk(rt, alloc, inst, cap, ResidentNo(r))?)?;
+        side.add(open_resident(alloc, mailboxes, inst, cap, ResidentNo(r))?)?;
     }
-    Ok(boxes)
+    Ok(side)
 }
 
 // A mailbox for each programme: its sending end, and a lock with the programme's agent over its receiving end.
-fn answer_mailboxes<J: Naming, R: Wait + Copy>(
-    rt: R,
+fn open_programmes<J: Naming, M: Mailboxes>(
     alloc: Global,
+    mailboxes: &M,
     inst: &Instance,
     cap: Capacity,
-) -> Result<
-    Mailboxes<RuledPut<AnswerNote, R>, ProgrammeSeat<J, RuledTake<AnswerNote, R>>>,
-    RunFault,
->
-    requires { inst.now ≡ J.inst }
-    ensures puts { IfOk result (λ boxes. Each boxes.puts.items (length inst.now.quotas) (λ _ end. end.puts ≡ [])) }
+) -> Result<Programmes<J, M>, RunFault>
+    requires instance { inst.now ≡ J.inst }
+    requires admitted { is_capacity cap ≡ true }
+    ensures puts { IfOk result (λ side. Each side.puts.items (length inst.now.quotas) (λ p end. (M.AnswerPut.puts end ≡ []) × (M.answer_room end ≡ answer_room_of inst.now cap p))) }
     ensures fault { IfErr result (λ fault. fault ≡ Memory) }
 {
     let count = inst.programmes();
-    let mut boxes = Mailboxes::with_room(alloc, count as usize)?;
+    let mut side = Side::with_room(alloc, count as usize)?;
     for p in 0..count {
-        boxes.add(programme_desk(rt, alloc, inst, cap, ProgrammeNo(p))?)?;
+        side.add(open_programme(alloc, mailboxes, inst, cap, ProgrammeNo(p))?)?;
     }
-    Ok(boxes)
+    Ok(side)
 }
 
-// The room of a mailbox in which at most this many messages can ever wait: no more than that is ever used.
+// The room of a mailbox into which at most this many messages are ever put: no more than that is used.
 fn room(cap: Capacity, most: usize) -> u32
-    requires { most ≤ 400000 }
+    requires within { most ≤ 400000 }
+    requires admitted { is_capacity cap ≡ true }
+    ensures exact { result ≡ room_of cap most }
+    ensures some { result ≢ 0 }
 {
     let full = (most as u32).max(1);
     match cap {
@@ -141,99 +138,71 @@ fn room(cap: Capacity, most: usize) -> u32
     }
 }
 
-// A resident's mailbox: its sending end, and a lock with the resident's agent.
-fn resident_desk<J: Naming, R: Wait + Copy>(
-    rt: R,
+// A resident's desk: the sending end of its mailbox, and a lock with its agent.
+fn open_resident<J: Naming, M: Mailboxes>(
     alloc: Global,
+    mailboxes: &M,
     inst: &Instance,
     cap: Capacity,
     resident: ResidentNo,
-) -> Result<Desk<RuledPut<OfferNote, R>, ResidentSeat<J, RuledTake<OfferNote, R>>>, RunFault>
+) -> Result<(M::OfferPut, Mutex<ResidentSeat<J, M>>), RunFault>
     requires instance { inst.now ≡ J.inst }
     requires member { IsResident inst.now resident }
-    ensures unused { IfOk result (λ desk. desk.0.puts ≡ []) }
+    requires admitted { is_capacity cap ≡ true }
+    ensures unused { IfOk result (λ desk. M.OfferPut.puts desk.0 ≡ []) }
+    ensures room { IfOk result (λ desk. M.offer_room desk.0 ≡ offer_room_of inst.now cap resident) }
     ensures fault { IfErr result (λ fault. fault ≡ Memory) }
 {
     let most = inst.list_of_resident(resident).len();
-    let Ok((put, take)) = mailbox(alloc, rt, room(cap, most)) else {
+    let Ok((put, take)) = mailboxes.open_offers(alloc, resident, room(cap, most)) else {
         return Err(RunFault::Memory);
     };
-    let seat = resident_seat(alloc, inst, resident, take)?;
-    Ok((put, seat))
-}
-
-// A programme's mailbox: its sending end, and a lock with the programme's agent.
-fn programme_desk<J: Naming, R: Wait + Copy>(
-    rt: R,
-    alloc: Global,
-    inst: &Instance,
-    cap: Capacity,
-    programme: ProgrammeNo,
-) -> Result<Desk<RuledPut<AnswerNote, R>, ProgrammeSeat<J, RuledTake<AnswerNote, R>>>, RunFault>
-    requires instance { inst.now ≡ J.inst }
-    requires member { IsProgramme inst.now programme }
-    ensures unused { IfOk result (λ desk. desk.0.puts ≡ []) }
-    ensures fault { IfErr result (λ fault. fault ≡ Memory) }
-{
-    let most = 2 * inst.list_of_programme(programme).len();
-    let Ok((put, take)) = mailbox(alloc, rt, room(cap, most)) else {
-        return Err(RunFault::Memory);
-    };
-    let seat = programme_seat(alloc, inst, programme, take)?;
-    Ok((put, seat))
-}
-
-// A lock with a resident's agent, over an end that has taken nothing.
-fn resident_seat<J: Naming, T: TakeEnd<OfferNote> + Drop>(
-    alloc: Global,
-    inst: &Instance,
-    resident: ResidentNo,
-    end: T,
-) -> Result<Mutex<ResidentSeat<J, T>>, RunFault>
-    requires instance { inst.now ≡ J.inst }
-    requires member { IsResident inst.now resident }
-    requires unused { T.taken end ≡ [] }
-    ensures { IfErr result (λ fault. fault ≡ Memory) }
-{
-    match ResidentAgent::open(alloc, inst, resident, end) {
-        Ok(agent) => Ok(Mutex::new(ResidentSeat::new(agent))),
+    match ResidentAgent::open(alloc, inst, resident, take) {
+        Ok(agent) => Ok((put, Mutex::new(ResidentSeat::new(agent)))),
         Err(_) => Err(RunFault::Memory),
     }
 }
 
-// A lock with a programme's agent, over an end that has taken nothing.
-fn programme_seat<J: Naming, T: TakeEnd<AnswerNote> + Drop>(
+// A programme's desk: the sending end of its mailbox, and a lock with its agent.
+fn open_programme<J: Naming, M: Mailboxes>(
     alloc: Global,
+    mailboxes: &M,
     inst: &Instance,
+    cap: Capacity,
     programme: ProgrammeNo,
-    end: T,
-) -> Result<Mutex<ProgrammeSeat<J, T>>, RunFault>
+) -> Result<(M::AnswerPut, Mutex<ProgrammeSeat<J, M>>), RunFault>
     requires instance { inst.now ≡ J.inst }
     requires member { IsProgramme inst.now programme }
-    requires unused { T.taken end ≡ [] }
-    ensures { IfErr result (λ fault. fault ≡ Memory) }
+    requires admitted { is_capacity cap ≡ true }
+    ensures unused { IfOk result (λ desk. M.AnswerPut.puts desk.0 ≡ []) }
+    ensures room { IfOk result (λ desk. M.answer_room desk.0 ≡ answer_room_of inst.now cap programme) }
+    ensures fault { IfErr result (λ fault. fault ≡ Memory) }
 {
-    match ProgrammeAgent::open(alloc, inst, programme, end) {
-        Ok(agent) => Ok(Mutex::new(ProgrammeSeat::new(agent))),
+    let most = 2 * inst.list_of_programme(programme).len();
+    let Ok((put, take)) = mailboxes.open_answers(alloc, programme, room(cap, most)) else {
+        return Err(RunFault::Memory);
+    };
+    match ProgrammeAgent::open(alloc, inst, programme, take) {
+        Ok(agent) => Ok((put, Mutex::new(ProgrammeSeat::new(agent)))),
         Err(_) => Err(RunFault::Memory),
     }
 }
 
 // The ledger over these ends, which have put nothing, with nobody waiting for room; and each worker's tally.
-fn open_books<J: Naming, P: PutEnd<OfferNote> + Drop, Q: PutEnd<AnswerNote> + Drop>(
+fn open_books<J: Naming, M: Mailboxes>(
     alloc: Global,
     blank: Blank,
     inst: &Instance,
     cap: Capacity,
     workers: u32,
-    puts: (Vec<P>, Vec<Q>),
-) -> Result<(Books<J, P, Q>, Vec<Tally<J>>), RunFault>
+    puts: (Vec<M::OfferPut>, Vec<M::AnswerPut>),
+) -> Result<(Books<J, M>, Vec<Tally<J>>), RunFault>
     requires instance { inst.now ≡ J.inst }
     requires capacity { cap ≡ J.cap }
     requires workers { workers ≡ J.workers }
     requires blank { (blank.name ≡ J.name) × (blank.parts ≡ J.parts) × (J.parts ≡ 8) }
-    requires offer_puts { Each puts.0.items (length inst.now.resident_lists) (λ _ end. P.puts end ≡ []) }
-    requires answer_puts { Each puts.1.items (length inst.now.quotas) (λ _ end. Q.puts end ≡ []) }
+    requires offer_puts { Each puts.0.items (length inst.now.resident_lists) (λ r end. (M.OfferPut.puts end ≡ []) × (M.offer_room end ≡ offer_room_of inst.now cap r)) }
+    requires answer_puts { Each puts.1.items (length inst.now.quotas) (λ p end. (M.AnswerPut.puts end ≡ []) × (M.answer_room end ≡ answer_room_of inst.now cap p)) }
     ensures { IfErr result (λ fault. fault ≡ Memory) }
 {
     let desks = inst.residents() as usize + inst.programmes() as usize;

@@ -10,10 +10,10 @@ use crate::done::{Done, Ending};
 use crate::drive::drive;
 use crate::fault::RunFault;
 use crate::gate::Gate;
+use crate::mailboxes::{Mailboxes, RuledMailboxes};
 use crate::open::open_floor;
 use crate::reserve::Reserve;
-use exchange_core::{AnswerNote, Capacity, OfferNote};
-use mailbox_rule::{RuledPut, RuledTake};
+use exchange_core::Capacity;
 use match_model::Instance;
 use offer_ledger::{Naming, PARTS};
 use std::alloc::Global;
@@ -26,12 +26,7 @@ use std::thread::Threads;
 const MOST_WORKERS: usize = 8;
 
 /// What a run over ruled mailboxes gives.
-pub type RuledDone<R> = Done<
-    RuledPut<OfferNote, R>,
-    RuledTake<OfferNote, R>,
-    RuledPut<AnswerNote, R>,
-    RuledTake<AnswerNote, R>,
->;
+pub type RuledDone<R> = Done<RuledMailboxes<R>>;
 
 /// Runs the exchange of an instance by this many workers, from 1 to 8, until it is closed or the gate stops it.
 pub fn run<G: Gate + Sync, R: Threads + Wait + Sync + Send + Copy>(
@@ -50,30 +45,60 @@ pub fn run<G: Gate + Sync, R: Threads + Wait + Sync + Send + Copy>(
     ensures admitted { OnOk result ((1 ≤ workers) × (workers ≤ 8) × (is_capacity cap ≡ true)) }
     ensures fault { IfErr result (IsRunFault inst.now cap workers) }
 {
+    run_over(rt, alloc, &RuledMailboxes(rt), inst, cap, workers, gate)
+}
+
+/// Runs the exchange of an instance over these mailboxes by this many workers, from 1 to 8, until it is closed or the
+/// gate stops it.
+pub fn run_over<M: Mailboxes + Send + Sync, G: Gate + Sync, R: Threads + Wait + Sync + Copy>(
+    rt: R,
+    alloc: Global,
+    mailboxes: &M,
+    inst: &Instance,
+    cap: Capacity,
+    workers: usize,
+    gate: &G,
+) -> Result<Done<M>, RunFault>
+    ensures run { IfOk result (λ done. IsRunOf M.OfferPut M.OfferTake M.AnswerPut M.AnswerTake M.OfferPut.puts M.OfferTake.taken M.AnswerPut.puts M.AnswerTake.taken inst.now cap done.ending done.journal.items done.ends.offer_puts.items done.ends.residents.items done.ends.answer_puts.items done.ends.programmes.items) }
+    ensures stopped { IfOk result (λ done. done.ending ≡ Ending.Stopped → G.MAY_STOP ≡ true) }
+    ensures given { IfOk result (λ done. done.assignment ≡ given inst.now done.journal.items) }
+    ensures counts { IfOk result (λ done. AreCounted workers done.journal.items done.who.items done.entered.items) }
+    ensures settled { IfOk result (λ done. done.ending ≡ Ending.Closed → IsSettledRun inst.now done.journal.items done.assignment) }
+    ensures admitted { OnOk result ((1 ≤ workers) × (workers ≤ 8) × (is_capacity cap ≡ true)) }
+    ensures fault { IfErr result (IsRunFault inst.now cap workers) }
+{
     if workers == 0 || workers > MOST_WORKERS {
         return Err(RunFault::BadWorkers);
     }
     if !cap.is_admitted() {
         return Err(RunFault::BadCapacity);
     }
-    run_named::<Brand, G, R>(rt, alloc, Blank::new(PARTS), inst, cap, workers, gate)
+    let blank = Blank::new(PARTS);
+    run_named::<Brand, M, G, R>(&rt, alloc, blank, mailboxes, inst, cap, workers, gate)
 }
 
 // The run of the exchange that the type names.
-fn run_named<J: Naming + Send + Sync, G: Gate + Sync, R: Threads + Wait + Sync + Send + Copy>(
-    rt: R,
+fn run_named<
+    J: Naming + Send + Sync,
+    M: Mailboxes + Send + Sync,
+    G: Gate + Sync,
+    R: Threads + Wait + Sync,
+>(
+    rt: &R,
     alloc: Global,
     blank: Blank,
+    mailboxes: &M,
     inst: &Instance,
     cap: Capacity,
     workers: usize,
     gate: &G,
-) -> Result<RuledDone<R>, RunFault>
+) -> Result<Done<M>, RunFault>
     requires instance { inst.now ≡ J.inst }
     requires capacity { cap ≡ J.cap }
     requires workers { (workers ≡ J.workers) × (1 ≤ workers) × (workers ≤ 8) }
     requires blank { (blank.name ≡ J.name) × (blank.parts ≡ J.parts) × (J.parts ≡ 8) }
-    ensures run { IfOk result (λ done. IsRunOf (PutSide ℕ) (TakeSide ℕ) (PutSide Answered) (TakeSide Answered) (λ end. end.puts) (λ end. end.taken) (λ end. end.puts) (λ end. end.taken) inst.now cap done.ending done.journal.items done.ends.offer_puts.items done.ends.residents.items done.ends.answer_puts.items done.ends.programmes.items) }
+    requires admitted { is_capacity cap ≡ true }
+    ensures run { IfOk result (λ done. IsRunOf M.OfferPut M.OfferTake M.AnswerPut M.AnswerTake M.OfferPut.puts M.OfferTake.taken M.AnswerPut.puts M.AnswerTake.taken inst.now cap done.ending done.journal.items done.ends.offer_puts.items done.ends.residents.items done.ends.answer_puts.items done.ends.programmes.items) }
     ensures stopped { IfOk result (λ done. done.ending ≡ Ending.Stopped → G.MAY_STOP ≡ true) }
     ensures given { IfOk result (λ done. done.assignment ≡ given inst.now done.journal.items) }
     ensures counts { IfOk result (λ done. AreCounted workers done.journal.items done.who.items done.entered.items) }
@@ -81,7 +106,14 @@ fn run_named<J: Naming + Send + Sync, G: Gate + Sync, R: Threads + Wait + Sync +
     ensures fault { IfErr result (IsFault inst.now cap) }
 {
     let reserve = Reserve::new(alloc, inst, workers)?;
-    let (floor, tallies) = open_floor::<J, R, G>(rt, alloc, blank, inst, cap, workers as u32)?;
-    let tallies = drive(&rt, alloc, inst, &floor, gate, tallies)?;
+    let (floor, tallies) = open_floor::<J, M, G>(
+        alloc,
+        blank,
+        mailboxes,
+        inst,
+        cap,
+        workers as u32,
+    )?;
+    let tallies = drive(rt, alloc, inst, &floor, gate, tallies)?;
     reserve.finish(inst, floor, tallies)
 }

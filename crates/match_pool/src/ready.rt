@@ -34,7 +34,7 @@ impl Ready {
         self.residents.is_empty() && self.programmes.is_empty()
     }
 
-    /// Lists a desk. Where there is no room it is left out, and found when a worker asks the core.
+    /// Lists a desk that isn't listed. Since there is room for each desk of either side, none is left out.
     pub(crate) fn push(&mut self, desk: u32) {
         if desk >= self.resident_room {
             if self.programmes.len() < self.programme_room as usize {

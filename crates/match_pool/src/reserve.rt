@@ -15,8 +15,8 @@ use crate::fault::{RunFault, Trouble};
 use crate::floor::Floor;
 use crate::gate::Gate;
 use crate::hands::Hands;
-use exchange_core::{AnswerNote, Desk, Event, OfferNote, Pending};
-use mailbox_rule::{PutEnd, TakeEnd};
+use crate::mailboxes::Mailboxes;
+use exchange_core::{Desk, Event, Pending};
 use match_agents::{ProgrammeAgent, ResidentAgent};
 use match_model::{Assignment, Instance, ResidentNo};
 use offer_ledger::{Ledger, Naming, PARTS, Tally};
@@ -25,21 +25,21 @@ use std::alloc::Global;
 use std::sync::Mutex;
 
 /// Room for the comparison and for the result, so that nothing more is asked of memory after the joins.
-pub(crate) struct Reserve<T: TakeEnd<OfferNote>, U: TakeEnd<AnswerNote>> {
-    logs: Logs<T, U>,
+pub(crate) struct Reserve<M: Mailboxes> {
+    logs: Logs<M>,
     assignment: Assignment,
     entered: Vec<u64>,
 }
 
 /// The agents of a run, out of their locks, and the walk that compares them with its journal.
-struct Logs<T: TakeEnd<OfferNote>, U: TakeEnd<AnswerNote>> {
+struct Logs<M: Mailboxes> {
     cursors: Cursors,
-    residents: Vec<ResidentAgent<T>>,
-    programmes: Vec<ProgrammeAgent<U>>,
+    residents: Vec<ResidentAgent<M::OfferTake>>,
+    programmes: Vec<ProgrammeAgent<M::AnswerTake>>,
 }
 
 // As one call, so that whoever lets logs go proves nothing of its parts.
-impl<T: TakeEnd<OfferNote> + Drop, U: TakeEnd<AnswerNote> + Drop> Drop for Logs<T, U> {
+impl<M: Mailboxes> Drop for Logs<M> {
     fn drop(self) {
         let Logs {
             cursors: _,
@@ -50,7 +50,7 @@ impl<T: TakeEnd<OfferNote> + Drop, U: TakeEnd<AnswerNote> + Drop> Drop for Logs<
 }
 
 // As one call, so that whoever lets a reserve go proves nothing of its parts.
-impl<T: TakeEnd<OfferNote> + Drop, U: TakeEnd<AnswerNote> + Drop> Drop for Reserve<T, U> {
+impl<M: Mailboxes> Drop for Reserve<M> {
     fn drop(self) {
         let Reserve {
             logs: _,
@@ -60,9 +60,9 @@ impl<T: TakeEnd<OfferNote> + Drop, U: TakeEnd<AnswerNote> + Drop> Drop for Reser
     }
 }
 
-impl<T: TakeEnd<OfferNote> + Drop, U: TakeEnd<AnswerNote> + Drop> Logs<T, U> {
+impl<M: Mailboxes> Logs<M> {
     // Room for the agents of this instance.
-    fn with_room(alloc: Global, inst: &Instance) -> Result<Logs<T, U>, RunFault>
+    fn with_room(alloc: Global, inst: &Instance) -> Result<Logs<M>, RunFault>
         ensures { IfErr result (λ fault. fault ≡ Memory) }
     {
         Ok(Logs {
@@ -75,8 +75,8 @@ impl<T: TakeEnd<OfferNote> + Drop, U: TakeEnd<AnswerNote> + Drop> Logs<T, U> {
     // Takes the agents out of their locks, by desk.
     fn fill<J: Naming>(
         &mut self,
-        residents: Vec<Mutex<ResidentSeat<J, T>>>,
-        programmes: Vec<Mutex<ProgrammeSeat<J, U>>>,
+        residents: Vec<Mutex<ResidentSeat<J, M>>>,
+        programmes: Vec<Mutex<ProgrammeSeat<J, M>>>,
     ) -> Result<(), RunFault>
         ensures { IfErr result (λ fault. fault ≡ Memory) }
     {
@@ -90,16 +90,16 @@ impl<T: TakeEnd<OfferNote> + Drop, U: TakeEnd<AnswerNote> + Drop> Logs<T, U> {
     }
 
     // The result, where every log is the journal's.
-    fn result<J: Naming, P: PutEnd<OfferNote> + Drop, Q: PutEnd<AnswerNote> + Drop>(
+    fn result<J: Naming>(
         self,
         inst: &Instance,
-        outcome: Outcome<J, P, Q>,
+        outcome: Outcome<J, M>,
         assignment: Assignment,
-    ) -> Result<Done<P, T, Q, U>, RunFault>
+    ) -> Result<Done<M>, RunFault>
         requires instance { inst.now ≡ J.inst }
         requires room { length assignment ≡ length inst.now.resident_lists }
         requires ending { (outcome.ending ≡ Ending.Closed) ↔ IsClosed outcome.ledger.journal }
-        ensures run { IfOk result (λ done. IsRunOf P T Q U P.puts T.taken Q.puts U.taken inst.now J.cap done.ending done.journal.items done.ends.offer_puts.items done.ends.residents.items done.ends.answer_puts.items done.ends.programmes.items) }
+        ensures run { IfOk result (λ done. IsRunOf M.OfferPut M.OfferTake M.AnswerPut M.AnswerTake M.OfferPut.puts M.OfferTake.taken M.AnswerPut.puts M.AnswerTake.taken inst.now J.cap done.ending done.journal.items done.ends.offer_puts.items done.ends.residents.items done.ends.answer_puts.items done.ends.programmes.items) }
         ensures given { IfOk result (λ done. done.assignment ≡ given inst.now done.journal.items) }
         ensures same { IfOk result (λ done. (done.journal.items ≡ outcome.ledger.journal) × (done.who.items ≡ outcome.ledger.who) × (done.ending ≡ outcome.ending) × (done.entered ≡ outcome.entered)) }
         ensures settled { IfOk result (λ done. done.ending ≡ Ending.Closed → IsSettledRun inst.now done.journal.items done.assignment) }
@@ -117,13 +117,13 @@ impl<T: TakeEnd<OfferNote> + Drop, U: TakeEnd<AnswerNote> + Drop> Logs<T, U> {
     }
 }
 
-impl<T: TakeEnd<OfferNote> + Drop, U: TakeEnd<AnswerNote> + Drop> Reserve<T, U> {
+impl<M: Mailboxes> Reserve<M> {
     /// Room for a run of this instance by this many workers.
     pub(crate) fn new(
         alloc: Global,
         inst: &Instance,
         workers: usize,
-    ) -> Result<Reserve<T, U>, RunFault>
+    ) -> Result<Reserve<M>, RunFault>
         ensures made { IfOk result (λ reserve. length reserve.assignment ≡ length inst.now.resident_lists) }
         ensures uncounted { IfOk result (λ reserve. reserve.entered.items ≡ replicate workers 0) }
         ensures fault { IfErr result (λ fault. fault ≡ Memory) }
@@ -141,22 +141,17 @@ impl<T: TakeEnd<OfferNote> + Drop, U: TakeEnd<AnswerNote> + Drop> Reserve<T, U> 
     }
 
     /// What a run gives whose workers are joined, with these tallies by worker.
-    pub(crate) fn finish<
-        J: Naming,
-        P: PutEnd<OfferNote> + Drop,
-        Q: PutEnd<AnswerNote> + Drop,
-        G: Gate,
-    >(
+    pub(crate) fn finish<J: Naming, G: Gate>(
         self,
         inst: &Instance,
-        floor: Floor<'_, J, P, Q, T, U, G>,
+        floor: Floor<'_, J, M, G>,
         tallies: Vec<Tally<J>>,
-    ) -> Result<Done<P, T, Q, U>, RunFault>
+    ) -> Result<Done<M>, RunFault>
         requires instance { inst.now ≡ J.inst }
         requires parts { J.parts ≡ 8 }
         requires uncounted { self.entered.items ≡ replicate J.workers 0 }
         requires room { length self.assignment ≡ length inst.now.resident_lists }
-        ensures run { IfOk result (λ done. IsRunOf P T Q U P.puts T.taken Q.puts U.taken inst.now J.cap done.ending done.journal.items done.ends.offer_puts.items done.ends.residents.items done.ends.answer_puts.items done.ends.programmes.items) }
+        ensures run { IfOk result (λ done. IsRunOf M.OfferPut M.OfferTake M.AnswerPut M.AnswerTake M.OfferPut.puts M.OfferTake.taken M.AnswerPut.puts M.AnswerTake.taken inst.now J.cap done.ending done.journal.items done.ends.offer_puts.items done.ends.residents.items done.ends.answer_puts.items done.ends.programmes.items) }
         ensures stopped { IfOk result (λ done. done.ending ≡ Ending.Stopped → G.MAY_STOP ≡ true) }
         ensures given { IfOk result (λ done. done.assignment ≡ given inst.now done.journal.items) }
         ensures counts { IfOk result (λ done. AreCounted J.workers done.journal.items done.who.items done.entered.items) }
@@ -176,15 +171,14 @@ impl<T: TakeEnd<OfferNote> + Drop, U: TakeEnd<AnswerNote> + Drop> Reserve<T, U> 
 }
 
 /// The ledger of a run that had no trouble, how it ended, and the count of each worker.
-struct Outcome<J: Naming, P: PutEnd<OfferNote>, Q: PutEnd<AnswerNote>> {
-    ledger: Ledger<J, P, Q>,
+struct Outcome<J: Naming, M: Mailboxes> {
+    ledger: Ledger<J, M::OfferPut, M::AnswerPut>,
     ending: Ending,
     entered: Vec<u64>,
 }
 
 // As one call, so that whoever lets an outcome go proves nothing of its parts.
-impl<J: Naming, P: PutEnd<OfferNote> + Drop, Q: PutEnd<AnswerNote> + Drop> Drop
-    for Outcome<J, P, Q> {
+impl<J: Naming, M: Mailboxes> Drop for Outcome<J, M> {
     fn drop(self) {
         let Outcome {
             ledger: _,
@@ -194,23 +188,23 @@ impl<J: Naming, P: PutEnd<OfferNote> + Drop, Q: PutEnd<AnswerNote> + Drop> Drop
     }
 }
 
-impl<J: Naming, P: PutEnd<OfferNote> + Drop, Q: PutEnd<AnswerNote> + Drop> Outcome<J, P, Q> {
+impl<J: Naming, M: Mailboxes> Outcome<J, M> {
     // What a run gives whose logs are the journal's.
-    fn done<T: TakeEnd<OfferNote> + Drop, U: TakeEnd<AnswerNote> + Drop>(
+    fn done(
         self,
         inst: &Instance,
         assignment: Assignment,
-        residents: Vec<ResidentAgent<T>>,
-        programmes: Vec<ProgrammeAgent<U>>,
-    ) -> Done<P, T, Q, U>
+        residents: Vec<ResidentAgent<M::OfferTake>>,
+        programmes: Vec<ProgrammeAgent<M::AnswerTake>>,
+    ) -> Done<M>
         requires instance { inst.now ≡ J.inst }
         requires room { length assignment ≡ length inst.now.resident_lists }
         requires ending { (self.ending ≡ Ending.Closed) ↔ IsClosed self.ledger.journal }
         requires takes { AreLogs taken_of residents.items (length inst.now.resident_lists) (λ r. takes r self.ledger.journal) }
-        requires taken { LogsAreTaken T.taken residents.items }
+        requires taken { LogsAreTaken M.OfferTake.taken residents.items }
         requires hears { AreLogs heard_of programmes.items (length inst.now.quotas) (λ p. hears p self.ledger.journal) }
-        requires heard { LogsAreHeard U.taken programmes.items }
-        ensures run { IsRunOf P T Q U P.puts T.taken Q.puts U.taken inst.now J.cap result.ending result.journal.items result.ends.offer_puts.items result.ends.residents.items result.ends.answer_puts.items result.ends.programmes.items }
+        requires heard { LogsAreHeard M.AnswerTake.taken programmes.items }
+        ensures run { IsRunOf M.OfferPut M.OfferTake M.AnswerPut M.AnswerTake M.OfferPut.puts M.OfferTake.taken M.AnswerPut.puts M.AnswerTake.taken inst.now J.cap result.ending result.journal.items result.ends.offer_puts.items result.ends.residents.items result.ends.answer_puts.items result.ends.programmes.items }
         ensures given { result.assignment ≡ given inst.now result.journal.items }
         ensures same { (result.journal.items ≡ self.ledger.journal) × (result.who.items ≡ self.ledger.who) × (result.ending ≡ self.ending) × (result.entered ≡ self.entered) }
         ensures settled { result.ending ≡ Ending.Closed → IsSettledRun inst.now result.journal.items result.assignment }
@@ -243,13 +237,13 @@ impl<J: Naming, P: PutEnd<OfferNote> + Drop, Q: PutEnd<AnswerNote> + Drop> Outco
 }
 
 // How a run ended whose workers are joined, with these tallies by worker.
-fn outcome_of<J: Naming, P: PutEnd<OfferNote> + Drop, Q: PutEnd<AnswerNote> + Drop, G: Gate>(
+fn outcome_of<J: Naming, M: Mailboxes, G: Gate>(
     inst: &Instance,
-    ledger: Ledger<J, P, Q>,
+    ledger: Ledger<J, M::OfferPut, M::AnswerPut>,
     hands: &Hands<'_, G>,
     tallies: Vec<Tally<J>>,
     entered: Vec<u64>,
-) -> Result<Outcome<J, P, Q>, RunFault>
+) -> Result<Outcome<J, M>, RunFault>
     requires instance { inst.now ≡ J.inst }
     requires parts { J.parts ≡ 8 }
     requires uncounted { entered.items ≡ replicate J.workers 0 }
@@ -259,21 +253,21 @@ fn outcome_of<J: Naming, P: PutEnd<OfferNote> + Drop, Q: PutEnd<AnswerNote> + Dr
     ensures fault { IfErr result (IsFault inst.now J.cap) }
 {
     if let Some(trouble) = hands.trouble() {
-        return Err(fault_of(inst, ledger, trouble));
+        return Err(fault_of::<J, M>(inst, ledger, trouble));
     }
     let mut outcome = Outcome {
-        ending: ending_of(inst, &ledger, hands.is_stopped())?,
+        ending: ending_of::<J, M>(inst, &ledger, hands.is_stopped())?,
         ledger,
         entered,
     };
-    join_all(&mut outcome.ledger, tallies)?;
-    count(&outcome.ledger, &mut outcome.entered);
+    join_all::<J, M>(&mut outcome.ledger, tallies)?;
+    count::<J, M>(&outcome.ledger, &mut outcome.entered);
     Ok(outcome)
 }
 
 // Joins the tallies to one that has every part, which counts the whole journal.
-fn join_all<J: Naming, P: PutEnd<OfferNote> + Drop, Q: PutEnd<AnswerNote> + Drop>(
-    ledger: &mut Ledger<J, P, Q>,
+fn join_all<J: Naming, M: Mailboxes>(
+    ledger: &mut Ledger<J, M::OfferPut, M::AnswerPut>,
     tallies: Vec<Tally<J>>,
 ) -> Result<(), RunFault>
     requires { J.parts ≡ 8 }
@@ -294,8 +288,8 @@ fn join_all<J: Naming, P: PutEnd<OfferNote> + Drop, Q: PutEnd<AnswerNote> + Drop
 }
 
 // Counts the events of each worker.
-fn count<J: Naming, P: PutEnd<OfferNote> + Drop, Q: PutEnd<AnswerNote> + Drop>(
-    ledger: &Ledger<J, P, Q>,
+fn count<J: Naming, M: Mailboxes>(
+    ledger: &Ledger<J, M::OfferPut, M::AnswerPut>,
     entered: &mut Vec<u64>,
 )
     requires { entered.old.items ≡ replicate J.workers 0 }
@@ -308,9 +302,9 @@ fn count<J: Naming, P: PutEnd<OfferNote> + Drop, Q: PutEnd<AnswerNote> + Drop>(
 }
 
 // How a run ended: closed, or stopped where it was stopped; else the desk that was left pending.
-fn ending_of<J: Naming, P: PutEnd<OfferNote> + Drop, Q: PutEnd<AnswerNote> + Drop>(
+fn ending_of<J: Naming, M: Mailboxes>(
     inst: &Instance,
-    ledger: &Ledger<J, P, Q>,
+    ledger: &Ledger<J, M::OfferPut, M::AnswerPut>,
     stopped: bool,
 ) -> Result<Ending, RunFault>
     requires { inst.now ≡ J.inst }
@@ -341,9 +335,9 @@ fn pending_desk(pending: Pending) -> Desk {
 }
 
 // What a trouble is told as. A receipt is out of step only where the core refuses it still.
-fn fault_of<J: Naming, P: PutEnd<OfferNote> + Drop, Q: PutEnd<AnswerNote> + Drop>(
+fn fault_of<J: Naming, M: Mailboxes>(
     inst: &Instance,
-    ledger: Ledger<J, P, Q>,
+    ledger: Ledger<J, M::OfferPut, M::AnswerPut>,
     trouble: Trouble,
 ) -> RunFault
     requires { inst.now ≡ J.inst }
@@ -352,14 +346,14 @@ fn fault_of<J: Naming, P: PutEnd<OfferNote> + Drop, Q: PutEnd<AnswerNote> + Drop
     match trouble {
         Trouble::Torn(desk) => RunFault::Torn(desk),
         Trouble::MailGone(desk) => RunFault::MailGone(desk),
-        Trouble::OutOfStep(event) => out_of_step(inst, ledger, event),
+        Trouble::OutOfStep(event) => out_of_step::<J, M>(inst, ledger, event),
     }
 }
 
 // A receipt that the core refuses, with the journal that it may not follow.
-fn out_of_step<J: Naming, P: PutEnd<OfferNote> + Drop, Q: PutEnd<AnswerNote> + Drop>(
+fn out_of_step<J: Naming, M: Mailboxes>(
     inst: &Instance,
-    ledger: Ledger<J, P, Q>,
+    ledger: Ledger<J, M::OfferPut, M::AnswerPut>,
     event: Event,
 ) -> RunFault
     requires { inst.now ≡ J.inst }

@@ -21,9 +21,9 @@ impl Woken {
         }
     }
 
-    /// Whether there may be no room for what one more entry wakes: the receiver of a put, and who waited for room.
-    pub(crate) fn is_nearly_full(&self) -> bool {
-        self.count + 2 > MOST
+    /// Whether there is no room for another. They are listed then, before the next is noted.
+    pub(crate) fn is_full(&self) -> bool {
+        self.count >= MOST
     }
 
     /// Whether no desk is noted.
@@ -31,7 +31,7 @@ impl Woken {
         self.count == 0
     }
 
-    /// Notes a desk. Where there is no room it is left out, and found when a worker asks the core.
+    /// Notes a desk. There is room for one, or else it is left out.
     pub(crate) fn push(&mut self, desk: u32) {
         if self.count < MOST {
             self.desks[self.count] = desk;

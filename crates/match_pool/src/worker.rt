@@ -8,9 +8,9 @@ use crate::fault::Trouble;
 use crate::floor::Floor;
 use crate::gate::{Gate, Go};
 use crate::hands::Next;
+use crate::mailboxes::Mailboxes;
 use crate::woken::Woken;
-use exchange_core::{AnswerKind, AnswerNote, Desk, Event, OfferNote};
-use mailbox_rule::{PutEnd, TakeEnd};
+use exchange_core::{AnswerKind, AnswerNote, Desk, Event};
 use match_agents::Heard;
 use match_model::{Instance, ProgrammeNo, ResidentNo};
 use offer_ledger::{Naming, Tally};
@@ -18,20 +18,11 @@ use std::sync::Wait;
 
 /// One worker of a run.
 #[derive(Drop)]
-pub(crate) struct Worker<'a, 'f, J, P, Q, T, U, G, R>
-where
-    J: Naming,
-    P: PutEnd<OfferNote>,
-    Q: PutEnd<AnswerNote>,
-    T: TakeEnd<OfferNote>,
-    U: TakeEnd<AnswerNote>,
-    G: Gate,
-    R: Wait,
-{
+pub(crate) struct Worker<'a, 'f, J: Naming, M: Mailboxes, G: Gate, R: Wait> {
     rt: &'a R,
     inst: &'a Instance,
     gate: &'a G,
-    floor: &'a Floor<'f, J, P, Q, T, U, G>,
+    floor: &'a Floor<'f, J, M, G>,
     number: usize,
     tally: Tally<J>,
     woken: Woken,
@@ -60,25 +51,16 @@ enum Miss {
 
 const LEAVE: Step = Step::Leave { again: false };
 
-impl<'a, 'f, J, P, Q, T, U, G, R> Worker<'a, 'f, J, P, Q, T, U, G, R>
-where
-    J: Naming,
-    P: PutEnd<OfferNote>,
-    Q: PutEnd<AnswerNote>,
-    T: TakeEnd<OfferNote>,
-    U: TakeEnd<AnswerNote>,
-    G: Gate,
-    R: Wait,
-{
+impl<'a, 'f, J: Naming, M: Mailboxes, G: Gate, R: Wait> Worker<'a, 'f, J, M, G, R> {
     /// A worker with this number and tally, which has noted nothing.
     pub(crate) fn new(
         rt: &'a R,
         inst: &'a Instance,
         gate: &'a G,
-        floor: &'a Floor<'f, J, P, Q, T, U, G>,
+        floor: &'a Floor<'f, J, M, G>,
         number: usize,
         tally: Tally<J>,
-    ) -> Worker<'a, 'f, J, P, Q, T, U, G, R>
+    ) -> Worker<'a, 'f, J, M, G, R>
         requires { inst.now ≡ J.inst }
     {
         Worker {
@@ -127,7 +109,7 @@ where
     }
 
     // Gives every answer that is due and takes the next offer, while there is one.
-    fn visit_resident(&mut self, seat: &mut ResidentSeat<J, T>, resident: ResidentNo) -> bool {
+    fn visit_resident(&mut self, seat: &mut ResidentSeat<J, M>, resident: ResidentNo) -> bool {
         let mut more = self
             .floor
             .lock_books(self.rt)
@@ -151,7 +133,7 @@ where
 
     // Hears every answer that waits, and offers while there is a wish. Room that it was called for is used first: no
     // receipt may hold it up, since others wait for room behind it.
-    fn visit_programme(&mut self, seat: &mut ProgrammeSeat<J, U>, programme: ProgrammeNo) -> bool {
+    fn visit_programme(&mut self, seat: &mut ProgrammeSeat<J, M>, programme: ProgrammeNo) -> bool {
         let (mut more, is_called) = self
             .floor
             .lock_books(self.rt)
@@ -182,7 +164,7 @@ where
     // Gives the first answer that is due.
     fn answer(
         &mut self,
-        seat: &mut ResidentSeat<J, T>,
+        seat: &mut ResidentSeat<J, M>,
         resident: ResidentNo,
         programme: ProgrammeNo,
         kind: AnswerKind,
@@ -200,7 +182,7 @@ where
     }
 
     // Offers to the next resident, if there is a wish.
-    fn offer_next(&mut self, seat: &mut ProgrammeSeat<J, U>, programme: ProgrammeNo) -> Step {
+    fn offer_next(&mut self, seat: &mut ProgrammeSeat<J, M>, programme: ProgrammeNo) -> Step {
         match seat.wish(self.inst) {
             Some(resident) => self.offer(seat, programme, resident),
             None => LEAVE,
@@ -210,7 +192,7 @@ where
     // Offers to this resident, who is the next.
     fn offer(
         &mut self,
-        seat: &mut ProgrammeSeat<J, U>,
+        seat: &mut ProgrammeSeat<J, M>,
         programme: ProgrammeNo,
         resident: ResidentNo,
     ) -> Step
@@ -227,7 +209,7 @@ where
     }
 
     // Takes an offer out of the mailbox, enters the take, and decides.
-    fn take(&mut self, seat: &mut ResidentSeat<J, T>, resident: ResidentNo) -> Step {
+    fn take(&mut self, seat: &mut ResidentSeat<J, M>, resident: ResidentNo) -> Step {
         let desk = Desk::Resident(resident);
         let again = desk;
         self.list_woken();
@@ -251,7 +233,7 @@ where
     }
 
     // Takes an answer out of the mailbox, and enters the hear.
-    fn hear(&mut self, seat: &mut ProgrammeSeat<J, U>, programme: ProgrammeNo) -> Step {
+    fn hear(&mut self, seat: &mut ProgrammeSeat<J, M>, programme: ProgrammeNo) -> Step {
         let desk = Desk::Programme(programme);
         let again = desk;
         self.list_woken();
@@ -330,7 +312,7 @@ where
         self.gate.entered(self.number);
         if let Some(desk) = woken {
             self.woken.push(desk);
-            if self.woken.is_nearly_full() {
+            if self.woken.is_full() {
                 self.list_woken();
             }
         }

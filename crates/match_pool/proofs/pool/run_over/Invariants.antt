@@ -1,4 +1,4 @@
-use Rattle.match_pool.proofs.pool.run.Given as goal
+use Rattle.match_pool.proofs.pool.run_over.Given as goal
 
 abbrev pub ghosts-run_named-J-Ledger : goal.ghosts-run_named-J-Ledger
 ghosts-run_named-J-Ledger g a = record { name = a.blank.name; parts = a.blank.parts }

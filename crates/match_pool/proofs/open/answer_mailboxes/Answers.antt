@@ -1,9 +1,0 @@
-use Rattle.std.proofs.Common.{◌≡◌, ℕ, ◌+◌, [], sym}
-use Rattle.match_pool.proofs.Rows.{each_none, each_push}
-use Rattle.match_pool.proofs.open.answer_mailboxes.Goals as goal
-
-pub loop-p-init : goal.loop-p-init
-loop-p-init g c = each_none c.in_ok-boxes.boxes.puts.items _ c.in_ok-boxes.ensures.none
-
-pub loop-p-preserved : goal.loop-p-preserved
-loop-p-preserved g c = rw c.in_ok-add.ensures.added (each_push c.loop-p.boxes.puts.items c.loop-p.p _ _ c.loop-p.invariant c.in_ok-programme_desk.ensures.unused)

@@ -1,9 +1,0 @@
-use Rattle.std.proofs.Common.{◌≡◌, ℕ, ◌+◌, [], sym}
-use Rattle.match_pool.proofs.Rows.{each_none, each_push}
-use Rattle.match_pool.proofs.open.offer_mailboxes.Goals as goal
-
-pub loop-r-init : goal.loop-r-init
-loop-r-init g c = each_none c.in_ok-boxes.boxes.puts.items _ c.in_ok-boxes.ensures.none
-
-pub loop-r-preserved : goal.loop-r-preserved
-loop-r-preserved g c = rw c.in_ok-add.ensures.added (each_push c.loop-r.boxes.puts.items c.loop-r.r _ _ c.loop-r.invariant c.in_ok-resident_desk.ensures.unused)

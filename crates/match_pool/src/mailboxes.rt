@@ -1,0 +1,90 @@
+//! The mailboxes of a run: which ends they have, and how one is opened.
+ghost use Rattle.std.specs.Prelude.{◌≡◌, ◌≢◌, ℕ, [], IfOk, IfErr};
+
+use exchange_core::{AnswerNote, OfferNote};
+use mailbox_rule::{MailFault, PutEnd, RuledPut, RuledTake, TakeEnd, mailbox};
+use match_model::{ProgrammeNo, ResidentNo};
+use std::alloc::Global;
+use std::sync::Wait;
+
+/// The mailboxes of a run: the two ends of one for offers and of one for answers, and how each is opened. A fresh
+/// mailbox has the room that it was opened with, and nothing was put into it or taken from it.
+pub trait Mailboxes {
+    /// Where a resident's offers are put.
+    type OfferPut: PutEnd<OfferNote> + Drop + Send;
+
+    /// Where a resident takes its offers.
+    type OfferTake: TakeEnd<OfferNote> + Drop + Send;
+
+    /// Where a programme's answers are put.
+    type AnswerPut: PutEnd<AnswerNote> + Drop + Send;
+
+    /// Where a programme takes its answers.
+    type AnswerTake: TakeEnd<AnswerNote> + Drop + Send;
+
+    // How many offers a mailbox has room for.
+    ghost offer_room: { Self.OfferPut → ℕ };
+
+    // How many answers a mailbox has room for.
+    ghost answer_room: { Self.AnswerPut → ℕ };
+
+    /// Opens this resident's mailbox, with room for so many offers, at least one. The one fault is `Memory`.
+    fn open_offers(
+        &self,
+        alloc: Global,
+        resident: ResidentNo,
+        room: u32,
+    ) -> Result<(Self::OfferPut, Self::OfferTake), MailFault>
+        requires { room ≢ 0 }
+        ensures fresh { IfOk result (λ ends. (Self.OfferPut.puts ends.0 ≡ []) × (Self.OfferTake.taken ends.1 ≡ [])) }
+        ensures room { IfOk result (λ ends. offer_room ends.0 ≡ room) }
+        ensures memory { IfErr result (λ fault. fault ≡ MailFault.Memory) };
+
+    /// Opens this programme's mailbox, with room for so many answers, at least one. The one fault is `Memory`.
+    fn open_answers(
+        &self,
+        alloc: Global,
+        programme: ProgrammeNo,
+        room: u32,
+    ) -> Result<(Self::AnswerPut, Self::AnswerTake), MailFault>
+        requires { room ≢ 0 }
+        ensures fresh { IfOk result (λ ends. (Self.AnswerPut.puts ends.0 ≡ []) × (Self.AnswerTake.taken ends.1 ≡ [])) }
+        ensures room { IfOk result (λ ends. answer_room ends.0 ≡ room) }
+        ensures memory { IfErr result (λ fault. fault ≡ MailFault.Memory) };
+}
+
+/// Mailboxes under a rule: what was taken is a prefix of what was put.
+#[derive(Clone, Copy, Debug)]
+pub struct RuledMailboxes<R: Wait + Copy>(pub R);
+
+impl<R: Wait + Copy + Send> Mailboxes for RuledMailboxes<R> {
+    type OfferPut = RuledPut<OfferNote, R>;
+
+    type OfferTake = RuledTake<OfferNote, R>;
+
+    type AnswerPut = RuledPut<AnswerNote, R>;
+
+    type AnswerTake = RuledTake<AnswerNote, R>;
+
+    ghost offer_room = { λ end. end.room };
+
+    ghost answer_room = { λ end. end.room };
+
+    fn open_offers(
+        &self,
+        alloc: Global,
+        _resident: ResidentNo,
+        room: u32,
+    ) -> Result<(RuledPut<OfferNote, R>, RuledTake<OfferNote, R>), MailFault> {
+        mailbox(alloc, self.0, room)
+    }
+
+    fn open_answers(
+        &self,
+        alloc: Global,
+        _programme: ProgrammeNo,
+        room: u32,
+    ) -> Result<(RuledPut<AnswerNote, R>, RuledTake<AnswerNote, R>), MailFault> {
+        mailbox(alloc, self.0, room)
+    }
+}
