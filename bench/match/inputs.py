@@ -1,5 +1,5 @@
 """Writes dockets for the benchmark of whole matches into a folder: ten lists of everybody, markets of growing size, and
-two in which nearly every offer is made and displaced."""
+some in which nearly every offer is made and displaced, one after another in the last."""
 import os
 import random
 import sys
@@ -15,7 +15,7 @@ def write(name, quotas, lists, residents):
             if members:
                 docket.write(f"P,p{p}," + ",".join(f"r{r}" for r in members) + "\n")
         for r, members in enumerate(residents):
-            docket.write(f"R,r{r}," + ",".join(f"p{p}" for p in members) + "\n")
+            docket.write(",".join([f"R,r{r}", *(f"p{p}" for p in members)]) + "\n")
 
 
 def market(name, programmes, residents):
@@ -38,3 +38,8 @@ write("ladder", [1] * 2000, [range(100)] * 2000, [range(1999, -1, -1)] * 100)
 write("ladder-down", [1] * 2000, [range(100)] * 2000, [range(2000)] * 100)
 # Long lists on both sides, ranked against one another.
 write("reversed", [1] * 447, [range(447)] * 447, [range(446, -1, -1)] * 447)
+# One free programme at a time: each offer displaces a programme, which offers next. 18,000 residents who list nobody come first.
+k = 446
+chain = [range(1, k + 1), *([*range(i, k + 1), *range(1, i)] for i in range(1, k + 1))]
+ranked = [[*range(j + 1, k + 1), *range(j + 1)] for j in range(1, k + 1)]
+write("chain", [1] * (k + 1), [[17999 + r for r in members] for members in chain], [[]] * 18000 + ranked)
