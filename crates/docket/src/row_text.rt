@@ -49,6 +49,19 @@ fn empty_rows(alloc: Global) -> Writer<Vec<u8>>
         .from_writer(Vec::new(alloc))
 }
 
+// Takes every row away, and tells that memory is wanting. It stands apart from the calls that add a row: room for an empty
+// writer is cleared at each call of a function that may make one.
+#[cold]
+#[inline(never)]
+fn without_memory(rows: &mut Writer<Vec<u8>>, alloc: Global) -> DocketFault
+    ensures whole { AreWhole rows.new }
+    ensures none { bytes_of rows.new ≡ [] }
+    ensures fault { result ≡ DocketFault.Memory }
+{
+    *rows = empty_rows(alloc);
+    DocketFault::Memory
+}
+
 impl RowText {
     /// No rows yet.
     pub fn new(alloc: Global) -> RowText
@@ -67,8 +80,7 @@ impl RowText {
         ensures err { IfErr result (λ fault. fault ≡ DocketFault.Memory) }
     {
         let Ok(()) = self.rows.write_fields(fields) else {
-            self.rows = empty_rows(self.alloc);
-            return Err(DocketFault::Memory);
+            return Err(without_memory(&mut self.rows, self.alloc));
         };
         Ok(())
     }
@@ -91,8 +103,7 @@ impl RowText {
         let quota = docket.instance().quota(programme);
         let (Ok(filled), Ok(quota)) = (filled.to_string(self.alloc), quota.to_string(self.alloc))
         else {
-            self.rows = empty_rows(self.alloc);
-            return Err(DocketFault::Memory);
+            return Err(without_memory(&mut self.rows, self.alloc));
         };
         let name = docket.programme_name(programme).as_bytes();
         self.push(&[kind, name, filled.as_bytes(), quota.as_bytes()])
