@@ -1,7 +1,8 @@
 -- Facts on lists of names.
 use Rattle.std.proofs.Common.{◌≡◌, ◌<◌, ◌≤◌, ◌+◌, ℕ, zero, suc, List, [], ◌∷◌, ◌++◌, Bool, true, false, length, get_or, map, arith, sym, ◌∙◌, refl, ap, Some, None, Option, is_some, position, rules, cond}
 use Rattle.std.specs.Prelude.{bytes_eq, slice_get, IsUtf8, ◌&&◌, ◌||◌, nat_le, nat_lt, ◌==◌, if◌then◌else◌}
-use Rattle.std.specs.List.{list_all, list_any, position_from}
+use Rattle.std.specs.List.{list_all, list_any, position_from, AllByRecursion, IsDistinct}
+use Rattle.std.proofs.lemmas.Map.Keys.{IsDistinct-head, IsDistinct-tail}
 use Rattle.std.proofs.lemmas.List.{get_or_past}
 use Rattle.std.proofs.lemmas.Iterator.Adapters.{position_from-zero}
 use Rattle.std.proofs.lemmas.Str.{IsUtf8-from_ascii}
@@ -127,3 +128,34 @@ longer_unnumbered names text all h = none (number_in names text) (is_declared-an
 -- whether a name is declared, by the keys that hold the names
 pub is_declared-map : {K : Type 0} (f : K → List ℕ) (keys : List K) (name : List ℕ) → is_declared (map f keys) name ≡ list_any (λ k. bytes_eq name (f k)) keys
 is_declared-map f keys name = is_declared-any (map f keys) name ∙ list_any-map (bytes_eq name) f keys
+
+-- a name that is equal to one of a list, none of which is equal to one after it, has the number of that one
+apart : (x name : List ℕ) (names : List (List ℕ)) (i : ℕ) → AllByRecursion (λ y. bytes_eq x y ≡ false) names → slice_get names i ≡ Some name → bytes_eq x name ≡ false
+apart x name [] i all at = absurd (cc at)
+apart x name (y ∷ ys) zero all at = let same : y ≡ name = cc at in rw (← same) all.0
+apart x name (y ∷ ys) (suc i) all at = apart x name ys i all.1 at
+
+other_way : (x y : List ℕ) → bytes_eq x y ≡ false → bytes_eq y x ≡ false
+other_way x y h = by (bytes_eq y x) refl
+  where
+    by : (b : Bool) → bytes_eq y x ≡ b → b ≡ false
+    by true e = let back = (bytes_eq-Decides x y).1 (sym ((bytes_eq-Decides y x).0 e)) in absurd (cc (back, h))
+    by false e = refl
+
+distinct_from : (names : List (List ℕ)) (n i : ℕ) (name : List ℕ) → IsDistinct bytes_eq names → slice_get names i ≡ Some name → position_from (bytes_eq name) n names ≡ Some (n + i)
+distinct_from [] n i name d at = absurd (cc at)
+distinct_from (x ∷ xs) n zero name d at =
+    let same : name ≡ x = cc at in
+    let here : bytes_eq name x ≡ true = (bytes_eq-Decides name x).1 same in
+    let count : n ≡ n + 0 = omega arith in
+    rw here (ap Some count)
+distinct_from (x ∷ xs) n (suc i) name d at =
+    let off = other_way x name (apart x name xs i (IsDistinct-head bytes_eq x xs d) at) in
+    let count : n + 1 + i ≡ n + suc i = omega arith in
+    rw off (distinct_from xs (n + 1) i name (IsDistinct-tail bytes_eq x xs d) at ∙ ap Some count)
+
+pub number_there : (names : List (List ℕ)) (i : ℕ) (name : List ℕ) → IsDistinct bytes_eq names → slice_get names i ≡ Some name → number_in names name ≡ Some i
+unfolding number_in
+number_there names i name d at =
+    let count : 0 + i ≡ i = omega arith in
+    position_from-zero (bytes_eq name) names ∙ distinct_from names 0 i name d at ∙ ap Some count

@@ -1,13 +1,12 @@
 -- Facts on texts that are kept by number.
 use Rattle.std.proofs.Common.{◌≡◌, ◌<◌, ℕ, suc, List, [], ◌∷◌, ◌++◌, length, get_or, map, arith, sym, ◌∙◌, refl, ap, Some, true}
-use Rattle.std.specs.Prelude.{slice_get, bytes_eq, option_map}
-use Rattle.std.specs.Global.{Vec}
+use Rattle.std.specs.Prelude.{slice_get, bytes_eq}
 use Rattle.std.proofs.lemmas.List.{map_push, length-map, get_or-map, get_or-take}
 use Rattle.std.proofs.lemmas.List.Quantifiers.{position-Some}
-use Rattle.std.proofs.lemmas.Option.{slice_get-map, slice_get-get_or, get_or_from_slice_get}
+use Rattle.std.proofs.lemmas.Option.{slice_get-get_or, get_or_from_slice_get}
 use Rattle.docket.specs.Contents.{number_in}
 use Rattle.docket.specs.Fields.{field}
-use Rattle.docket.specs.LongRecord.{keys_of, texts_at, AreNumbersOf, StartsWith}
+use Rattle.docket.specs.LongRecord.{texts_at, AreNumbersOf, StartsWith}
 use Rattle.docket.proofs.FieldFacts.{field-get_or}
 use Rattle.docket.proofs.NumberFacts.{same_bytes}
 
@@ -18,10 +17,9 @@ number_found texts text n e =
     let h = position-Some (bytes_eq text) texts n [] e in
     slice_get-get_or texts n [] h.0 ∙ ap Some (sym (same_bytes text (get_or texts n []) h.1))
 
--- the key that has a number
-pub key_found : (keys : List (Vec ℕ)) (key : Vec ℕ) (text : List ℕ) (n : ℕ) → slice_get keys n ≡ Some key → bytes_eq text key.items ≡ true → slice_get (keys_of keys) n ≡ Some text
-key_found keys key text n at same =
-    slice_get-map (λ (k : Vec ℕ). k.items) keys n ∙ ap (option_map (λ (k : Vec ℕ). k.items)) at ∙ ap Some (sym (same_bytes text key.items same))
+-- the text at a number that is equal to a text
+pub key_found : (texts : List (List ℕ)) (key text : List ℕ) (n : ℕ) → slice_get texts n ≡ Some key → bytes_eq text key ≡ true → slice_get texts n ≡ Some text
+key_found texts key text n at same = at ∙ ap Some (sym (same_bytes text key same))
 
 -- as many texts as numbers
 pub length-texts_at : (texts : List (List ℕ)) (numbers : List ℕ) → length (texts_at texts numbers) ≡ length numbers

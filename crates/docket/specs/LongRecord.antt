@@ -1,7 +1,6 @@
 -- How rows stand in one long record, which is cut where each row ends, and how texts stand there by number.
 use Rattle.std.specs.Prelude.{◌≡◌, ℕ, ◌-◌, ◌<◌, List, [], ◌∷◌, length, take, drop, map, slice_index_or}
 use Rattle.std.specs.List.{All}
-use Rattle.std.specs.Global.{Vec}
 use Rattle.csv.specs.Records.{Rising, last_end}
 
 -- the parts of a list that end there, after a start
@@ -13,10 +12,6 @@ cut start (end ∷ ends) items = take (end - start) (drop start items) ∷ cut e
 pub record AreCuts {A : Type 0} (ends : List ℕ) (items : List A) : Type 0 where
   pub rising : Rising 0 ends (length items)
   pub whole : last_end 0 ends ≡ length items
-
--- the texts of keys
-abbrev pub keys_of : List (Vec ℕ) → List (List ℕ)
-keys_of keys = map (λ (key : Vec ℕ). key.items) keys
 
 -- the texts of these numbers
 unfoldable pub texts_at : List (List ℕ) → List ℕ → List (List ℕ)

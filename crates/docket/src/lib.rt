@@ -10,6 +10,7 @@
 mod declarations;
 mod docket;
 mod fault;
+mod found;
 mod journal;
 mod kind;
 mod long_record;
@@ -24,6 +25,7 @@ mod row_text;
 mod rows;
 mod sheet;
 mod tables;
+mod text_key;
 mod texts;
 mod words;
 mod write;

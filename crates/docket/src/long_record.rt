@@ -86,16 +86,29 @@ impl LongRecord {
         self.ends.get(k) - start_of(&self.ends, k)
     }
 
-    /// Field `i` of row `k`, which is empty past the end.
-    pub(crate) fn field(&self, k: usize, i: usize) -> &[u8]
+    /// How many different texts are kept by number.
+    pub(crate) fn numbered(&self) -> usize {
+        self.fields.numbered()
+    }
+
+    /// Field `i` of row `k`, which is empty past the end, and the number of its text if it is kept by number.
+    pub(crate) fn numbered_field(&self, k: usize, i: usize) -> (&[u8], Option<usize>)
         requires { k < length self.now }
-        ensures { result.now ≡ fields.field (row_at self.now k) i }
+        ensures { result.0.now ≡ fields.field (row_at self.now k) i }
     {
         let start = start_of(&self.ends, k);
         if i < self.ends.get(k) - start {
             self.fields.get(start + i)
         } else {
-            &[]
+            (&[], None)
         }
+    }
+
+    /// Field `i` of row `k`, which is empty past the end.
+    pub(crate) fn field(&self, k: usize, i: usize) -> &[u8]
+        requires { k < length self.now }
+        ensures { result.now ≡ fields.field (row_at self.now k) i }
+    {
+        self.numbered_field(k, i).0
     }
 }

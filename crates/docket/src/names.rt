@@ -63,6 +63,21 @@ impl Names {
         seen.get_index_of(&NameKey::new(name))
     }
 
+    /// The number of a name, if it was seen, which is tried with this number first.
+    pub(crate) fn number_near(&self, first: usize, name: &[u8]) -> Option<usize>
+        ensures number { result ≡ number_in self.now name.now }
+        ensures within { IfSome result (λ i. i < length self.now) }
+    {
+        // For the proof alone: no two keys are equal.
+        let _count = self.seen.len();
+        if let Some(key) = self.seen.get_index(first) {
+            if key.text() == name {
+                return Some(first);
+            }
+        }
+        self.number(name)
+    }
+
     /// Adds a name, and says whether it is new.
     pub(crate) fn add(&mut self, name: &[u8]) -> Result<bool, AllocError>
         requires { words.is_name name.now ≡ true }

@@ -12,6 +12,7 @@ ghost use Rattle.docket.specs.Ranking.{IsRanked};
 
 use crate::declarations::model_fault;
 use crate::fault::DocketFault;
+use crate::found::Found;
 use crate::kind::{PROGRAMME_LIST, RESIDENT_LIST, WITHDRAWAL};
 use crate::row::is_programme_side;
 use crate::tables::Tables;
@@ -23,6 +24,7 @@ fn listed_residents(
     tables: &Tables,
     k: usize,
     listed: &mut Vec<ResidentNo>,
+    found: &mut Found,
 ) -> Result<(), DocketFault>
     requires { k < length tables.now }
     ensures listed { OnOk result (listed.new.items ≡ listed_in (residents_of tables.now) (row_at tables.now k)) }
@@ -30,7 +32,7 @@ fn listed_residents(
 {
     listed.clear();
     for i in 0..tables.listed(k) {
-        let Some(resident) = tables.resident(k, i + 2) else {
+        let Some(resident) = tables.listed_resident(k, i + 2, found) else {
             return Err(DocketFault::UnknownName {
                 place: tables.place(k),
             });
@@ -45,6 +47,7 @@ fn listed_programmes(
     tables: &Tables,
     k: usize,
     listed: &mut Vec<ProgrammeNo>,
+    found: &mut Found,
 ) -> Result<(), DocketFault>
     requires { k < length tables.now }
     ensures listed { OnOk result (listed.new.items ≡ listed_in (programmes_of tables.now) (row_at tables.now k)) }
@@ -52,7 +55,7 @@ fn listed_programmes(
 {
     listed.clear();
     for i in 0..tables.listed(k) {
-        let Some(programme) = tables.programme(k, i + 2) else {
+        let Some(programme) = tables.listed_programme(k, i + 2, found) else {
             return Err(DocketFault::UnknownName {
                 place: tables.place(k),
             });
@@ -68,6 +71,7 @@ fn rank_residents(
     k: usize,
     builder: &mut InstanceBuilder,
     listed: &mut Vec<ResidentNo>,
+    found: &mut Found,
 ) -> Result<(), DocketFault>
     requires place { k < length tables.now }
     requires kind { kind_of (row_at tables.now k) ≡ PROGRAMME_LIST }
@@ -79,7 +83,7 @@ fn rank_residents(
     let Some(owner) = tables.programme(k, 1) else {
         return Err(DocketFault::UnknownName { place });
     };
-    listed_residents(tables, k, listed)?;
+    listed_residents(tables, k, listed, found)?;
     match builder.programme_list(owner, listed.as_slice()) {
         Ok(()) => Ok(()),
         Err(fault) => Err(model_fault(place, fault)),
@@ -92,6 +96,7 @@ fn rank_programmes(
     k: usize,
     builder: &mut InstanceBuilder,
     listed: &mut Vec<ProgrammeNo>,
+    found: &mut Found,
 ) -> Result<(), DocketFault>
     requires place { k < length tables.now }
     requires kind { kind_of (row_at tables.now k) ≡ RESIDENT_LIST }
@@ -103,7 +108,7 @@ fn rank_programmes(
     let Some(owner) = tables.resident(k, 1) else {
         unreachable!("the row declares its owner");
     };
-    listed_programmes(tables, k, listed)?;
+    listed_programmes(tables, k, listed, found)?;
     match builder.resident_list(owner, listed.as_slice()) {
         Ok(()) => Ok(()),
         Err(fault) => Err(model_fault(place, fault)),
@@ -178,6 +183,7 @@ fn rank_row(
     builder: &mut InstanceBuilder,
     residents: &mut Vec<ResidentNo>,
     programmes: &mut Vec<ProgrammeNo>,
+    found: &mut Found,
 ) -> Result<(), DocketFault>
     requires place { k < length tables.now }
     requires ranked { IsRanked builder.old tables.now (take k tables.now) }
@@ -186,10 +192,10 @@ fn rank_row(
 {
     let kind = tables.kind(k);
     if kind == PROGRAMME_LIST {
-        return rank_residents(tables, k, builder, residents);
+        return rank_residents(tables, k, builder, residents, found);
     }
     if kind == RESIDENT_LIST {
-        return rank_programmes(tables, k, builder, programmes);
+        return rank_programmes(tables, k, builder, programmes, found);
     }
     if kind == WITHDRAWAL {
         return withdraw(tables, k, builder);
@@ -205,8 +211,16 @@ fn rank(alloc: Global, tables: &Tables, builder: &mut InstanceBuilder) -> Result
 {
     let mut residents = Vec::new(alloc);
     let mut programmes = Vec::new(alloc);
+    let mut found = tables.found(alloc)?;
     for k in 0..tables.events_from() {
-        rank_row(tables, k, builder, &mut residents, &mut programmes)?;
+        rank_row(
+            tables,
+            k,
+            builder,
+            &mut residents,
+            &mut programmes,
+            &mut found,
+        )?;
     }
     Ok(())
 }

@@ -1,9 +1,10 @@
 //! Texts, in order.
 ghost use Rattle.std.specs.Prelude.{◌≡◌, ◌<◌, ◌++◌, ◌∷◌, [], Some, length, slice_get, IfOk, OnOk};
 ghost use Rattle.docket.specs.Fields as fields;
-ghost use Rattle.docket.specs.LongRecord.{keys_of, StartsWith};
+ghost use Rattle.docket.specs.LongRecord.{StartsWith};
 
 use crate::numbers::{Numbers, start_of};
+use crate::text_key::TextKey;
 use indexmap::IndexSet;
 use std::alloc::{AllocError, Global};
 use std::hash::RandomState;
@@ -83,16 +84,18 @@ impl PlainTexts {
 // The number of a text among those that were seen, which it joins where it is new.
 fn number_of_text(
     alloc: Global,
-    seen: &mut IndexSet<Vec<u8>, RandomState>,
+    seen: &mut IndexSet<TextKey, RandomState>,
+    asked: &mut TextKey,
     text: &[u8],
 ) -> Result<usize, AllocError>
-    ensures number { IfOk result (λ n. slice_get (keys_of seen.new.keys) n ≡ Some text.now) }
-    ensures kept { StartsWith (keys_of seen.old.keys) (keys_of seen.new.keys) }
+    ensures number { IfOk result (λ n. slice_get seen.new.keys n ≡ Some text.now) }
+    ensures kept { StartsWith seen.old.keys seen.new.keys }
 {
-    if let Some(number) = seen.get_index_of(text) {
+    asked.set(text)?;
+    if let Some(number) = seen.get_index_of(&*asked) {
         return Ok(number);
     }
-    let key = Vec::from_slice(alloc, text)?;
+    let key = TextKey::of(alloc, text)?;
     let (number, _) = seen.insert_full(key)?;
     Ok(number)
 }
@@ -101,19 +104,21 @@ fn number_of_text(
 #[derive(Drop)]
 struct SharedTexts {
     alloc: Global,
-    seen: IndexSet<Vec<u8>, RandomState>,
+    seen: IndexSet<TextKey, RandomState>,
+    // Room for the text that is looked for.
+    asked: TextKey,
     numbers: Numbers,
 }
 
 impl Model for SharedTexts {
     ghost use Rattle.docket.specs.Fields.{Fields};
-    ghost use Rattle.docket.specs.LongRecord.{texts_at, keys_of, AreNumbersOf};
+    ghost use Rattle.docket.specs.LongRecord.{texts_at, AreNumbersOf};
 
     ghost Value = { Fields };
 
-    ghost view = { λ a. texts_at (keys_of a.seen.keys) a.numbers };
+    ghost view = { λ a. texts_at a.seen.keys a.numbers };
 
-    ghost invariant = { λ a. AreNumbersOf (keys_of a.seen.keys) a.numbers };
+    ghost invariant = { λ a. AreNumbersOf a.seen.keys a.numbers };
 }
 
 impl SharedTexts {
@@ -124,6 +129,7 @@ impl SharedTexts {
         SharedTexts {
             alloc,
             seen: IndexSet::with_hasher(alloc, keys),
+            asked: TextKey::new(alloc),
             numbers: Numbers::new(alloc),
         }
     }
@@ -133,6 +139,11 @@ impl SharedTexts {
         ensures { result ≡ length self.now }
     {
         self.numbers.len()
+    }
+
+    // How many different texts there are.
+    fn different(&self) -> usize {
+        self.seen.len()
     }
 
     // Takes every text away.
@@ -146,7 +157,7 @@ impl SharedTexts {
     fn push(&mut self, text: &[u8]) -> Result<(), AllocError>
         ensures { OnOk result (self.new ≡ self.old ++ text.now ∷ []) }
     {
-        let number = number_of_text(self.alloc, &mut self.seen, text)?;
+        let number = number_of_text(self.alloc, &mut self.seen, &mut self.asked, text)?;
         let Ok(()) = self.numbers.push(number) else {
             self.numbers.clear();
             return Err(AllocError);
@@ -154,13 +165,14 @@ impl SharedTexts {
         Ok(())
     }
 
-    // The text with this number, from 0.
-    fn get(&self, k: usize) -> &[u8]
+    // The text in this place, from 0, and its number.
+    fn get(&self, k: usize) -> (&[u8], usize)
         requires { k < length self.now }
-        ensures { result.now ≡ fields.field self.now k }
+        ensures { result.0.now ≡ fields.field self.now k }
     {
-        match self.seen.get_index(self.numbers.get(k)) {
-            Some(text) => text.as_slice(),
+        let number = self.numbers.get(k);
+        match self.seen.get_index(number) {
+            Some(key) => (key.text(), number),
             None => unreachable!("each place has the number of a text"),
         }
     }
@@ -238,16 +250,22 @@ impl Texts {
         Ok(())
     }
 
-    /// The text with this number, from 0.
-    pub(crate) fn get(&self, k: usize) -> &[u8]
+    /// How many different texts are kept by number.
+    pub(crate) fn numbered(&self) -> usize {
+        self.shared.different()
+    }
+
+    /// The text in this place, from 0, and its number if it is kept by number.
+    pub(crate) fn get(&self, k: usize) -> (&[u8], Option<usize>)
         requires { k < length self.now }
-        ensures { result.now ≡ fields.field self.now k }
+        ensures { result.0.now ≡ fields.field self.now k }
     {
         let plain = self.plain.len();
         if k < plain {
-            self.plain.get(k)
+            (self.plain.get(k), None)
         } else {
-            self.shared.get(k - plain)
+            let (text, number) = self.shared.get(k - plain);
+            (text, Some(number))
         }
     }
 }

@@ -9,4 +9,4 @@ returns-then-k-plain c =
 
 pub returns-else-k-plain : goal.returns-else-k-plain
 returns-else-k-plain c =
-    c.get-else-k-plain.ensures ∙ ap (λ (n : ℕ). field c.self.inside.shared (c.args.k - n)) c.len-plain.ensures ∙ sym (field-append_right c.self.inside.plain c.self.inside.shared c.args.k (omega arith)) ∙ ap (λ (xs : Fields). field xs c.args.k) c.self.view_is
+    c.get-number.ensures ∙ ap (λ (n : ℕ). field c.self.inside.shared (c.args.k - n)) c.len-plain.ensures ∙ sym (field-append_right c.self.inside.plain c.self.inside.shared c.args.k (omega arith)) ∙ ap (λ (xs : Fields). field xs c.args.k) c.self.view_is
