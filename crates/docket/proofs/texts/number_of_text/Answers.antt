@@ -1,4 +1,4 @@
-use Rattle.std.proofs.Common.{◌∙◌, sym, ◌≡◌, true, subst, List, ℕ}
+use Rattle.std.proofs.Common.{sym, ◌≡◌, true, subst, List, ℕ}
 use Rattle.std.specs.Prelude.{bytes_eq}
 use Rattle.docket.specs.Contents.{number_in}
 use Rattle.docket.proofs.TextFacts.{number_found, key_found}
