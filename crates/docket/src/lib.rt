@@ -3,8 +3,8 @@
 //! A docket is read exactly: what it says is what its rows say, and what is wrong with it is the first of its faults.
 //!
 //! What only tests refuse: a body that only answers `Memory`, or a device's fault (`Read`, `Write`); one that tells an
-//! interrupted read as a fault; other texts of faults. What nothing refuses: an `events_from` that names a later row, with
-//! which some walks are longer.
+//! interrupted read as a fault, or csv's want of memory as a device's; one whose reading goes on past record 2,000,001;
+//! other texts of faults. What nothing refuses: an `events_from` that names a later row, with which some walks are longer.
 #![tactic(auto)]
 
 mod declarations;
