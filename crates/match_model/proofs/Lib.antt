@@ -6,5 +6,6 @@ pub mod Mutual
 pub mod Noted
 pub mod Entered
 pub mod Kept
+pub mod Parted
 pub mod Instances
 pub mod Struck

@@ -16,5 +16,5 @@ pub record IsRankTable (list : List ℕ) (table : List (ℕ × ℕ)) : Type 0 wh
   pub rising : IsNonDecreasingBy (λ (entry : ℕ × ℕ). entry.0) table
 
 -- each table is that of the list in its place
-abbrev pub AreRankTables : List (List ℕ) → List (List (ℕ × ℕ)) → Type 0
-AreRankTables lists tables = AllZip IsRankTable lists tables
+pub record AreRankTables (lists : List (List ℕ)) (tables : List (List (ℕ × ℕ))) : Type 0 where
+  pub each : AllZip IsRankTable lists tables

@@ -202,6 +202,7 @@ impl InstanceBuilder {
         )?;
         let (residents, resident_ranks) = mutual_parts::mutual(
             self.alloc,
+            pairs as usize,
             &self.resident_lists,
             &self.residents_withdrawn,
             &self.programme_lists,
@@ -209,8 +210,8 @@ impl InstanceBuilder {
         )?;
         Ok(Instance {
             quotas: Vec::from_slice(self.alloc, &self.quotas)?,
-            programme_lists: ranking::residents_of(self.alloc, &programmes)?,
-            resident_lists: ranking::programmes_of(self.alloc, &residents)?,
+            programme_lists: programmes.into_residents(self.alloc)?,
+            resident_lists: residents.into_programmes(self.alloc)?,
             programme_ranks,
             resident_ranks,
             pairs,

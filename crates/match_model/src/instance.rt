@@ -4,35 +4,35 @@ ghost use Rattle.match_model.specs.Instance.{IsInstance, IsProgramme, IsResident
 
 use crate::limits::MAX_PAIRS;
 use crate::member::{ProgrammeNo, ResidentNo};
-use crate::rank_table::RankTable;
+use crate::rank_table::rank_in;
+use crate::rows::Rows;
 use std::marker::Model;
 
 /// Quotas, and for each member its ranking of acceptable members, best first.
 #[derive(Debug)]
 pub struct Instance {
     pub(crate) quotas: Vec<u32>,
-    pub(crate) programme_lists: Vec<Vec<ResidentNo>>,
-    pub(crate) resident_lists: Vec<Vec<ProgrammeNo>>,
-    pub(crate) programme_ranks: Vec<RankTable>,
-    pub(crate) resident_ranks: Vec<RankTable>,
+    pub(crate) programme_lists: Rows<ResidentNo>,
+    pub(crate) resident_lists: Rows<ProgrammeNo>,
+    pub(crate) programme_ranks: Rows<(u32, u32)>,
+    pub(crate) resident_ranks: Rows<(u32, u32)>,
     pub(crate) pairs: u32,
     pub(crate) programmes_withdrawn: Vec<bool>,
     pub(crate) residents_withdrawn: Vec<bool>,
 }
 
 impl Model for Instance {
-    ghost use Rattle.std.specs.Prelude.{map};
     ghost use Rattle.match_model.specs.Instance.{Instance as Rankings, IsKept};
     ghost use Rattle.match_model.specs.RankTable.{AreRankTables};
 
     ghost Value = { Rankings };
 
-    ghost view = { λ i. record { quotas = i.quotas.items; programme_lists = map (λ v. v.items) i.programme_lists.items; resident_lists = map (λ v. v.items) i.resident_lists.items; programmes_withdrawn = i.programmes_withdrawn.items; residents_withdrawn = i.residents_withdrawn.items } };
+    ghost view = { λ i. record { quotas = i.quotas.items; programme_lists = i.programme_lists.rows; resident_lists = i.resident_lists.rows; programmes_withdrawn = i.programmes_withdrawn.items; residents_withdrawn = i.residents_withdrawn.items } };
 
     ghost invariant = { λ i. record {
-      rankings : IsKept (record { quotas = i.quotas.items; programme_lists = map (λ v. v.items) i.programme_lists.items; resident_lists = map (λ v. v.items) i.resident_lists.items; programmes_withdrawn = i.programmes_withdrawn.items; residents_withdrawn = i.residents_withdrawn.items }) i.pairs;
-      programme_ranks : AreRankTables (map (λ v. v.items) i.programme_lists.items) i.programme_ranks.items;
-      resident_ranks : AreRankTables (map (λ v. v.items) i.resident_lists.items) i.resident_ranks.items;
+      rankings : IsKept (record { quotas = i.quotas.items; programme_lists = i.programme_lists.rows; resident_lists = i.resident_lists.rows; programmes_withdrawn = i.programmes_withdrawn.items; residents_withdrawn = i.residents_withdrawn.items }) i.pairs;
+      programme_ranks : AreRankTables i.programme_lists.rows i.programme_ranks.rows;
+      resident_ranks : AreRankTables i.resident_lists.rows i.resident_ranks.rows;
     } };
 }
 
@@ -107,7 +107,7 @@ impl Instance {
         ensures list { result.now ≡ ranking_of_programme self.now programme }
         ensures within { length (ranking_of_programme self.now programme) ≤ MAX_PAIRS }
     {
-        self.programme_lists[programme.0 as usize].as_slice()
+        self.programme_lists.row(programme.0 as usize)
     }
 
     /// Whom a resident ranks, best first, of those that rank it. The resident is a member.
@@ -116,7 +116,7 @@ impl Instance {
         ensures list { result.now ≡ ranking_of_resident self.now resident }
         ensures within { length (ranking_of_resident self.now resident) ≤ MAX_PAIRS }
     {
-        self.resident_lists[resident.0 as usize].as_slice()
+        self.resident_lists.row(resident.0 as usize)
     }
 
     /// The place from 0 of a resident in a programme's list, if the pair is acceptable. The programme is a member.
@@ -124,7 +124,8 @@ impl Instance {
         requires { IsProgramme self.now programme }
         ensures { result ≡ rank (ranking_of_programme self.now programme) resident }
     {
-        self.programme_ranks[programme.0 as usize].rank(resident.0)
+        let table = self.programme_ranks.row(programme.0 as usize);
+        rank_in(table, resident.0)
     }
 
     /// The place from 0 of a programme in a resident's list, if the pair is acceptable. The resident is a member.
@@ -132,6 +133,7 @@ impl Instance {
         requires { IsResident self.now resident }
         ensures { result ≡ rank (ranking_of_resident self.now resident) programme }
     {
-        self.resident_ranks[resident.0 as usize].rank(programme.0)
+        let table = self.resident_ranks.row(resident.0 as usize);
+        rank_in(table, programme.0)
     }
 }

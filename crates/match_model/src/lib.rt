@@ -18,6 +18,7 @@ mod owners;
 mod places;
 mod rank_table;
 mod ranking;
+mod rows;
 mod withdrawals;
 
 pub use assignment::Assignment;

@@ -1,5 +1,5 @@
 //! The mutual parts of lists, where for each owner a row says who lists it.
-ghost use Rattle.std.specs.Prelude.{◌≡◌, ℕ, ◌<◌, ◌≤◌, ◌^◌, ◌⊎◌, nat_lt, List, length, map, true, IfOk, IfErr, IfSome, IfNone};
+ghost use Rattle.std.specs.Prelude.{◌≡◌, ℕ, ◌<◌, ◌≤◌, ◌^◌, ◌⊎◌, nat_lt, List, length, map, true, ◌++◌, OnOk, IfOk, IfErr, IfSome, IfNone};
 ghost use Rattle.std.specs.List.{All, list_all, filter, sum_by};
 ghost use Rattle.std.specs.Global.{Vec};
 ghost use Rattle.match_model.specs.Ranking.{is_listed};
@@ -12,8 +12,9 @@ use crate::fault::ModelFault;
 use crate::limits::MAX_PAIRS;
 use crate::owners::owners;
 use crate::places::{note_places, stands_in};
-use crate::rank_table::{RankTable, rank_tables};
+use crate::rank_table::rank_tables;
 use crate::ranking::remaining;
+use crate::rows::Rows;
 use std::alloc::{AllocError, Global};
 
 /// How many items of a list stand in a row whose places are noted.
@@ -31,19 +32,24 @@ fn count_kept(items: &[u32], row: &[u32], places: &[usize]) -> usize
     count
 }
 
-/// The items of a list that stand in a row whose places are noted, in their order.
-fn kept(alloc: Global, items: &[u32], row: &[u32], places: &[usize]) -> Result<Vec<u32>, AllocError>
+/// Puts the items of a list that stand in a row whose places are noted, in their order, into the row of `kept` that is
+/// begun.
+fn keep(
+    kept: &mut Rows<u32>,
+    items: &[u32],
+    row: &[u32],
+    places: &[usize],
+) -> Result<(), AllocError>
     requires below { list_all (λ x. nat_lt x (length places.now)) items.now ≡ true }
     requires noted { ArePlaces row.now places.now }
-    ensures { IfOk result (λ v. v.items ≡ filter (is_listed row.now) items.now) }
+    ensures { OnOk result (kept.new ≡ record kept.old { begun = kept.old.begun ++ filter (is_listed row.now) items.now }) }
 {
-    let mut kept = Vec::with_capacity(alloc, items.len().min(row.len()))?;
-    for item in items {
-        if stands_in(places, row, *item) {
-            kept.push(*item)?;
+    for number in items {
+        if stands_in(places, row, *number) {
+            kept.push(*number)?;
         }
     }
-    Ok(kept)
+    Ok(())
 }
 
 /// How many items all lists keep by these rows, if these are no more than there may be pairs.
@@ -73,70 +79,74 @@ fn count_all_kept(
     Some(count as u32)
 }
 
-/// The items that each list keeps by these rows.
+/// The items that each list keeps by these rows, `pairs` of them as far as is known, which is only the room for them.
 fn all_kept(
     alloc: Global,
+    pairs: usize,
     lists: &[Option<Vec<u32>>],
     withdrawn: &[bool],
     rows: &[Vec<u32>],
     places: &mut [usize],
-) -> Result<Vec<Vec<u32>>, AllocError>
+) -> Result<Rows<u32>, AllocError>
     requires flags { length withdrawn.now ≡ length lists.now }
     requires below { All (λ list. list_all (λ x. nat_lt x (length places.old)) list ≡ true) (lists_left lists.now withdrawn.now) }
     requires rows { AreRows (length lists.now) (length places.old) (map (λ (row : Vec ℕ). row.items) rows.now) }
     ensures same_room { length places.new ≡ length places.old }
-    ensures lists { IfOk result (λ v. map (λ list. list.items) v.items ≡ kept_lists (lists_left lists.now withdrawn.now) (map (λ (row : Vec ℕ). row.items) rows.now)) }
+    ensures lists { IfOk result (λ made. made.rows ≡ kept_lists (lists_left lists.now withdrawn.now) (map (λ (row : Vec ℕ). row.items) rows.now)) }
 {
-    let mut kept_lists = Vec::with_capacity(alloc, lists.len())?;
+    let mut kept = Rows::with_capacity(alloc, lists.len(), pairs)?;
     for owner in 0..lists.len() {
         let row = rows[owner].as_slice();
         note_places(places, row);
-        let list = remaining(lists, withdrawn, owner);
-        kept_lists.push(kept(alloc, list, row, places)?)?;
+        keep(&mut kept, remaining(lists, withdrawn, owner), row, places)?;
+        kept.end_row()?;
     }
-    Ok(kept_lists)
+    Ok(kept)
 }
 
 /// The items that each list keeps by these rows, and the table of their ranks.
 fn ranked(
     alloc: Global,
+    pairs: usize,
     lists: &[Option<Vec<u32>>],
     withdrawn: &[bool],
     rows: &[Vec<u32>],
     places: &mut [usize],
-) -> Result<(Vec<Vec<u32>>, Vec<RankTable>), AllocError>
+) -> Result<(Rows<u32>, Rows<(u32, u32)>), AllocError>
     requires few { length places.old < 2 ^ 32 }
     requires flags { length withdrawn.now ≡ length lists.now }
     requires below { All (λ list. list_all (λ x. nat_lt x (length places.old)) list ≡ true) (lists_left lists.now withdrawn.now) }
     requires distinct { All (λ list. has_no_repeats list ≡ true) (lists_left lists.now withdrawn.now) }
     requires rows { AreRows (length lists.now) (length places.old) (map (λ (row : Vec ℕ). row.items) rows.now) }
-    ensures lists { IfOk result (λ made. map (λ list. list.items) made.0.items ≡ kept_lists (lists_left lists.now withdrawn.now) (map (λ (row : Vec ℕ). row.items) rows.now)) }
-    ensures ranks { IfOk result (λ made. AreRankTables (map (λ list. list.items) made.0.items) made.1.items) }
+    ensures lists { IfOk result (λ made. made.0.rows ≡ kept_lists (lists_left lists.now withdrawn.now) (map (λ (row : Vec ℕ). row.items) rows.now)) }
+    ensures ranks { IfOk result (λ made. AreRankTables made.0.rows made.1.rows) }
 {
-    let kept = all_kept(alloc, lists, withdrawn, rows, places)?;
+    let kept = all_kept(alloc, pairs, lists, withdrawn, rows, places)?;
     let ranks = rank_tables(alloc, &kept, rows, places)?;
     Ok((kept, ranks))
 }
 
-/// Each member's list, in its order, with only those who list that member, and the table of their ranks.
+/// Each member's list, in its order, with only those who list that member, and the table of their ranks. There are
+/// `pairs` items in all as far as is known, which is only the room for them.
 pub(crate) fn mutual(
     alloc: Global,
+    pairs: usize,
     mine: &[Option<Vec<u32>>],
     mine_withdrawn: &[bool],
     theirs: &[Option<Vec<u32>>],
     theirs_withdrawn: &[bool],
-) -> Result<(Vec<Vec<u32>>, Vec<RankTable>), AllocError>
+) -> Result<(Rows<u32>, Rows<(u32, u32)>), AllocError>
     requires few { length theirs.now < 2 ^ 32 }
     requires flags { length mine_withdrawn.now ≡ length mine.now }
     requires other_flags { length theirs_withdrawn.now ≡ length theirs.now }
     requires lists { AreLists (map items_of mine.now) (length theirs.now) }
     requires others { AreLists (map items_of theirs.now) (length mine.now) }
-    ensures lists { IfOk result (λ made. map (λ list. list.items) made.0.items ≡ mutual_lists (lists_left mine.now mine_withdrawn.now) (lists_left theirs.now theirs_withdrawn.now)) }
-    ensures ranks { IfOk result (λ made. AreRankTables (map (λ list. list.items) made.0.items) made.1.items) }
+    ensures lists { IfOk result (λ made. made.0.rows ≡ mutual_lists (lists_left mine.now mine_withdrawn.now) (lists_left theirs.now theirs_withdrawn.now)) }
+    ensures ranks { IfOk result (λ made. AreRankTables made.0.rows made.1.rows) }
 {
     let rows = owners(alloc, mine.len(), theirs, theirs_withdrawn)?;
     let mut places = vec![in alloc; 0; theirs.len()]?;
-    ranked(alloc, mine, mine_withdrawn, &rows, &mut places)
+    ranked(alloc, pairs, mine, mine_withdrawn, &rows, &mut places)
 }
 
 /// The same, and how many items these lists have, where these are no more than there may be pairs. They are counted
@@ -147,14 +157,14 @@ pub(crate) fn counted_mutual(
     mine_withdrawn: &[bool],
     theirs: &[Option<Vec<u32>>],
     theirs_withdrawn: &[bool],
-) -> Result<(Vec<Vec<u32>>, Vec<RankTable>, u32), ModelFault>
+) -> Result<(Rows<u32>, Rows<(u32, u32)>, u32), ModelFault>
     requires few { length theirs.now < 2 ^ 32 }
     requires flags { length mine_withdrawn.now ≡ length mine.now }
     requires other_flags { length theirs_withdrawn.now ≡ length theirs.now }
     requires lists { AreLists (map items_of mine.now) (length theirs.now) }
     requires others { AreLists (map items_of theirs.now) (length mine.now) }
-    ensures lists { IfOk result (λ made. map (λ list. list.items) made.0.items ≡ mutual_lists (lists_left mine.now mine_withdrawn.now) (lists_left theirs.now theirs_withdrawn.now)) }
-    ensures ranks { IfOk result (λ made. AreRankTables (map (λ list. list.items) made.0.items) made.1.items) }
+    ensures lists { IfOk result (λ made. made.0.rows ≡ mutual_lists (lists_left mine.now mine_withdrawn.now) (lists_left theirs.now theirs_withdrawn.now)) }
+    ensures ranks { IfOk result (λ made. AreRankTables made.0.rows made.1.rows) }
     ensures count { IfOk result (λ made. (made.2 ≡ sum_by length (mutual_lists (lists_left mine.now mine_withdrawn.now) (lists_left theirs.now theirs_withdrawn.now))) × (made.2 ≤ MAX_PAIRS)) }
     ensures cause { IfErr result (λ fault. (fault ≡ ModelFault.Memory) ⊎ ((fault ≡ ModelFault.TooManyPairs) × (MAX_PAIRS < sum_by length (mutual_lists (lists_left mine.now mine_withdrawn.now) (lists_left theirs.now theirs_withdrawn.now))))) }
 {
@@ -163,6 +173,13 @@ pub(crate) fn counted_mutual(
     let Some(count) = count_all_kept(mine, mine_withdrawn, &rows, &mut places) else {
         return Err(ModelFault::TooManyPairs);
     };
-    let (lists, ranks) = ranked(alloc, mine, mine_withdrawn, &rows, &mut places)?;
+    let (lists, ranks) = ranked(
+        alloc,
+        count as usize,
+        mine,
+        mine_withdrawn,
+        &rows,
+        &mut places,
+    )?;
     Ok((lists, ranks, count))
 }

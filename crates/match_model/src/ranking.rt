@@ -122,21 +122,11 @@ fn given(list: &Option<Vec<u32>>) -> &[u32]
     }
 }
 
-/// The lists of these numbers, as residents.
-pub(crate) fn residents_of(
+/// The residents of these numbers.
+pub(crate) fn resident_numbers(
     alloc: Global,
-    lists: &[Vec<u32>],
-) -> Result<Vec<Vec<ResidentNo>>, AllocError>
-    ensures { IfOk result (λ v. map (λ list. list.items) v.items ≡ map (λ (list : Vec ℕ). list.items) lists.now) }
-{
-    let mut named = Vec::new(alloc);
-    for list in lists {
-        named.push(resident_numbers(alloc, list)?)?;
-    }
-    Ok(named)
-}
-
-fn resident_numbers(alloc: Global, numbers: &[u32]) -> Result<Vec<ResidentNo>, AllocError>
+    numbers: &[u32],
+) -> Result<Vec<ResidentNo>, AllocError>
     ensures { IfOk result (λ v. v.items ≡ numbers.now) }
 {
     let mut named = Vec::with_capacity(alloc, numbers.len())?;
@@ -146,21 +136,11 @@ fn resident_numbers(alloc: Global, numbers: &[u32]) -> Result<Vec<ResidentNo>, A
     Ok(named)
 }
 
-/// The lists of these numbers, as programmes.
-pub(crate) fn programmes_of(
+/// The programmes of these numbers.
+pub(crate) fn programme_numbers(
     alloc: Global,
-    lists: &[Vec<u32>],
-) -> Result<Vec<Vec<ProgrammeNo>>, AllocError>
-    ensures { IfOk result (λ v. map (λ list. list.items) v.items ≡ map (λ (list : Vec ℕ). list.items) lists.now) }
-{
-    let mut named = Vec::new(alloc);
-    for list in lists {
-        named.push(programme_numbers(alloc, list)?)?;
-    }
-    Ok(named)
-}
-
-fn programme_numbers(alloc: Global, numbers: &[u32]) -> Result<Vec<ProgrammeNo>, AllocError>
+    numbers: &[u32],
+) -> Result<Vec<ProgrammeNo>, AllocError>
     ensures { IfOk result (λ v. v.items ≡ numbers.now) }
 {
     let mut named = Vec::with_capacity(alloc, numbers.len())?;

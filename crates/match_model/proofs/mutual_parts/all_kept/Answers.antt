@@ -1,10 +1,10 @@
 use Rattle.std.proofs.Common.{◌≡◌, ◌∙◌, ℕ, List, [], ◌++◌, ◌∷◌, get_or, ltb, true, length, take, subst, sym, ap, arith}
-use Rattle.std.specs.Global.{Vec}
 use Rattle.std.specs.List.{list_all, filter}
-use Rattle.std.proofs.lemmas.List.{take_all, take_more, map_push}
+use Rattle.std.proofs.lemmas.List.{take_all, take_more}
 use Rattle.match_model.specs.Ranking.{is_listed}
 use Rattle.match_model.specs.Draft.{lists_left, has_no_repeats}
 use Rattle.match_model.specs.Owners.{kept_lists}
+use Rattle.match_model.specs.Rows.{RowLists}
 use Rattle.match_model.proofs.Mutual.{lists_of, length-lists_left}
 use Rattle.match_model.proofs.Entered.{row_is, row_below, row_distinct, length-kept_lists, get_or-kept_lists}
 use Rattle.match_model.proofs.mutual_parts.all_kept.Goals as goal
@@ -22,12 +22,12 @@ note_places-requires-clause-distinct c =
     subst (λ (xs : List ℕ). has_no_repeats xs ≡ true) (sym c.as_slice-row.ensures.value)
     (row_distinct c.args.rows.now (length c.args.lists.now) (length c.args.places.now) c.loop-owner.owner c.index-rows-owner.result c.requires.rows c.loop-owner-test.true c.index-rows-owner.is)
 
-pub kept-requires-clause-below : goal.kept-requires-clause-below
-kept-requires-clause-below c =
+pub keep-requires-clause-below : goal.keep-requires-clause-below
+keep-requires-clause-below c =
     let i : ℕ = c.loop-owner.owner in
     let all : List (List ℕ) = lists_left c.args.lists.now c.args.withdrawn.now in
-    let here : get_or all i [] ≡ c.remaining-list.result.now = sym c.remaining-list.ensures in
-    subst (λ (m : ℕ). list_all (λ x. ltb x m) c.remaining-list.result.now ≡ true) (sym (c.note_places.ensures.length ∙ c.loop-owner.auto.places))
+    let here : get_or all i [] ≡ c.remaining.result.now = sym c.remaining.ensures in
+    subst (λ (m : ℕ). list_all (λ x. ltb x m) c.remaining.result.now ≡ true) (sym (c.note_places.ensures.length ∙ c.loop-owner.auto.places))
     (subst (λ (xs : List ℕ). list_all (λ x. ltb x (length c.args.places.now)) xs ≡ true) here (c.requires.below i [] (omega (arith, length-lists_left c.args.lists.now c.args.withdrawn.now))))
 
 pub loop-owner-preserved : goal.loop-owner-preserved
@@ -37,17 +37,22 @@ loop-owner-preserved c =
     let rows : List (List ℕ) = lists_of c.args.rows.now in
     let made : List (List ℕ) = kept_lists all rows in
     let many = length-lists_left c.args.lists.now c.args.withdrawn.now in
-    let here : get_or all i [] ≡ c.remaining-list.result.now = sym c.remaining-list.ensures in
+    let here : get_or all i [] ≡ c.remaining.result.now = sym c.remaining.ensures in
     let row : get_or rows i [] ≡ c.as_slice-row.result.now =
     row_is c.args.rows.now (length c.args.lists.now) (length c.args.places.now) i c.index-rows-owner.result c.requires.rows c.loop-owner-test.true c.index-rows-owner.is ∙ sym c.as_slice-row.ensures.value in
-    let item : c.in_ok-kept.field-0.items ≡ get_or made i [] = c.in_ok-kept.ensures
+    let item : c.keep.new.kept.begun ≡ get_or made i [] = ap (λ (t : RowLists ℕ). t.begun) c.in_ok-keep.ensures
+    ∙ ap (λ (xs : List ℕ). xs ++ filter (is_listed c.as_slice-row.result.now) c.remaining.result.now) c.loop-owner.invariant.none_begun
     ∙ ap (λ (xs : List ℕ). filter (is_listed c.as_slice-row.result.now) xs) (sym here)
     ∙ ap (λ (r : List ℕ). filter (λ x. is_listed r x) (get_or all i [])) (sym row)
     ∙ sym (get_or-kept_lists all rows i (omega arith)) in
-    ap lists_of c.in_ok-push.ensures.items ∙ map_push (λ (list : Vec ℕ). list.items) c.loop-owner.kept_lists.items c.in_ok-kept.field-0
-    ∙ ap (λ (ls : List (List ℕ)). ls ++ c.in_ok-kept.field-0.items ∷ []) c.loop-owner.invariant
-    ∙ ap (λ (l : List ℕ). take i made ++ l ∷ []) item
-    ∙ sym (take_more made i [] (omega (arith, length-kept_lists all rows)))
+    record {
+      ended = ap (λ (t : RowLists ℕ). t.rows) c.in_ok-end_row.ensures
+          ∙ ap (λ (t : RowLists ℕ). t.rows ++ c.keep.new.kept.begun ∷ []) c.in_ok-keep.ensures
+          ∙ ap (λ (ls : List (List ℕ)). ls ++ c.keep.new.kept.begun ∷ []) c.loop-owner.invariant.ended
+          ∙ ap (λ (l : List ℕ). take i made ++ l ∷ []) item
+          ∙ sym (take_more made i [] (omega (arith, length-kept_lists all rows)));
+      none_begun = ap (λ (t : RowLists ℕ). t.begun) c.in_ok-end_row.ensures;
+    }
 
 pub returns-clause-lists : goal.returns-clause-lists
-returns-clause-lists c = c.loop-owner.invariant ∙ take_all _ _ (omega (arith, length-kept_lists (lists_left c.args.lists.now c.args.withdrawn.now) (lists_of c.args.rows.now), length-lists_left c.args.lists.now c.args.withdrawn.now))
+returns-clause-lists c = c.loop-owner.invariant.ended ∙ take_all _ _ (omega (arith, length-kept_lists (lists_left c.args.lists.now c.args.withdrawn.now) (lists_of c.args.rows.now), length-lists_left c.args.lists.now c.args.withdrawn.now))

@@ -1,7 +1,9 @@
-use Rattle.std.proofs.Common.{map, take, ℕ}
-use Rattle.std.specs.Global.{Vec}
+use Rattle.std.proofs.Common.{◌≡◌, [], take}
 use Rattle.match_model.specs.RankTable.{AreRankTables}
 use Rattle.match_model.proofs.rank_table.rank_tables.Given as goal
 
 abbrev pub invariant-loop-owner : goal.invariant-loop-owner
-invariant-loop-owner l = AreRankTables (map (λ (list : Vec ℕ). list.items) (take l.owner l.lists)) l.tables.items
+invariant-loop-owner l = record {
+  ended : AreRankTables (take l.owner l.lists.rows) l.tables.rows;
+  none_begun : l.tables.begun ≡ [];
+}

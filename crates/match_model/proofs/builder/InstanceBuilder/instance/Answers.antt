@@ -4,10 +4,10 @@ use Rattle.std.specs.Result.{IsErrAnd}
 use Rattle.std.specs.Prelude.{Option, Result, Ok, Err, IfErr, ◌<◌, ◌⊎◌}
 use Rattle.match_model.specs.declared.fault.ModelFault.{ModelFault}
 use Rattle.match_model.specs.declared.fault.ModelFault.TheVariants.{Memory, TooManyPairs}
-use Rattle.match_model.proofs.Mutual.{lists_of}
 use Rattle.match_model.specs.Instance.{Instance, IsKept, pair_count}
 use Rattle.std.specs.List.{sum_by}
 use Rattle.match_model.specs.RankTable.{AreRankTables}
+use Rattle.match_model.specs.Rows.{RowLists}
 use Rattle.match_model.specs.declared.limits.TheConstants.{MAX_PAIRS}
 use Rattle.match_model.specs.Draft.{Draft, IsFinishFault, instance_of, lists_left, mutual_lists, items_of}
 use Rattle.match_model.proofs.Kept.{IsKept-instance_of}
@@ -33,36 +33,36 @@ same_err (Err x) e P h p = subst P (sym h) p
 
 pub invariant_of-result : goal.invariant_of-result
 invariant_of-result c =
-    let programmes : lists_of c.in_ok-programmes.programmes.items ≡ mutual_of c.self.inside.programme_lists.items c.self.inside.programmes_withdrawn.items c.self.inside.resident_lists.items c.self.inside.residents_withdrawn.items =
+    let programmes : c.in_ok-programmes.programmes.rows ≡ mutual_of c.self.inside.programme_lists.items c.self.inside.programmes_withdrawn.items c.self.inside.resident_lists.items c.self.inside.residents_withdrawn.items =
     c.in_ok-programmes.ensures.lists ∙ same_mutual _ _ _ _ _ _ _ _ c.deref.ensures.value c.deref-2.ensures.value c.deref-3.ensures.value c.deref-4.ensures.value in
-    let residents : lists_of c.in_ok-residents.residents.items ≡ mutual_of c.self.inside.resident_lists.items c.self.inside.residents_withdrawn.items c.self.inside.programme_lists.items c.self.inside.programmes_withdrawn.items =
+    let residents : c.in_ok-residents.residents.rows ≡ mutual_of c.self.inside.resident_lists.items c.self.inside.residents_withdrawn.items c.self.inside.programme_lists.items c.self.inside.programmes_withdrawn.items =
     c.in_ok-residents.ensures.lists ∙ same_mutual _ _ _ _ _ _ _ _ c.deref-5.ensures.value c.deref-6.ensures.value c.deref-7.ensures.value c.deref-8.ensures.value in
     let quotas = c.in_ok-from_slice.ensures.items ∙ c.deref-9.ensures.value in
-    let ps = c.in_ok-residents_of.ensures ∙ ap lists_of c.deref-10.ensures.value ∙ programmes in
-    let rs = c.in_ok-programmes_of.ensures ∙ ap lists_of c.deref-11.ensures.value ∙ residents in
-    let fs = c.in_ok-from_slice-2.ensures.items ∙ c.deref-12.ensures.value in
-    let gs = c.in_ok-from_slice-3.ensures.items ∙ c.deref-13.ensures.value in
+    let ps = ap (λ (v : RowLists ℕ). v.rows) c.in_ok-into_residents.ensures ∙ programmes in
+    let rs = ap (λ (v : RowLists ℕ). v.rows) c.in_ok-into_programmes.ensures ∙ residents in
+    let fs = c.in_ok-from_slice-2.ensures.items ∙ c.deref-10.ensures.value in
+    let gs = c.in_ok-from_slice-3.ensures.items ∙ c.deref-11.ensures.value in
     let d : Draft = record { quotas = c.self.inside.quotas.items; programme_lists = map items_of c.self.inside.programme_lists.items; resident_lists = map items_of c.self.inside.resident_lists.items; programmes_withdrawn = c.self.inside.programmes_withdrawn.items; residents_withdrawn = c.self.inside.residents_withdrawn.items } in
     let same = same_mutual _ _ _ _ _ _ _ _ c.deref.ensures.value c.deref-2.ensures.value c.deref-3.ensures.value c.deref-4.ensures.value in
     let counted : c.in_ok-programmes.pairs ≡ pair_count (instance_of d) = c.in_ok-programmes.ensures.count.0 ∙ ap (sum_by (length {A = ℕ})) same in
     let few : pair_count (instance_of d) ≤ MAX_PAIRS = (let most = c.in_ok-programmes.ensures.count.1 in omega arith) in
     record {
       rankings = subst (λ (inst : Instance). IsKept inst c.in_ok-programmes.pairs) (sym (same_instance _ _ _ _ _ _ _ _ _ _ quotas ps rs fs gs)) (IsKept-instance_of d c.in_ok-programmes.pairs c.self.invariant few counted);
-      programme_ranks = subst (λ (lists : List (List ℕ)). AreRankTables lists c.in_ok-programmes.programme_ranks.items) (programmes ∙ sym ps) c.in_ok-programmes.ensures.ranks;
-      resident_ranks = subst (λ (lists : List (List ℕ)). AreRankTables lists c.in_ok-residents.resident_ranks.items) (residents ∙ sym rs) c.in_ok-residents.ensures.ranks;
+      programme_ranks = subst (λ (lists : List (List ℕ)). AreRankTables lists c.in_ok-programmes.programme_ranks.rows) (programmes ∙ sym ps) c.in_ok-programmes.ensures.ranks;
+      resident_ranks = subst (λ (lists : List (List ℕ)). AreRankTables lists c.in_ok-residents.resident_ranks.rows) (residents ∙ sym rs) c.in_ok-residents.ensures.ranks;
     }
 
 pub returns-clause-made : goal.returns-clause-made
 returns-clause-made c =
-    let programmes : lists_of c.in_ok-programmes.programmes.items ≡ mutual_of c.self.inside.programme_lists.items c.self.inside.programmes_withdrawn.items c.self.inside.resident_lists.items c.self.inside.residents_withdrawn.items =
+    let programmes : c.in_ok-programmes.programmes.rows ≡ mutual_of c.self.inside.programme_lists.items c.self.inside.programmes_withdrawn.items c.self.inside.resident_lists.items c.self.inside.residents_withdrawn.items =
     c.in_ok-programmes.ensures.lists ∙ same_mutual _ _ _ _ _ _ _ _ c.deref.ensures.value c.deref-2.ensures.value c.deref-3.ensures.value c.deref-4.ensures.value in
-    let residents : lists_of c.in_ok-residents.residents.items ≡ mutual_of c.self.inside.resident_lists.items c.self.inside.residents_withdrawn.items c.self.inside.programme_lists.items c.self.inside.programmes_withdrawn.items =
+    let residents : c.in_ok-residents.residents.rows ≡ mutual_of c.self.inside.resident_lists.items c.self.inside.residents_withdrawn.items c.self.inside.programme_lists.items c.self.inside.programmes_withdrawn.items =
     c.in_ok-residents.ensures.lists ∙ same_mutual _ _ _ _ _ _ _ _ c.deref-5.ensures.value c.deref-6.ensures.value c.deref-7.ensures.value c.deref-8.ensures.value in
     let quotas = c.in_ok-from_slice.ensures.items ∙ c.deref-9.ensures.value in
-    let ps = c.in_ok-residents_of.ensures ∙ ap lists_of c.deref-10.ensures.value ∙ programmes in
-    let rs = c.in_ok-programmes_of.ensures ∙ ap lists_of c.deref-11.ensures.value ∙ residents in
-    let fs = c.in_ok-from_slice-2.ensures.items ∙ c.deref-12.ensures.value in
-    let gs = c.in_ok-from_slice-3.ensures.items ∙ c.deref-13.ensures.value in
+    let ps = ap (λ (v : RowLists ℕ). v.rows) c.in_ok-into_residents.ensures ∙ programmes in
+    let rs = ap (λ (v : RowLists ℕ). v.rows) c.in_ok-into_programmes.ensures ∙ residents in
+    let fs = c.in_ok-from_slice-2.ensures.items ∙ c.deref-10.ensures.value in
+    let gs = c.in_ok-from_slice-3.ensures.items ∙ c.deref-11.ensures.value in
     rw (← c.self.view_is) (same_instance _ _ _ _ _ _ _ _ _ _ quotas ps rs fs gs)
 
 pub returns-in_err-programmes-clause-cause : goal.returns-in_err-programmes-clause-cause

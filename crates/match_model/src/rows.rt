@@ -1,0 +1,125 @@
+//! Rows of items, one after another in one vector.
+ghost use Rattle.std.specs.Prelude.{◌≡◌, ◌<◌, ◌≤◌, [], ◌∷◌, ◌++◌, length, slice_index_or, IfOk, OnOk};
+ghost use Rattle.std.specs.List.{slice_range};
+
+use crate::member::{ProgrammeNo, ResidentNo};
+use crate::ranking::{programme_numbers, resident_numbers};
+use std::alloc::{AllocError, Global};
+use std::marker::Model;
+
+/// Rows of items, and where each ends. Items are pushed to the row that is begun, until it is ended.
+#[derive(Debug)]
+pub(crate) struct Rows<T> {
+    items: Vec<T>,
+    ends: Vec<usize>,
+}
+
+impl<T> Model for Rows<T> {
+    ghost use Rattle.std.specs.Prelude.{drop, length};
+    ghost use Rattle.match_model.specs.Rows.{RowLists, parted, last_end, AreEnds};
+
+    ghost Value = { RowLists T };
+
+    ghost view = { λ r. record { rows = parted 0 r.ends.items r.items.items; begun = drop (last_end 0 r.ends.items) r.items.items } };
+
+    ghost invariant = { λ r. AreEnds 0 r.ends.items (length r.items.items) };
+}
+
+// As one call, so that whoever lets rows go proves nothing of their parts.
+impl<T: Drop> Drop for Rows<T> {
+    fn drop(self) {
+        let Rows { items: _, ends: _ } = self;
+    }
+}
+
+impl<T: Copy> Rows<T> {
+    /// No rows yet, with room for so many rows, and so many items in all.
+    pub(crate) fn with_capacity(
+        alloc: Global,
+        rows: usize,
+        items: usize,
+    ) -> Result<Rows<T>, AllocError>
+        ensures { IfOk result (λ made. made ≡ record { rows = []; begun = [] }) }
+    {
+        let items = Vec::with_capacity(alloc, items)?;
+        let ends = Vec::with_capacity(alloc, rows)?;
+        Ok(Rows { items, ends })
+    }
+
+    /// One item more in the row that is begun.
+    pub(crate) fn push(&mut self, item: T) -> Result<(), AllocError>
+        ensures { OnOk result (self.new ≡ record self.old { begun = self.old.begun ++ item ∷ [] }) }
+    {
+        self.items.push(item)?;
+        Ok(())
+    }
+
+    /// Ends the row that is begun.
+    pub(crate) fn end_row(&mut self) -> Result<(), AllocError>
+        ensures { OnOk result (self.new ≡ record { rows = self.old.rows ++ self.old.begun ∷ []; begun = [] }) }
+    {
+        self.ends.push(self.items.len())?;
+        Ok(())
+    }
+
+    /// How many rows are ended.
+    pub(crate) fn len(&self) -> usize
+        ensures { result ≡ length self.now.rows }
+    {
+        self.ends.len()
+    }
+
+    /// How many items there are in all, which is only the room that as many others are given.
+    pub(crate) fn item_count(&self) -> usize {
+        self.items.len()
+    }
+
+    /// A row that is ended.
+    pub(crate) fn row(&self, place: usize) -> &[T]
+        requires { place < length self.now.rows }
+        ensures { result.now ≡ slice_index_or self.now.rows place [] }
+    {
+        let start = start_of(&self.ends, place);
+        part(&self.items, start, self.ends[place])
+    }
+}
+
+/// Where a row starts, by where the rows end.
+fn start_of(ends: &[usize], place: usize) -> usize
+    requires { place < length ends.now }
+    ensures { result ≡ slice_index_or (0 ∷ ends.now) place 0 }
+{
+    if place == 0 {
+        return 0;
+    }
+    ends[place - 1]
+}
+
+/// The items from `start` up to `end`.
+fn part<T>(items: &[T], start: usize, end: usize) -> &[T]
+    requires order { start ≤ end }
+    requires within { end ≤ length items.now }
+    ensures { result.now ≡ slice_range items.now start end }
+{
+    &items[start..end]
+}
+
+impl Rows<u32> {
+    /// The rows of these numbers, as residents.
+    pub(crate) fn into_residents(self, alloc: Global) -> Result<Rows<ResidentNo>, AllocError>
+        ensures { IfOk result (λ made. made ≡ self) }
+    {
+        let Rows { items, ends } = self;
+        let items = resident_numbers(alloc, &items)?;
+        Ok(Rows { items, ends })
+    }
+
+    /// The rows of these numbers, as programmes.
+    pub(crate) fn into_programmes(self, alloc: Global) -> Result<Rows<ProgrammeNo>, AllocError>
+        ensures { IfOk result (λ made. made ≡ self) }
+    {
+        let Rows { items, ends } = self;
+        let items = programme_numbers(alloc, &items)?;
+        Ok(Rows { items, ends })
+    }
+}
