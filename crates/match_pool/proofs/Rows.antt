@@ -1,6 +1,8 @@
 -- Rows that have one item for each number below a count.
-use Rattle.std.proofs.Common.{◌≡◌, ℕ, ◌+◌, ◌<◌, ◌⊎◌, inl, inr, Some, List, [], ◌∷◌, ◌++◌, length, refl, sym, ap, ◌∙◌, subst, arith, length-append}
-use Rattle.std.specs.Prelude.{slice_get}
+use Rattle.std.proofs.Common.{◌≡◌, ℕ, ◌+◌, ◌<◌, ◌≤◌, ◌⊎◌, inl, inr, Some, List, [], ◌∷◌, ◌++◌, length, refl, sym, ap, ◌∙◌, subst, arith, length-append}
+use Rattle.std.proofs.lemmas.Bool.{cases_eq}
+use Rattle.std.proofs.lemmas.Option.{slice_get_within, slice_get_read}
+use Rattle.std.specs.Prelude.{slice_get, slice_index_or}
 use Rattle.exchange_core.proofs.Prefixes.{slice_get_push_parts}
 use Rattle.match_pool.specs.Done.{Each}
 
@@ -15,3 +17,26 @@ each_push {X = X} xs n x property each has = record { one_each = omega (arith, l
 -- no item at all
 pub each_none : {X : Type 0} (xs : List X) (property : ℕ → X → Type 0) → xs ≡ [] → Each xs 0 property
 each_none {X = X} xs property none = record { one_each = ap length none; has = λ i x at. absurd (cc (subst (λ (ys : List X). slice_get ys i ≡ Some x) none at)) }
+
+-- the items below a number have the property of theirs
+pub record AllBelow {X : Type 0} (xs : List X) (n : ℕ) (property : ℕ → X → Type 0) : Type 0 where
+  pub has : (i : ℕ) (x : X) → i < n → slice_get xs i ≡ Some x → property i x
+
+-- one number more
+pub below_next : {X : Type 0} (xs : List X) (n : ℕ) (x : X) (property : ℕ → X → Type 0) → AllBelow xs n property
+    → n < length xs → x ≡ slice_index_or xs n x → property n x → AllBelow xs (n + 1) property
+below_next {X = X} xs n x property below within item has = record { has = λ i y under at. one i y under at (cases_eq i n) }
+  where
+    here : slice_get xs n ≡ Some x
+    here = slice_get_read xs (length xs) n x refl within item
+
+    one : (i : ℕ) (y : X) → i < n + 1 → slice_get xs i ≡ Some y → (i ≡ n) ⊎ (i ≡ n → ⊥) → property i y
+    one i y under at (inl e) =
+        let same : x ≡ y = cc (here, subst (λ (m : ℕ). slice_get xs m ≡ Some y) e at) in
+        subst (λ (m : ℕ). property m y) (sym e) (subst (λ (z : X). property n z) same has)
+    one i y under at (inr other) = below.has i y (omega (arith, under, other)) at
+
+-- at the end all have it
+pub below_all : {X : Type 0} (xs : List X) (n : ℕ) (property : ℕ → X → Type 0) → AllBelow xs n property → length xs ≤ n
+    → (i : ℕ) (x : X) → slice_get xs i ≡ Some x → property i x
+below_all xs n property below end = λ i x at. below.has i x (omega (arith, slice_get_within xs i x at, end)) at

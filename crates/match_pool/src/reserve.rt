@@ -4,7 +4,7 @@ ghost use Rattle.exchange_core.specs.declared.event.Event.{Event};
 ghost use Rattle.exchange_core.specs.Legal.{IsClosed};
 ghost use Rattle.exchange_core.specs.Left.{given};
 ghost use Rattle.exchange_core.specs.Mail.{takes, hears};
-ghost use Rattle.match_pool.specs.Compare.{AreLogs, LogsAreTaken, LogsAreHeard, taken_of, heard_of};
+ghost use Rattle.match_pool.specs.Compare.{AreLogs, AreByResident, AreByProgramme, taken_of, heard_of};
 ghost use Rattle.match_pool.specs.Done.{IsRunOf, IsSettledRun, AreCounted, IsFault, IsReceipt};
 ghost use Rattle.match_pool.specs.declared.fault.RunFault.TheVariants.{Memory, Thread};
 
@@ -201,9 +201,9 @@ impl<J: Naming, M: Mailboxes> Outcome<J, M> {
         requires room { length assignment ≡ length inst.now.resident_lists }
         requires ending { (self.ending ≡ Ending.Closed) ↔ IsClosed self.ledger.journal }
         requires takes { AreLogs taken_of residents.items (length inst.now.resident_lists) (λ r. takes r self.ledger.journal) }
-        requires taken { LogsAreTaken M.OfferTake.taken residents.items }
+        requires taken { AreByResident M.OfferTake.taken residents.items }
         requires hears { AreLogs heard_of programmes.items (length inst.now.quotas) (λ p. hears p self.ledger.journal) }
-        requires heard { LogsAreHeard M.AnswerTake.taken programmes.items }
+        requires heard { AreByProgramme M.AnswerTake.taken programmes.items }
         ensures run { IsRunOf M.OfferPut M.OfferTake M.AnswerPut M.AnswerTake M.OfferPut.puts M.OfferTake.taken M.AnswerPut.puts M.AnswerTake.taken inst.now J.cap result.ending result.journal.items result.ends.offer_puts.items result.ends.residents.items result.ends.answer_puts.items result.ends.programmes.items }
         ensures given { result.assignment ≡ given inst.now result.journal.items }
         ensures same { (result.journal.items ≡ self.ledger.journal) × (result.who.items ≡ self.ledger.who) × (result.ending ≡ self.ending) × (result.entered ≡ self.entered) }

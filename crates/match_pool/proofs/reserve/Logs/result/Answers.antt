@@ -2,7 +2,7 @@ use Rattle.std.proofs.Common.{◌≡◌, ℕ, List, length, subst}
 use Rattle.exchange_core.specs.declared.event.Event.{Event}
 use Rattle.exchange_core.specs.Mail.{takes, hears}
 use Rattle.match_agents.specs.Desks.{ResidentDesk, ProgrammeDesk}
-use Rattle.match_pool.specs.Compare.{AreLogs, LogsAreTaken, LogsAreHeard, taken_of, heard_of}
+use Rattle.match_pool.specs.Compare.{AreLogs, AreByResident, AreByProgramme, taken_of, heard_of}
 use Rattle.match_pool.proofs.reserve.Logs.result.Goals as goal
 
 pub done-requires-clause-takes : goal.done-requires-clause-takes
@@ -12,7 +12,7 @@ done-requires-clause-takes g c = λ _ _.
     subst (λ (xs : List (ResidentDesk g.row.M-OfferTake.Denot)). AreLogs taken_of xs (length inst.resident_lists) (λ r. takes r c.args.outcome.ledger.journal)) c.deref.ensures.value of_journal
 
 pub done-requires-clause-taken : goal.done-requires-clause-taken
-done-requires-clause-taken g c = λ _ _. subst (λ (xs : List (ResidentDesk g.row.M-OfferTake.Denot)). LogsAreTaken g.M.OfferTake.TakeEnd.taken xs) c.deref.ensures.value c.in-Ok.ensures.taken
+done-requires-clause-taken g c = λ _ _. subst (λ (xs : List (ResidentDesk g.row.M-OfferTake.Denot)). AreByResident g.M.OfferTake.TakeEnd.taken xs) c.deref.ensures.value c.in-Ok.ensures.taken
 
 pub done-requires-clause-hears : goal.done-requires-clause-hears
 done-requires-clause-hears g c = λ _ _.
@@ -21,4 +21,4 @@ done-requires-clause-hears g c = λ _ _.
     subst (λ (xs : List (ProgrammeDesk g.row.M-AnswerTake.Denot)). AreLogs heard_of xs (length inst.quotas) (λ p. hears p c.args.outcome.ledger.journal)) c.deref-2.ensures.value of_journal
 
 pub done-requires-clause-heard : goal.done-requires-clause-heard
-done-requires-clause-heard g c = λ _ _. subst (λ (xs : List (ProgrammeDesk g.row.M-AnswerTake.Denot)). LogsAreHeard g.M.AnswerTake.TakeEnd.taken xs) c.deref-2.ensures.value c.in-Ok.ensures.heard
+done-requires-clause-heard g c = λ _ _. subst (λ (xs : List (ProgrammeDesk g.row.M-AnswerTake.Denot)). AreByProgramme g.M.AnswerTake.TakeEnd.taken xs) c.deref-2.ensures.value c.in-Ok.ensures.heard
