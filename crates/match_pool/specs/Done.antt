@@ -11,7 +11,7 @@ use Rattle.exchange_core.specs.Legal.{IsLegal, IsClosed, IsAtRest, MayFollow}
 use Rattle.exchange_core.specs.Left.{given}
 use Rattle.settle_law.specs.Orderly.{IsOrderly}
 use Rattle.settle_law.specs.Stable.{IsStable, IsSettled}
-use Rattle.match_agents.specs.Desks.{ResidentDesk, ProgrammeDesk}
+use Rattle.match_pool.specs.declared.done.Done.{Done}
 use Rattle.match_pool.specs.declared.done.Ending.{Ending}
 use Rattle.match_pool.specs.declared.done.Ending.TheVariants.{Closed}
 use Rattle.match_pool.specs.declared.fault.RunFault.{RunFault}
@@ -22,16 +22,18 @@ pub record Each {X : Type 0} (xs : List X) (count : ℕ) (property : ℕ → X �
   pub one_each : length xs ≡ count
   pub has : (i : ℕ) (x : X) → slice_get xs i ≡ Some x → property i x
 
--- the journal is legal, closed exactly where the run ended so, and is what the ends of every desk have put and the log of its own agent has
-pub record IsRunOf (P T Q U : Type 0) (offers_put : P → List ℕ) (offers_taken : T → List ℕ) (answers_put : Q → List Answered) (answers_taken : U → List Answered)
-    (inst : Instance) (cap : Capacity) (ending : Ending) (journal : List Event)
-    (offer_puts : List P) (residents : List (ResidentDesk T)) (answer_puts : List Q) (programmes : List (ProgrammeDesk U)) : Type 0 where
-  pub legal : IsLegal inst cap journal
-  pub closed : (ending ≡ Closed) ↔ IsClosed journal
-  pub offers_are_put : Each offer_puts (length inst.resident_lists) (λ r end. offers_put end ≡ offers_to r journal)
-  pub offers_are_taken : Each residents (length inst.resident_lists) (λ r desk. (desk.resident ≡ r) × (desk.taken ≡ takes r journal) × (offers_taken desk.end ≡ takes r journal))
-  pub answers_are_put : Each answer_puts (length inst.quotas) (λ p end. answers_put end ≡ answers_to p journal)
-  pub answers_are_heard : Each programmes (length inst.quotas) (λ p desk. (desk.programme ≡ p) × (desk.heard ≡ hears p journal) × (answers_taken desk.end ≡ hears p journal))
+-- what a run gives: a legal journal, closed exactly where the run ended so, which is what the ends of every desk have put
+-- and the log of its own agent has
+pub record IsRunOf {M P T Q U : Type 0} (done : Done M P T Q U) (offers_put : P → List ℕ) (offers_taken : T → List ℕ)
+    (answers_put : Q → List Answered) (answers_taken : U → List Answered) (inst : Instance) (cap : Capacity) : Type 0 where
+  pub legal : IsLegal inst cap done.journal.items
+  pub closed : (done.ending ≡ Closed) ↔ IsClosed done.journal.items
+  pub offers_are_put : Each done.ends.offer_puts.items (length inst.resident_lists) (λ r end. offers_put end ≡ offers_to r done.journal.items)
+  pub offers_are_taken : Each done.ends.residents.items (length inst.resident_lists)
+    (λ r desk. (desk.resident ≡ r) × (desk.taken ≡ takes r done.journal.items) × (offers_taken desk.end ≡ takes r done.journal.items))
+  pub answers_are_put : Each done.ends.answer_puts.items (length inst.quotas) (λ p end. answers_put end ≡ answers_to p done.journal.items)
+  pub answers_are_heard : Each done.ends.programmes.items (length inst.quotas)
+    (λ p desk. (desk.programme ≡ p) × (desk.heard ≡ hears p done.journal.items) × (answers_taken desk.end ≡ hears p done.journal.items))
 
 -- all is at rest before the close, which is last
 pub record ClosesAtRest (inst : Instance) (journal : List Event) : Type 0 where

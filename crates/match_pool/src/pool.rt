@@ -1,8 +1,6 @@
 //! A run: mailboxes, agents, ledger and workers, from an instance to what the ends put and took.
 ghost use Rattle.std.specs.Prelude.{◌≡◌, ◌≤◌, ℕ, true, IfOk, IfErr, OnOk};
-ghost use Rattle.exchange_core.specs.Mail.{Answered};
 ghost use Rattle.exchange_core.specs.Left.{given};
-ghost use Rattle.mailbox_rule.specs.Mail.{PutSide, TakeSide};
 ghost use Rattle.match_pool.specs.Done.{IsRunOf, IsSettledRun, AreCounted, IsFault, IsRunFault};
 ghost use Rattle.exchange_core.specs.Shown.{is_capacity};
 
@@ -37,7 +35,7 @@ pub fn run<G: Gate + Sync, R: Threads + Wait + Sync + Send + Copy>(
     workers: usize,
     gate: &G,
 ) -> Result<RuledDone<R>, RunFault>
-    ensures run { IfOk result (λ done. IsRunOf (PutSide ℕ) (TakeSide ℕ) (PutSide Answered) (TakeSide Answered) (λ end. end.puts) (λ end. end.taken) (λ end. end.puts) (λ end. end.taken) inst.now cap done.ending done.journal.items done.ends.offer_puts.items done.ends.residents.items done.ends.answer_puts.items done.ends.programmes.items) }
+    ensures run { IfOk result (λ done. IsRunOf done (λ end. end.puts) (λ end. end.taken) (λ end. end.puts) (λ end. end.taken) inst.now cap) }
     ensures stopped { IfOk result (λ done. done.ending ≡ Ending.Stopped → G.MAY_STOP ≡ true) }
     ensures given { IfOk result (λ done. done.assignment ≡ given inst.now done.journal.items) }
     ensures counts { IfOk result (λ done. AreCounted workers done.journal.items done.who.items done.entered.items) }
@@ -59,7 +57,7 @@ pub fn run_over<M: Mailboxes + Send + Sync, G: Gate + Sync, R: Threads + Wait + 
     workers: usize,
     gate: &G,
 ) -> Result<Done<M>, RunFault>
-    ensures run { IfOk result (λ done. IsRunOf M.OfferPut M.OfferTake M.AnswerPut M.AnswerTake M.OfferPut.puts M.OfferTake.taken M.AnswerPut.puts M.AnswerTake.taken inst.now cap done.ending done.journal.items done.ends.offer_puts.items done.ends.residents.items done.ends.answer_puts.items done.ends.programmes.items) }
+    ensures run { IfOk result (λ done. IsRunOf done M.OfferPut.puts M.OfferTake.taken M.AnswerPut.puts M.AnswerTake.taken inst.now cap) }
     ensures stopped { IfOk result (λ done. done.ending ≡ Ending.Stopped → G.MAY_STOP ≡ true) }
     ensures given { IfOk result (λ done. done.assignment ≡ given inst.now done.journal.items) }
     ensures counts { IfOk result (λ done. AreCounted workers done.journal.items done.who.items done.entered.items) }
@@ -98,7 +96,7 @@ fn run_named<
     requires workers { (workers ≡ J.workers) × (1 ≤ workers) × (workers ≤ 8) }
     requires blank { (blank.name ≡ J.name) × (blank.parts ≡ J.parts) × (J.parts ≡ 8) }
     requires admitted { is_capacity cap ≡ true }
-    ensures run { IfOk result (λ done. IsRunOf M.OfferPut M.OfferTake M.AnswerPut M.AnswerTake M.OfferPut.puts M.OfferTake.taken M.AnswerPut.puts M.AnswerTake.taken inst.now cap done.ending done.journal.items done.ends.offer_puts.items done.ends.residents.items done.ends.answer_puts.items done.ends.programmes.items) }
+    ensures run { IfOk result (λ done. IsRunOf done M.OfferPut.puts M.OfferTake.taken M.AnswerPut.puts M.AnswerTake.taken inst.now cap) }
     ensures stopped { IfOk result (λ done. done.ending ≡ Ending.Stopped → G.MAY_STOP ≡ true) }
     ensures given { IfOk result (λ done. done.assignment ≡ given inst.now done.journal.items) }
     ensures counts { IfOk result (λ done. AreCounted workers done.journal.items done.who.items done.entered.items) }

@@ -99,9 +99,10 @@ impl<M: Mailboxes> Logs<M> {
         requires instance { inst.now ≡ J.inst }
         requires room { length assignment ≡ length inst.now.resident_lists }
         requires ending { (outcome.ending ≡ Ending.Closed) ↔ IsClosed outcome.ledger.journal }
-        ensures run { IfOk result (λ done. IsRunOf M.OfferPut M.OfferTake M.AnswerPut M.AnswerTake M.OfferPut.puts M.OfferTake.taken M.AnswerPut.puts M.AnswerTake.taken inst.now J.cap done.ending done.journal.items done.ends.offer_puts.items done.ends.residents.items done.ends.answer_puts.items done.ends.programmes.items) }
+        ensures run { IfOk result (λ done. IsRunOf done M.OfferPut.puts M.OfferTake.taken M.AnswerPut.puts M.AnswerTake.taken inst.now J.cap) }
         ensures given { IfOk result (λ done. done.assignment ≡ given inst.now done.journal.items) }
-        ensures same { IfOk result (λ done. (done.journal.items ≡ outcome.ledger.journal) × (done.who.items ≡ outcome.ledger.who) × (done.ending ≡ outcome.ending) × (done.entered ≡ outcome.entered)) }
+        ensures same { IfOk result (λ done. (done.journal.items ≡ outcome.ledger.journal) × (done.who.items ≡ outcome.ledger.who) × (done.entered ≡ outcome.entered)) }
+        ensures ended { IfOk result (λ done. done.ending ≡ outcome.ending) }
         ensures settled { IfOk result (λ done. done.ending ≡ Ending.Closed → IsSettledRun inst.now done.journal.items done.assignment) }
         ensures fault { IfErr result (IsFault inst.now J.cap) }
     {
@@ -151,7 +152,7 @@ impl<M: Mailboxes> Reserve<M> {
         requires parts { J.parts ≡ 8 }
         requires uncounted { self.entered.items ≡ replicate J.workers 0 }
         requires room { length self.assignment ≡ length inst.now.resident_lists }
-        ensures run { IfOk result (λ done. IsRunOf M.OfferPut M.OfferTake M.AnswerPut M.AnswerTake M.OfferPut.puts M.OfferTake.taken M.AnswerPut.puts M.AnswerTake.taken inst.now J.cap done.ending done.journal.items done.ends.offer_puts.items done.ends.residents.items done.ends.answer_puts.items done.ends.programmes.items) }
+        ensures run { IfOk result (λ done. IsRunOf done M.OfferPut.puts M.OfferTake.taken M.AnswerPut.puts M.AnswerTake.taken inst.now J.cap) }
         ensures stopped { IfOk result (λ done. done.ending ≡ Ending.Stopped → G.MAY_STOP ≡ true) }
         ensures given { IfOk result (λ done. done.assignment ≡ given inst.now done.journal.items) }
         ensures counts { IfOk result (λ done. AreCounted J.workers done.journal.items done.who.items done.entered.items) }
@@ -204,9 +205,10 @@ impl<J: Naming, M: Mailboxes> Outcome<J, M> {
         requires taken { AreByResident M.OfferTake.taken residents.items }
         requires hears { AreLogs heard_of programmes.items (length inst.now.quotas) (λ p. hears p self.ledger.journal) }
         requires heard { AreByProgramme M.AnswerTake.taken programmes.items }
-        ensures run { IsRunOf M.OfferPut M.OfferTake M.AnswerPut M.AnswerTake M.OfferPut.puts M.OfferTake.taken M.AnswerPut.puts M.AnswerTake.taken inst.now J.cap result.ending result.journal.items result.ends.offer_puts.items result.ends.residents.items result.ends.answer_puts.items result.ends.programmes.items }
+        ensures run { IsRunOf result M.OfferPut.puts M.OfferTake.taken M.AnswerPut.puts M.AnswerTake.taken inst.now J.cap }
         ensures given { result.assignment ≡ given inst.now result.journal.items }
-        ensures same { (result.journal.items ≡ self.ledger.journal) × (result.who.items ≡ self.ledger.who) × (result.ending ≡ self.ending) × (result.entered ≡ self.entered) }
+        ensures same { (result.journal.items ≡ self.ledger.journal) × (result.who.items ≡ self.ledger.who) × (result.entered ≡ self.entered) }
+        ensures ended { result.ending ≡ self.ending }
         ensures settled { result.ending ≡ Ending.Closed → IsSettledRun inst.now result.journal.items result.assignment }
     {
         law_orderly();

@@ -9,7 +9,7 @@ pub returns-clause-run : goal.returns-clause-run
 returns-clause-run g c =
     let parts = c.into_parts-journal.ensures.parts in
     let asked = c.requires in
-    run_of _ _ _ _ _ _ _ _ asked.instance c.into_parts-journal.ensures.kept _ _ _ _ c.args.self.ending _ _ _ _ _ parts.0 parts.2 parts.3 asked.ending asked.takes asked.taken asked.hears asked.heard
+    run_of _ _ _ _ _ _ _ _ asked.instance c.into_parts-journal.ensures.kept _ _ _ _ _ _ parts.0 parts.2 parts.3 asked.ending asked.takes asked.taken asked.hears asked.heard
 
 pub returns-clause-given : goal.returns-clause-given
 returns-clause-given g c =
