@@ -30,10 +30,10 @@ pub record IsRunOf {M P T Q U : Type 0} (done : Done M P T Q U) (offers_put : P 
   pub closed : (done.ending ≡ Closed) ↔ IsClosed done.journal.items
   pub offers_are_put : Each done.ends.offer_puts.items (length inst.resident_lists) (λ r end. offers_put end ≡ offers_to r done.journal.items)
   pub offers_are_taken : Each done.ends.residents.items (length inst.resident_lists)
-    (λ r desk. (desk.resident ≡ r) × (desk.taken ≡ takes r done.journal.items) × (offers_taken desk.end ≡ takes r done.journal.items))
+      (λ r desk. (desk.resident ≡ r) × (desk.taken ≡ takes r done.journal.items) × (offers_taken desk.end ≡ takes r done.journal.items))
   pub answers_are_put : Each done.ends.answer_puts.items (length inst.quotas) (λ p end. answers_put end ≡ answers_to p done.journal.items)
   pub answers_are_heard : Each done.ends.programmes.items (length inst.quotas)
-    (λ p desk. (desk.programme ≡ p) × (desk.heard ≡ hears p done.journal.items) × (answers_taken desk.end ≡ hears p done.journal.items))
+      (λ p desk. (desk.programme ≡ p) × (desk.heard ≡ hears p done.journal.items) × (answers_taken desk.end ≡ hears p done.journal.items))
 
 -- all is at rest before the close, which is last
 pub record ClosesAtRest (inst : Instance) (journal : List Event) : Type 0 where

@@ -12,7 +12,10 @@ use offer_ledger::{Naming, Tally};
 use std::alloc::Global;
 use std::sync::Wait;
 use std::thread;
-use std::thread::Threads;
+use std::thread::{Builder, Threads};
+
+/// How much stack a worker's thread has, in bytes. A worker uses some 5,000 of them.
+const STACK_BYTES: usize = 256 * 1024;
 
 /// Starts a worker for each tally, and joins them all. The tallies come back by worker. Where the system refuses to
 /// start one, the others are ended and joined.
@@ -49,7 +52,8 @@ where
             let mut all_started = true;
             for tally in tallies {
                 let worker = Worker::new(rt, inst, gate, floor, number, tally);
-                let started = match scope.spawn(move || worker.work()) {
+                let thread = Builder::new().stack_size(STACK_BYTES);
+                let started = match thread.spawn_scoped(scope, move || worker.work()) {
                     Ok(handle) => handles.push(handle).is_ok(),
                     Err(_) => false,
                 };
