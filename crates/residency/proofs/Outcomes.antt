@@ -1,5 +1,5 @@
 -- What a run that closed gives, and what is written of it.
-use Rattle.std.proofs.Common.{◌≡◌, ℕ, suc, ◌<◌, inl, inr, List, [], ◌∷◌, ◌++◌, length, slice_get, slice_index_or, Option, Some, None, refl, sym, ap, ◌∙◌, append_assoc, arith}
+use Rattle.std.proofs.Common.{◌≡◌, ℕ, ◌<◌, inl, inr, List, [], ◌++◌, length, slice_index_or, Option, Some, None, refl, sym, ap, ◌∙◌, append_assoc, arith}
 use Rattle.std.specs.List.{All}
 use Rattle.std.specs.Io.KnownBytes.{Appends}
 use Rattle.std.proofs.lemmas.List.{get_or_past}
@@ -10,11 +10,17 @@ use Rattle.match_model.specs.Instance.{Instance, IsInstance, IsProgramme, Accept
 use Rattle.exchange_core.specs.declared.event.Event.{Event}
 use Rattle.exchange_core.specs.declared.event.Event.TheVariants.{Offer, Take, Answer, Hear, Close}
 use Rattle.exchange_core.specs.declared.event.Capacity.{Capacity}
-use Rattle.exchange_core.specs.Legal.{IsLegal}
+use Rattle.exchange_core.specs.Legal.{IsLegal, IsClosed}
+use Rattle.exchange_core.specs.Left.{given}
 use Rattle.exchange_core.proofs.Members.{HasMembers, members_at}
 use Rattle.settle_law.specs.Stable.{IsStable}
+use Rattle.settle_law.specs.SettledLaws.{OneSettledLaw}
+use Rattle.match_pool.specs.Done.{IsSettledRun, AreCounted}
 use Rattle.docket.specs.Contents.{Contents}
 use Rattle.docket.specs.Whole.{NamesMembers, IsSheetOf, IsWhole}
+use Rattle.residency.specs.declared.options.MatchOptions.{MatchOptions}
+use Rattle.residency.specs.Options.{IsWithinLimits}
+use Rattle.residency.specs.Serving.{ClosedRun}
 
 -- each event of a legal list names members
 pub names_members : (inst : Instance) (cap : Capacity) (j : List Event) → IsLegal inst cap j → All (NamesMembers inst) j
@@ -49,4 +55,21 @@ pub sheet_of : (d : Contents) (m : List (Option ℕ)) → IsWhole d → IsInstan
 sheet_of d m whole instance stable = record {
   one_entry_each = stable.is_assignment.one_place_each ∙ sym whole.residents;
   members = λ r p h. rw whole.programmes (programme_of_acceptable d.instance r p instance (stable.is_assignment.pairs_acceptable r p h));
+}
+
+-- what a run that closed gives, whose options are admitted
+abbrev pub closed_run : (d : Contents) (o : MatchOptions) (inst : Instance) (journal : List Event) (who entered : List ℕ) (m : List (Option ℕ)) →
+    inst ≡ d.instance → OneSettledLaw → IsWithinLimits o → IsLegal inst o.capacity journal → IsClosed journal → m ≡ given inst journal →
+    IsSettledRun inst journal m → AreCounted o.workers journal who entered → ClosedRun d o
+closed_run d o inst journal who entered m same alone limits legal closed is_given run counts = record {
+  limits = limits;
+  assignment = m;
+  outcome = record {
+    exchanged = record { journal = journal; legal = rw same at legal; closed = closed; is_given = rw same at is_given };
+    stable = rw same at run.stable;
+    settled = record { settled = rw same at run.settled; alone = λ other h. alone d.instance other m h (rw same at run.settled) };
+  };
+  by = record { workers = o.workers; who = who };
+  workers = refl;
+  by_worker = record { one_number_each = counts.one_worker_each; workers = record { some = limits.some_worker; few = limits.few_workers; numbers = counts.among_the_workers } };
 }

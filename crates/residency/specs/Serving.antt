@@ -1,5 +1,5 @@
 -- What a call wrote, and why another wrote nothing.
-use Rattle.std.specs.Prelude.{◌≡◌, ◌≢◌, ◌⊎◌, ◌↔◌, ℕ, Bool, if◌then◌else◌, ◌++◌, Option, Some, None, Result, Ok, Err, List, [], IsSome, option_map}
+use Rattle.std.specs.Prelude.{◌≡◌, ◌≢◌, ◌⊎◌, ◌↔◌, ℕ, ◌++◌, Option, Some, None, Result, Ok, Err, List, [], IsSome, option_map}
 use Rattle.std.specs.Io.KnownBytes.{Appends}
 use Rattle.match_model.specs.Instance.{Instance}
 use Rattle.exchange_core.specs.declared.event.Capacity.{Capacity}
@@ -28,6 +28,7 @@ use Rattle.residency.specs.declared.fault.ServeFault.{ServeFault}
 use Rattle.residency.specs.declared.fault.ServeFault.TheVariants.{Docket, NoSheet, NoJournal, Run, Memory}
 use Rattle.residency.specs.declared.status.Status.{Status}
 use Rattle.residency.specs.declared.status.Status.TheVariants.{Closed, Stable, Unstable, ReplayGood, ReplayBad}
+use Rattle.residency.specs.Options.{IsWithinLimits}
 use Rattle.residency.specs.Outcome.{IsOutcome}
 use Rattle.residency.specs.Report.{report_text}
 use Rattle.residency.specs.Answer.{replay_text}
@@ -42,30 +43,39 @@ wanted_text d cap ByWorker j by = journal_text d cap j (Some by)
 abbrev pub match_text : Contents → Capacity → JournalForm → List (Option ℕ) → List Event → ByWorkerParts → List ℕ
 match_text d cap form m j by = sheet_text d m ++ wanted_text d cap form j by
 
--- what was appended, where it is known, is the sheet of what one exchange over the docket gives, its one settled assignment,
--- and the journal of this exchange in the form that is wanted; by worker it has some number below the number of workers for
--- each event
-pub record WritesMatch (d : Contents) (o : MatchOptions) (old new : Option (List ℕ)) : Type 0 where
+-- an exchange over the docket that was run to its close within the limits: what it gives is the one settled assignment, and
+-- each event of its journal has some number below the number of workers
+pub record ClosedRun (d : Contents) (o : MatchOptions) : Type 0 where
+  pub limits : IsWithinLimits o
   pub assignment : List (Option ℕ)
   pub outcome : IsOutcome d.instance o.capacity assignment
   pub by : ByWorkerParts
   pub workers : by.workers ≡ o.workers
   pub by_worker : IsByWorker outcome.exchanged.journal by
-  pub appended : Appends old new (match_text d o.capacity o.journal assignment outcome.exchanged.journal by)
+
+-- what was appended, where it is known, is the sheet of what one closed run over the docket gives, and the journal of this
+-- run in the form that is wanted
+pub record WritesMatch (d : Contents) (o : MatchOptions) (old new : Option (List ℕ)) : Type 0 where
+  pub run : ClosedRun d o
+  pub appended : Appends old new (match_text d o.capacity o.journal run.assignment run.outcome.exchanged.journal run.by)
 
 -- the status tells whether the sheet is stable
 pub record TellsStable (inst : Instance) (sheet : List (Option ℕ)) (status : Status) : Type 0 where
   pub either : (status ≡ Stable) ⊎ (status ≡ Unstable)
   pub stable : (status ≡ Stable) ↔ IsStable inst sheet
 
--- what was appended, where it is known, is the report on the docket's sheet
-pub record WritesReport (d : Contents) (status : Status) (old new : Option (List ℕ)) : Type 0 where
+-- the docket's sheet, and the report on it
+pub record SheetReport (d : Contents) : Type 0 where
   pub sheet : List (Option ℕ)
   pub has_sheet : d.sheet ≡ Some sheet
   pub report : AuditReport
   pub reports : Reports d.instance sheet report
-  pub tells : TellsStable d.instance sheet status
-  pub appended : Appends old new (report_text d report)
+
+-- what was appended, where it is known, is the report on the docket's sheet
+pub record WritesReport (d : Contents) (status : Status) (old new : Option (List ℕ)) : Type 0 where
+  pub audit : SheetReport d
+  pub tells : TellsStable d.instance audit.sheet status
+  pub appended : Appends old new (report_text d audit.report)
 
 -- this is the answer of a replay, or of a check where there is a sheet, and it isn't want of memory
 abbrev pub IsReplayAnswer : Instance → JournalParts → Option (List (Option ℕ)) → Result Replayed ReplayFault → Type 0
@@ -84,39 +94,45 @@ abbrev pub replay_status : Result Replayed ReplayFault → Status
 replay_status (Ok replayed) = ReplayGood
 replay_status (Err fault) = ReplayBad
 
--- what was appended, where it is known, is the row of the answer on the docket's journal, and after a good one of a journal
--- by worker how many events each made
-pub record WritesReplay (d : Contents) (status : Status) (old new : Option (List ℕ)) : Type 0 where
+-- the docket's journal, and the answer on it
+pub record JournalAnswer (d : Contents) : Type 0 where
   pub journal : JournalParts
   pub has_journal : d.journal ≡ Some journal
   pub answer : Result Replayed ReplayFault
   pub answers : IsReplayAnswer d.instance journal d.sheet answer
-  pub tells : status ≡ replay_status answer
-  pub appended : Appends old new (replay_text d answer (counts_in journal))
+
+-- what was appended, where it is known, is the row of the answer on the docket's journal, and after a good one of a journal
+-- by worker how many events each made
+pub record WritesReplay (d : Contents) (status : Status) (old new : Option (List ℕ)) : Type 0 where
+  pub replay : JournalAnswer d
+  pub tells : status ≡ replay_status replay.answer
+  pub appended : Appends old new (replay_text d replay.answer (counts_in replay.journal))
 
 -- the fault is of memory or the writer
 abbrev pub IsWriteFault : DocketFault → Type 0
 IsWriteFault fault = (fault ≡ docket.Memory) ⊎ (fault ≡ docket.Write)
 
--- why a match of the docket wrote no whole sheet
+-- why a match of the docket wrote no whole sheet: memory or the writer failed after a closed run, or the run gave none
 abbrev pub IsMatchFault : MatchOptions → Contents → ServeFault → Type 0
-IsMatchFault o d (Docket fault) = IsWriteFault fault
+IsMatchFault o d (Docket fault) = ClosedRun d o × IsWriteFault fault
 IsMatchFault o d NoSheet = ⊥
 IsMatchFault o d NoJournal = ⊥
 IsMatchFault o d (Run fault) = IsRunFault d.instance o.capacity o.workers fault
 IsMatchFault o d Memory = ⊥
 
--- why an audit of the docket wrote no whole report
+-- why an audit of the docket wrote no whole report: memory or the writer failed after the report was made, there is no sheet,
+-- or there was no memory for a report
 abbrev pub IsAuditFault : Contents → ServeFault → Type 0
-IsAuditFault d (Docket fault) = IsSome d.sheet × IsWriteFault fault
+IsAuditFault d (Docket fault) = SheetReport d × IsWriteFault fault
 IsAuditFault d NoSheet = d.sheet ≡ None
 IsAuditFault d NoJournal = ⊥
 IsAuditFault d (Run fault) = ⊥
 IsAuditFault d Memory = IsSome d.sheet
 
--- why a replay of the docket wrote no whole answer
+-- why a replay of the docket wrote no whole answer: memory or the writer failed after the answer was found, there is no
+-- journal, or there was no memory for an answer
 abbrev pub IsReplayFault : Contents → ServeFault → Type 0
-IsReplayFault d (Docket fault) = IsSome d.journal × IsWriteFault fault
+IsReplayFault d (Docket fault) = JournalAnswer d × IsWriteFault fault
 IsReplayFault d NoSheet = ⊥
 IsReplayFault d NoJournal = d.journal ≡ None
 IsReplayFault d (Run fault) = ⊥

@@ -11,10 +11,7 @@ pub returns-in-Ok-clause-report : goal.returns-in-Ok-clause-report
 returns-in-Ok-clause-report g c =
     let reports = c.in_ok-report.ensures.report in
     record {
-      sheet = c.in-Some.sheet.now;
-      has_sheet = sym c.in-Some.ensures.sheet;
-      report = c.in_ok-report.report;
-      reports = reports;
+      audit = record { sheet = c.in-Some.sheet.now; has_sheet = sym c.in-Some.ensures.sheet; report = c.in_ok-report.report; reports = reports };
       tells = tells_stable _ _ _ true reports c.if-is_stable.ensures.stable;
       appended = c.in-Ok.ensures.ok;
     }
@@ -23,10 +20,11 @@ pub returns-in-Ok-2-clause-report : goal.returns-in-Ok-2-clause-report
 returns-in-Ok-2-clause-report g c =
     let reports = c.in_ok-report.ensures.report in
     record {
-      sheet = c.in-Some.sheet.now;
-      has_sheet = sym c.in-Some.ensures.sheet;
-      report = c.in_ok-report.report;
-      reports = reports;
+      audit = record { sheet = c.in-Some.sheet.now; has_sheet = sym c.in-Some.ensures.sheet; report = c.in_ok-report.report; reports = reports };
       tells = tells_stable _ _ _ false reports c.if-is_stable.ensures.stable;
       appended = c.in-Ok-2.ensures.ok;
     }
+
+pub returns-clause-fault : goal.returns-clause-fault
+returns-clause-fault g c =
+    (record { sheet = c.in-Some.sheet.now; has_sheet = sym c.in-Some.ensures.sheet; report = c.in_ok-report.report; reports = c.in_ok-report.ensures.report }, c.in-Err.ensures.fault)

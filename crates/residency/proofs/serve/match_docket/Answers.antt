@@ -1,10 +1,4 @@
-use Rattle.std.proofs.Common.{◌≡◌, ℕ, true, List, Option, refl, sym, ap, ◌∙◌, subst}
-use Rattle.match_model.specs.Instance.{Instance, IsInstance}
-use Rattle.exchange_core.specs.declared.event.Event.{Event}
-use Rattle.exchange_core.specs.Legal.{IsLegal}
-use Rattle.docket.specs.Whole.{IsSheetOf, NamesMembers}
-use Rattle.residency.specs.Serving.{match_text}
-use Rattle.residency.proofs.Outcomes.{names_members, sheet_of}
+use Rattle.residency.proofs.Outcomes.{names_members, sheet_of, closed_run}
 use Rattle.residency.proofs.serve.match_docket.Goals as goal
 
 pub write_match-requires-clause-sheet : goal.write_match-requires-clause-sheet
@@ -20,22 +14,19 @@ write_match-requires-clause-journal g c =
 
 pub returns-in-Ok-write_match-clause-text : goal.returns-in-Ok-write_match-clause-text
 returns-in-Ok-write_match-clause-text g c =
-    let inst = c.instance-inst.ensures.instance in
-    let run = c.in-Ok.ensures.settled c.in-Closed.is in
-    let journal = c.in-Ok.done.journal.items in
-    let legal = rw inst at c.in-Ok.ensures.run.legal in
-    let is_given = rw inst at c.in-Ok.ensures.given in
-    let stable = rw inst at run.stable in
-    let settled = rw inst at run.settled in
+    let admitted = c.in-Ok.ensures.admitted in
     record {
-      assignment = c.in-Ok.done.assignment;
-      outcome = record {
-        exchanged = record { journal = journal; legal = legal; closed = c.in-Ok.ensures.run.closed.0 c.in-Closed.is; is_given = is_given };
-        stable = stable;
-        settled = record { settled = settled; alone = λ other h. c.law_one_settled.ensures _ other c.in-Ok.done.assignment h settled };
-      };
-      by = record { workers = c.args.options.now.workers; who = c.in-Ok.done.who.items };
-      workers = refl;
-      by_worker = record { one_number_each = c.in-Ok.ensures.counts.one_worker_each; workers = record { some = c.in-Ok.ensures.admitted.0; few = c.in-Ok.ensures.admitted.1; numbers = c.in-Ok.ensures.counts.among_the_workers } };
+      run = closed_run _ _ c.instance-inst.result.now _ _ c.in-Ok.done.entered.items _ c.instance-inst.ensures.instance c.law_one_settled.ensures
+          (record { some_worker = admitted.0; few_workers = admitted.1; capacity = admitted.2 }) c.in-Ok.ensures.run.legal (c.in-Ok.ensures.run.closed.0 c.in-Closed.is)
+          c.in-Ok.ensures.given (c.in-Ok.ensures.settled c.in-Closed.is) c.in-Ok.ensures.counts;
       appended = rw c.deref.ensures.value at c.in-Ok-write_match.ensures.text;
     }
+
+pub returns-clause-fault : goal.returns-clause-fault
+returns-clause-fault g c =
+    let admitted = c.in-Ok.ensures.admitted in (
+      closed_run _ _ c.instance-inst.result.now _ _ c.in-Ok.done.entered.items _ c.instance-inst.ensures.instance c.law_one_settled.ensures
+          (record { some_worker = admitted.0; few_workers = admitted.1; capacity = admitted.2 }) c.in-Ok.ensures.run.legal (c.in-Ok.ensures.run.closed.0 c.in-Closed.is)
+          c.in-Ok.ensures.given (c.in-Ok.ensures.settled c.in-Closed.is) c.in-Ok.ensures.counts,
+      c.in-Err-write_match.ensures.fault,
+    )
