@@ -1,5 +1,5 @@
 -- How the program ends, by what it was given and what it wrote.
-use Rattle.std.specs.Prelude.{◌≡◌, ◌⊎◌, ℕ, Option, Some, Result, Ok, Err, List}
+use Rattle.std.specs.Prelude.{◌≡◌, ◌⊎◌, ℕ, Option, Some, Result, List}
 use Rattle.residency.specs.declared.fault.ServeFault.{ServeFault}
 use Rattle.residency.specs.declared.program.Unordered.{Unordered}
 use Rattle.residency.specs.declared.program.Unordered.TheVariants.{NoText, Line}
