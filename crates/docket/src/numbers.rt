@@ -5,8 +5,8 @@ ghost use Rattle.csv.specs.Records.{prev};
 use std::alloc::{AllocError, Global};
 use std::marker::Model;
 
-/// Numbers, in order, in as little room as they take: those below 2^16 in two bytes, from the first larger one on those
-/// below 2^32 in four, and from the first one over that on all others in eight.
+/// Numbers, in order. Each takes two bytes as long as all fit there; from the first that doesn't fit on each takes four, and
+/// from the first that doesn't fit in four on each takes eight.
 #[derive(Drop)]
 pub(crate) struct Numbers {
     count: usize,

@@ -100,7 +100,7 @@ fn number_of_text(
     Ok(number)
 }
 
-// Texts, one after another. Each different one is kept once, and of each place the number of its text.
+// Texts, in order. Each different one is kept once and has a number, and for each place the number of its text is kept.
 #[derive(Drop)]
 struct SharedTexts {
     alloc: Global,
@@ -153,7 +153,7 @@ impl SharedTexts {
         self.numbers.clear();
     }
 
-    // Adds a text. Where memory is wanting, those before are kept or none is.
+    // Adds a text. Where memory is wanting, either the texts before it are kept or no text is.
     fn push(&mut self, text: &[u8]) -> Result<(), AllocError>
         ensures { OnOk result (self.new ≡ self.old ++ text.now ∷ []) }
     {
@@ -178,7 +178,8 @@ impl SharedTexts {
     }
 }
 
-// As many texts are kept one after another. A text more than these is kept once, since only long lists come to so many.
+// How many texts are kept one after another, each of them whole. Only a docket of long lists has more, and there the same
+// texts come again and again, so of those after these each different one is kept once.
 const MOST_PLAIN: usize = 4_194_304;
 
 /// Texts, in order: the first of them one after another, and of all others each different one once.
