@@ -1,5 +1,5 @@
 //! What a name is found by.
-ghost use Rattle.std.specs.Prelude.{◌≡◌, ◌≤◌, ◌∷◌, [], length, take, bytes_eq};
+ghost use Rattle.std.specs.Prelude.{◌≡◌, ◌≤◌, ◌+◌, ◌∷◌, [], length, take, drop, bytes_eq};
 ghost use Rattle.std.specs.Int.{w64, to_le_bytes, from_le_bytes};
 ghost use Rattle.std.specs.Cmp.{partial_equiv_from_equiv};
 ghost use Rattle.std.specs.Cmp.Lexicographic.{nat_list_eq_equiv};
@@ -64,6 +64,36 @@ fn first_word(bytes: &[u8; MAX_NAME]) -> u64
     ])
 }
 
+// The eight bytes from place `i` on as one number.
+#[inline(always)]
+fn word_at(bytes: &[u8; MAX_NAME], i: usize) -> u64
+    requires { i + 8 ≤ MAX_NAME }
+    ensures value { result ≡ from_le_bytes w64 (take 8 (drop i bytes.now)) }
+    ensures bytes { to_le_bytes w64 result ≡ take 8 (drop i bytes.now) }
+{
+    u64::from_le_bytes([
+        bytes[i],
+        bytes[i + 1],
+        bytes[i + 2],
+        bytes[i + 3],
+        bytes[i + 4],
+        bytes[i + 5],
+        bytes[i + 6],
+        bytes[i + 7],
+    ])
+}
+
+// Whether the bytes are equal, word by word.
+fn same_words(a: &[u8; MAX_NAME], b: &[u8; MAX_NAME]) -> bool
+    ensures { result ≡ bytes_eq a.now b.now }
+{
+    let first = word_at(a, 0) == word_at(b, 0);
+    let second = word_at(a, 8) == word_at(b, 8);
+    let third = word_at(a, 16) == word_at(b, 16);
+    let fourth = word_at(a, 24) == word_at(b, 24);
+    first & second & third & fourth
+}
+
 // How many bytes are hashed of a text of this length: one word, two, or all four.
 fn hashed_width(len: u8) -> usize
     requires { len ≤ MAX_NAME }
@@ -92,7 +122,7 @@ impl PartialEq for NameKey {
         if first_word(&self.bytes) != first_word(&other.bytes) {
             return false;
         }
-        self.len <= 8 || self.bytes == other.bytes
+        self.len <= 8 || same_words(&self.bytes, &other.bytes)
     }
 }
 

@@ -68,14 +68,17 @@ impl Names {
         ensures number { result ≡ number_in self.now name.now }
         ensures within { IfSome result (λ i. i < length self.now) }
     {
-        // For the proof alone: no two keys are equal.
-        let _count = self.seen.len();
-        if let Some(key) = self.seen.get_index(first) {
-            if key.text() == name {
-                return Some(first);
-            }
+        let seen = &self.seen;
+        if name.len() > MAX_NAME {
+            return None;
         }
-        self.number(name)
+        let asked = NameKey::new(name);
+        // For the proof alone: no two keys are equal.
+        let _count = seen.len();
+        match seen.get_index(first) {
+            Some(key) if *key == asked => Some(first),
+            _ => seen.get_index_of(&asked),
+        }
     }
 
     /// Adds a name, and says whether it is new.
