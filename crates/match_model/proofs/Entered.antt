@@ -1,25 +1,31 @@
 -- Lemmas on the owners of the lists in which a number stands.
-use Rattle.std.proofs.Common.{◌≡◌, ℕ, ◌+◌, ◌<◌, ◌≤◌, Bool, true, false, cond, eqb, ltb, List, [], ◌∷◌, ◌++◌, length, get_or, set, take, replicate, map, Option, refl, sym, ap, ◌∙◌, subst, arith, not, ◌&&◌, ◌||◌, suc, zero, zero-add, ⊎_elim}
+use Rattle.std.proofs.Common.{◌≡◌, ℕ, ◌+◌, ◌-◌, ◌<◌, ◌≤◌, Bool, true, false, cond, eqb, ltb, List, [], ◌∷◌, ◌++◌, length, get_or, set, take, replicate, map, Option, refl, sym, ap, ◌∙◌, subst, arith, not, ◌&&◌, ◌||◌, suc, zero, zero-add, ⊎_elim}
 use Rattle.std.specs.Global.{Vec}
 use Rattle.std.specs.List.{All, filter, list_all, range_with_len, enumerate_from}
 use Rattle.std.specs.List.Sorted.{IsNonDecreasing}
 use Rattle.std.proofs.lemmas.List.Kept.{IsNonDecreasingBy-filter}
-use Rattle.std.proofs.lemmas.Bool.{cases_lt, eqb-true, lt-ltb, and_parts, and_from}
-use Rattle.std.proofs.lemmas.List.{length-map, get_or-map, length-replicate, get_or-replicate, length-set, get_or-set_other, get_or_past, get_or-take, length-take, take_more, append-nil, get_or_default}
+use Rattle.std.proofs.lemmas.Bool.{cases_lt, eqb-true, ltb-true, lt-ltb, and_parts, and_from}
+use Rattle.std.proofs.lemmas.List.{length-map, get_or-map, length-replicate, get_or-replicate, length-set, get_or-set_other, get_or_past, get_or-take, length-take, take_more, take_more_set, take_all, length_push, append-nil, get_or_default}
 use Rattle.std.proofs.lemmas.Grind.{get_or-set_at}
 use Rattle.std.proofs.lemmas.List.FromFn.{length-range_with_len, get_or-range_with_len, length-enumerate_from, get_or-enumerate_from}
+use Rattle.std.proofs.lemmas.List.Sums.{length-filter, count_by-le-length}
 use Rattle.std.proofs.lemmas.List.Elements.{filter-append, filter_agree}
 use Rattle.match_model.specs.Ranking.{is_listed}
 use Rattle.match_model.specs.Instance.{list_at}
 use Rattle.match_model.specs.Draft.{mutual_lists, lists_left, has_no_repeats}
-use Rattle.match_model.specs.Owners.{owners_below, AreOwners, IsEntered, with_owner, kept_lists, AreRows, AreCovered}
-use Rattle.match_model.proofs.Mutual.{lists_of, list_at_vector, length-lists_left}
-use Rattle.match_model.proofs.Rankings.{is_listed-append, is_listed_alone, is_listed-filter, is_listed_at, is_listed_nowhere, has_no_repeats-filter, HasNoRepeats-from_test}
+use Rattle.match_model.specs.Owners.{owners_below, AreOwners, stepped, AreStepped, AreCounts, AreBegun, kept_lists, AreRows, AreCovered}
+use Rattle.match_model.proofs.Mutual.{length-lists_left}
+use Rattle.match_model.proofs.Rankings.{is_listed-cons, is_listed-append, is_listed_alone, is_listed-filter, is_listed_at, is_listed_nowhere, has_no_repeats-filter, HasNoRepeats-from_test}
 
 -- one number more at the end
 range_more : (a n : ℕ) → range_with_len a (suc n) ≡ range_with_len a n ++ (a + n) ∷ []
 range_more a zero = ap (λ (k : ℕ). k ∷ []) (omega arith)
 range_more a (suc n) = ap (λ (ks : List ℕ). a ∷ ks) (range_more (a + 1) n) ∙ ap (λ (k : ℕ). a ∷ (range_with_len (a + 1) n ++ k ∷ [])) (omega arith)
+
+-- a row, with the owner at its end where its number is listed
+abbrev with_owner : ℕ → Bool → List ℕ → List ℕ
+with_owner owner true row = row ++ owner ∷ []
+with_owner owner false row = row
 
 -- one owner more
 owners_more : (n : ℕ) (lists : List (List ℕ)) (x : ℕ) → owners_below (n + 1) lists x ≡ with_owner n (is_listed (list_at lists n) x) (owners_below n lists x)
@@ -34,56 +40,141 @@ owners_more n lists x =
     step true row = refl
     step false row = append-nil row
 
--- no owner yet
-pub AreOwners-none : (count : ℕ) (lists rows : List (List ℕ)) → rows ≡ replicate count [] → AreOwners count 0 lists rows
-AreOwners-none count lists rows e = record {
-  one_each = ap (λ (rs : List (List ℕ)). length rs) e ∙ length-replicate count [];
-  row = λ x h. ap (λ (rs : List (List ℕ)). list_at rs x) e ∙ get_or-replicate count x [] [] h;
+-- how many owners that is
+length-with_owner : (owner : ℕ) (b : Bool) (row : List ℕ) → length (with_owner owner b row) ≡ stepped (λ n. n + 1) b (length row)
+length-with_owner owner true row = length_push row owner
+length-with_owner owner false row = refl
+
+-- no more than there are
+pub owners_few : (n : ℕ) (lists : List (List ℕ)) (x : ℕ) → length (owners_below n lists x) ≤ n
+owners_few n lists x =
+    let q : ℕ → Bool = λ owner. is_listed (list_at lists owner) x in
+    omega (arith, length-filter q (range_with_len 0 n), count_by-le-length q (range_with_len 0 n), length-range_with_len 0 n)
+
+-- no fewer among more
+owners_le : (n k : ℕ) (lists : List (List ℕ)) (x : ℕ) → length (owners_below n lists x) ≤ length (owners_below (n + k) lists x)
+owners_le n zero lists x = let e : n + 0 ≡ n = omega arith in let same = ap (λ (m : ℕ). length (owners_below m lists x)) e in omega arith
+owners_le n (suc k) lists x =
+    let e : n + suc k ≡ (n + k) + 1 = omega arith in
+    let same = ap (λ (m : ℕ). length (owners_below m lists x)) e ∙ ap (λ (row : List ℕ). length row) (owners_more (n + k) lists x) in
+    let fewer = grown (n + k) (is_listed (list_at lists (n + k)) x) (owners_below (n + k) lists x) in
+    let rest = owners_le n k lists x in
+    omega arith
+  where
+    grown : (owner : ℕ) (b : Bool) (row : List ℕ) → length row ≤ length (with_owner owner b row)
+    grown owner true row = omega (arith, length_push row owner)
+    grown owner false row = omega arith
+
+-- before an owner is entered its row has room
+pub owners_room : (n all : ℕ) (lists : List (List ℕ)) (x : ℕ) → n < all → is_listed (list_at lists n) x ≡ true → length (owners_below n lists x) < length (owners_below all lists x)
+owners_room n all lists x h e =
+    let on : n + 1 + (all - (n + 1)) ≡ all = omega arith in
+    let same = ap (λ (m : ℕ). length (owners_below m lists x)) on in
+    let le = owners_le (n + 1) (all - (n + 1)) lists x in
+    let more : length (owners_below (n + 1) lists x) ≡ length (owners_below n lists x) + 1 =
+    ap (λ (row : List ℕ). length row) (owners_more n lists x ∙ ap (λ b. with_owner n b (owners_below n lists x)) e) ∙ length_push (owners_below n lists x) n in
+    omega arith
+
+module _ {T : Type 0} (none : T) (step : ℕ → T → T) where
+  -- nothing is made yet
+  pub AreStepped-none : (before : List T) → AreStepped none step [] before before
+  AreStepped-none before = record { one_each = refl; item = λ x h. refl }
+
+  -- what isn't listed is as it was
+  pub AreStepped-unlisted : (list : List ℕ) (before after : List T) (x : ℕ) → AreStepped none step list before after → x < length before → is_listed list x ≡ false → get_or after x none ≡ get_or before x none
+  AreStepped-unlisted list before after x a h e = a.item x h ∙ ap (λ b. stepped (step x) b (get_or before x none)) e
+
+  -- one item more
+  pub AreStepped-more : (list : List ℕ) (i : ℕ) (before after : List T) → i < length list → is_listed (take i list) (get_or list i 0) ≡ false → get_or list i 0 < length before →
+      AreStepped none step (take i list) before after → AreStepped none step (take (i + 1) list) before (set after (get_or list i 0) (step (get_or list i 0) (get_or after (get_or list i 0) none)))
+  AreStepped-more list i before after h new below a = record {
+    one_each = length-set after x (step x (get_or after x none)) ∙ a.one_each;
+    item = λ q k. at q k (eqb x q) refl ∙ ap (λ b. stepped (step q) b (get_or before q none)) (sym (listed q));
+  }
+    where
+      x : ℕ
+      x = get_or list i 0
+
+      listed : (q : ℕ) → is_listed (take (i + 1) list) q ≡ is_listed (take i list) q || eqb x q
+      listed q = ap (λ (xs : List ℕ). is_listed xs q) (take_more list i 0 h) ∙ is_listed-append (take i list) (x ∷ []) q ∙ ap (λ b. is_listed (take i list) q || b) (is_listed_alone x q)
+
+      keep : (b : Bool) → b ≡ b || false
+      keep true = refl
+      keep false = refl
+
+      at : (q : ℕ) → q < length before → (e : Bool) → eqb x q ≡ e → get_or (set after x (step x (get_or after x none))) q none ≡ stepped (step q) (is_listed (take i list) q || eqb x q) (get_or before q none)
+      at q k true e =
+          let same : x ≡ q = eqb-true x q e in
+          let unlisted : is_listed (take i list) q ≡ false = ap (is_listed (take i list)) (sym same) ∙ new in
+          get_or-set_at after x q (step x (get_or after x none)) none (sym same) (omega (arith, a.one_each))
+          ∙ ap (λ (j : ℕ). step j (get_or after j none)) same
+          ∙ ap (λ (item : T). step q item) (a.item q k ∙ ap (λ b. stepped (step q) b (get_or before q none)) unlisted)
+          ∙ sym (ap (λ b. stepped (step q) (b || eqb x q) (get_or before q none)) unlisted ∙ ap (λ b. stepped (step q) b (get_or before q none)) e)
+      at q k false e =
+          get_or-set_other after x q (step x (get_or after x none)) none (apart e) ∙ a.item q k
+          ∙ ap (λ b. stepped (step q) b (get_or before q none)) (keep (is_listed (take i list) q) ∙ ap (λ b. is_listed (take i list) q || b) (sym e))
+        where
+          apart : eqb x q ≡ false → q ≡ x → ⊥
+          apart e s = grind arith
+
+-- nothing is counted yet
+pub AreCounts-none : (count : ℕ) (lists : List (List ℕ)) → AreCounts count 0 lists (replicate count 0)
+AreCounts-none count lists = record {
+  one_each = length-replicate count 0;
+  number = λ x h. get_or-replicate count x 0 0 h;
+}
+
+-- one owner more is counted
+pub AreCounts-more : (count n : ℕ) (lists : List (List ℕ)) (before after : List ℕ) → AreCounts count n lists before → AreStepped 0 (λ _ k. k + 1) (list_at lists n) before after → AreCounts count (n + 1) lists after
+AreCounts-more count n lists before after a e = record {
+  one_each = e.one_each ∙ a.one_each;
+  number = λ x h. e.item x (omega (arith, a.one_each)) ∙ ap (stepped (λ k. k + 1) (is_listed (list_at lists n) x)) (a.number x h)
+      ∙ sym (ap (λ (row : List ℕ). length row) (owners_more n lists x) ∙ length-with_owner n (is_listed (list_at lists n) x) (owners_below n lists x));
+}
+
+-- rows of these lengths in which nobody is entered yet
+pub AreBegun-none : (count all : ℕ) (lists rows : List (List ℕ)) (lengths counts : List ℕ) → AreCounts count all lists lengths → rows ≡ map (λ n. replicate n 0) lengths → counts ≡ replicate count 0 → AreBegun count all 0 lists rows counts
+AreBegun-none count all lists rows lengths counts a e z = record {
+  one_each = ap (λ (rs : List (List ℕ)). length rs) e ∙ length-map lengths (λ n. replicate n 0) ∙ a.one_each;
+  counted = subst (AreCounts count 0 lists) (sym z) (AreCounts-none count lists);
+  room = λ x h. ap (λ (rs : List (List ℕ)). length (list_at rs x)) e
+      ∙ ap (λ (row : List ℕ). length row) (get_or-map (λ n. replicate n 0) lengths x 0 [] (omega (arith, a.one_each)))
+      ∙ length-replicate (get_or lengths x 0) 0 ∙ a.number x h;
+  first = λ x h. refl;
 }
 
 -- one owner more is entered
-pub AreOwners-more : (count n : ℕ) (lists before after : List (List ℕ)) → AreOwners count n lists before → IsEntered n (list_at lists n) before after → AreOwners count (n + 1) lists after
-AreOwners-more count n lists before after a e = record {
+pub AreBegun-more : (count all n : ℕ) (lists before after : List (List ℕ)) (counts more : List ℕ) → n < all → AreBegun count all n lists before counts →
+    AreStepped [] (λ x row. set row (get_or counts x 0) n) (list_at lists n) before after → AreStepped 0 (λ _ k. k + 1) (list_at lists n) counts more → AreBegun count all (n + 1) lists after more
+AreBegun-more count all n lists before after counts more l a e d = record {
   one_each = e.one_each ∙ a.one_each;
-  row = λ x h. e.row x (omega (arith, a.one_each)) ∙ ap (with_owner n (is_listed (list_at lists n) x)) (a.row x h) ∙ sym (owners_more n lists x);
-}
-
--- nothing is entered yet
-pub IsEntered-none : (owner : ℕ) (rows : List (List ℕ)) → IsEntered owner [] rows rows
-IsEntered-none owner rows = record { one_each = refl; row = λ x h. refl }
-
--- one item more
-pub IsEntered-more : (owner : ℕ) (list : List ℕ) (i : ℕ) (before after : List (List ℕ)) → i < length list → is_listed (take i list) (get_or list i 0) ≡ false → get_or list i 0 < length before →
-    IsEntered owner (take i list) before after → IsEntered owner (take (i + 1) list) before (set after (get_or list i 0) (list_at after (get_or list i 0) ++ owner ∷ []))
-IsEntered-more owner list i before after h new below a = record {
-  one_each = length-set after x (list_at after x ++ owner ∷ []) ∙ a.one_each;
-  row = λ q k. at q k (eqb x q) refl ∙ ap (λ b. with_owner owner b (list_at before q)) (sym (listed q));
+  counted = AreCounts-more count n lists counts more a.counted d;
+  room = λ x h. ap (λ (row : List ℕ). length row) (e.item x (omega (arith, a.one_each))) ∙ same_length (is_listed (list_at lists n) x) (get_or counts x 0) (list_at before x) ∙ a.room x h;
+  first = λ x h.
+      let number = a.counted.number x h in
+      let many = a.room x h in
+      ap (λ (row : List ℕ). take (length (owners_below (n + 1) lists x)) row) (e.item x (omega (arith, a.one_each)))
+      ∙ ap (λ (k : ℕ). take (length (owners_below (n + 1) lists x)) (stepped (λ row. set row k n) (is_listed (list_at lists n) x) (list_at before x))) number
+      ∙ ap (λ (row : List ℕ). take (length row) (stepped (λ row. set row (length (owners_below n lists x)) n) (is_listed (list_at lists n) x) (list_at before x))) (owners_more n lists x)
+      ∙ taken (is_listed (list_at lists n) x) (list_at before x) (owners_below n lists x) (a.first x h) (λ t. let room = owners_room n all lists x l t in omega arith)
+      ∙ sym (owners_more n lists x);
 }
   where
-    x : ℕ
-    x = get_or list i 0
+    same_length : (b : Bool) (k : ℕ) (row : List ℕ) → length (stepped (λ r. set r k n) b row) ≡ length row
+    same_length true k row = length-set row k n
+    same_length false k row = refl
 
-    listed : (q : ℕ) → is_listed (take (i + 1) list) q ≡ is_listed (take i list) q || eqb x q
-    listed q = ap (λ (xs : List ℕ). is_listed xs q) (take_more list i 0 h) ∙ is_listed-append (take i list) (x ∷ []) q ∙ ap (λ b. is_listed (take i list) q || b) (is_listed_alone x q)
+    taken : (b : Bool) (row owners : List ℕ) → take (length owners) row ≡ owners → (b ≡ true → length owners < length row) → take (length (with_owner n b owners)) (stepped (λ r. set r (length owners) n) b row) ≡ with_owner n b owners
+    taken true row owners h room =
+        ap (λ (k : ℕ). take k (set row (length owners) n)) (length_push owners n) ∙ take_more_set row (length owners) n (room refl) ∙ ap (λ (xs : List ℕ). xs ++ n ∷ []) h
+    taken false row owners h room = h
 
-    keep : (b : Bool) → b ≡ b || false
-    keep true = refl
-    keep false = refl
-
-    at : (q : ℕ) → q < length before → (e : Bool) → eqb x q ≡ e → list_at (set after x (list_at after x ++ owner ∷ [])) q ≡ with_owner owner (is_listed (take i list) q || eqb x q) (list_at before q)
-    at q k true e =
-        let same : x ≡ q = eqb-true x q e in
-        let unlisted : is_listed (take i list) q ≡ false = ap (is_listed (take i list)) (sym same) ∙ new in
-        get_or-set_at after x q (list_at after x ++ owner ∷ []) [] (sym same) (omega (arith, a.one_each))
-        ∙ ap (λ (j : ℕ). list_at after j ++ owner ∷ []) same
-        ∙ ap (λ (row : List ℕ). row ++ owner ∷ []) (a.row q k ∙ ap (λ b. with_owner owner b (list_at before q)) unlisted)
-        ∙ sym (ap (λ b. with_owner owner (b || eqb x q) (list_at before q)) unlisted ∙ ap (λ b. with_owner owner b (list_at before q)) e)
-    at q k false e =
-        get_or-set_other after x q (list_at after x ++ owner ∷ []) [] (apart e) ∙ a.row q k
-        ∙ ap (λ b. with_owner owner b (list_at before q)) (keep (is_listed (take i list) q) ∙ ap (λ b. is_listed (take i list) q || b) (sym e))
-      where
-        apart : eqb x q ≡ false → q ≡ x → ⊥
-        apart e s = grind arith
+-- all are entered
+pub AreOwners-begun : (count all : ℕ) (lists rows : List (List ℕ)) (counts : List ℕ) → AreBegun count all all lists rows counts → AreOwners count all lists rows
+AreOwners-begun count all lists rows counts a = record {
+  one_each = a.one_each;
+  row = λ x h. sym (take_all (length (owners_below all lists x)) (list_at rows x) (let many = a.room x h in omega arith)) ∙ a.first x h;
+}
 
 -- in a list without repeats no item stands before itself
 pub new_item : (list : List ℕ) (i : ℕ) → has_no_repeats list ≡ true → i < length list → is_listed (take i list) (get_or list i 0) ≡ false
@@ -91,6 +182,17 @@ new_item list i distinct h =
     is_listed_nowhere (take i list) (get_or list i 0) (λ k l e.
     let n = length-take i list in
     HasNoRepeats-from_test list distinct k i 0 (omega arith) h (sym (get_or-take i list k 0 (omega arith)) ∙ e))
+
+-- whoever is listed is below what all are below
+pub is_listed_below : (n : ℕ) (xs : List ℕ) (x : ℕ) → list_all (λ y. ltb y n) xs ≡ true → is_listed xs x ≡ true → x < n
+is_listed_below n [] x a e = cc
+is_listed_below n (y ∷ ys) x a e =
+    let part = and_parts (ltb y n) (list_all (λ z. ltb z n) ys) a in
+    step (eqb y x) refl (sym (is_listed-cons y ys x) ∙ e) (ltb-true y n part.0) (λ h. is_listed_below n ys x part.1 h)
+  where
+    step : (b : Bool) → eqb y x ≡ b → b || is_listed ys x ≡ true → y < n → (is_listed ys x ≡ true → x < n) → x < n
+    step true same h l rest = let s = eqb-true y x same in omega arith
+    step false same h l rest = rest h
 
 -- the first n numbers
 listed_in_range : (n x : ℕ) → x < n → is_listed (range_with_len 0 n) x ≡ true
@@ -168,12 +270,12 @@ unfolding mutual_lists kept_lists
 kept_are_mutual mine theirs rows h = kept_from (length mine) 0 mine theirs rows h (omega arith)
 
 -- so it is with lists as they were given
-pub made_is : (mine theirs : List (Option (Vec ℕ))) (my_flags their_flags : List Bool) (rows : List (Vec ℕ)) → AreOwners (length mine) (length theirs) (lists_left theirs their_flags) (lists_of rows) →
-    kept_lists (lists_left mine my_flags) (lists_of rows) ≡ mutual_lists (lists_left mine my_flags) (lists_left theirs their_flags)
+pub made_is : (mine theirs : List (Option (Vec ℕ))) (my_flags their_flags : List Bool) (rows : List (List ℕ)) → AreOwners (length mine) (length theirs) (lists_left theirs their_flags) rows →
+    kept_lists (lists_left mine my_flags) rows ≡ mutual_lists (lists_left mine my_flags) (lists_left theirs their_flags)
 made_is mine theirs my_flags their_flags rows h =
-    kept_are_mutual (lists_left mine my_flags) (lists_left theirs their_flags) (lists_of rows)
-    (subst (λ n. AreOwners n (length (lists_left theirs their_flags)) (lists_left theirs their_flags) (lists_of rows)) (sym (length-lists_left mine my_flags))
-    (subst (λ n. AreOwners (length mine) n (lists_left theirs their_flags) (lists_of rows)) (sym (length-lists_left theirs their_flags)) h))
+    kept_are_mutual (lists_left mine my_flags) (lists_left theirs their_flags) rows
+    (subst (λ n. AreOwners n (length (lists_left theirs their_flags)) (lists_left theirs their_flags) rows) (sym (length-lists_left mine my_flags))
+    (subst (λ n. AreOwners (length mine) n (lists_left theirs their_flags) rows) (sym (length-lists_left theirs their_flags)) h))
 
 -- one more of the lists that are kept by the rows
 pub length-kept_lists : (lists rows : List (List ℕ)) → length (kept_lists lists rows) ≡ length lists
@@ -216,12 +318,9 @@ kept_covered lists rows = λ i x e. ⊎_elim
     true≢false : true ≡ false → ⊥
     true≢false h = cc
 
--- the row of an owner, among vectors
-pub row_is : (rows : List (Vec ℕ)) (count n i : ℕ) (row : Vec ℕ) → AreRows count n (lists_of rows) → i < count → row ≡ get_or rows i row → list_at (lists_of rows) i ≡ row.items
-row_is rows count n i row a h is = let same = a.one_each in list_at_vector rows i row (omega (arith, length-map rows (λ (row : Vec ℕ). row.items))) is
+-- the row of an owner
+pub row_below : (rows : List (List ℕ)) (count n i : ℕ) → AreRows count n rows → i < count → list_all (λ x. ltb x n) (list_at rows i) ≡ true
+row_below rows count n i a h = let same = a.one_each in a.below i [] (omega arith)
 
-pub row_below : (rows : List (Vec ℕ)) (count n i : ℕ) (row : Vec ℕ) → AreRows count n (lists_of rows) → i < count → row ≡ get_or rows i row → list_all (λ x. ltb x n) row.items ≡ true
-row_below rows count n i row a h is = let same = a.one_each in subst (λ (xs : List ℕ). list_all (λ x. ltb x n) xs ≡ true) (row_is rows count n i row a h is) (a.below i [] (omega arith))
-
-pub row_distinct : (rows : List (Vec ℕ)) (count n i : ℕ) (row : Vec ℕ) → AreRows count n (lists_of rows) → i < count → row ≡ get_or rows i row → has_no_repeats row.items ≡ true
-row_distinct rows count n i row a h is = let same = a.one_each in subst (λ (xs : List ℕ). has_no_repeats xs ≡ true) (row_is rows count n i row a h is) (a.distinct i [] (omega arith))
+pub row_distinct : (rows : List (List ℕ)) (count n i : ℕ) → AreRows count n rows → i < count → has_no_repeats (list_at rows i) ≡ true
+row_distinct rows count n i a h = let same = a.one_each in a.distinct i [] (omega arith)

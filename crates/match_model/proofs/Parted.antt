@@ -1,7 +1,7 @@
 -- Lemmas on rows that stand one after another in one list.
-use Rattle.std.proofs.Common.{◌≡◌, ℕ, ◌-◌, ◌<◌, ◌≤◌, List, [], ◌∷◌, ◌++◌, length, get_or, take, drop, refl, ap, ◌∙◌, suc, zero, arith}
+use Rattle.std.proofs.Common.{◌≡◌, ℕ, ◌+◌, ◌-◌, ◌<◌, ◌≤◌, List, [], ◌∷◌, ◌++◌, length, get_or, set, take, drop, refl, ap, ◌∙◌, suc, zero, arith}
 use Rattle.std.specs.List.{slice_range}
-use Rattle.std.proofs.lemmas.List.{take_all, length-drop, take-append-le, drop-append-le}
+use Rattle.std.proofs.lemmas.List.{take_all, length-drop, length-take, take-append-le, drop-append-le, take-set-le, drop-set-lt, drop-set-add}
 use Rattle.match_model.specs.Rows.{parted, last_end, AreEnds}
 
 -- the last row ends within
@@ -34,7 +34,36 @@ ends_at start [] n i h l = absurd (omega arith)
 ends_at start (e ∷ es) n zero h l = (h.0, start_within e es n h.1)
 ends_at start (e ∷ es) n (suc i) h l = ends_at e es n i h.1 (omega arith)
 
+-- the rows start in order
+pub start_before : (start : ℕ) (ends : List ℕ) (n i : ℕ) → AreEnds start ends n → i < length ends → start ≤ get_or (start ∷ ends) i 0
+start_before start [] n i h l = absurd (omega arith)
+start_before start (e ∷ es) n zero h l = omega arith
+start_before start (e ∷ es) n (suc i) h l = let first = h.0 in let rest = start_before e es n i h.1 (omega arith) in omega arith
+
+-- and none ends behind the last
+last_behind : (start : ℕ) (ends : List ℕ) (n : ℕ) → AreEnds start ends n → start ≤ last_end start ends
+last_behind start [] n h = omega arith
+last_behind start (e ∷ es) n h = let first = h.0 in let rest = last_behind e es n h.1 in omega arith
+
+pub end_before : (start : ℕ) (ends : List ℕ) (n i : ℕ) → AreEnds start ends n → i < length ends → get_or ends i 0 ≤ last_end start ends
+end_before start [] n i h l = absurd (omega arith)
+end_before start (e ∷ es) n zero h l = last_behind e es n h.1
+end_before start (e ∷ es) n (suc i) h l = end_before e es n i h.1 (omega arith)
+
 module _ {T : Type 0} where
+  -- a row that has an item is there
+  pub row_there : (rows : List (List T)) (i k : ℕ) → k < length (get_or rows i []) → i < length rows
+  row_there [] i k h = absurd (omega arith)
+  row_there (r ∷ rs) zero k h = omega arith
+  row_there (r ∷ rs) (suc i) k h = let rest = row_there rs i k h in omega arith
+
+  -- an item that is written within what is taken, and one that is written behind it
+  take_set : (n : ℕ) (xs : List T) (k : ℕ) (y : T) → take n (set xs k y) ≡ set (take n xs) k y
+  take_set zero xs k y = refl
+  take_set (suc n) [] k y = refl
+  take_set (suc n) (x ∷ xs) zero y = refl
+  take_set (suc n) (x ∷ xs) (suc k) y = ap (λ (ys : List T). x ∷ ys) (take_set n xs k y)
+
   -- as many rows as ends
   pub length-parted : (start : ℕ) (ends : List ℕ) (items : List T) → length (parted start ends items) ≡ length ends
   length-parted start [] items = refl
@@ -63,3 +92,32 @@ module _ {T : Type 0} where
   pub parted-push : (start : ℕ) (ends : List ℕ) (items : List T) → AreEnds start ends (length items) → parted start (ends ++ length items ∷ []) items ≡ parted start ends items ++ drop (last_end start ends) items ∷ []
   parted-push start [] items h = ap (λ (row : List T). row ∷ []) (take_all (length items - start) (drop start items) (omega (arith, length-drop start items)))
   parted-push start (e ∷ es) items h = ap (λ (rows : List (List T)). slice_range items start e ∷ rows) (parted-push e es items h.1)
+
+  -- an item that is written before the first row leaves the rows as they are
+  parted-set_before : (start : ℕ) (ends : List ℕ) (items : List T) (j : ℕ) (y : T) → j < start → AreEnds start ends (length items) → parted start ends (set items j y) ≡ parted start ends items
+  parted-set_before start [] items j y l h = refl
+  parted-set_before start (e ∷ es) items j y l h =
+      let first = ap (take (e - start)) (drop-set-lt start items j y l) in
+      let rest = parted-set_before e es items j y (let order = h.0 in omega arith) h.1 in
+      λ i. first i ∷ rest i
+
+  -- an item that is written into a row
+  pub parted-set : (start : ℕ) (ends : List ℕ) (items : List T) (i k : ℕ) (y : T) → AreEnds start ends (length items) → i < length ends → get_or (start ∷ ends) i 0 + k < get_or ends i 0 →
+      parted start ends (set items (get_or (start ∷ ends) i 0 + k) y) ≡ set (parted start ends items) i (set (get_or (parted start ends items) i []) k y)
+  parted-set start [] items i k y h l w = absurd (omega arith)
+  parted-set start (e ∷ es) items zero k y h l w =
+      let first = ap (take (e - start)) (drop-set-add start items k y) ∙ take_set (e - start) (drop start items) k y in
+      let rest = parted-set_before e es items (start + k) y w h.1 in
+      λ i. first i ∷ rest i
+  parted-set start (e ∷ es) items (suc i) k y h l w =
+      let behind = start_before e es (length items) i h.1 (omega arith) in
+      let order = h.0 in
+      let j : ℕ = get_or (e ∷ es) i 0 + k in
+      let on : j ≡ start + (j - start) = omega arith in
+      let first = ap (λ (m : ℕ). slice_range (set items m y) start e) on ∙ ap (take (e - start)) (drop-set-add start items (j - start) y) ∙ take-set-le (e - start) (drop start items) (j - start) y (omega arith) in
+      let rest = parted-set e es items i k y h.1 (omega arith) w in
+      λ m. first m ∷ rest m
+
+  -- how many items a row has
+  pub within_row : (items : List T) (start end k : ℕ) → k < length (slice_range items start end) → start + k < end
+  within_row items start end k h = let n = length-take (end - start) (drop start items) in omega arith

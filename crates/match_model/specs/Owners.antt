@@ -1,5 +1,5 @@
 -- For each number the owners of the lists in which it stands.
-use Rattle.std.specs.Prelude.{◌≡◌, ℕ, ◌<◌, nat_lt, Bool, true, false, List, [], ◌∷◌, ◌++◌, length, map}
+use Rattle.std.specs.Prelude.{◌≡◌, ℕ, ◌<◌, nat_lt, Bool, true, false, List, length, map, take, slice_index, slice_index_or}
 use Rattle.std.specs.List.{filter, range_with_len, enumerate_from, All, list_all}
 use Rattle.std.specs.List.Sorted.{IsNonDecreasing}
 use Rattle.match_model.specs.Ranking.{is_listed}
@@ -15,15 +15,27 @@ pub record AreOwners (count n : ℕ) (lists rows : List (List ℕ)) : Type 0 whe
   pub one_each : length rows ≡ count
   pub row : (x : ℕ) → x < count → list_at rows x ≡ owners_below n lists x
 
--- a row, with the owner at its end where its number is listed
-abbrev pub with_owner : ℕ → Bool → List ℕ → List ℕ
-with_owner owner true row = row ++ owner ∷ []
-with_owner owner false row = row
+-- what a number's item becomes, where it is listed
+abbrev pub stepped : {T : Type 0} → (T → T) → Bool → T → T
+stepped step true item = step item
+stepped step false item = item
 
--- the owner is at the end of the row of each number of its list, and the other rows are as they were
-pub record IsEntered (owner : ℕ) (list : List ℕ) (before after : List (List ℕ)) : Type 0 where
+-- the items of the numbers of a list are made one step further, and the others are as they were
+pub record AreStepped {T : Type 0} (none : T) (step : ℕ → T → T) (list : List ℕ) (before after : List T) : Type 0 where
   pub one_each : length after ≡ length before
-  pub row : (x : ℕ) → x < length before → list_at after x ≡ with_owner owner (is_listed list x) (list_at before x)
+  pub item : (x : ℕ) → x < length before → slice_index_or after x none ≡ stepped (step x) (is_listed list x) (slice_index_or before x none)
+
+-- so many counts, each of the lists in which its number stands, of the owners below n
+pub record AreCounts (count n : ℕ) (lists : List (List ℕ)) (counts : List ℕ) : Type 0 where
+  pub one_each : length counts ≡ count
+  pub number : (x : ℕ) → x < count → slice_index counts x ≡ length (owners_below n lists x)
+
+-- so many rows, each with room for the owners below all and begun by those below n, as many as are counted
+pub record AreBegun (count all n : ℕ) (lists rows : List (List ℕ)) (counts : List ℕ) : Type 0 where
+  pub one_each : length rows ≡ count
+  pub counted : AreCounts count n lists counts
+  pub room : (x : ℕ) → x < count → length (list_at rows x) ≡ length (owners_below all lists x)
+  pub first : (x : ℕ) → x < count → take (length (owners_below n lists x)) (list_at rows x) ≡ owners_below n lists x
 
 -- of each list the items that stand in its owner's row
 unfoldable pub kept_lists : List (List ℕ) → List (List ℕ) → List (List ℕ)

@@ -1,7 +1,6 @@
 //! The mutual parts of lists, where for each owner a row says who lists it.
 ghost use Rattle.std.specs.Prelude.{◌≡◌, ℕ, ◌<◌, ◌≤◌, ◌^◌, ◌⊎◌, nat_lt, List, length, map, true, ◌++◌, OnOk, IfOk, IfErr, IfSome, IfNone};
 ghost use Rattle.std.specs.List.{All, list_all, filter, sum_by};
-ghost use Rattle.std.specs.Global.{Vec};
 ghost use Rattle.match_model.specs.Ranking.{is_listed};
 ghost use Rattle.match_model.specs.Draft.{items_of, lists_left, AreLists, mutual_lists, has_no_repeats};
 ghost use Rattle.match_model.specs.Owners.{AreRows, kept_lists};
@@ -56,19 +55,19 @@ fn keep(
 fn count_all_kept(
     lists: &[Option<Vec<u32>>],
     withdrawn: &[bool],
-    rows: &[Vec<u32>],
+    rows: &Rows<u32>,
     places: &mut [usize],
 ) -> Option<u32>
     requires flags { length withdrawn.now ≡ length lists.now }
     requires below { All (λ list. list_all (λ x. nat_lt x (length places.old)) list ≡ true) (lists_left lists.now withdrawn.now) }
-    requires rows { AreRows (length lists.now) (length places.old) (map (λ (row : Vec ℕ). row.items) rows.now) }
+    requires rows { AreRows (length lists.now) (length places.old) rows.now.rows }
     ensures same_room { length places.new ≡ length places.old }
-    ensures counted { IfSome result (λ n. (n ≡ sum_by length (kept_lists (lists_left lists.now withdrawn.now) (map (λ (row : Vec ℕ). row.items) rows.now))) × (n ≤ MAX_PAIRS)) }
-    ensures over { IfNone result (MAX_PAIRS < sum_by length (kept_lists (lists_left lists.now withdrawn.now) (map (λ (row : Vec ℕ). row.items) rows.now))) }
+    ensures counted { IfSome result (λ n. (n ≡ sum_by length (kept_lists (lists_left lists.now withdrawn.now) rows.now.rows)) × (n ≤ MAX_PAIRS)) }
+    ensures over { IfNone result (MAX_PAIRS < sum_by length (kept_lists (lists_left lists.now withdrawn.now) rows.now.rows)) }
 {
     let mut count = 0;
     for owner in 0..lists.len() {
-        let row = rows[owner].as_slice();
+        let row = rows.row(owner);
         note_places(places, row);
         let kept = count_kept(remaining(lists, withdrawn, owner), row, places);
         if kept > MAX_PAIRS - count {
@@ -85,18 +84,18 @@ fn all_kept(
     pairs: usize,
     lists: &[Option<Vec<u32>>],
     withdrawn: &[bool],
-    rows: &[Vec<u32>],
+    rows: &Rows<u32>,
     places: &mut [usize],
 ) -> Result<Rows<u32>, AllocError>
     requires flags { length withdrawn.now ≡ length lists.now }
     requires below { All (λ list. list_all (λ x. nat_lt x (length places.old)) list ≡ true) (lists_left lists.now withdrawn.now) }
-    requires rows { AreRows (length lists.now) (length places.old) (map (λ (row : Vec ℕ). row.items) rows.now) }
+    requires rows { AreRows (length lists.now) (length places.old) rows.now.rows }
     ensures same_room { length places.new ≡ length places.old }
-    ensures lists { IfOk result (λ made. made.rows ≡ kept_lists (lists_left lists.now withdrawn.now) (map (λ (row : Vec ℕ). row.items) rows.now)) }
+    ensures lists { IfOk result (λ made. made.rows ≡ kept_lists (lists_left lists.now withdrawn.now) rows.now.rows) }
 {
     let mut kept = Rows::with_capacity(alloc, lists.len(), pairs)?;
     for owner in 0..lists.len() {
-        let row = rows[owner].as_slice();
+        let row = rows.row(owner);
         note_places(places, row);
         keep(&mut kept, remaining(lists, withdrawn, owner), row, places)?;
         kept.end_row()?;
@@ -110,15 +109,15 @@ fn ranked(
     pairs: usize,
     lists: &[Option<Vec<u32>>],
     withdrawn: &[bool],
-    rows: &[Vec<u32>],
+    rows: &Rows<u32>,
     places: &mut [usize],
 ) -> Result<(Rows<u32>, Rows<(u32, u32)>), AllocError>
     requires few { length places.old < 2 ^ 32 }
     requires flags { length withdrawn.now ≡ length lists.now }
     requires below { All (λ list. list_all (λ x. nat_lt x (length places.old)) list ≡ true) (lists_left lists.now withdrawn.now) }
     requires distinct { All (λ list. has_no_repeats list ≡ true) (lists_left lists.now withdrawn.now) }
-    requires rows { AreRows (length lists.now) (length places.old) (map (λ (row : Vec ℕ). row.items) rows.now) }
-    ensures lists { IfOk result (λ made. made.0.rows ≡ kept_lists (lists_left lists.now withdrawn.now) (map (λ (row : Vec ℕ). row.items) rows.now)) }
+    requires rows { AreRows (length lists.now) (length places.old) rows.now.rows }
+    ensures lists { IfOk result (λ made. made.0.rows ≡ kept_lists (lists_left lists.now withdrawn.now) rows.now.rows) }
     ensures ranks { IfOk result (λ made. AreRankTables made.0.rows made.1.rows) }
 {
     let kept = all_kept(alloc, pairs, lists, withdrawn, rows, places)?;

@@ -1,7 +1,6 @@
 //! Tables of ranks, in which a rank is found by halving.
-ghost use Rattle.std.specs.Prelude.{◌≡◌, ℕ, ◌<◌, ◌≤◌, ◌^◌, ◌++◌, nat_lt, List, length, map, true, OnOk, IfOk};
+ghost use Rattle.std.specs.Prelude.{◌≡◌, ℕ, ◌<◌, ◌≤◌, ◌^◌, ◌++◌, nat_lt, List, length, true, OnOk, IfOk};
 ghost use Rattle.std.specs.List.{All, list_all};
-ghost use Rattle.std.specs.Global.{Vec};
 ghost use Rattle.match_model.specs.Draft.{has_no_repeats};
 ghost use Rattle.match_model.specs.Instance.{rank};
 ghost use Rattle.match_model.specs.Owners.{AreRows, AreCovered};
@@ -47,20 +46,20 @@ fn enter_ranks(
 pub(crate) fn rank_tables(
     alloc: Global,
     lists: &Rows<u32>,
-    rows: &[Vec<u32>],
+    rows: &Rows<u32>,
     places: &mut [usize],
 ) -> Result<Rows<(u32, u32)>, AllocError>
     requires few { length places.old < 2 ^ 32 }
     requires below { All (λ list. list_all (λ x. nat_lt x (length places.old)) list ≡ true) lists.now.rows }
     requires distinct { All (λ list. has_no_repeats list ≡ true) lists.now.rows }
-    requires rows { AreRows (length lists.now.rows) (length places.old) (map (λ (row : Vec ℕ). row.items) rows.now) }
-    requires covered { AreCovered lists.now.rows (map (λ (row : Vec ℕ). row.items) rows.now) }
+    requires rows { AreRows (length lists.now.rows) (length places.old) rows.now.rows }
+    requires covered { AreCovered lists.now.rows rows.now.rows }
     ensures { IfOk result (λ tables. AreRankTables lists.now.rows tables.rows) }
 {
     let mut tables = Rows::with_capacity(alloc, lists.len(), lists.item_count())?;
     for owner in 0..lists.len() {
         let list = lists.row(owner);
-        let row = rows[owner].as_slice();
+        let row = rows.row(owner);
         note_places(places, list);
         enter_ranks(&mut tables, list, row, places)?;
         tables.end_row()?;

@@ -1,5 +1,5 @@
 //! Rows of items, one after another in one vector.
-ghost use Rattle.std.specs.Prelude.{◌≡◌, ◌<◌, ◌≤◌, [], ◌∷◌, ◌++◌, length, slice_index_or, IfOk, OnOk};
+ghost use Rattle.std.specs.Prelude.{◌≡◌, ◌<◌, ◌≤◌, [], ◌∷◌, ◌++◌, length, map, replicate, slice_index_or, slice_set, IfOk, OnOk};
 ghost use Rattle.std.specs.List.{slice_range};
 
 use crate::member::{ProgrammeNo, ResidentNo};
@@ -62,6 +62,15 @@ impl<T: Copy> Rows<T> {
         Ok(())
     }
 
+    /// Writes an item of a row that is ended.
+    pub(crate) fn set(&mut self, row: usize, place: usize, item: T)
+        requires { place < length (slice_index_or self.old.rows row []) }
+        ensures { self.new ≡ record self.old { rows = slice_set self.old.rows row (slice_set (slice_index_or self.old.rows row []) place item) } }
+    {
+        let at = start_of(&self.ends, row) + place;
+        self.items[at] = item;
+    }
+
     /// How many rows are ended.
     pub(crate) fn len(&self) -> usize
         ensures { result ≡ length self.now.rows }
@@ -104,7 +113,38 @@ fn part<T>(items: &[T], start: usize, end: usize) -> &[T]
     &items[start..end]
 }
 
+/// How many items these are in all, which is only the room that is made for them.
+fn total(lengths: &[usize]) -> usize {
+    let mut total: usize = 0;
+    for length in lengths {
+        total = total.saturating_add(*length);
+    }
+    total
+}
+
 impl Rows<u32> {
+    /// Rows of zeros, of these lengths.
+    pub(crate) fn of_lengths(alloc: Global, lengths: &[usize]) -> Result<Rows<u32>, AllocError>
+        ensures { IfOk result (λ made. made.rows ≡ map (λ n. replicate n 0) lengths.now) }
+    {
+        let mut rows = Rows::with_capacity(alloc, lengths.len(), total(lengths))?;
+        for length in lengths {
+            rows.push_zeros(*length)?;
+            rows.end_row()?;
+        }
+        Ok(rows)
+    }
+
+    /// So many zeros more in the row that is begun.
+    fn push_zeros(&mut self, count: usize) -> Result<(), AllocError>
+        ensures { OnOk result (self.new ≡ record self.old { begun = self.old.begun ++ replicate count 0 }) }
+    {
+        for _ in 0..count {
+            self.push(0)?;
+        }
+        Ok(())
+    }
+
     /// The rows of these numbers, as residents.
     pub(crate) fn into_residents(self, alloc: Global) -> Result<Rows<ResidentNo>, AllocError>
         ensures { IfOk result (λ made. made ≡ self) }

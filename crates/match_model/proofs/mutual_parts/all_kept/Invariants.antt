@@ -1,11 +1,10 @@
-use Rattle.std.proofs.Common.{◌≡◌, [], map, take, ℕ}
-use Rattle.std.specs.Global.{Vec}
+use Rattle.std.proofs.Common.{◌≡◌, [], take}
 use Rattle.match_model.specs.Draft.{lists_left}
 use Rattle.match_model.specs.Owners.{kept_lists}
 use Rattle.match_model.proofs.mutual_parts.all_kept.Given as goal
 
 abbrev pub invariant-loop-owner : goal.invariant-loop-owner
 invariant-loop-owner l = record {
-  ended : l.kept.rows ≡ take l.owner (kept_lists (lists_left l.lists l.withdrawn) (map (λ (row : Vec ℕ). row.items) l.rows));
+  ended : l.kept.rows ≡ take l.owner (kept_lists (lists_left l.lists l.withdrawn) l.rows.rows);
   none_begun : l.kept.begun ≡ [];
 }

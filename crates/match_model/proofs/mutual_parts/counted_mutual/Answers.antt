@@ -1,11 +1,10 @@
 use Rattle.std.proofs.Common.{◌≡◌, ◌∙◌, ℕ, List, ltb, true, length, subst, sym, ap, arith, refl, inr}
-use Rattle.std.specs.Global.{Vec}
 use Rattle.std.specs.Prelude.{◌<◌}
 use Rattle.std.specs.List.{All, list_all, sum_by}
 use Rattle.match_model.specs.Draft.{lists_left}
 use Rattle.match_model.specs.declared.limits.TheConstants.{MAX_PAIRS}
-use Rattle.match_model.specs.Owners.{AreRows, kept_lists}
-use Rattle.match_model.proofs.Mutual.{lists_of, left_below, left_distinct}
+use Rattle.match_model.specs.Owners.{AreRows}
+use Rattle.match_model.proofs.Mutual.{left_below, left_distinct}
 use Rattle.match_model.proofs.Entered.{AreRows-owners, made_is}
 use Rattle.match_model.proofs.mutual_parts.counted_mutual.Goals as goal
 
@@ -23,8 +22,8 @@ count_all_kept-requires-clause-below c =
 pub count_all_kept-requires-clause-rows : goal.count_all_kept-requires-clause-rows
 count_all_kept-requires-clause-rows c =
     let room : length c.deref_mut.result.now ≡ length c.args.theirs.now = omega (arith, c.deref_mut.ensures.len, c.in_ok-places.ensures.len) in
-    subst (λ (n : ℕ). AreRows (length c.args.mine.now) n (lists_of c.deref.result.now)) (sym room)
-    (rw c.deref.ensures.value (AreRows-owners (length c.args.mine.now) (length c.args.theirs.now) (lists_left c.args.theirs.now c.args.theirs_withdrawn.now) (lists_of c.in_ok-rows.rows.items) c.in_ok-rows.ensures))
+    subst (λ (n : ℕ). AreRows (length c.args.mine.now) n c.in_ok-rows.rows.rows) (sym room)
+    (AreRows-owners (length c.args.mine.now) (length c.args.theirs.now) (lists_left c.args.theirs.now c.args.theirs_withdrawn.now) c.in_ok-rows.rows.rows c.in_ok-rows.ensures)
 
 pub ranked-requires-clause-below : goal.ranked-requires-clause-below
 ranked-requires-clause-below c =
@@ -34,24 +33,23 @@ ranked-requires-clause-below c =
 pub ranked-requires-clause-rows : goal.ranked-requires-clause-rows
 ranked-requires-clause-rows c =
     let room : length c.deref_mut-2.result.now ≡ length c.args.theirs.now = omega (arith, c.deref_mut-2.ensures.len, c.in-Some.ensures.same_room, c.deref_mut.ensures.len, c.in_ok-places.ensures.len) in
-    subst (λ (n : ℕ). AreRows (length c.args.mine.now) n (lists_of c.deref-2.result.now)) (sym room)
-    (rw c.deref-2.ensures.value (AreRows-owners (length c.args.mine.now) (length c.args.theirs.now) (lists_left c.args.theirs.now c.args.theirs_withdrawn.now) (lists_of c.in_ok-rows.rows.items) c.in_ok-rows.ensures))
+    subst (λ (n : ℕ). AreRows (length c.args.mine.now) n c.in_ok-rows.rows.rows) (sym room)
+    (AreRows-owners (length c.args.mine.now) (length c.args.theirs.now) (lists_left c.args.theirs.now c.args.theirs_withdrawn.now) c.in_ok-rows.rows.rows c.in_ok-rows.ensures)
 
 pub ranked-requires-clause-distinct : goal.ranked-requires-clause-distinct
 ranked-requires-clause-distinct c = left_distinct c.args.mine.now c.args.mine_withdrawn.now (length c.args.theirs.now) c.requires.lists
 
 pub returns-in_default-clause-cause : goal.returns-in_default-clause-cause
 returns-in_default-clause-cause c =
-    let made = made_is c.args.mine.now c.args.theirs.now c.args.mine_withdrawn.now c.args.theirs_withdrawn.now c.in_ok-rows.rows.items c.in_ok-rows.ensures in
-    inr (refl, subst (λ (lists : List (List ℕ)). MAX_PAIRS < sum_by (length {A = ℕ}) lists) (ap (λ (vs : List (Vec ℕ)). kept_lists (lists_left c.args.mine.now c.args.mine_withdrawn.now) (lists_of vs)) c.deref.ensures.value ∙ made) c.in_default.ensures.over)
+    let made = made_is c.args.mine.now c.args.theirs.now c.args.mine_withdrawn.now c.args.theirs_withdrawn.now c.in_ok-rows.rows.rows c.in_ok-rows.ensures in
+    inr (refl, subst (λ (lists : List (List ℕ)). MAX_PAIRS < sum_by (length {A = ℕ}) lists) made c.in_default.ensures.over)
 
 pub returns-clause-lists : goal.returns-clause-lists
 returns-clause-lists c =
-    c.in_ok-lists.ensures.lists ∙ ap (λ (vs : List (Vec ℕ)). kept_lists (lists_left c.args.mine.now c.args.mine_withdrawn.now) (lists_of vs)) c.deref-2.ensures.value
-    ∙ made_is c.args.mine.now c.args.theirs.now c.args.mine_withdrawn.now c.args.theirs_withdrawn.now c.in_ok-rows.rows.items c.in_ok-rows.ensures
+    c.in_ok-lists.ensures.lists
+    ∙ made_is c.args.mine.now c.args.theirs.now c.args.mine_withdrawn.now c.args.theirs_withdrawn.now c.in_ok-rows.rows.rows c.in_ok-rows.ensures
 
 pub returns-clause-count : goal.returns-clause-count
 returns-clause-count c =
-    let same = ap (λ (vs : List (Vec ℕ)). kept_lists (lists_left c.args.mine.now c.args.mine_withdrawn.now) (lists_of vs)) c.deref.ensures.value
-    ∙ made_is c.args.mine.now c.args.theirs.now c.args.mine_withdrawn.now c.args.theirs_withdrawn.now c.in_ok-rows.rows.items c.in_ok-rows.ensures in
+    let same = made_is c.args.mine.now c.args.theirs.now c.args.mine_withdrawn.now c.args.theirs_withdrawn.now c.in_ok-rows.rows.rows c.in_ok-rows.ensures in
     (c.in-Some.ensures.counted.0 ∙ ap (sum_by (length {A = ℕ})) same, c.in-Some.ensures.counted.1)
