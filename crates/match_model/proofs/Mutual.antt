@@ -9,14 +9,6 @@ use Rattle.match_model.specs.Instance.{list_at}
 use Rattle.match_model.specs.Draft.{items_of, given_lists, lists_left, has_no_repeats, AreLists, mutual_lists}
 use Rattle.match_model.proofs.Remaining.{length-remaining_lists, remaining_all}
 
--- the lists of vectors
-abbrev pub lists_of : List (Vec ℕ) → List (List ℕ)
-lists_of vs = map (λ (list : Vec ℕ). list.items) vs
-
--- the items of a vector among others
-pub list_at_vector : (vs : List (Vec ℕ)) (i : ℕ) (v : Vec ℕ) → i < length vs → v ≡ get_or vs i v → list_at (lists_of vs) i ≡ v.items
-list_at_vector vs i v h e = get_or-map (λ (list : Vec ℕ). list.items) vs i v [] h ∙ ap (λ (list : Vec ℕ). list.items) (sym e)
-
 -- an item of a list whose items are below n
 pub list_all_at : (n : ℕ) (xs : List ℕ) (k : ℕ) → list_all (λ x. ltb x n) xs ≡ true → k < length xs → get_or xs k 0 < n
 list_all_at n [] k e h = absurd (omega arith)

@@ -42,17 +42,20 @@ fn count_items(counts: &mut [usize], items: &[u32])
     }
 }
 
-/// Enters an owner into the row of each item of its list, behind those that are counted there.
-fn enter(rows: &mut Rows<u32>, counts: &[usize], owner: u32, items: &[u32])
-    requires below { list_all (λ x. nat_lt x (length counts.now)) items.now ≡ true }
+/// Enters an owner into the row of each item of its list, behind those that are counted there, and counts it.
+fn enter(rows: &mut Rows<u32>, counts: &mut [usize], owner: u32, items: &[u32])
+    requires below { list_all (λ x. nat_lt x (length counts.old)) items.now ≡ true }
     requires distinct { has_no_repeats items.now ≡ true }
-    requires one_each { length rows.old.rows ≡ length counts.now }
-    requires room { (x : ℕ) → is_listed items.now x ≡ true → slice_index counts.now x < length (list_at rows.old.rows x) }
-    ensures { AreStepped [] (λ x row. slice_set row (slice_index counts.now x) owner) items.now rows.old.rows rows.new.rows }
+    requires few { (x : ℕ) → x < length counts.old → slice_index counts.old x < 2 ^ 32 }
+    requires one_each { length rows.old.rows ≡ length counts.old }
+    requires room { (x : ℕ) → is_listed items.now x ≡ true → slice_index counts.old x < length (list_at rows.old.rows x) }
+    ensures entered { AreStepped [] (λ x row. slice_set row (slice_index counts.old x) owner) items.now rows.old.rows rows.new.rows }
+    ensures counted { AreStepped 0 (λ _ n. n + 1) items.now counts.old counts.new }
 {
     for item in items {
         let row = *item as usize;
         rows.set(row, counts[row], owner);
+        counts[row] += 1;
     }
 }
 
@@ -73,9 +76,12 @@ pub(crate) fn owners(
     let mut rows = Rows::of_lengths(alloc, &lengths)?;
     let mut counts: Vec<usize> = vec![in alloc; 0; count]?;
     for owner in 0..lists.len() {
-        let list = remaining(lists, withdrawn, owner);
-        enter(&mut rows, &counts, owner as u32, list);
-        count_items(&mut counts, list);
+        enter(
+            &mut rows,
+            &mut counts,
+            owner as u32,
+            remaining(lists, withdrawn, owner),
+        );
     }
     Ok(rows)
 }

@@ -13,16 +13,16 @@ enter-requires-clause-room c = λ x e.
     let i : ℕ = c.loop-owner.owner in
     let n : ℕ = length c.args.lists.now in
     let all : List (List ℕ) = lists_left c.args.lists.now c.args.withdrawn.now in
-    let listed : is_listed (list_at all i) x ≡ true = ap (λ (xs : List ℕ). is_listed xs x) (sym c.remaining-list.ensures) ∙ e in
+    let listed : is_listed (list_at all i) x ≡ true = ap (λ (xs : List ℕ). is_listed xs x) (sym c.remaining.ensures) ∙ e in
     let within : x < c.args.count = is_listed_below c.args.count (list_at all i) x (c.requires.below i [] (omega (arith, length-lists_left c.args.lists.now c.args.withdrawn.now, c.loop-owner-test.true))) listed in
     let number = c.loop-owner.invariant.counted.number x within in
     let many = c.loop-owner.invariant.room x within in
-    let here = ap (λ (ns : List ℕ). get_or ns x 0) c.deref-in-loop-owner.ensures.value in
+    let here = ap (λ (ns : List ℕ). get_or ns x 0) c.deref_mut.ensures.value in
     let room = owners_room i n all x c.loop-owner-test.true listed in
     omega (arith, number, many, here, room)
 
-pub count_items-requires-clause-few : goal.count_items-requires-clause-few
-count_items-requires-clause-few c = λ x h.
+pub enter-requires-clause-few : goal.enter-requires-clause-few
+enter-requires-clause-few c = λ x h.
     let i : ℕ = c.loop-owner.owner in
     let all : List (List ℕ) = lists_left c.args.lists.now c.args.withdrawn.now in
     let same = ap (λ (ns : List ℕ). length ns) c.deref_mut.ensures.value in
@@ -42,15 +42,15 @@ loop-owner-preserved c =
     let all : List (List ℕ) = lists_left c.args.lists.now c.args.withdrawn.now in
     let counts : List ℕ = c.loop-owner.counts.items in
     let step : ℕ → ℕ → ℕ = λ _ k. k + 1 in
-    let counted : AreStepped 0 step (list_at all i) counts c.count_items.new.counts =
-    subst (λ (list : List ℕ). AreStepped 0 step list counts c.count_items.new.counts) c.remaining-list.ensures
-    (subst (λ (before : List ℕ). AreStepped 0 step c.remaining-list.result.now before c.count_items.new.counts) c.deref_mut.ensures.value c.count_items.ensures) in
+    let counted : AreStepped 0 step (list_at all i) counts c.enter.new.counts =
+    subst (λ (list : List ℕ). AreStepped 0 step list counts c.enter.new.counts) c.remaining.ensures
+    (subst (λ (before : List ℕ). AreStepped 0 step c.remaining.result.now before c.enter.new.counts) c.deref_mut.ensures.value c.enter.ensures.counted) in
     let entered : AreStepped [] (λ (x : ℕ) (row : List ℕ). set row (get_or counts x 0) i) (list_at all i) c.loop-owner.rows.rows c.enter.new.rows.rows =
-    subst (λ (list : List ℕ). AreStepped [] (λ (x : ℕ) (row : List ℕ). set row (get_or counts x 0) i) list c.loop-owner.rows.rows c.enter.new.rows.rows) c.remaining-list.ensures
-    (subst (λ (ns : List ℕ). AreStepped [] (λ (x : ℕ) (row : List ℕ). set row (get_or ns x 0) i) c.remaining-list.result.now c.loop-owner.rows.rows c.enter.new.rows.rows) c.deref-in-loop-owner.ensures.value c.enter.ensures) in
-    let many : length c.count_items.new.counts ≡ c.loop-owner.counts.len = c.count_items.ensures.one_each ∙ c.deref_mut.ensures.len in
-    subst (AreBegun c.args.count n (i + 1) all c.enter.new.rows.rows) (sym (with_items_is c.loop-owner.counts c.count_items.new.counts many))
-    (AreBegun-more c.args.count n i all c.loop-owner.rows.rows c.enter.new.rows.rows counts c.count_items.new.counts c.loop-owner-test.true c.loop-owner.invariant entered counted)
+    subst (λ (list : List ℕ). AreStepped [] (λ (x : ℕ) (row : List ℕ). set row (get_or counts x 0) i) list c.loop-owner.rows.rows c.enter.new.rows.rows) c.remaining.ensures
+    (subst (λ (ns : List ℕ). AreStepped [] (λ (x : ℕ) (row : List ℕ). set row (get_or ns x 0) i) c.remaining.result.now c.loop-owner.rows.rows c.enter.new.rows.rows) c.deref_mut.ensures.value c.enter.ensures.entered) in
+    let many : length c.enter.new.counts ≡ c.loop-owner.counts.len = c.enter.ensures.counted.one_each ∙ c.deref_mut.ensures.len in
+    subst (AreBegun c.args.count n (i + 1) all c.enter.new.rows.rows) (sym (with_items_is c.loop-owner.counts c.enter.new.counts many))
+    (AreBegun-more c.args.count n i all c.loop-owner.rows.rows c.enter.new.rows.rows counts c.enter.new.counts c.loop-owner-test.true c.loop-owner.invariant entered counted)
 
 pub returns : goal.returns
 returns c =
