@@ -7,22 +7,19 @@ use crate::fault::Trouble;
 use crate::gate::Gate;
 use crate::hands::Hands;
 use crate::mailboxes::Mailboxes;
+use crate::naps::Naps;
 use offer_ledger::{Ledger, Naming};
 use std::hint::spin_loop;
 use std::sync::atomic::{AtomicBool, Ordering};
 use std::sync::{Condvar, Mutex, MutexGuard, Wait};
-use std::thread::Parker;
-use std::time::Duration;
 
 /// How often a lock is tried before a worker naps, and how long it pauses after each time.
-const TRIES: u32 = 10;
+const TRIES: u32 = 2;
 
 const PAUSES: u32 = 4;
 
-/// How often a worker naps before it waits for a lock, and for how many microseconds.
+/// How often a worker naps before it waits for a lock.
 const NAPS: u32 = 20;
-
-const NAP_MICROS: u64 = 100;
 
 // Tries a lock some times.
 fn try_soon<T>(lock: &Mutex<T>) -> Option<MutexGuard<'_, T>> {
@@ -40,12 +37,20 @@ fn try_soon<T>(lock: &Mutex<T>) -> Option<MutexGuard<'_, T>> {
 // The value under a lock that each worker wants for each event. Where another has it a worker steps back for a while, so
 // that the other works on alone: a lock that changes hands for each event makes both slower than one.
 fn lock_soon<'a, T, R: Wait>(rt: &R, lock: &'a Mutex<T>) -> MutexGuard<'a, T> {
-    let parker = Parker::new();
+    match try_soon(lock) {
+        Some(guard) => guard,
+        None => lock_later(rt, lock),
+    }
+}
+
+// The value under a lock that another worker has: tried after each of some naps, and then waited for.
+fn lock_later<'a, T, R: Wait>(rt: &R, lock: &'a Mutex<T>) -> MutexGuard<'a, T> {
+    let mut naps = Naps::new();
     for _ in 0..NAPS {
+        naps.nap(rt);
         if let Some(guard) = try_soon(lock) {
             return guard;
         }
-        parker.park_timeout(rt, Duration::from_micros(NAP_MICROS));
     }
     lock.lock(rt)
 }

@@ -122,14 +122,17 @@ impl<'a, G: Gate> Hands<'a, G> {
         Next::Desk(desk)
     }
 
-    /// This desk comes into a hand, if nobody has it. It isn't listed.
-    pub(crate) fn claim(&mut self, desk: u32) -> bool {
+    /// This desk comes into a hand, if nobody has it and it isn't listed; else one that is listed.
+    pub(crate) fn claim_or_next(&mut self, desk: u32) -> Next {
+        if self.ended {
+            return Next::Ended;
+        }
         match self.places.get_mut(desk as usize) {
             Some(place) if *place == Place::Idle => {
                 *place = Place::InHand;
-                true
+                Next::Desk(desk)
             }
-            _ => false,
+            _ => self.next(),
         }
     }
 

@@ -12,6 +12,7 @@ mod floor;
 mod gate;
 mod hands;
 mod mailboxes;
+mod naps;
 mod open;
 mod pool;
 mod ready;

@@ -9,6 +9,7 @@ use crate::floor::Floor;
 use crate::gate::{Gate, Go};
 use crate::hands::Next;
 use crate::mailboxes::Mailboxes;
+use crate::naps::Naps;
 use crate::woken::Woken;
 use exchange_core::{AnswerKind, AnswerNote, Desk, Event};
 use match_agents::Heard;
@@ -48,6 +49,9 @@ enum Miss {
     /// The log has no room for one.
     LogFull,
 }
+
+/// How often a worker that has found no desk naps and looks again, before it waits for news.
+const LOOKS: u32 = 8;
 
 const LEAVE: Step = Step::Leave { again: false };
 
@@ -370,7 +374,7 @@ impl<'a, 'f, J: Naming, M: Mailboxes, G: Gate, R: Wait> Worker<'a, 'f, J, M, G, 
                 .lock_books(self.rt)
                 .close_or_find(self.inst, &mut self.tally);
             let next = match found {
-                Found::Desk(desk) => self.claim_or_wait(desk),
+                Found::Desk(desk) => self.claim_or_look(desk),
                 Found::Closed => {
                     self.gate.entered(self.number);
                     Next::Ended
@@ -389,16 +393,28 @@ impl<'a, 'f, J: Naming, M: Mailboxes, G: Gate, R: Wait> Worker<'a, 'f, J, M, G, 
         unreachable!()
     }
 
-    // Takes this desk into a hand; where another worker has it, waits until a desk is listed or the run ends. Whoever
-    // lists desks wakes one worker, so one that wakes and leaves a desk listed wakes the next.
-    fn claim_or_wait(&self, desk: u32) -> Next {
+    // Takes this desk into a hand; where another worker has it, looks after each of some naps whether a desk is listed,
+    // and then waits for news. Who naps needs no waking.
+    fn claim_or_look(&self, desk: u32) -> Next {
+        let mut found = self.floor.lock_hands(self.rt).claim_or_next(desk);
+        let mut naps = Naps::new();
+        for _ in 0..LOOKS {
+            if found != Next::Nothing {
+                return found;
+            }
+            naps.nap(self.rt);
+            found = self.floor.lock_hands(self.rt).next();
+        }
+        match found {
+            Next::Nothing => self.wait(),
+            found => found,
+        }
+    }
+
+    // Waits until a desk is listed or the run ends. Whoever lists desks wakes one worker, so one that wakes and leaves a
+    // desk listed wakes the next.
+    fn wait(&self) -> Next {
         let mut hands = self.floor.lock_hands(self.rt);
-        if hands.ended {
-            return Next::Ended;
-        }
-        if hands.claim(desk) {
-            return Next::Desk(desk);
-        }
         hands.wait_begins();
         let mut hands = self
             .floor
