@@ -8,11 +8,9 @@ use Rattle.exchange_core.specs.declared.event.Event.TheVariants.{Take, Hear, Clo
 use Rattle.exchange_core.specs.declared.event.Capacity.{Capacity}
 use Rattle.exchange_core.specs.Mail.{Answered, offers_to, answers_to, takes, hears}
 use Rattle.exchange_core.specs.Legal.{IsLegal, IsClosed, IsAtRest, MayFollow}
-use Rattle.exchange_core.specs.Left.{given}
 use Rattle.settle_law.specs.Orderly.{IsOrderly}
 use Rattle.settle_law.specs.Stable.{IsStable, IsSettled}
 use Rattle.match_pool.specs.declared.done.Done.{Done}
-use Rattle.match_pool.specs.declared.done.Ending.{Ending}
 use Rattle.match_pool.specs.declared.done.Ending.TheVariants.{Closed}
 use Rattle.match_pool.specs.declared.fault.RunFault.{RunFault}
 use Rattle.match_pool.specs.declared.fault.RunFault.TheVariants.{BadWorkers, BadCapacity, Memory, Thread, OutOfStep, Torn, MailGone}

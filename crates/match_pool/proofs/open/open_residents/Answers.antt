@@ -1,4 +1,3 @@
-use Rattle.std.proofs.Common.{◌≡◌, ℕ, ◌+◌, [], sym}
 use Rattle.match_pool.proofs.Rows.{each_none, each_push}
 use Rattle.match_pool.proofs.open.open_residents.Goals as goal
 

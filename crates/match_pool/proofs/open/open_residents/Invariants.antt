@@ -1,4 +1,4 @@
-use Rattle.std.proofs.Common.{◌≡◌, ℕ, []}
+use Rattle.std.proofs.Common.{◌≡◌, []}
 use Rattle.match_pool.specs.Done.{Each}
 use Rattle.match_pool.specs.Rooms.{offer_room_of}
 use Rattle.match_pool.proofs.open.open_residents.Given as goal
