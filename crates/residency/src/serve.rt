@@ -96,7 +96,7 @@ where
 {
     law_one_settled();
     let inst = docket.instance();
-    // For the proof alone: the instance is one.
+    // For the proof alone: reading an instance tells that its rankings are mutual and within the limits.
     let _instance = inst.residents();
     let done = match run(rt, alloc, inst, options.capacity, options.workers, gate) {
         Ok(done) => done,
@@ -151,7 +151,7 @@ fn audit_docket<W: Write>(
     let Some(sheet) = docket.sheet() else {
         return Err(ServeFault::NoSheet);
     };
-    // For the proof alone: the instance is one.
+    // For the proof alone: reading an instance tells that its rankings are mutual and within the limits.
     let _instance = docket.instance().residents();
     let report = report_of(alloc, docket, sheet)?;
     match write_report(alloc, docket, &report, writer) {
@@ -215,7 +215,8 @@ fn replay_docket<W: Write>(
     }
 }
 
-// What `serve_match` does, with what becomes of what the match has used.
+// Reads a docket and does what `serve_match` promises. The docket, and the mailboxes and agents of its run, are given back
+// or left to the system, as `spent` says.
 fn match_read<R, W, G, H>(
     rt: H,
     alloc: Global,
@@ -313,8 +314,8 @@ pub fn serve_replay<R: Read + Drop, W: Write, H: RandomSource>(
     }
 }
 
-/// Serves an order of a program that ends then: what a match has used is left to the system, which takes it back faster
-/// than piece by piece. The gate never stops a run.
+/// Serves an order for a program that ends right after it. A match doesn't give back what it used piece by piece: the
+/// system takes it back faster when the program ends. The gate never stops a run.
 pub fn serve<R, W, G, H>(
     rt: H,
     alloc: Global,
