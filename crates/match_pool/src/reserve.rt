@@ -1,26 +1,21 @@
-//! What a run reserves at its start for what it does after the joins, and what it does then.
-ghost use Rattle.std.specs.Prelude.{◌≡◌, ◌↔◌, length, replicate, true, IfOk, IfErr, IfSome};
-ghost use Rattle.exchange_core.specs.declared.event.Event.{Event};
+//! What a run reserves at its start for what it does after the joins.
+ghost use Rattle.std.specs.Prelude.{◌≡◌, ◌↔◌, length, replicate, true, IfOk, IfErr};
 ghost use Rattle.exchange_core.specs.Legal.{IsClosed};
 ghost use Rattle.exchange_core.specs.Left.{given};
-ghost use Rattle.exchange_core.specs.Mail.{takes, hears};
-ghost use Rattle.match_pool.specs.Compare.{AreLogs, AreByResident, AreByProgramme, taken_of, heard_of};
-ghost use Rattle.match_pool.specs.Done.{IsRunOf, IsSettledRun, AreCounted, IsFault, IsReceipt};
-ghost use Rattle.match_pool.specs.declared.fault.RunFault.TheVariants.{Memory, Thread};
+ghost use Rattle.match_pool.specs.Done.{IsRunOf, IsSettledRun, AreCounted, IsFault};
+ghost use Rattle.match_pool.specs.declared.fault.RunFault.TheVariants.{Memory};
 
 use crate::compare::Cursors;
 use crate::desks::{ProgrammeSeat, ResidentSeat};
-use crate::done::{Done, Ending, Ends};
-use crate::fault::{RunFault, Trouble};
+use crate::done::{Done, Ending};
+use crate::fault::RunFault;
 use crate::floor::Floor;
 use crate::gate::Gate;
-use crate::hands::Hands;
 use crate::mailboxes::Mailboxes;
-use exchange_core::{Desk, Event, Pending};
+use crate::outcome::{Outcome, outcome_of};
 use match_agents::{ProgrammeAgent, ResidentAgent};
-use match_model::{Assignment, Instance, ResidentNo};
-use offer_ledger::{Ledger, Naming, PARTS, Tally};
-use settle_law::{law_orderly, law_settled};
+use match_model::{Assignment, Instance};
+use offer_ledger::{Naming, Tally};
 use std::alloc::Global;
 use std::sync::Mutex;
 
@@ -168,223 +163,5 @@ impl<M: Mailboxes> Reserve<M> {
         let outcome = outcome_of(inst, ledger, &hands, tallies, entered)?;
         logs.fill(residents, programmes)?;
         logs.result(inst, outcome, assignment)
-    }
-}
-
-/// The ledger of a run that had no trouble, how it ended, and the count of each worker.
-struct Outcome<J: Naming, M: Mailboxes> {
-    ledger: Ledger<J, M::OfferPut, M::AnswerPut>,
-    ending: Ending,
-    entered: Vec<u64>,
-}
-
-// As one call, so that whoever lets an outcome go proves nothing of its parts.
-impl<J: Naming, M: Mailboxes> Drop for Outcome<J, M> {
-    fn drop(self) {
-        let Outcome {
-            ledger: _,
-            ending: _,
-            entered: _,
-        } = self;
-    }
-}
-
-impl<J: Naming, M: Mailboxes> Outcome<J, M> {
-    // What a run gives whose logs are the journal's.
-    fn done(
-        self,
-        inst: &Instance,
-        assignment: Assignment,
-        residents: Vec<ResidentAgent<M::OfferTake>>,
-        programmes: Vec<ProgrammeAgent<M::AnswerTake>>,
-    ) -> Done<M>
-        requires instance { inst.now ≡ J.inst }
-        requires room { length assignment ≡ length inst.now.resident_lists }
-        requires ending { (self.ending ≡ Ending.Closed) ↔ IsClosed self.ledger.journal }
-        requires takes { AreLogs taken_of residents.items (length inst.now.resident_lists) (λ r. takes r self.ledger.journal) }
-        requires taken { AreByResident M.OfferTake.taken residents.items }
-        requires hears { AreLogs heard_of programmes.items (length inst.now.quotas) (λ p. hears p self.ledger.journal) }
-        requires heard { AreByProgramme M.AnswerTake.taken programmes.items }
-        ensures run { IsRunOf result M.OfferPut.puts M.OfferTake.taken M.AnswerPut.puts M.AnswerTake.taken inst.now J.cap }
-        ensures given { result.assignment ≡ given inst.now result.journal.items }
-        ensures same { (result.journal.items ≡ self.ledger.journal) × (result.who.items ≡ self.ledger.who) × (result.entered ≡ self.entered) }
-        ensures ended { result.ending ≡ self.ending }
-        ensures settled { result.ending ≡ Ending.Closed → IsSettledRun inst.now result.journal.items result.assignment }
-    {
-        law_orderly();
-        law_settled();
-        let _members = inst.residents();
-        let Outcome {
-            ledger,
-            ending,
-            entered,
-        } = self;
-        let mut assignment = assignment;
-        ledger.core().assignment(&mut assignment);
-        let (journal, _, offer_puts, answer_puts, who) = ledger.into_parts();
-        Done {
-            ending,
-            journal,
-            who,
-            assignment,
-            entered,
-            ends: Ends {
-                offer_puts,
-                residents,
-                answer_puts,
-                programmes,
-            },
-        }
-    }
-}
-
-// How a run ended whose workers are joined, with these tallies by worker.
-fn outcome_of<J: Naming, M: Mailboxes, G: Gate>(
-    inst: &Instance,
-    ledger: Ledger<J, M::OfferPut, M::AnswerPut>,
-    hands: &Hands<'_, G>,
-    tallies: Vec<Tally<J>>,
-    entered: Vec<u64>,
-) -> Result<Outcome<J, M>, RunFault>
-    requires instance { inst.now ≡ J.inst }
-    requires parts { J.parts ≡ 8 }
-    requires uncounted { entered.items ≡ replicate J.workers 0 }
-    ensures closed { IfOk result (λ outcome. (outcome.ending ≡ Ending.Closed) ↔ IsClosed outcome.ledger.journal) }
-    ensures stopped { IfOk result (λ outcome. outcome.ending ≡ Ending.Stopped → G.MAY_STOP ≡ true) }
-    ensures counts { IfOk result (λ outcome. AreCounted J.workers outcome.ledger.journal outcome.ledger.who outcome.entered.items) }
-    ensures fault { IfErr result (IsFault inst.now J.cap) }
-{
-    if let Some(trouble) = hands.trouble() {
-        return Err(fault_of::<J, M>(inst, ledger, trouble));
-    }
-    let mut outcome = Outcome {
-        ending: ending_of::<J, M>(inst, &ledger, hands.is_stopped())?,
-        ledger,
-        entered,
-    };
-    join_all::<J, M>(&mut outcome.ledger, tallies)?;
-    count::<J, M>(&outcome.ledger, &mut outcome.entered);
-    Ok(outcome)
-}
-
-// Joins the tallies to one that has every part, which counts the whole journal.
-fn join_all<J: Naming, M: Mailboxes>(
-    ledger: &mut Ledger<J, M::OfferPut, M::AnswerPut>,
-    tallies: Vec<Tally<J>>,
-) -> Result<(), RunFault>
-    requires { J.parts ≡ 8 }
-    ensures same { ledger.new ≡ ledger.old }
-    ensures fault { IfErr result (λ fault. fault ≡ Thread) }
-{
-    let mut tallies = tallies.into_iter();
-    let Some(mut whole) = tallies.next() else {
-        return Err(RunFault::Thread);
-    };
-    for tally in tallies {
-        ledger.join(&mut whole, tally);
-    }
-    if whole.parts() != PARTS {
-        return Err(RunFault::Thread);
-    }
-    Ok(())
-}
-
-// Counts the events of each worker.
-fn count<J: Naming, M: Mailboxes>(
-    ledger: &Ledger<J, M::OfferPut, M::AnswerPut>,
-    entered: &mut Vec<u64>,
-)
-    requires { entered.old.items ≡ replicate J.workers 0 }
-    ensures { AreCounted J.workers ledger.now.journal ledger.now.who entered.new.items }
-{
-    let who = ledger.who();
-    for worker in who {
-        entered[usize::from(*worker)] += 1;
-    }
-}
-
-// How a run ended: closed, or stopped where it was stopped; else the desk that was left pending.
-fn ending_of<J: Naming, M: Mailboxes>(
-    inst: &Instance,
-    ledger: &Ledger<J, M::OfferPut, M::AnswerPut>,
-    stopped: bool,
-) -> Result<Ending, RunFault>
-    requires { inst.now ≡ J.inst }
-    ensures closed { IfOk result (λ ending. (ending ≡ Ending.Closed) ↔ IsClosed ledger.now.journal) }
-    ensures stopped { IfOk result (λ ending. ending ≡ Ending.Stopped → stopped ≡ true) }
-    ensures fault { IfErr result (IsFault inst.now J.cap) }
-{
-    if ledger.core().is_closed() {
-        return Ok(Ending::Closed);
-    }
-    if stopped {
-        return Ok(Ending::Stopped);
-    }
-    let Some(pending) = ledger.core().first_pending(inst) else {
-        return Err(RunFault::Torn(Desk::Resident(ResidentNo(0))));
-    };
-    Err(RunFault::Torn(pending_desk(pending)))
-}
-
-// The desk that is pending.
-fn pending_desk(pending: Pending) -> Desk {
-    match pending {
-        Pending::Offers(resident) => Desk::Resident(resident),
-        Pending::Due(resident) => Desk::Resident(resident),
-        Pending::Answers(programme) => Desk::Programme(programme),
-        Pending::Wish(programme) => Desk::Programme(programme),
-    }
-}
-
-// What a trouble is told as. A receipt is out of step only where the core refuses it still.
-fn fault_of<J: Naming, M: Mailboxes>(
-    inst: &Instance,
-    ledger: Ledger<J, M::OfferPut, M::AnswerPut>,
-    trouble: Trouble,
-) -> RunFault
-    requires { inst.now ≡ J.inst }
-    ensures { IsFault inst.now J.cap result }
-{
-    match trouble {
-        Trouble::Torn(desk) => RunFault::Torn(desk),
-        Trouble::MailGone(desk) => RunFault::MailGone(desk),
-        Trouble::OutOfStep(event) => out_of_step::<J, M>(inst, ledger, event),
-    }
-}
-
-// A receipt that the core refuses, with the journal that it may not follow.
-fn out_of_step<J: Naming, M: Mailboxes>(
-    inst: &Instance,
-    ledger: Ledger<J, M::OfferPut, M::AnswerPut>,
-    event: Event,
-) -> RunFault
-    requires { inst.now ≡ J.inst }
-    ensures { IsFault inst.now J.cap result }
-{
-    let again = event;
-    let third = event;
-    let Some(desk) = receiver(event) else {
-        return RunFault::Thread;
-    };
-    let Err(_) = ledger.core().may(inst, again) else {
-        return RunFault::Torn(desk);
-    };
-    let (journal, ..) = ledger.into_parts();
-    RunFault::OutOfStep {
-        journal,
-        event: third,
-    }
-}
-
-// The desk of a receipt.
-fn receiver(event: Event) -> Option<Desk>
-    ensures { IfSome result (λ _. IsReceipt event) }
-{
-    match event {
-        Event::Take { resident, .. } => Some(Desk::Resident(resident)),
-        Event::Hear { programme, .. } => Some(Desk::Programme(programme)),
-        Event::Offer { .. } => None,
-        Event::Answer { .. } => None,
-        Event::Close => None,
     }
 }

@@ -2,7 +2,7 @@ use Rattle.std.proofs.Common.{List, sym, subst}
 use Rattle.exchange_core.specs.declared.event.Event.{Event}
 use Rattle.exchange_core.specs.Legal.{MayFollow}
 use Rattle.match_pool.proofs.Runs.{legal_of, shown_of}
-use Rattle.match_pool.proofs.reserve.out_of_step.Goals as goal
+use Rattle.match_pool.proofs.ending.out_of_step.Goals as goal
 
 pub returns : goal.returns
 returns g c =

@@ -1,5 +1,5 @@
 use Rattle.match_pool.proofs.WorkerCounts.{AreSoFar}
-use Rattle.match_pool.proofs.reserve.count.Given as goal
+use Rattle.match_pool.proofs.outcome.count.Given as goal
 
 -- the events so far are counted
 abbrev pub invariant-loop-worker : goal.invariant-loop-worker

@@ -4,7 +4,7 @@ use Rattle.std.specs.List.{All}
 use Rattle.std.proofs.lemmas.List.{take_all}
 use Rattle.match_pool.specs.Done.{Each}
 use Rattle.match_pool.proofs.WorkerCounts.{so_far_next, each_counted}
-use Rattle.match_pool.proofs.reserve.count.Goals as goal
+use Rattle.match_pool.proofs.outcome.count.Goals as goal
 
 pub loop-worker-preserved : goal.loop-worker-preserved
 loop-worker-preserved g c =

@@ -1,5 +1,5 @@
 use Rattle.std.proofs.Common.{◌≡◌}
-use Rattle.match_pool.proofs.reserve.join_all.Given as goal
+use Rattle.match_pool.proofs.outcome.join_all.Given as goal
 
 -- the ledger is as it was
 abbrev pub invariant-loop-tally : goal.invariant-loop-tally

@@ -3,7 +3,7 @@ use Rattle.exchange_core.specs.declared.event.Event.{Event}
 use Rattle.exchange_core.specs.Legal.{IsClosed}
 use Rattle.exchange_core.specs.Left.{given}
 use Rattle.match_pool.proofs.Runs.{legal_of, shown_of, run_of, settled_run}
-use Rattle.match_pool.proofs.reserve.Outcome.done.Goals as goal
+use Rattle.match_pool.proofs.outcome.Outcome.done.Goals as goal
 
 pub returns-clause-run : goal.returns-clause-run
 returns-clause-run g c =
