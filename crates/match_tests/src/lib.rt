@@ -12,6 +12,8 @@ mod audits;
 #[cfg(test)]
 mod cores;
 #[cfg(test)]
+mod faults;
+#[cfg(test)]
 mod instances;
 #[cfg(test)]
 mod ledger;
@@ -23,5 +25,7 @@ mod markets;
 mod models;
 #[cfg(test)]
 mod pool;
+#[cfg(test)]
+mod slips;
 #[cfg(test)]
 mod workers;
