@@ -14,6 +14,8 @@ mod cores;
 #[cfg(test)]
 mod faults;
 #[cfg(test)]
+mod inside;
+#[cfg(test)]
 mod instances;
 #[cfg(test)]
 mod ledger;

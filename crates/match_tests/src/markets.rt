@@ -1,4 +1,4 @@
-//! An instance as large as there may be.
+//! Large instances, pairs and chains.
 use match_model::{Instance, InstanceBuilder, ModelFault, ProgrammeNo, ResidentNo};
 use std::alloc::Global;
 
@@ -49,5 +49,47 @@ pub(super) fn made_in_one_order(alloc: Global) -> Result<Instance, ModelFault> {
     let mut builder = InstanceBuilder::new(alloc);
     let residents = all_residents(alloc)?;
     add_in_one_order(&mut builder, residents.as_slice())?;
+    builder.finish().map_err(|refused| refused.fault)
+}
+
+// Adds so many residents, and so many programmes with one place.
+fn add_ones(
+    builder: &mut InstanceBuilder,
+    residents: u32,
+    programmes: u32,
+) -> Result<(), ModelFault> {
+    for _ in 0..residents {
+        builder.add_resident()?;
+    }
+    for _ in 0..programmes {
+        builder.add_programme(1)?;
+    }
+    Ok(())
+}
+
+/// Pairs of a programme with one place and a resident, who rank one another alone.
+pub(super) fn made_pairs(alloc: Global, pairs: u32) -> Result<Instance, ModelFault> {
+    let mut builder = InstanceBuilder::new(alloc);
+    add_ones(&mut builder, pairs, pairs)?;
+    for n in 0..pairs {
+        builder.programme_list(ProgrammeNo(n), &[ResidentNo(n)])?;
+        builder.resident_list(ResidentNo(n), &[ProgrammeNo(n)])?;
+    }
+    builder.finish().map_err(|refused| refused.fault)
+}
+
+/// A chain: the last programme displaces the first resident, which lets its programme displace the second, and so on.
+pub(super) fn made_chain(alloc: Global, links: u32) -> Result<Instance, ModelFault> {
+    let mut builder = InstanceBuilder::new(alloc);
+    add_ones(&mut builder, links, links.saturating_add(1))?;
+    for n in 0..links {
+        let next = n.saturating_add(1);
+        let both = [ResidentNo(n), ResidentNo(next)];
+        let list = if next < links { &both[..] } else { &both[..1] };
+        builder.programme_list(ProgrammeNo(n), list)?;
+        let better = ProgrammeNo(if n == 0 { links } else { n.saturating_sub(1) });
+        builder.resident_list(ResidentNo(n), &[better, ProgrammeNo(n)])?;
+    }
+    builder.programme_list(ProgrammeNo(links), &[ResidentNo(0)])?;
     builder.finish().map_err(|refused| refused.fault)
 }
