@@ -20,6 +20,7 @@ impl Found {
     }
 
     /// The number of a name, if it is among the names. Its text has this number, if it is kept by number.
+    #[inline(always)]
     pub(crate) fn number(
         &mut self,
         names: &Names,

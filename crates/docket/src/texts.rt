@@ -257,6 +257,7 @@ impl Texts {
     }
 
     /// The text in this place, from 0, and its number if it is kept by number.
+    #[inline(always)]
     pub(crate) fn get(&self, k: usize) -> (&[u8], Option<usize>)
         requires { k < length self.now }
         ensures { result.0.now ≡ fields.field self.now k }
