@@ -2,10 +2,13 @@
 //   DEVICE_IN_BYTES=n   a call moves n bytes at most
 //   DEVICE_IN_WAITS=n   before each call that does anything n calls are interrupted
 //   DEVICE_IN_FAILS=n   the n-th call that does anything, and each after it, fails
+//   DEVICE_THREADS=n    n threads are started, and no more
 //   DEVICE_TOLD=F       at the end the file F gets two numbers: the reads and the writes that did or failed something
 #define _GNU_SOURCE
+#include <dlfcn.h>
 #include <errno.h>
 #include <fcntl.h>
+#include <pthread.h>
 #include <stdio.h>
 #include <stdlib.h>
 #include <sys/syscall.h>
@@ -17,6 +20,7 @@ struct device {
 };
 
 static struct device in, out;
+static long started;
 static const char *told;
 
 static long number(const char *name) {
@@ -53,6 +57,14 @@ ssize_t read(int file, void *text, size_t length) {
 
 ssize_t write(int file, const void *text, size_t length) {
     return file == STDOUT_FILENO ? move(&out, SYS_write, file, (void *)text, length) : syscall(SYS_write, file, text, length);
+}
+
+// Starts a thread, unless there are as many already as may be.
+int pthread_create(pthread_t *thread, const pthread_attr_t *attributes, void *(*work)(void *), void *given) {
+    int (*create)(pthread_t *, const pthread_attr_t *, void *(*)(void *), void *) = dlsym(RTLD_NEXT, "pthread_create");
+    if (getenv("DEVICE_THREADS") && started >= number("DEVICE_THREADS")) return EAGAIN;
+    started++;
+    return create(thread, attributes, work, given);
 }
 
 // The program ends by this call, which runs no destructor.
