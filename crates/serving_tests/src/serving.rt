@@ -185,6 +185,29 @@ fn matches_through_narrow_mailboxes(rt: HostRuntime) -> Result<(), Fail> {
 }
 
 #[test]
+fn refuses_wrong_options(rt: HostRuntime) -> Result<(), Fail> {
+    let cases = [
+        (0, Capacity::Full, RunFault::BadWorkers),
+        (9, Capacity::Full, RunFault::BadWorkers),
+        (2, Capacity::Each(0), RunFault::BadCapacity),
+        (2, Capacity::Each(1025), RunFault::BadCapacity),
+    ];
+    for (workers, capacity, fault) in cases {
+        let order = Order::Match(MatchOptions {
+            workers,
+            capacity,
+            journal: JournalForm::Absent,
+        });
+        let ending = (Err(ServeFault::Run(fault)), "", 1);
+        assert!(rt;
+            serves(rt, rt.alloc(), order, &[SMALL], ending)?,
+            "{workers}"
+        );
+    }
+    Ok(())
+}
+
+#[test]
 fn writes_the_journal_of_nothing(rt: HostRuntime) -> Result<(), Fail> {
     let ending = (Ok(Status::Closed), "C,full\nE,close\n", 0);
     assert!(rt; serves_both(rt, rt.alloc(), WITH_JOURNAL, &[], ending)?);
