@@ -1,6 +1,6 @@
 pub mod WordFacts
 pub mod FieldFacts
-pub mod LongRecordFacts
+pub mod FlatRowsFacts
 pub mod RowsFacts
 pub mod RowKindFacts
 pub mod NameFacts

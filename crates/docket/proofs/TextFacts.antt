@@ -6,7 +6,7 @@ use Rattle.std.proofs.lemmas.List.Quantifiers.{position-Some}
 use Rattle.std.proofs.lemmas.Option.{slice_get-get_or, get_or_from_slice_get}
 use Rattle.docket.specs.Contents.{number_in}
 use Rattle.docket.specs.Fields.{field}
-use Rattle.docket.specs.LongRecord.{texts_at, AreNumbersOf, StartsWith}
+use Rattle.docket.specs.FlatRows.{texts_at, AreNumbersOf, StartsWith}
 use Rattle.docket.proofs.FieldFacts.{field-get_or}
 use Rattle.docket.proofs.NumberFacts.{same_bytes}
 

@@ -2,7 +2,7 @@ pub mod Words
 pub mod Fields
 pub mod Passes
 pub mod Contents
-pub mod LongRecord
+pub mod FlatRows
 pub mod RowKind
 pub mod Rows
 pub mod Read

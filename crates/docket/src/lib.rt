@@ -13,7 +13,7 @@ mod fault;
 mod found;
 mod journal;
 mod kind;
-mod long_record;
+mod flat_rows;
 mod name_key;
 mod names;
 mod numbers;

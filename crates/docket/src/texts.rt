@@ -1,7 +1,7 @@
 //! Texts, in order.
 ghost use Rattle.std.specs.Prelude.{◌≡◌, ◌<◌, ◌++◌, ◌∷◌, [], Some, length, slice_get, IfOk, OnOk};
 ghost use Rattle.docket.specs.Fields as fields;
-ghost use Rattle.docket.specs.LongRecord.{StartsWith};
+ghost use Rattle.docket.specs.FlatRows.{StartsWith};
 
 use crate::numbers::{Numbers, start_of};
 use crate::text_key::TextKey;
@@ -19,7 +19,7 @@ struct PlainTexts {
 
 impl Model for PlainTexts {
     ghost use Rattle.docket.specs.Fields.{Fields};
-    ghost use Rattle.docket.specs.LongRecord.{cut, AreCuts};
+    ghost use Rattle.docket.specs.FlatRows.{cut, AreCuts};
 
     ghost Value = { Fields };
 
@@ -102,7 +102,7 @@ fn number_of_text(
 
 // Texts, in order. Each different one is kept once and has a number, and for each place the number of its text is kept.
 #[derive(Drop)]
-struct SharedTexts {
+struct Interner {
     alloc: Global,
     seen: IndexSet<TextKey, RandomState>,
     // Room for the text that is looked for.
@@ -110,9 +110,9 @@ struct SharedTexts {
     numbers: Numbers,
 }
 
-impl Model for SharedTexts {
+impl Model for Interner {
     ghost use Rattle.docket.specs.Fields.{Fields};
-    ghost use Rattle.docket.specs.LongRecord.{texts_at, AreNumbersOf};
+    ghost use Rattle.docket.specs.FlatRows.{texts_at, AreNumbersOf};
 
     ghost Value = { Fields };
 
@@ -121,12 +121,12 @@ impl Model for SharedTexts {
     ghost invariant = { λ a. AreNumbersOf a.seen.keys a.numbers };
 }
 
-impl SharedTexts {
+impl Interner {
     // No texts yet. They are hashed by these keys.
-    fn new(alloc: Global, keys: RandomState) -> SharedTexts
+    fn new(alloc: Global, keys: RandomState) -> Interner
         ensures { result ≡ [] }
     {
-        SharedTexts {
+        Interner {
             alloc,
             seen: IndexSet::with_hasher(alloc, keys),
             asked: TextKey::new(alloc),
@@ -187,7 +187,7 @@ const MOST_PLAIN: usize = 4_194_304;
 pub(crate) struct Texts {
     count: usize,
     plain: PlainTexts,
-    shared: SharedTexts,
+    shared: Interner,
 }
 
 impl Model for Texts {
@@ -209,7 +209,7 @@ impl Texts {
         Texts {
             count: 0,
             plain: PlainTexts::new(alloc),
-            shared: SharedTexts::new(alloc, keys),
+            shared: Interner::new(alloc, keys),
         }
     }
 

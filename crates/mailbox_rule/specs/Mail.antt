@@ -4,7 +4,7 @@ use Rattle.atomic_table.specs.Seated.{TableId}
 use Rattle.atomic_table.specs.declared.badge.Badge.{Badge}
 use Rattle.crossbeam_channel.specs.declared.flavors.array.Key.{Key}
 use Rattle.crossbeam_channel.specs.Claims.{Pass}
-use Rattle.mailbox_rule.specs.declared.rule.Hand.{Hand}
+use Rattle.mailbox_rule.specs.declared.rule.Known.{Known}
 
 -- which mailbox it is
 pub record Mailbox (M : Type 0) : Type 0 where
@@ -16,7 +16,7 @@ abbrev pub mailbox_of : {M V : Type 0} → Pass M V → Mailbox M
 mailbox_of pass = record { table = pass.table_id; keys = pass.me.0.of }
 
 -- what the pass knows
-abbrev pub hand_of : {M : Type 0} → Pass M (Hand M) → Hand M
+abbrev pub hand_of : {M : Type 0} → Pass M (Known M) → Known M
 hand_of pass = pass.me.0.client
 
 -- a sending end: its mailbox, with the capacity, and what it has put

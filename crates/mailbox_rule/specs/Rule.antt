@@ -2,18 +2,18 @@
 use Rattle.std.specs.Prelude.{◌≡◌, ℕ, ◌≤◌, Bool, true, List, ◌++◌, length}
 use mathlib.Core.Option.{some}
 use lib.ListN.{get_elem?}
-use Rattle.mailbox_rule.specs.declared.rule.Hand.{Hand}
+use Rattle.mailbox_rule.specs.declared.rule.Known.{Known}
 
 module _ {M : Type 0} where
-  abbrev pub hand : Bool → Bool → ℕ → List M → List M → Hand M
-  hand may_put may_take room puts taken = record { may_put = may_put; may_take = may_take; room = room; puts = puts; taken = taken }
+  abbrev pub known : Bool → Bool → ℕ → List M → List M → Known M
+  known may_put may_take room puts taken = record { may_put = may_put; may_take = may_take; room = room; puts = puts; taken = taken }
 
   -- only the pass `putter` may put, and it knows the capacity and what was put; only the pass `taker` may take, and it knows what was taken
-  abbrev pub Fits : ℕ → ℕ → ℕ → List M → List M → ℕ → Hand M → Type 0
+  abbrev pub Fits : ℕ → ℕ → ℕ → List M → List M → ℕ → Known M → Type 0
   Fits putter taker room puts taken pass h =
       (h.may_put ≡ true → (pass ≡ putter) × (h.room ≡ room) × (h.puts ≡ puts)) × (h.may_take ≡ true → (pass ≡ taker) × (h.taken ≡ taken))
 
   -- what was put is what was taken, followed by the queue, which is no longer than the capacity
-  abbrev pub IsKept : List M → List (Hand M) → Type 0
-  IsKept items views = (putter : ℕ) × (taker : ℕ) × (room : ℕ) × (puts : List M) × (taken : List M) × (puts ≡ taken ++ items) × (length items ≤ room)
-      × ((pass : ℕ) (h : Hand M) → get_elem? views pass ≡ some h → Fits putter taker room puts taken pass h)
+  abbrev pub IsInOrder : List M → List (Known M) → Type 0
+  IsInOrder items views = (putter : ℕ) × (taker : ℕ) × (room : ℕ) × (puts : List M) × (taken : List M) × (puts ≡ taken ++ items) × (length items ≤ room)
+      × ((pass : ℕ) (h : Known M) → get_elem? views pass ≡ some h → Fits putter taker room puts taken pass h)

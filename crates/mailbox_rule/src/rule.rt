@@ -1,14 +1,14 @@
 //! The rule of a mailbox: what was put is what was taken, followed by the queue, which is no longer than the capacity.
 //! No value of these types is made. They say what a proof knows.
 ghost use Rattle.std.specs.Prelude.{◌≡◌, ◌≤◌, true, false, [], ◌∷◌, ◌++◌, length};
-ghost use Rattle.mailbox_rule.specs.Rule.{hand, IsKept};
+ghost use Rattle.mailbox_rule.specs.Rule.{known, IsInOrder};
 
 use crossbeam_channel::protocol::{Join, Lesson, Outcome, Protocol, Split};
 use std::collections::LinkedList;
 use std::marker::Brand;
 
 /// What a pass knows: whether it may put and take, the capacity, and what it has put and taken.
-pub struct Hand<M> {
+pub struct Known<M> {
     pub may_put: bool,
     pub may_take: bool,
     pub room: u64,
@@ -19,71 +19,71 @@ pub struct Hand<M> {
 // The rule.
 pub struct InOrder;
 
-impl<M> Protocol<M, Hand<M>> for InOrder {
+impl<M> Protocol<M, Known<M>> for InOrder {
     ghost use Rattle.std.specs.Prelude.{true, []};
-    ghost use Rattle.mailbox_rule.specs.Rule.{hand, IsKept};
+    ghost use Rattle.mailbox_rule.specs.Rule.{known, IsInOrder};
 
-    ghost holds = { IsKept };
+    ghost holds = { IsInOrder };
 
-    ghost first = { hand true true 0 [] [] };
+    ghost first = { known true true 0 [] [] };
 }
 
 // How the receiving pass is cut off the first time. The call picks the capacity.
-impl<M> Split<Hand<M>> for Brand {
+impl<M> Split<Known<M>> for Brand {
     ghost use Rattle.std.specs.Prelude.{true, false, []};
-    ghost use Rattle.mailbox_rule.specs.Rule.{hand};
+    ghost use Rattle.mailbox_rule.specs.Rule.{known};
 
-    ghost left = { λ h. hand true false 0 h.puts [] };
+    ghost left = { λ h. known true false 0 h.puts [] };
 
-    ghost right = { λ h. hand false true 0 [] h.taken };
+    ghost right = { λ h. known false true 0 [] h.taken };
 }
 
 // How the receiving pass comes back, and is cut off again.
 pub struct Sides;
 
-impl<M> Split<Hand<M>> for Sides {
+impl<M> Split<Known<M>> for Sides {
     ghost use Rattle.std.specs.Prelude.{true, false, []};
-    ghost use Rattle.mailbox_rule.specs.Rule.{hand};
+    ghost use Rattle.mailbox_rule.specs.Rule.{known};
 
-    ghost left = { λ h. hand true false h.room h.puts [] };
+    ghost left = { λ h. known true false h.room h.puts [] };
 
-    ghost right = { λ h. hand false true 0 [] h.taken };
+    ghost right = { λ h. known false true 0 [] h.taken };
 }
 
-impl<M> Join<Hand<M>> for Sides {
+impl<M> Join<Known<M>> for Sides {
     ghost use Rattle.std.specs.Prelude.{true, false, []};
-    ghost use Rattle.mailbox_rule.specs.Rule.{hand};
+    ghost use Rattle.mailbox_rule.specs.Rule.{known};
 
-    ghost both = { λ h k. hand true true h.room h.puts k.taken };
+    ghost both = { λ h k. known true true h.room h.puts k.taken };
 
-    ghost spent = { hand false false 0 [] [] };
+    ghost spent = { known false false 0 [] [] };
 }
 
 // A message joins the queue at its back.
 pub struct Puts;
 
-impl<M> Outcome<M, Hand<M>> for Puts {
-    ghost then = { λ h m k. k ≡ hand h.may_put h.may_take h.room (h.puts ++ m ∷ []) h.taken };
+impl<M> Outcome<M, Known<M>> for Puts {
+    ghost then = { λ h m k. k ≡ known h.may_put h.may_take h.room (h.puts ++ m ∷ []) h.taken };
 }
 
-impl<M> Lesson<M, Hand<M>> for Puts {
+impl<M> Lesson<M, Known<M>> for Puts {
     ghost fact = { λ h items. length items ≤ length h.puts };
 }
 
 // A message leaves the queue at its front.
 pub struct Takes;
 
-impl<M> Outcome<M, Hand<M>> for Takes {
-    ghost then = { λ h m k. k ≡ hand h.may_put h.may_take h.room h.puts (h.taken ++ m ∷ []) };
+impl<M> Outcome<M, Known<M>> for Takes {
+    ghost then = { λ h m k. k ≡ known h.may_put h.may_take h.room h.puts (h.taken ++ m ∷ []) };
 }
 
-impl<M> Lesson<M, Hand<M>> for Takes {
+impl<M> Lesson<M, Known<M>> for Takes {
     ghost fact = { λ h items. Unit {0} };
 }
 
 // What the pass that knows both lists learns of the queue.
 pub struct Whole;
 
-impl<M> Lesson<M, Hand<M>> for Whole {
+impl<M> Lesson<M, Known<M>> for Whole {
     ghost fact = { λ h items. (h.puts ≡ h.taken ++ items) × (length items ≤ h.room) };
 }

@@ -4,7 +4,7 @@ ghost use Rattle.mailbox_rule.specs.Replies.{MatchPut, MatchTake};
 
 use crate::ends::{PutEnd, PutReply, TakeEnd, TakeReply};
 use crate::fault::MailFault;
-use crate::rule::{Hand, InOrder, Puts, Sides, Takes, Whole};
+use crate::rule::{Known, InOrder, Puts, Sides, Takes, Whole};
 use crossbeam_channel::{
     Pass, RuledReceiver, RuledSender, TryRecvError, TrySendError, bounded_with,
 };
@@ -15,8 +15,8 @@ use std::sync::Wait;
 /// The sending end of a mailbox. There is one, and it cannot be cloned.
 #[derive(Drop)]
 pub struct RuledPut<M: Copy, R: Wait + Copy> {
-    sender: RuledSender<M, Hand<M>, InOrder>,
-    pass: Pass<M, Hand<M>>,
+    sender: RuledSender<M, Known<M>, InOrder>,
+    pass: Pass<M, Known<M>>,
     rt: R,
 }
 
@@ -41,8 +41,8 @@ impl<M: Copy, R: Wait + Copy> Model for RuledPut<M, R> {
 /// The receiving end of a mailbox. There is one, and it cannot be cloned.
 #[derive(Drop)]
 pub struct RuledTake<M: Copy, R: Wait + Copy> {
-    receiver: RuledReceiver<M, Hand<M>, InOrder>,
-    pass: Pass<M, Hand<M>>,
+    receiver: RuledReceiver<M, Known<M>, InOrder>,
+    pass: Pass<M, Known<M>>,
     rt: R,
 }
 

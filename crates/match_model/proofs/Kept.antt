@@ -5,7 +5,7 @@ use Rattle.std.proofs.lemmas.Bool.{cases_lt}
 use Rattle.std.proofs.lemmas.List.{length-map, get_or_past, get_or_default}
 use Rattle.std.proofs.lemmas.List.Sums.{get_or-le-sum_by}
 use Rattle.match_model.specs.Ranking.{is_listed, IsListed}
-use Rattle.match_model.specs.Instance.{IsKept, is_withdrawn, list_at, list_of_programme, list_of_resident, pair_count}
+use Rattle.match_model.specs.Instance.{IsWellFormed, is_withdrawn, list_at, list_of_programme, list_of_resident, pair_count}
 use Rattle.match_model.specs.Draft.{Draft, IsDraft, given_lists, programme_lists_left, resident_lists_left, instance_of, mutual_lists, has_no_repeats}
 use Rattle.match_model.specs.declared.limits.TheConstants.{MAX_RESIDENTS, MAX_QUOTA, MAX_PAIRS}
 use Rattle.match_model.proofs.Rankings.{is_listed-filter, has_no_repeats-filter, HasNoRepeats-from_test, length-le_below, is_listed-true, is_listed_from}
@@ -92,8 +92,8 @@ withdrawn_resident d r e =
     ∙ ap (λ (xs : List ℕ). filter (λ x. is_listed (list_at (programme_lists_left d) x) r) xs) (remaining_withdrawn (given_lists d.resident_lists) d.residents_withdrawn r e)
 
 -- what the instance of a draft keeps
-pub IsKept-instance_of : (d : Draft) (pairs : ℕ) → IsDraft d → pair_count (instance_of d) ≤ MAX_PAIRS → pairs ≡ pair_count (instance_of d) → IsKept (instance_of d) pairs
-IsKept-instance_of d pairs h few count = record {
+pub IsWellFormed-instance_of : (d : Draft) (pairs : ℕ) → IsDraft d → pair_count (instance_of d) ≤ MAX_PAIRS → pairs ≡ pair_count (instance_of d) → IsWellFormed (instance_of d) pairs
+IsWellFormed-instance_of d pairs h few count = record {
   is_instance = record {
     one_list_each = length-mutual_lists (programme_lists_left d) (resident_lists_left d) ∙ length-remaining_lists (given_lists d.programme_lists) d.programmes_withdrawn ∙ length-map d.programme_lists (λ list. unwrap_or list []) ∙ h.one_list_each;
     programmes_rank_strictly = λ p. HasNoRepeats-from_test _ (no_repeats_at (programme_lists_left d) (resident_lists_left d) p (programmes_distinct d h));

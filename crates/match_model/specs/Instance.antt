@@ -70,7 +70,7 @@ pub record IsInstance (inst : Instance) : Type 0 where
   pub withdrawn_residents_rank_nobody : (r : ℕ) → is_withdrawn inst.residents_withdrawn r ≡ true → list_of_resident inst r ≡ []
 
 -- what an instance keeps: its rankings are one, it counts its pairs, and no list is longer than there can be members
-pub record IsKept (inst : Instance) (pairs : ℕ) : Type 0 where
+pub record IsWellFormed (inst : Instance) (pairs : ℕ) : Type 0 where
   pub is_instance : IsInstance inst
   pub pairs_counted : pairs ≡ pair_count inst
   pub programme_lists_within : (p : ℕ) → length (list_of_programme inst p) ≤ MAX_PAIRS

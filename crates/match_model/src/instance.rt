@@ -22,7 +22,7 @@ pub struct Instance {
 }
 
 impl Model for Instance {
-    ghost use Rattle.match_model.specs.Instance.{Instance as Rankings, IsKept};
+    ghost use Rattle.match_model.specs.Instance.{Instance as Rankings, IsWellFormed};
     ghost use Rattle.match_model.specs.RankTable.{AreRankTables};
 
     ghost Value = { Rankings };
@@ -30,7 +30,7 @@ impl Model for Instance {
     ghost view = { λ i. record { quotas = i.quotas.items; programme_lists = i.programme_lists.rows; resident_lists = i.resident_lists.rows; programmes_withdrawn = i.programmes_withdrawn.items; residents_withdrawn = i.residents_withdrawn.items } };
 
     ghost invariant = { λ i. record {
-      rankings : IsKept (record { quotas = i.quotas.items; programme_lists = i.programme_lists.rows; resident_lists = i.resident_lists.rows; programmes_withdrawn = i.programmes_withdrawn.items; residents_withdrawn = i.residents_withdrawn.items }) i.pairs;
+      rankings : IsWellFormed (record { quotas = i.quotas.items; programme_lists = i.programme_lists.rows; resident_lists = i.resident_lists.rows; programmes_withdrawn = i.programmes_withdrawn.items; residents_withdrawn = i.residents_withdrawn.items }) i.pairs;
       programme_ranks : AreRankTables i.programme_lists.rows i.programme_ranks.rows;
       resident_ranks : AreRankTables i.resident_lists.rows i.resident_ranks.rows;
     } };

@@ -3,12 +3,12 @@ ghost use Rattle.std.specs.Prelude.{◌≡◌, ◌⊎◌, IfErr};
 ghost use Rattle.match_pool.specs.declared.fault.RunFault.TheVariants.{Memory, Thread};
 
 use crate::fault::RunFault;
-use crate::floor::Floor;
+use crate::shared::SharedState;
 use crate::gate::Gate;
 use crate::mailboxes::Mailboxes;
 use crate::worker::Worker;
 use match_model::Instance;
-use offer_ledger::{Naming, Tally};
+use offer_ledger::{ExchangeIdentity, Tally};
 use std::alloc::Global;
 use std::sync::Wait;
 use std::thread;
@@ -23,12 +23,12 @@ pub(crate) fn drive<J, M, G, R>(
     rt: &R,
     alloc: Global,
     inst: &Instance,
-    floor: &Floor<'_, J, M, G>,
+    shared: &SharedState<'_, J, M, G>,
     gate: &G,
     tallies: Vec<Tally<J>>,
 ) -> Result<Vec<Tally<J>>, RunFault>
 where
-    J: Naming + Send + Sync,
+    J: ExchangeIdentity + Send + Sync,
     M: Mailboxes + Send + Sync,
     M::OfferPut: Send,
     M::OfferTake: Send,
@@ -51,7 +51,7 @@ where
             let mut number = 0;
             let mut all_started = true;
             for tally in tallies {
-                let worker = Worker::new(rt, inst, gate, floor, number, tally);
+                let worker = Worker::new(rt, inst, gate, shared, number, tally);
                 let thread = Builder::new().stack_size(STACK_BYTES);
                 let started = match thread.spawn_scoped(scope, move || worker.work()) {
                     Ok(handle) => handles.push(handle).is_ok(),
@@ -59,7 +59,7 @@ where
                 };
                 if !started {
                     all_started = false;
-                    floor.end(rt);
+                    shared.end(rt);
                 }
                 number = number.saturating_add(1);
             }

@@ -9,10 +9,10 @@ use crate::fault::{RunFault, Trouble};
 use crate::mailboxes::Mailboxes;
 use exchange_core::{Desk, Event, Pending};
 use match_model::{Instance, ResidentNo};
-use offer_ledger::{Ledger, Naming};
+use offer_ledger::{Ledger, ExchangeIdentity};
 
 /// How a run ended: closed, or stopped where it was stopped; else the desk that was left pending.
-pub(crate) fn ending_of<J: Naming, M: Mailboxes>(
+pub(crate) fn ending_of<J: ExchangeIdentity, M: Mailboxes>(
     inst: &Instance,
     ledger: &Ledger<J, M::OfferPut, M::AnswerPut>,
     stopped: bool,
@@ -45,7 +45,7 @@ fn pending_desk(pending: Pending) -> Desk {
 }
 
 /// What a trouble is told as. A receipt is out of step only where the core refuses it still.
-pub(crate) fn fault_of<J: Naming, M: Mailboxes>(
+pub(crate) fn fault_of<J: ExchangeIdentity, M: Mailboxes>(
     inst: &Instance,
     ledger: Ledger<J, M::OfferPut, M::AnswerPut>,
     trouble: Trouble,
@@ -61,7 +61,7 @@ pub(crate) fn fault_of<J: Naming, M: Mailboxes>(
 }
 
 // A receipt that the core refuses, with the journal that it may not follow.
-fn out_of_step<J: Naming, M: Mailboxes>(
+fn out_of_step<J: ExchangeIdentity, M: Mailboxes>(
     inst: &Instance,
     ledger: Ledger<J, M::OfferPut, M::AnswerPut>,
     event: Event,

@@ -2,24 +2,24 @@
 //! and the desks in hands and those that may have work under a third.
 #![tactic(auto)]
 
-mod books;
+mod exchange;
 mod compare;
 mod desks;
 mod done;
 mod drive;
 mod ending;
 mod fault;
-mod floor;
+mod shared;
 mod gate;
-mod hands;
+mod scheduler;
 mod mailboxes;
 mod naps;
 mod open;
 mod outcome;
 mod pool;
-mod ready;
+mod run_queue;
 mod reserve;
-mod waits;
+mod wait_queues;
 mod woken;
 mod worker;
 

@@ -1,4 +1,4 @@
-//! What a run has before its workers start: mailboxes, agents and books.
+//! What a run has before its workers start: mailboxes, agents and the ledger.
 ghost use Rattle.std.specs.Prelude.{◌≡◌, ◌≢◌, ◌≤◌, ◌++◌, ◌∷◌, [], length, true, IfOk, IfErr, OnOk};
 ghost use Rattle.exchange_core.specs.Shown.{is_capacity};
 ghost use Rattle.match_model.specs.Instance.{IsResident, IsProgramme, list_of_resident, list_of_programme};
@@ -6,18 +6,18 @@ ghost use Rattle.match_pool.specs.Done.{Each};
 ghost use Rattle.match_pool.specs.Rooms.{room_of, offer_room_of, answer_room_of};
 ghost use Rattle.match_pool.specs.declared.fault.RunFault.TheVariants.{Memory};
 
-use crate::books::Books;
-use crate::desks::{ProgrammeSeat, ResidentSeat};
+use crate::exchange::Exchange;
+use crate::desks::{BoundProgramme, BoundResident};
 use crate::fault::RunFault;
-use crate::floor::Floor;
+use crate::shared::SharedState;
 use crate::gate::Gate;
-use crate::hands::Hands;
+use crate::scheduler::Scheduler;
 use crate::mailboxes::Mailboxes;
-use crate::waits::Waits;
+use crate::wait_queues::WaitQueues;
 use exchange_core::Capacity;
 use match_agents::{ProgrammeAgent, ResidentAgent};
 use match_model::{Instance, ProgrammeNo, ResidentNo};
-use offer_ledger::{Ledger, Naming, Tally};
+use offer_ledger::{Ledger, ExchangeIdentity, Tally};
 use std::alloc::Global;
 use std::sync::Mutex;
 use std::sync::ledger::Blank;
@@ -26,7 +26,7 @@ use std::sync::ledger::Blank;
 #[derive(Drop)]
 struct Side<P: Drop, S: Drop> {
     puts: Vec<P>,
-    seats: Vec<Mutex<S>>,
+    agents: Vec<Mutex<S>>,
 }
 
 impl<P: Drop, S: Drop> Side<P, S> {
@@ -37,7 +37,7 @@ impl<P: Drop, S: Drop> Side<P, S> {
     {
         Ok(Side {
             puts: Vec::with_capacity(alloc, count)?,
-            seats: Vec::with_capacity(alloc, count)?,
+            agents: Vec::with_capacity(alloc, count)?,
         })
     }
 
@@ -46,28 +46,28 @@ impl<P: Drop, S: Drop> Side<P, S> {
         ensures added { OnOk result (self.new.puts.items ≡ self.old.puts.items ++ desk.0 ∷ []) }
         ensures fault { IfErr result (λ fault. fault ≡ Memory) }
     {
-        let (put, seat) = desk;
+        let (put, agent) = desk;
         self.puts.push(put)?;
-        self.seats.push(seat)?;
+        self.agents.push(agent)?;
         Ok(())
     }
 }
 
 /// The residents' desks.
-type Residents<J, M> = Side<<M as Mailboxes>::OfferPut, ResidentSeat<J, M>>;
+type Residents<J, M> = Side<<M as Mailboxes>::OfferPut, BoundResident<J, M>>;
 
 /// The programmes' desks.
-type Programmes<J, M> = Side<<M as Mailboxes>::AnswerPut, ProgrammeSeat<J, M>>;
+type Programmes<J, M> = Side<<M as Mailboxes>::AnswerPut, BoundProgramme<J, M>>;
 
 /// Everything that the workers share, before any event, and their tallies.
-pub(crate) fn open_floor<'a, J: Naming, M: Mailboxes, G: Gate>(
+pub(crate) fn open_shared<'a, J: ExchangeIdentity, M: Mailboxes, G: Gate>(
     alloc: Global,
     blank: Blank,
     mailboxes: &M,
     inst: &Instance,
     cap: Capacity,
     workers: u32,
-) -> Result<(Floor<'a, J, M, G>, Vec<Tally<J>>), RunFault>
+) -> Result<(SharedState<'a, J, M, G>, Vec<Tally<J>>), RunFault>
     requires instance { inst.now ≡ J.inst }
     requires capacity { cap ≡ J.cap }
     requires workers { workers ≡ J.workers }
@@ -75,17 +75,17 @@ pub(crate) fn open_floor<'a, J: Naming, M: Mailboxes, G: Gate>(
     requires admitted { is_capacity cap ≡ true }
     ensures { IfErr result (λ fault. fault ≡ Memory) }
 {
-    let hands = Hands::open(alloc, inst.residents(), inst.programmes())?;
+    let scheduler = Scheduler::open(alloc, inst.residents(), inst.programmes())?;
     let residents = open_residents::<J, M>(alloc, mailboxes, inst, cap)?;
     let programmes = open_programmes::<J, M>(alloc, mailboxes, inst, cap)?;
     let puts = (residents.puts, programmes.puts);
-    let (books, tallies) = open_books(alloc, blank, inst, cap, workers, puts)?;
-    let floor = Floor::new(residents.seats, programmes.seats, books, hands);
-    Ok((floor, tallies))
+    let (exchange, tallies) = open_exchange(alloc, blank, inst, cap, workers, puts)?;
+    let shared = SharedState::new(residents.agents, programmes.agents, exchange, scheduler);
+    Ok((shared, tallies))
 }
 
 // A mailbox for each resident: its sending end, and a lock with the resident's agent over its receiving end.
-fn open_residents<J: Naming, M: Mailboxes>(
+fn open_residents<J: ExchangeIdentity, M: Mailboxes>(
     alloc: Global,
     mailboxes: &M,
     inst: &Instance,
@@ -105,7 +105,7 @@ fn open_residents<J: Naming, M: Mailboxes>(
 }
 
 // A mailbox for each programme: its sending end, and a lock with the programme's agent over its receiving end.
-fn open_programmes<J: Naming, M: Mailboxes>(
+fn open_programmes<J: ExchangeIdentity, M: Mailboxes>(
     alloc: Global,
     mailboxes: &M,
     inst: &Instance,
@@ -139,13 +139,13 @@ fn room(cap: Capacity, most: usize) -> u32
 }
 
 // A resident's desk: the sending end of its mailbox, and a lock with its agent.
-fn open_resident<J: Naming, M: Mailboxes>(
+fn open_resident<J: ExchangeIdentity, M: Mailboxes>(
     alloc: Global,
     mailboxes: &M,
     inst: &Instance,
     cap: Capacity,
     resident: ResidentNo,
-) -> Result<(M::OfferPut, Mutex<ResidentSeat<J, M>>), RunFault>
+) -> Result<(M::OfferPut, Mutex<BoundResident<J, M>>), RunFault>
     requires instance { inst.now ≡ J.inst }
     requires member { IsResident inst.now resident }
     requires admitted { is_capacity cap ≡ true }
@@ -158,19 +158,19 @@ fn open_resident<J: Naming, M: Mailboxes>(
         return Err(RunFault::Memory);
     };
     match ResidentAgent::open(alloc, inst, resident, take) {
-        Ok(agent) => Ok((put, Mutex::new(ResidentSeat::new(agent)))),
+        Ok(agent) => Ok((put, Mutex::new(BoundResident::new(agent)))),
         Err(_) => Err(RunFault::Memory),
     }
 }
 
 // A programme's desk: the sending end of its mailbox, and a lock with its agent.
-fn open_programme<J: Naming, M: Mailboxes>(
+fn open_programme<J: ExchangeIdentity, M: Mailboxes>(
     alloc: Global,
     mailboxes: &M,
     inst: &Instance,
     cap: Capacity,
     programme: ProgrammeNo,
-) -> Result<(M::AnswerPut, Mutex<ProgrammeSeat<J, M>>), RunFault>
+) -> Result<(M::AnswerPut, Mutex<BoundProgramme<J, M>>), RunFault>
     requires instance { inst.now ≡ J.inst }
     requires member { IsProgramme inst.now programme }
     requires admitted { is_capacity cap ≡ true }
@@ -183,20 +183,20 @@ fn open_programme<J: Naming, M: Mailboxes>(
         return Err(RunFault::Memory);
     };
     match ProgrammeAgent::open(alloc, inst, programme, take) {
-        Ok(agent) => Ok((put, Mutex::new(ProgrammeSeat::new(agent)))),
+        Ok(agent) => Ok((put, Mutex::new(BoundProgramme::new(agent)))),
         Err(_) => Err(RunFault::Memory),
     }
 }
 
 // The ledger over these ends, which have put nothing, with nobody waiting for room; and each worker's tally.
-fn open_books<J: Naming, M: Mailboxes>(
+fn open_exchange<J: ExchangeIdentity, M: Mailboxes>(
     alloc: Global,
     blank: Blank,
     inst: &Instance,
     cap: Capacity,
     workers: u32,
     puts: (Vec<M::OfferPut>, Vec<M::AnswerPut>),
-) -> Result<(Books<J, M>, Vec<Tally<J>>), RunFault>
+) -> Result<(Exchange<J, M>, Vec<Tally<J>>), RunFault>
     requires instance { inst.now ≡ J.inst }
     requires capacity { cap ≡ J.cap }
     requires workers { workers ≡ J.workers }
@@ -206,10 +206,10 @@ fn open_books<J: Naming, M: Mailboxes>(
     ensures { IfErr result (λ fault. fault ≡ Memory) }
 {
     let desks = inst.residents() as usize + inst.programmes() as usize;
-    let waits = Waits::with_desks(alloc, desks)?;
+    let wait_queues = WaitQueues::with_desks(alloc, desks)?;
     let (offer_puts, answer_puts) = puts;
     match Ledger::open(alloc, blank, inst, cap, workers, offer_puts, answer_puts) {
-        Ok((ledger, tallies)) => Ok((Books { ledger, waits }, tallies)),
+        Ok((ledger, tallies)) => Ok((Exchange { ledger, wait_queues }, tallies)),
         Err(_) => Err(RunFault::Memory),
     }
 }

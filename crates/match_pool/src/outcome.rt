@@ -11,22 +11,22 @@ use crate::done::{Done, Ending, Ends};
 use crate::ending::{ending_of, fault_of};
 use crate::fault::RunFault;
 use crate::gate::Gate;
-use crate::hands::Hands;
+use crate::scheduler::Scheduler;
 use crate::mailboxes::Mailboxes;
 use match_agents::{ProgrammeAgent, ResidentAgent};
 use match_model::{Assignment, Instance};
-use offer_ledger::{Ledger, Naming, PARTS, Tally};
+use offer_ledger::{Ledger, ExchangeIdentity, PARTS, Tally};
 use settle_law::{law_orderly, law_settled};
 
 /// The ledger of a run that had no trouble, how it ended, and the count of each worker.
-pub(crate) struct Outcome<J: Naming, M: Mailboxes> {
+pub(crate) struct Outcome<J: ExchangeIdentity, M: Mailboxes> {
     pub(crate) ledger: Ledger<J, M::OfferPut, M::AnswerPut>,
     pub(crate) ending: Ending,
     pub(crate) entered: Vec<u64>,
 }
 
 // As one call, so that whoever lets an outcome go proves nothing of its parts.
-impl<J: Naming, M: Mailboxes> Drop for Outcome<J, M> {
+impl<J: ExchangeIdentity, M: Mailboxes> Drop for Outcome<J, M> {
     fn drop(self) {
         let Outcome {
             ledger: _,
@@ -36,7 +36,7 @@ impl<J: Naming, M: Mailboxes> Drop for Outcome<J, M> {
     }
 }
 
-impl<J: Naming, M: Mailboxes> Outcome<J, M> {
+impl<J: ExchangeIdentity, M: Mailboxes> Outcome<J, M> {
     /// What a run gives whose logs are the journal's.
     pub(crate) fn done(
         self,
@@ -86,10 +86,10 @@ impl<J: Naming, M: Mailboxes> Outcome<J, M> {
 }
 
 /// How a run ended whose workers are joined, with these tallies by worker.
-pub(crate) fn outcome_of<J: Naming, M: Mailboxes, G: Gate>(
+pub(crate) fn outcome_of<J: ExchangeIdentity, M: Mailboxes, G: Gate>(
     inst: &Instance,
     ledger: Ledger<J, M::OfferPut, M::AnswerPut>,
-    hands: &Hands<'_, G>,
+    scheduler: &Scheduler<'_, G>,
     tallies: Vec<Tally<J>>,
     entered: Vec<u64>,
 ) -> Result<Outcome<J, M>, RunFault>
@@ -101,11 +101,11 @@ pub(crate) fn outcome_of<J: Naming, M: Mailboxes, G: Gate>(
     ensures counts { IfOk result (λ outcome. AreCounted J.workers outcome.ledger.journal outcome.ledger.who outcome.entered.items) }
     ensures fault { IfErr result (IsFault inst.now J.cap) }
 {
-    if let Some(trouble) = hands.trouble() {
+    if let Some(trouble) = scheduler.trouble() {
         return Err(fault_of::<J, M>(inst, ledger, trouble));
     }
     let mut outcome = Outcome {
-        ending: ending_of::<J, M>(inst, &ledger, hands.is_stopped())?,
+        ending: ending_of::<J, M>(inst, &ledger, scheduler.is_stopped())?,
         ledger,
         entered,
     };
@@ -115,7 +115,7 @@ pub(crate) fn outcome_of<J: Naming, M: Mailboxes, G: Gate>(
 }
 
 // Joins the tallies to one that has every part, which counts the whole journal.
-fn join_all<J: Naming, M: Mailboxes>(
+fn join_all<J: ExchangeIdentity, M: Mailboxes>(
     ledger: &mut Ledger<J, M::OfferPut, M::AnswerPut>,
     tallies: Vec<Tally<J>>,
 ) -> Result<(), RunFault>
@@ -137,7 +137,7 @@ fn join_all<J: Naming, M: Mailboxes>(
 }
 
 // Counts the events of each worker.
-fn count<J: Naming, M: Mailboxes>(
+fn count<J: ExchangeIdentity, M: Mailboxes>(
     ledger: &Ledger<J, M::OfferPut, M::AnswerPut>,
     entered: &mut Vec<u64>,
 )

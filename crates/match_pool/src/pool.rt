@@ -9,11 +9,11 @@ use crate::drive::drive;
 use crate::fault::RunFault;
 use crate::gate::Gate;
 use crate::mailboxes::{Mailboxes, RuledMailboxes};
-use crate::open::open_floor;
+use crate::open::open_shared;
 use crate::reserve::Reserve;
 use exchange_core::Capacity;
 use match_model::Instance;
-use offer_ledger::{Naming, PARTS};
+use offer_ledger::{ExchangeIdentity, PARTS};
 use std::alloc::Global;
 use std::marker::Brand;
 use std::sync::Wait;
@@ -77,7 +77,7 @@ pub fn run_over<M: Mailboxes + Send + Sync, G: Gate + Sync, R: Threads + Wait + 
 
 // The run of the exchange that the type names.
 fn run_named<
-    J: Naming + Send + Sync,
+    J: ExchangeIdentity + Send + Sync,
     M: Mailboxes + Send + Sync,
     G: Gate + Sync,
     R: Threads + Wait + Sync,
@@ -104,7 +104,7 @@ fn run_named<
     ensures fault { IfErr result (IsFault inst.now cap) }
 {
     let reserve = Reserve::new(alloc, inst, workers)?;
-    let (floor, tallies) = open_floor::<J, M, G>(
+    let (shared, tallies) = open_shared::<J, M, G>(
         alloc,
         blank,
         mailboxes,
@@ -112,6 +112,6 @@ fn run_named<
         cap,
         workers as u32,
     )?;
-    let tallies = drive(rt, alloc, inst, &floor, gate, tallies)?;
-    reserve.finish(inst, floor, tallies)
+    let tallies = drive(rt, alloc, inst, &shared, gate, tallies)?;
+    reserve.finish(inst, shared, tallies)
 }

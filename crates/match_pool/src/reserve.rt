@@ -6,16 +6,16 @@ ghost use Rattle.match_pool.specs.Done.{IsRunOf, IsSettledRun, AreCounted, IsFau
 ghost use Rattle.match_pool.specs.declared.fault.RunFault.TheVariants.{Memory};
 
 use crate::compare::Cursors;
-use crate::desks::{ProgrammeSeat, ResidentSeat};
+use crate::desks::{BoundProgramme, BoundResident};
 use crate::done::{Done, Ending};
 use crate::fault::RunFault;
-use crate::floor::Floor;
+use crate::shared::SharedState;
 use crate::gate::Gate;
 use crate::mailboxes::Mailboxes;
 use crate::outcome::{Outcome, outcome_of};
 use match_agents::{ProgrammeAgent, ResidentAgent};
 use match_model::{Assignment, Instance};
-use offer_ledger::{Naming, Tally};
+use offer_ledger::{ExchangeIdentity, Tally};
 use std::alloc::Global;
 use std::sync::Mutex;
 
@@ -68,24 +68,24 @@ impl<M: Mailboxes> Logs<M> {
     }
 
     // Takes the agents out of their locks, by desk.
-    fn fill<J: Naming>(
+    fn fill<J: ExchangeIdentity>(
         &mut self,
-        residents: Vec<Mutex<ResidentSeat<J, M>>>,
-        programmes: Vec<Mutex<ProgrammeSeat<J, M>>>,
+        residents: Vec<Mutex<BoundResident<J, M>>>,
+        programmes: Vec<Mutex<BoundProgramme<J, M>>>,
     ) -> Result<(), RunFault>
         ensures { IfErr result (λ fault. fault ≡ Memory) }
     {
-        for seat in residents {
-            self.residents.push(seat.into_inner().into_agent())?;
+        for agent in residents {
+            self.residents.push(agent.into_inner().into_agent())?;
         }
-        for seat in programmes {
-            self.programmes.push(seat.into_inner().into_agent())?;
+        for agent in programmes {
+            self.programmes.push(agent.into_inner().into_agent())?;
         }
         Ok(())
     }
 
     // The result, where every log is the journal's.
-    fn result<J: Naming>(
+    fn result<J: ExchangeIdentity>(
         self,
         inst: &Instance,
         outcome: Outcome<J, M>,
@@ -137,10 +137,10 @@ impl<M: Mailboxes> Reserve<M> {
     }
 
     /// What a run gives whose workers are joined, with these tallies by worker.
-    pub(crate) fn finish<J: Naming, G: Gate>(
+    pub(crate) fn finish<J: ExchangeIdentity, G: Gate>(
         self,
         inst: &Instance,
-        floor: Floor<'_, J, M, G>,
+        shared: SharedState<'_, J, M, G>,
         tallies: Vec<Tally<J>>,
     ) -> Result<Done<M>, RunFault>
         requires instance { inst.now ≡ J.inst }
@@ -159,8 +159,8 @@ impl<M: Mailboxes> Reserve<M> {
             assignment,
             entered,
         } = self;
-        let (residents, programmes, ledger, hands) = floor.into_parts();
-        let outcome = outcome_of(inst, ledger, &hands, tallies, entered)?;
+        let (residents, programmes, ledger, scheduler) = shared.into_parts();
+        let outcome = outcome_of(inst, ledger, &scheduler, tallies, entered)?;
         logs.fill(residents, programmes)?;
         logs.result(inst, outcome, assignment)
     }

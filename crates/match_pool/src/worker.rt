@@ -2,28 +2,28 @@
 ghost use Rattle.std.specs.Prelude.{◌≡◌, ◌≢◌, None, slice_get};
 ghost use Rattle.match_agents.specs.Programmes.{wish_of};
 
-use crate::books::{Entry, Found};
-use crate::desks::{ProgrammeSeat, ResidentSeat};
+use crate::exchange::{Entry, Found};
+use crate::desks::{BoundProgramme, BoundResident};
 use crate::fault::Trouble;
-use crate::floor::Floor;
+use crate::shared::SharedState;
 use crate::gate::{Gate, Go};
-use crate::hands::Next;
+use crate::scheduler::Next;
 use crate::mailboxes::Mailboxes;
 use crate::naps::Naps;
 use crate::woken::Woken;
 use exchange_core::{AnswerKind, AnswerNote, Desk, Event};
 use match_agents::Heard;
 use match_model::{Instance, ProgrammeNo, ResidentNo};
-use offer_ledger::{Naming, Tally};
+use offer_ledger::{ExchangeIdentity, Tally};
 use std::sync::Wait;
 
 /// One worker of a run.
 #[derive(Drop)]
-pub(crate) struct Worker<'a, 'f, J: Naming, M: Mailboxes, G: Gate, R: Wait> {
+pub(crate) struct Worker<'a, 'f, J: ExchangeIdentity, M: Mailboxes, G: Gate, R: Wait> {
     rt: &'a R,
     inst: &'a Instance,
     gate: &'a G,
-    floor: &'a Floor<'f, J, M, G>,
+    shared: &'a SharedState<'f, J, M, G>,
     number: usize,
     tally: Tally<J>,
     woken: Woken,
@@ -55,13 +55,13 @@ const LOOKS: u32 = 8;
 
 const LEAVE: Step = Step::Leave { again: false };
 
-impl<'a, 'f, J: Naming, M: Mailboxes, G: Gate, R: Wait> Worker<'a, 'f, J, M, G, R> {
+impl<'a, 'f, J: ExchangeIdentity, M: Mailboxes, G: Gate, R: Wait> Worker<'a, 'f, J, M, G, R> {
     /// A worker with this number and tally, which has noted nothing.
     pub(crate) fn new(
         rt: &'a R,
         inst: &'a Instance,
         gate: &'a G,
-        floor: &'a Floor<'f, J, M, G>,
+        shared: &'a SharedState<'f, J, M, G>,
         number: usize,
         tally: Tally<J>,
     ) -> Worker<'a, 'f, J, M, G, R>
@@ -71,7 +71,7 @@ impl<'a, 'f, J: Naming, M: Mailboxes, G: Gate, R: Wait> Worker<'a, 'f, J, M, G, 
             rt,
             inst,
             gate,
-            floor,
+            shared,
             number,
             tally,
             woken: Woken::new(),
@@ -80,7 +80,7 @@ impl<'a, 'f, J: Naming, M: Mailboxes, G: Gate, R: Wait> Worker<'a, 'f, J, M, G, 
 
     /// Drives desks until the run ends, and gives the tally back.
     pub(crate) fn work(mut self) -> Tally<J> {
-        let first = self.floor.lock_hands(self.rt).next();
+        let first = self.shared.lock_scheduler(self.rt).next();
         let mut in_hand = self.or_search(first);
         for _ in self.rt.forever() {
             let Some(desk) = in_hand else {
@@ -97,34 +97,34 @@ impl<'a, 'f, J: Naming, M: Mailboxes, G: Gate, R: Wait> Worker<'a, 'f, J, M, G, 
     fn visit(&mut self, desk: u32) -> bool {
         let residents = self.inst.residents();
         if desk < residents {
-            let Some(seat) = self.floor.residents.get(desk as usize) else {
+            let Some(agent) = self.shared.residents.get(desk as usize) else {
                 return false;
             };
-            let mut seat = seat.lock(self.rt);
-            self.visit_resident(&mut seat, ResidentNo(desk))
+            let mut agent = agent.lock(self.rt);
+            self.visit_resident(&mut agent, ResidentNo(desk))
         } else {
             let programme = desk - residents;
-            let Some(seat) = self.floor.programmes.get(programme as usize) else {
+            let Some(agent) = self.shared.programmes.get(programme as usize) else {
                 return false;
             };
-            let mut seat = seat.lock(self.rt);
-            self.visit_programme(&mut seat, ProgrammeNo(programme))
+            let mut agent = agent.lock(self.rt);
+            self.visit_programme(&mut agent, ProgrammeNo(programme))
         }
     }
 
     // Gives every answer that is due and takes the next offer, while there is one.
-    fn visit_resident(&mut self, seat: &mut ResidentSeat<J, M>, resident: ResidentNo) -> bool {
+    fn visit_resident(&mut self, agent: &mut BoundResident<J, M>, resident: ResidentNo) -> bool {
         let mut more = self
-            .floor
-            .lock_books(self.rt)
+            .shared
+            .lock_exchange(self.rt)
             .offers_wait(self.inst, resident);
         for _ in self.rt.forever() {
-            if self.floor.is_ending() {
+            if self.shared.is_ending() {
                 return false;
             }
-            let step = match seat.due() {
-                Some((programme, kind)) => self.answer(seat, resident, programme, kind),
-                None if more => self.take(seat, resident),
+            let step = match agent.due() {
+                Some((programme, kind)) => self.answer(agent, resident, programme, kind),
+                None if more => self.take(agent, resident),
                 None => return false,
             };
             match step {
@@ -137,25 +137,25 @@ impl<'a, 'f, J: Naming, M: Mailboxes, G: Gate, R: Wait> Worker<'a, 'f, J, M, G, 
 
     // Hears every answer that waits, and offers while there is a wish. Room that it was called for is used first: no
     // receipt may hold it up, since others wait for room behind it.
-    fn visit_programme(&mut self, seat: &mut ProgrammeSeat<J, M>, programme: ProgrammeNo) -> bool {
+    fn visit_programme(&mut self, agent: &mut BoundProgramme<J, M>, programme: ProgrammeNo) -> bool {
         let (mut more, is_called) = self
-            .floor
-            .lock_books(self.rt)
+            .shared
+            .lock_exchange(self.rt)
             .programme_comes(self.inst, programme);
         if more && is_called {
-            match self.offer_next(seat, programme) {
+            match self.offer_next(agent, programme) {
                 Step::Made { more: now } => more = now,
                 Step::Leave { .. } => return true,
             }
         }
         for _ in self.rt.forever() {
-            if self.floor.is_ending() {
+            if self.shared.is_ending() {
                 return false;
             }
             let step = if more {
-                self.hear(seat, programme)
+                self.hear(agent, programme)
             } else {
-                self.offer_next(seat, programme)
+                self.offer_next(agent, programme)
             };
             match step {
                 Step::Made { more: now } => more = now,
@@ -168,27 +168,27 @@ impl<'a, 'f, J: Naming, M: Mailboxes, G: Gate, R: Wait> Worker<'a, 'f, J, M, G, 
     // Gives the first answer that is due.
     fn answer(
         &mut self,
-        seat: &mut ResidentSeat<J, M>,
+        agent: &mut BoundResident<J, M>,
         resident: ResidentNo,
         programme: ProgrammeNo,
         kind: AnswerKind,
     ) -> Step
-        requires { slice_get seat.old.due 0 ≢ None }
+        requires { slice_get agent.old.due 0 ≢ None }
     {
         let entry = self
-            .floor
-            .lock_books(self.rt)
+            .shared
+            .lock_exchange(self.rt)
             .answer(self.inst, &mut self.tally, resident, programme, kind);
         if let Entry::Made { .. } = entry {
-            seat.answered();
+            agent.answered();
         }
         self.after_put(entry, Desk::Resident(resident), Desk::Programme(programme))
     }
 
     // Offers to the next resident, if there is a wish.
-    fn offer_next(&mut self, seat: &mut ProgrammeSeat<J, M>, programme: ProgrammeNo) -> Step {
-        match seat.wish(self.inst) {
-            Some(resident) => self.offer(seat, programme, resident),
+    fn offer_next(&mut self, agent: &mut BoundProgramme<J, M>, programme: ProgrammeNo) -> Step {
+        match agent.wish(self.inst) {
+            Some(resident) => self.offer(agent, programme, resident),
             None => LEAVE,
         }
     }
@@ -196,37 +196,37 @@ impl<'a, 'f, J: Naming, M: Mailboxes, G: Gate, R: Wait> Worker<'a, 'f, J, M, G, 
     // Offers to this resident, who is the next.
     fn offer(
         &mut self,
-        seat: &mut ProgrammeSeat<J, M>,
+        agent: &mut BoundProgramme<J, M>,
         programme: ProgrammeNo,
         resident: ResidentNo,
     ) -> Step
-        requires { wish_of J.inst seat.old ≢ None }
+        requires { wish_of J.inst agent.old ≢ None }
     {
         let entry = self
-            .floor
-            .lock_books(self.rt)
+            .shared
+            .lock_exchange(self.rt)
             .offer(self.inst, &mut self.tally, programme, resident);
         if let Entry::Made { .. } = entry {
-            seat.offered(self.inst);
+            agent.offered(self.inst);
         }
         self.after_put(entry, Desk::Programme(programme), Desk::Resident(resident))
     }
 
     // Takes an offer out of the mailbox, enters the take, and decides.
-    fn take(&mut self, seat: &mut ResidentSeat<J, M>, resident: ResidentNo) -> Step {
+    fn take(&mut self, agent: &mut BoundResident<J, M>, resident: ResidentNo) -> Step {
         let desk = Desk::Resident(resident);
         let again = desk;
         self.list_woken();
-        let programme = match seat.take() {
+        let programme = match agent.take() {
             Heard::Got(note) => note.programme,
             heard => return self.after_miss(miss_of(&heard), desk),
         };
         self.pass(again);
         let entry = self
-            .floor
-            .lock_books(self.rt)
+            .shared
+            .lock_exchange(self.rt)
             .take(self.inst, &mut self.tally, resident, programme);
-        seat.decide(self.inst);
+        agent.decide(self.inst);
         self.after_receipt(
             entry,
             Event::Take {
@@ -237,19 +237,19 @@ impl<'a, 'f, J: Naming, M: Mailboxes, G: Gate, R: Wait> Worker<'a, 'f, J, M, G, 
     }
 
     // Takes an answer out of the mailbox, and enters the hear.
-    fn hear(&mut self, seat: &mut ProgrammeSeat<J, M>, programme: ProgrammeNo) -> Step {
+    fn hear(&mut self, agent: &mut BoundProgramme<J, M>, programme: ProgrammeNo) -> Step {
         let desk = Desk::Programme(programme);
         let again = desk;
         self.list_woken();
-        let note = match seat.hear() {
+        let note = match agent.hear() {
             Heard::Got(note) => note,
             heard => return self.after_miss(miss_of(&heard), desk),
         };
         self.pass(again);
         let AnswerNote { resident, kind } = note;
         let entry = self
-            .floor
-            .lock_books(self.rt)
+            .shared
+            .lock_exchange(self.rt)
             .hear(self.inst, &mut self.tally, programme, resident, kind);
         self.after_receipt(
             entry,
@@ -264,7 +264,7 @@ impl<'a, 'f, J: Naming, M: Mailboxes, G: Gate, R: Wait> Worker<'a, 'f, J, M, G, 
     // Lets the gate see a receipt, and ends the run on its word.
     fn pass(&mut self, desk: Desk) {
         if let Go::Stop = self.gate.pass(self.number, desk) {
-            self.floor.stop(self.rt);
+            self.shared.stop(self.rt);
         }
     }
 
@@ -274,11 +274,11 @@ impl<'a, 'f, J: Naming, M: Mailboxes, G: Gate, R: Wait> Worker<'a, 'f, J, M, G, 
             Entry::Made { more, woken } => self.made(more, woken),
             Entry::Later | Entry::Ended => LEAVE,
             Entry::Refused => {
-                self.floor.fail(self.rt, Trouble::Torn(sender));
+                self.shared.fail(self.rt, Trouble::Torn(sender));
                 LEAVE
             }
             Entry::Gone => {
-                self.floor.fail(self.rt, Trouble::MailGone(receiver));
+                self.shared.fail(self.rt, Trouble::MailGone(receiver));
                 LEAVE
             }
         }
@@ -289,7 +289,7 @@ impl<'a, 'f, J: Naming, M: Mailboxes, G: Gate, R: Wait> Worker<'a, 'f, J, M, G, 
         match entry {
             Entry::Made { more, woken } => self.made(more, woken),
             Entry::Refused => {
-                self.floor.fail(self.rt, Trouble::OutOfStep(receipt));
+                self.shared.fail(self.rt, Trouble::OutOfStep(receipt));
                 LEAVE
             }
             Entry::Later | Entry::Ended | Entry::Gone => LEAVE,
@@ -301,11 +301,11 @@ impl<'a, 'f, J: Naming, M: Mailboxes, G: Gate, R: Wait> Worker<'a, 'f, J, M, G, 
         match miss {
             Miss::Empty => Step::Leave { again: true },
             Miss::Gone => {
-                self.floor.fail(self.rt, Trouble::MailGone(desk));
+                self.shared.fail(self.rt, Trouble::MailGone(desk));
                 LEAVE
             }
             Miss::LogFull => {
-                self.floor.fail(self.rt, Trouble::Torn(desk));
+                self.shared.fail(self.rt, Trouble::Torn(desk));
                 LEAVE
             }
         }
@@ -329,27 +329,27 @@ impl<'a, 'f, J: Naming, M: Mailboxes, G: Gate, R: Wait> Worker<'a, 'f, J, M, G, 
             return;
         }
         let wakes = {
-            let mut hands = self.floor.lock_hands(self.rt);
-            hands.list_all(self.woken.desks());
-            hands.wakes_one()
+            let mut scheduler = self.shared.lock_scheduler(self.rt);
+            scheduler.list_all(self.woken.desks());
+            scheduler.wakes_one()
         };
         self.woken.clear();
         if wakes {
-            self.floor.news.notify_one();
+            self.shared.news.notify_one();
         }
     }
 
     // Lets a desk go, lists what was woken, and takes the next desk.
     fn turn(&mut self, desk: u32, again: bool) -> Option<u32> {
         let (next, wakes) = {
-            let mut hands = self.floor.lock_hands(self.rt);
-            hands.list_all(self.woken.desks());
-            hands.let_go(desk, again);
-            (hands.next(), hands.wakes_one())
+            let mut scheduler = self.shared.lock_scheduler(self.rt);
+            scheduler.list_all(self.woken.desks());
+            scheduler.let_go(desk, again);
+            (scheduler.next(), scheduler.wakes_one())
         };
         self.woken.clear();
         if wakes {
-            self.floor.news.notify_one();
+            self.shared.news.notify_one();
         }
         self.or_search(next)
     }
@@ -366,12 +366,12 @@ impl<'a, 'f, J: Naming, M: Mailboxes, G: Gate, R: Wait> Worker<'a, 'f, J, M, G, 
     // Where no desk is listed: asks the core once, closes at rest, or waits for news. None once the run ends.
     fn search(&mut self) -> Option<u32> {
         for _ in self.rt.forever() {
-            if self.floor.is_ending() {
+            if self.shared.is_ending() {
                 return None;
             }
             let found = self
-                .floor
-                .lock_books(self.rt)
+                .shared
+                .lock_exchange(self.rt)
                 .close_or_find(self.inst, &mut self.tally);
             let next = match found {
                 Found::Desk(desk) => self.claim_or_look(desk),
@@ -385,7 +385,7 @@ impl<'a, 'f, J: Naming, M: Mailboxes, G: Gate, R: Wait> Worker<'a, 'f, J, M, G, 
                 Next::Desk(desk) => return Some(desk),
                 Next::Nothing => {}
                 Next::Ended => {
-                    self.floor.end(self.rt);
+                    self.shared.end(self.rt);
                     return None;
                 }
             }
@@ -396,14 +396,14 @@ impl<'a, 'f, J: Naming, M: Mailboxes, G: Gate, R: Wait> Worker<'a, 'f, J, M, G, 
     // Takes this desk into a hand; where another worker has it, looks after each of some naps whether a desk is listed,
     // and then waits for news. Who naps needs no waking.
     fn claim_or_look(&self, desk: u32) -> Next {
-        let mut found = self.floor.lock_hands(self.rt).claim_or_next(desk);
+        let mut found = self.shared.lock_scheduler(self.rt).claim_or_next(desk);
         let mut naps = Naps::new();
         for _ in 0..LOOKS {
             if found != Next::Nothing {
                 return found;
             }
             naps.nap(self.rt);
-            found = self.floor.lock_hands(self.rt).next();
+            found = self.shared.lock_scheduler(self.rt).next();
         }
         match found {
             Next::Nothing => self.wait(),
@@ -414,18 +414,18 @@ impl<'a, 'f, J: Naming, M: Mailboxes, G: Gate, R: Wait> Worker<'a, 'f, J, M, G, 
     // Waits until a desk is listed or the run ends. Whoever lists desks wakes one worker, so one that wakes and leaves a
     // desk listed wakes the next.
     fn wait(&self) -> Next {
-        let mut hands = self.floor.lock_hands(self.rt);
-        hands.wait_begins();
-        let mut hands = self
-            .floor
+        let mut scheduler = self.shared.lock_scheduler(self.rt);
+        scheduler.wait_begins();
+        let mut scheduler = self
+            .shared
             .news
-            .wait_while(self.rt, hands, |hands| !hands.has_news());
-        hands.wait_ends();
-        let next = hands.next();
-        let wakes = hands.wakes_one();
-        drop(hands);
+            .wait_while(self.rt, scheduler, |scheduler| !scheduler.has_news());
+        scheduler.wait_ends();
+        let next = scheduler.next();
+        let wakes = scheduler.wakes_one();
+        drop(scheduler);
         if wakes {
-            self.floor.news.notify_one();
+            self.shared.news.notify_one();
         }
         next
     }

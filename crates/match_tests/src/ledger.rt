@@ -8,7 +8,7 @@ use exchange_core::{AnswerNote, Capacity, Event, OfferNote, Pending, Refused};
 use mailbox_rule::{ListPut, MailFault, PutEnd, RuledPut, RuledTake, mailbox};
 use match_model::Instance;
 use offer_ledger::{
-    EntryRefused, Ledger, LedgerFault, LedgerRefused, Naming, PARTS, PutRefusal, Tally,
+    EntryRefused, Ledger, LedgerFault, LedgerRefused, ExchangeIdentity, PARTS, PutRefusal, Tally,
 };
 use samples::events::{A, X, nine_events, nineteen_events};
 use std::alloc::Global;
@@ -53,7 +53,7 @@ fn mailboxes<M: Copy + Eq + Drop, R: Wait + Copy + Drop>(
 }
 
 // Enters an event by the call of its kind.
-fn enter<J: Naming, P: PutEnd<OfferNote>, Q: PutEnd<AnswerNote>>(
+fn enter<J: ExchangeIdentity, P: PutEnd<OfferNote>, Q: PutEnd<AnswerNote>>(
     ledger: &mut Ledger<J, P, Q>,
     inst: &Instance,
     tally: &mut Tally<J>,
@@ -85,7 +85,7 @@ fn enter<J: Naming, P: PutEnd<OfferNote>, Q: PutEnd<AnswerNote>>(
 }
 
 // Whether each event is answered so.
-fn answers_each<J: Naming, P: PutEnd<OfferNote>, Q: PutEnd<AnswerNote>>(
+fn answers_each<J: ExchangeIdentity, P: PutEnd<OfferNote>, Q: PutEnd<AnswerNote>>(
     ledger: &mut Ledger<J, P, Q>,
     inst: &Instance,
     tally: &mut Tally<J>,
@@ -102,7 +102,7 @@ fn answers_each<J: Naming, P: PutEnd<OfferNote>, Q: PutEnd<AnswerNote>>(
 }
 
 // Whether the journal is these events, and the tally of all parts counts them.
-fn shows<J: Naming, P: PutEnd<OfferNote>, Q: PutEnd<AnswerNote>>(
+fn shows<J: ExchangeIdentity, P: PutEnd<OfferNote>, Q: PutEnd<AnswerNote>>(
     ledger: &mut Ledger<J, P, Q>,
     tally: &mut Tally<J>,
     events: &[Event],
@@ -113,7 +113,7 @@ fn shows<J: Naming, P: PutEnd<OfferNote>, Q: PutEnd<AnswerNote>>(
 }
 
 // Whether the events are entered one after another, the ledger isn't closed once more, and they are its journal.
-fn enters_all<J: Naming, P: PutEnd<OfferNote> + Drop, Q: PutEnd<AnswerNote> + Drop>(
+fn enters_all<J: ExchangeIdentity, P: PutEnd<OfferNote> + Drop, Q: PutEnd<AnswerNote> + Drop>(
     mut ledger: Ledger<J, P, Q>,
     inst: &Instance,
     mut tally: Tally<J>,
@@ -131,7 +131,7 @@ fn enters_all<J: Naming, P: PutEnd<OfferNote> + Drop, Q: PutEnd<AnswerNote> + Dr
 }
 
 // Whether nothing is entered where the ends have no room.
-fn enters_nothing<J: Naming, P: PutEnd<OfferNote>, Q: PutEnd<AnswerNote>>(
+fn enters_nothing<J: ExchangeIdentity, P: PutEnd<OfferNote>, Q: PutEnd<AnswerNote>>(
     ledger: &mut Ledger<J, P, Q>,
     inst: &Instance,
     tally: &mut Tally<J>,
@@ -146,13 +146,13 @@ fn enters_nothing<J: Naming, P: PutEnd<OfferNote>, Q: PutEnd<AnswerNote>>(
 }
 
 // Whether the first of two tallies has all parts but the other's one.
-fn are_cut<J: Naming>(first: &Tally<J>, other: &Tally<J>) -> bool {
+fn are_cut<J: ExchangeIdentity>(first: &Tally<J>, other: &Tally<J>) -> bool {
     (first.worker(), first.parts(), first.entered()) == (0, PARTS - 1, 0)
         && (other.worker(), other.parts(), other.entered()) == (1, 1, 0)
 }
 
 // Whether two workers' tallies count what is entered with them, and together all; and each event's worker is noted.
-fn counts_apart<J: Naming, P: PutEnd<OfferNote>, Q: PutEnd<AnswerNote>>(
+fn counts_apart<J: ExchangeIdentity, P: PutEnd<OfferNote>, Q: PutEnd<AnswerNote>>(
     ledger: &mut Ledger<J, P, Q>,
     inst: &Instance,
     tally: &mut Tally<J>,
@@ -178,7 +178,7 @@ fn counts_apart<J: Naming, P: PutEnd<OfferNote>, Q: PutEnd<AnswerNote>>(
 }
 
 // Whether a spoiled ledger keeps its journal, and takes no more.
-fn keeps_its_journal<J: Naming, P: PutEnd<OfferNote>, Q: PutEnd<AnswerNote>>(
+fn keeps_its_journal<J: ExchangeIdentity, P: PutEnd<OfferNote>, Q: PutEnd<AnswerNote>>(
     ledger: &mut Ledger<J, P, Q>,
     inst: &Instance,
     tally: &mut Tally<J>,
@@ -205,7 +205,7 @@ enum Trial {
 }
 
 // Whether a ledger over two ends in memory for each side, with room for so many notes each, does as tried.
-fn does<J: Naming>(
+fn does<J: ExchangeIdentity>(
     alloc: Global,
     blank: Blank,
     inst: &Instance,
@@ -278,7 +278,7 @@ fn over_lists(rt: HostRuntime) -> Result<(), Fail> {
 }
 
 // Whether the nineteen events are entered over mailboxes with four places.
-fn enters_posted<J: Naming, R: Wait + Copy + Drop>(
+fn enters_posted<J: ExchangeIdentity, R: Wait + Copy + Drop>(
     rt: R,
     alloc: Global,
     blank: Blank,
@@ -325,7 +325,7 @@ fn over_mailboxes(rt: HostRuntime) -> Result<(), Fail> {
 }
 
 // Why no ledger is opened over so many ends for residents and two for programmes, and how many ends come back.
-fn not_opened<J: Naming>(
+fn not_opened<J: ExchangeIdentity>(
     alloc: Global,
     blank: Blank,
     inst: &Instance,

@@ -8,7 +8,7 @@ use crate::seen::{Seen, begin, end};
 use exchange_core::{AnswerNote, Capacity, OfferNote};
 use mailbox_rule::{ListPut, MailFault, PutEnd};
 use match_model::Instance;
-use offer_ledger::{EntryRefused, Ledger, LedgerFault, Naming, PutRefusal, Tally};
+use offer_ledger::{EntryRefused, Ledger, LedgerFault, ExchangeIdentity, PutRefusal, Tally};
 use samples::events::{A, X};
 use std::alloc::Global;
 use std::io::Write;
@@ -32,7 +32,7 @@ fn lists<M: Drop>(alloc: Global) -> Result<Vec<ListPut<M>>, MailFault>
 type Ends = (Vec<ListPut<OfferNote>>, Vec<ListPut<AnswerNote>>);
 
 // Whether nothing is entered, since the ends have no room.
-fn enters_nothing<J: Naming, P: PutEnd<OfferNote>, Q: PutEnd<AnswerNote>>(
+fn enters_nothing<J: ExchangeIdentity, P: PutEnd<OfferNote>, Q: PutEnd<AnswerNote>>(
     ledger: &mut Ledger<J, P, Q>,
     inst: &Instance,
     tally: &mut Tally<J>,
@@ -44,7 +44,7 @@ fn enters_nothing<J: Naming, P: PutEnd<OfferNote>, Q: PutEnd<AnswerNote>>(
 }
 
 // Opens a ledger over these ends: whether it is empty and takes nothing, or its fault with the ends.
-fn opened_as<J: Naming>(
+fn opened_as<J: ExchangeIdentity>(
     alloc: Global,
     blank: Blank,
     inst: &Instance,

@@ -1,8 +1,8 @@
 -- How the program ends, by what it was given and what it wrote.
 use Rattle.std.specs.Prelude.{◌≡◌, ◌⊎◌, ℕ, Option, Some, Result, List}
 use Rattle.residency.specs.declared.fault.ServeFault.{ServeFault}
-use Rattle.residency.specs.declared.program.Unordered.{Unordered}
-use Rattle.residency.specs.declared.program.Unordered.TheVariants.{NoText, Line}
+use Rattle.residency.specs.declared.program.UsageFault.{UsageFault}
+use Rattle.residency.specs.declared.program.UsageFault.TheVariants.{NoText, Line}
 use Rattle.residency.specs.declared.options.Order.{Order}
 use Rattle.residency.specs.declared.status.Status.{Status}
 use Rattle.residency.specs.Options.{IsOrder}
@@ -16,18 +16,18 @@ pub record EndsServing (order : Order) (input old new : Option (List ℕ)) (stat
   pub tells : status ≡ exit_status_of answer
 
 -- the status after words that order nothing: 2 where one of them is no text
-abbrev pub unordered_status_of : Unordered → ℕ
+abbrev pub unordered_status_of : UsageFault → ℕ
 unordered_status_of NoText = 2
 unordered_status_of (Line fault) = line_status_of fault
 
 -- the status after words that order nothing: that of their fault, or 1 where help or the version was asked for and couldn't be written
-abbrev pub IsRefusedStatus : Unordered → ℕ → Type 0
+abbrev pub IsRefusedStatus : UsageFault → ℕ → Type 0
 IsRefusedStatus fault status =
     (status ≡ unordered_status_of fault) ⊎ ((unordered_status_of fault ≡ 0) × (status ≡ 1))
 
 -- the words order nothing: nothing was written, and the status tells why
 pub record EndsRefused (old new : Option (List ℕ)) (status : ℕ) : Type 0 where
-  pub fault : Unordered
+  pub fault : UsageFault
   pub nothing : new ≡ old
   pub tells : IsRefusedStatus fault status
 

@@ -21,7 +21,7 @@ use thiserror::Error;
 
 /// Why the words after the program's name order nothing.
 #[derive(Debug, Drop, Error)]
-pub enum Unordered {
+pub enum UsageFault {
     /// A word is no text.
     #[error("a word of the command line is no text")]
     NoText,
@@ -31,37 +31,37 @@ pub enum Unordered {
 }
 
 // What the words order, the program's own name left out.
-fn order_of(alloc: Global, words: io::Result<Vec<String>>) -> Result<Order, Unordered>
+fn order_of(alloc: Global, words: io::Result<Vec<String>>) -> Result<Order, UsageFault>
     ensures { IfOk result IsOrder }
 {
     match words {
         Ok(words) => match read_line(alloc, words.as_slice()) {
             Ok(order) => Ok(order),
-            Err(fault) => Err(Unordered::Line(fault)),
+            Err(fault) => Err(UsageFault::Line(fault)),
         },
         Err(error) if error.kind() == io::ErrorKind::OutOfMemory => {
-            Err(Unordered::Line(LineFault::Memory))
+            Err(UsageFault::Line(LineFault::Memory))
         }
-        Err(_) => Err(Unordered::NoText),
+        Err(_) => Err(UsageFault::NoText),
     }
 }
 
 // The exit status after words that order nothing.
-fn unordered_status(fault: &Unordered) -> u8
+fn unordered_status(fault: &UsageFault) -> u8
     ensures { result ≡ unordered_status_of fault.now }
 {
     match fault {
-        Unordered::NoText => 2,
-        Unordered::Line(fault) => line_status(fault),
+        UsageFault::NoText => 2,
+        UsageFault::Line(fault) => line_status(fault),
     }
 }
 
 // Tells why the words order nothing. Help and the version are an answer, so a text of them that can't be written is a fault.
-fn refuse<T: Print + Eprint>(told: &T, fault: &Unordered) -> ExitCode
+fn refuse<T: Print + Eprint>(told: &T, fault: &UsageFault) -> ExitCode
     ensures { IsRefusedStatus fault.now (exit_status_in result) }
 {
     let is_told = match fault {
-        Unordered::Line(LineFault::Line(error)) => error.print(told).is_ok(),
+        UsageFault::Line(LineFault::Line(error)) => error.print(told).is_ok(),
         fault => eprintln!(told; "residency: {fault}").is_ok(),
     };
     let status = unordered_status(fault);

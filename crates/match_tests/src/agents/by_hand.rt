@@ -11,7 +11,7 @@ use desks::{Programme, Resident};
 use exchange_core::{AnswerNote, Capacity, Event, OfferNote};
 use mailbox_rule::{MailFault, PutEnd, RuledPut, RuledTake, TakeEnd, mailbox};
 use match_model::{Instance, ProgrammeNo, ResidentNo};
-use offer_ledger::{EntryRefused, Ledger, Naming, PARTS, Tally};
+use offer_ledger::{EntryRefused, Ledger, ExchangeIdentity, PARTS, Tally};
 use std::alloc::{AllocError, Global};
 use std::marker::Brand;
 use std::sync::Wait;
@@ -23,7 +23,7 @@ const TURNS: u32 = 20;
 
 /// Takes what waits at a resident's desk, and gives what is due.
 fn serve_resident<
-    J: Naming,
+    J: ExchangeIdentity,
     P: PutEnd<OfferNote>,
     Q: PutEnd<AnswerNote>,
     T: TakeEnd<OfferNote> + Drop,
@@ -53,7 +53,7 @@ fn serve_resident<
 
 /// Hears what waits at a programme's desk, and offers where it wishes.
 fn serve_programme<
-    J: Naming,
+    J: ExchangeIdentity,
     P: PutEnd<OfferNote>,
     Q: PutEnd<AnswerNote>,
     T: TakeEnd<AnswerNote> + Drop,
@@ -83,7 +83,7 @@ fn serve_programme<
 
 /// Serves each programme's desk, and then each resident's.
 fn serve_all<
-    J: Naming,
+    J: ExchangeIdentity,
     P: PutEnd<OfferNote>,
     Q: PutEnd<AnswerNote>,
     T: TakeEnd<OfferNote> + Drop,
@@ -111,7 +111,7 @@ fn serve_all<
 }
 
 /// A mailbox with room for all that can be sent to a resident, and its agent.
-fn resident_desk<J: Naming, R: Wait + Copy>(
+fn resident_desk<J: ExchangeIdentity, R: Wait + Copy>(
     alloc: Global,
     rt: R,
     inst: &Instance,
@@ -130,7 +130,7 @@ fn resident_desk<J: Naming, R: Wait + Copy>(
 }
 
 /// The mailbox and the agent of each resident.
-fn open_residents<J: Naming, R: Wait + Copy>(
+fn open_residents<J: ExchangeIdentity, R: Wait + Copy>(
     alloc: Global,
     rt: R,
     inst: &Instance,
@@ -156,7 +156,7 @@ fn open_residents<J: Naming, R: Wait + Copy>(
 }
 
 /// A mailbox with room for all that can be sent to a programme, and its agent.
-fn programme_desk<J: Naming, R: Wait + Copy>(
+fn programme_desk<J: ExchangeIdentity, R: Wait + Copy>(
     alloc: Global,
     rt: R,
     inst: &Instance,
@@ -181,7 +181,7 @@ fn programme_desk<J: Naming, R: Wait + Copy>(
 }
 
 /// The mailbox and the agent of each programme.
-fn open_programmes<J: Naming, R: Wait + Copy>(
+fn open_programmes<J: ExchangeIdentity, R: Wait + Copy>(
     alloc: Global,
     rt: R,
     inst: &Instance,
@@ -240,7 +240,7 @@ fn hears(alloc: Global, journal: &[Event], by: ProgrammeNo) -> Result<Vec<Answer
 }
 
 /// Whether each resident's log is its takes of the journal.
-fn have_taken<J: Naming, T: TakeEnd<OfferNote> + Drop>(
+fn have_taken<J: ExchangeIdentity, T: TakeEnd<OfferNote> + Drop>(
     alloc: Global,
     journal: &[Event],
     residents: &[Resident<J, T>],
@@ -255,7 +255,7 @@ fn have_taken<J: Naming, T: TakeEnd<OfferNote> + Drop>(
 }
 
 /// Whether each programme's log is its hears of the journal.
-fn have_heard<J: Naming, U: TakeEnd<AnswerNote> + Drop>(
+fn have_heard<J: ExchangeIdentity, U: TakeEnd<AnswerNote> + Drop>(
     alloc: Global,
     journal: &[Event],
     programmes: &[Programme<J, U>],
@@ -271,7 +271,7 @@ fn have_heard<J: Naming, U: TakeEnd<AnswerNote> + Drop>(
 
 /// Serves all desks as long as there is anything to do, and closes.
 fn serve_to_close<
-    J: Naming,
+    J: ExchangeIdentity,
     P: PutEnd<OfferNote>,
     Q: PutEnd<AnswerNote>,
     T: TakeEnd<OfferNote> + Drop,
@@ -292,7 +292,7 @@ fn serve_to_close<
 }
 
 /// How many events an exchange from its beginning to its close has, in which each desk's log is its list of the journal.
-fn exchange<J: Naming, R: Wait + Copy>(
+fn exchange<J: ExchangeIdentity, R: Wait + Copy>(
     rt: R,
     alloc: Global,
     blank: Blank,

@@ -3,4 +3,4 @@ use Rattle.match_pool.proofs.outcome.count.Given as goal
 
 -- the events so far are counted
 abbrev pub invariant-loop-worker : goal.invariant-loop-worker
-invariant-loop-worker g l = AreSoFar g.J.Naming.workers l.who l.entered.items l.worker-index
+invariant-loop-worker g l = AreSoFar g.J.ExchangeIdentity.workers l.who l.entered.items l.worker-index

@@ -8,19 +8,19 @@ use exchange_core::{AnswerKind, AnswerNote, OfferNote};
 use mailbox_rule::TakeEnd;
 use match_agents::{Heard, ProgrammeAgent, ResidentAgent};
 use match_model::{Instance, ProgrammeNo, ResidentNo};
-use offer_ledger::Naming;
+use offer_ledger::ExchangeIdentity;
 use std::alloc::Global;
 use std::marker::PhantomData;
 
 /// A resident's agent of the named exchange.
 #[derive(Drop)]
-pub(super) struct Resident<J: Naming, T: TakeEnd<OfferNote>> {
+pub(super) struct Resident<J: ExchangeIdentity, T: TakeEnd<OfferNote>> {
     agent: ResidentAgent<T>,
     named: PhantomData<J>,
     ghost agent_of: { IsResidentAgentOf J.inst agent },
 }
 
-impl<J: Naming, T: TakeEnd<OfferNote> + Drop> Resident<J, T> {
+impl<J: ExchangeIdentity, T: TakeEnd<OfferNote> + Drop> Resident<J, T> {
     pub(super) fn open(
         alloc: Global,
         inst: &Instance,
@@ -66,13 +66,13 @@ impl<J: Naming, T: TakeEnd<OfferNote> + Drop> Resident<J, T> {
 
 /// A programme's agent of the named exchange.
 #[derive(Drop)]
-pub(super) struct Programme<J: Naming, T: TakeEnd<AnswerNote>> {
+pub(super) struct Programme<J: ExchangeIdentity, T: TakeEnd<AnswerNote>> {
     agent: ProgrammeAgent<T>,
     named: PhantomData<J>,
     ghost agent_of: { IsProgrammeAgentOf J.inst agent },
 }
 
-impl<J: Naming, T: TakeEnd<AnswerNote> + Drop> Programme<J, T> {
+impl<J: ExchangeIdentity, T: TakeEnd<AnswerNote> + Drop> Programme<J, T> {
     pub(super) fn open(
         alloc: Global,
         inst: &Instance,

@@ -4,13 +4,13 @@ use Rattle.std.specs.Result.{IsErrAnd}
 use Rattle.std.specs.Prelude.{Option, Result, Ok, Err, IfErr, ◌<◌, ◌⊎◌}
 use Rattle.match_model.specs.declared.fault.ModelFault.{ModelFault}
 use Rattle.match_model.specs.declared.fault.ModelFault.TheVariants.{Memory, TooManyPairs}
-use Rattle.match_model.specs.Instance.{Instance, IsKept, pair_count}
+use Rattle.match_model.specs.Instance.{Instance, IsWellFormed, pair_count}
 use Rattle.std.specs.List.{sum_by}
 use Rattle.match_model.specs.RankTable.{AreRankTables}
 use Rattle.match_model.specs.Rows.{RowLists}
 use Rattle.match_model.specs.declared.limits.TheConstants.{MAX_PAIRS}
 use Rattle.match_model.specs.Draft.{Draft, IsFinishFault, instance_of, lists_left, mutual_lists, items_of}
-use Rattle.match_model.proofs.Kept.{IsKept-instance_of}
+use Rattle.match_model.proofs.Kept.{IsWellFormed-instance_of}
 use Rattle.match_model.proofs.builder.InstanceBuilder.instance.Goals as goal
 
 -- the mutual lists of what two vectors give, without whoever is withdrawn
@@ -47,7 +47,7 @@ invariant_of-result c =
     let counted : c.in_ok-programmes.pairs ≡ pair_count (instance_of d) = c.in_ok-programmes.ensures.count.0 ∙ ap (sum_by (length {A = ℕ})) same in
     let few : pair_count (instance_of d) ≤ MAX_PAIRS = (let most = c.in_ok-programmes.ensures.count.1 in omega arith) in
     record {
-      rankings = subst (λ (inst : Instance). IsKept inst c.in_ok-programmes.pairs) (sym (same_instance _ _ _ _ _ _ _ _ _ _ quotas ps rs fs gs)) (IsKept-instance_of d c.in_ok-programmes.pairs c.self.invariant few counted);
+      rankings = subst (λ (inst : Instance). IsWellFormed inst c.in_ok-programmes.pairs) (sym (same_instance _ _ _ _ _ _ _ _ _ _ quotas ps rs fs gs)) (IsWellFormed-instance_of d c.in_ok-programmes.pairs c.self.invariant few counted);
       programme_ranks = subst (λ (lists : List (List ℕ)). AreRankTables lists c.in_ok-programmes.programme_ranks.rows) (programmes ∙ sym ps) c.in_ok-programmes.ensures.ranks;
       resident_ranks = subst (λ (lists : List (List ℕ)). AreRankTables lists c.in_ok-residents.resident_ranks.rows) (residents ∙ sym rs) c.in_ok-residents.ensures.ranks;
     }

@@ -11,5 +11,5 @@ returns-clause-stopped g c =
 
 pub returns-clause-counts : goal.returns-clause-counts
 returns-clause-counts g c =
-    IfOk-weaker c.result.result _ (λ done. AreCounted g.J.Naming.workers done.journal.items done.who.items done.entered.items)
+    IfOk-weaker c.result.result _ (λ done. AreCounted g.J.ExchangeIdentity.workers done.journal.items done.who.items done.entered.items)
     (λ done same. rw (same.0, same.1, same.2) c.in_ok-outcome.ensures.counts) c.result.ensures.same

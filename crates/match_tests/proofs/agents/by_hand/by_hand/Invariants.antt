@@ -4,5 +4,5 @@ use Rattle.match_tests.proofs.agents.by_hand.by_hand.Given as goal
 abbrev pub ghosts-exchange-J-Ledger : goal.ghosts-exchange-J-Ledger
 ghosts-exchange-J-Ledger g a = record { name = a.blank.name; parts = a.blank.parts }
 
-abbrev pub ghosts-exchange-J-Naming : goal.ghosts-exchange-J-Naming
-ghosts-exchange-J-Naming g a = record { inst = a.inst.now; cap = Full; workers = 1 }
+abbrev pub ghosts-exchange-J-ExchangeIdentity : goal.ghosts-exchange-J-ExchangeIdentity
+ghosts-exchange-J-ExchangeIdentity g a = record { inst = a.inst.now; cap = Full; workers = 1 }

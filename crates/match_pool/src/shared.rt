@@ -1,0 +1,159 @@
+//! What the workers share.
+ghost use Rattle.std.specs.Prelude.{◌≡◌, true};
+
+use crate::exchange::Exchange;
+use crate::desks::{BoundProgramme, BoundResident};
+use crate::fault::Trouble;
+use crate::gate::Gate;
+use crate::scheduler::Scheduler;
+use crate::mailboxes::Mailboxes;
+use crate::naps::Naps;
+use offer_ledger::{Ledger, ExchangeIdentity};
+use std::hint::spin_loop;
+use std::sync::atomic::{AtomicBool, Ordering};
+use std::sync::{Condvar, Mutex, MutexGuard, Wait};
+
+/// How often a lock is tried before a worker naps, and how long it pauses after each time.
+const TRIES: u32 = 2;
+
+const PAUSES: u32 = 4;
+
+/// How often a worker naps before it waits for a lock.
+const NAPS: u32 = 20;
+
+// Tries a lock some times.
+fn try_soon<T>(lock: &Mutex<T>) -> Option<MutexGuard<'_, T>> {
+    for _ in 0..TRIES {
+        if let Some(guard) = lock.try_lock() {
+            return Some(guard);
+        }
+        for _ in 0..PAUSES {
+            spin_loop();
+        }
+    }
+    None
+}
+
+// The value under a lock that each worker wants for each event. Where another has it a worker steps back for a while, so
+// that the other works on alone: a lock that changes hands for each event makes both slower than one.
+fn lock_soon<'a, T, R: Wait>(rt: &R, lock: &'a Mutex<T>) -> MutexGuard<'a, T> {
+    match try_soon(lock) {
+        Some(guard) => guard,
+        None => lock_later(rt, lock),
+    }
+}
+
+// The value under a lock that another worker has: tried after each of some naps, and then waited for.
+fn lock_later<'a, T, R: Wait>(rt: &R, lock: &'a Mutex<T>) -> MutexGuard<'a, T> {
+    let mut naps = Naps::new();
+    for _ in 0..NAPS {
+        naps.nap(rt);
+        if let Some(guard) = try_soon(lock) {
+            return guard;
+        }
+    }
+    lock.lock(rt)
+}
+
+/// What the shared state is taken apart into: the desks of the residents and of the programmes, the ledger and the scheduler.
+pub(crate) type SharedParts<'a, J, M, G> = (
+    Vec<Mutex<BoundResident<J, M>>>,
+    Vec<Mutex<BoundProgramme<J, M>>>,
+    Ledger<J, <M as Mailboxes>::OfferPut, <M as Mailboxes>::AnswerPut>,
+    Scheduler<'a, G>,
+);
+
+/// The locks of a run. They are taken in the order desk, ledger; `scheduler` is never held while another is taken.
+pub(crate) struct SharedState<'a, J: ExchangeIdentity, M: Mailboxes, G: Gate> {
+    pub(crate) residents: Vec<Mutex<BoundResident<J, M>>>,
+    pub(crate) programmes: Vec<Mutex<BoundProgramme<J, M>>>,
+    pub(crate) exchange: Mutex<Exchange<J, M>>,
+    pub(crate) scheduler: Mutex<Scheduler<'a, G>>,
+    pub(crate) news: Condvar,
+    pub(crate) ending: AtomicBool,
+}
+
+// As one call, so that whoever lets the shared state go proves nothing of its parts.
+impl<'a, J: ExchangeIdentity, M: Mailboxes, G: Gate> Drop for SharedState<'a, J, M, G> {
+    fn drop(self) {
+        let SharedState {
+            residents: _,
+            programmes: _,
+            exchange: _,
+            scheduler: _,
+            news: _,
+            ending: _,
+        } = self;
+    }
+}
+
+impl<'a, J: ExchangeIdentity, M: Mailboxes, G: Gate> SharedState<'a, J, M, G> {
+    /// The desks, the ledger and the scheduler, out of their locks but for the desks.
+    pub(crate) fn into_parts(self) -> SharedParts<'a, J, M, G> {
+        let SharedState {
+            residents,
+            programmes,
+            exchange,
+            scheduler,
+            news: _,
+            ending: _,
+        } = self;
+        let ledger = exchange.into_inner().into_ledger();
+        (residents, programmes, ledger, scheduler.into_inner())
+    }
+}
+
+impl<'a, J: ExchangeIdentity, M: Mailboxes, G: Gate> SharedState<'a, J, M, G> {
+    /// Desks, exchange and scheduler, each under its lock.
+    pub(crate) fn new(
+        residents: Vec<Mutex<BoundResident<J, M>>>,
+        programmes: Vec<Mutex<BoundProgramme<J, M>>>,
+        exchange: Exchange<J, M>,
+        scheduler: Scheduler<'a, G>,
+    ) -> SharedState<'a, J, M, G> {
+        SharedState {
+            residents,
+            programmes,
+            exchange: Mutex::new(exchange),
+            scheduler: Mutex::new(scheduler),
+            news: Condvar::new(),
+            ending: AtomicBool::new(false),
+        }
+    }
+
+    /// The ledger and those who wait for room, under their lock.
+    pub(crate) fn lock_exchange<R: Wait>(&self, rt: &R) -> MutexGuard<'_, Exchange<J, M>> {
+        lock_soon(rt, &self.exchange)
+    }
+
+    /// The desks in hands and the list, under their lock.
+    pub(crate) fn lock_scheduler<R: Wait>(&self, rt: &R) -> MutexGuard<'_, Scheduler<'a, G>> {
+        lock_soon(rt, &self.scheduler)
+    }
+
+    /// Whether the run ends.
+    pub(crate) fn is_ending(&self) -> bool {
+        self.ending.load(Ordering::SeqCst)
+    }
+
+    /// Ends the run: the workers leave once what they have begun is entered.
+    pub(crate) fn end<R: Wait>(&self, rt: &R) {
+        self.ending.store(true, Ordering::SeqCst);
+        self.lock_scheduler(rt).ended = true;
+        self.news.notify_all();
+    }
+
+    /// Ends the run on a gate's word.
+    pub(crate) fn stop<R: Wait>(&self, rt: &R)
+        requires { G.MAY_STOP ≡ true }
+    {
+        self.lock_scheduler(rt).stop();
+        self.end(rt);
+    }
+
+    /// Ends the run for a trouble, of which the first one is kept.
+    pub(crate) fn fail<R: Wait>(&self, rt: &R, trouble: Trouble) {
+        self.lock_scheduler(rt).trouble.get_or_insert(trouble);
+        self.end(rt);
+    }
+}
