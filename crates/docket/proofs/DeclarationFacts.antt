@@ -20,7 +20,7 @@ use Rattle.docket.specs.Answers.{Refuses, at_record}
 use Rattle.docket.specs.Declarations.{IsDeclared, capacity_in, names_withdrawn, AreByWorker, who_if}
 use Rattle.docket.specs.Rows.{IsEventOf}
 use Rattle.docket.specs.Whole.{AreWorkers}
-use Rattle.docket.specs.declared.declarations.Declarations.{Declarations}
+use Rattle.docket.specs.declared.store.declarations.Declarations.{Declarations}
 use Rattle.docket.specs.declared.kind.TheConstants.{QUOTA, PROGRAMME_LIST, RESIDENT_LIST, MATCHED, UNMATCHED, FILLED, CAPACITY, EVENT}
 use Rattle.docket.specs.declared.fault.DocketFault.{DocketFault}
 use Rattle.docket.specs.declared.fault.DocketFault.TheVariants.{DeclaredTwice, Model, BadEvent}

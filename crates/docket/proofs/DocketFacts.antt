@@ -19,7 +19,7 @@ use Rattle.exchange_core.specs.declared.event.Event.{Event}
 use Rattle.docket.specs.Words.{capacity_of}
 use Rattle.docket.specs.Declarations.{IsDeclared, AreByWorker, capacity_in}
 use Rattle.docket.specs.Whole.{AreWorkers}
-use Rattle.docket.specs.declared.declarations.Declarations.{Declarations}
+use Rattle.docket.specs.declared.store.declarations.Declarations.{Declarations}
 use Rattle.docket.specs.declared.kind.TheConstants.{QUOTA, PROGRAMME_LIST, RESIDENT_LIST, CAPACITY}
 use Rattle.docket.specs.declared.fault.DocketFault.{DocketFault}
 use Rattle.docket.proofs.DeclarationFacts.{refuses_first, refuses_second, no_fault}

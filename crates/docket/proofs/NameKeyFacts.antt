@@ -5,7 +5,7 @@ use Rattle.std.specs.Prelude.{bytes_eq, ◌&&◌, nat_eq}
 use Rattle.std.proofs.lemmas.Bool.{and_parts}
 use Rattle.std.proofs.lemmas.Slice.Eq.{bytes_eq-Decides}
 use Rattle.docket.specs.NameKeys.{filled, IsFilled}
-use Rattle.docket.specs.declared.name_key.TheConstants.{MAX_NAME}
+use Rattle.docket.specs.declared.store.name_key.TheConstants.{MAX_NAME}
 
 -- the front of two lists
 take_front : (xs ys : List ℕ) → take (length xs) (xs ++ ys) ≡ xs

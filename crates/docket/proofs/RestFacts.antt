@@ -6,7 +6,7 @@ use Rattle.docket.specs.Rows.{row_at, AreEventsFrom}
 use Rattle.docket.specs.Ranking.{IsRanked}
 use Rattle.docket.specs.Marks.{IsMarked}
 use Rattle.docket.specs.Passes.{first_from, ranking_fault, mark_fault, filled_fault}
-use Rattle.docket.specs.declared.sheet.Marks.{Marks}
+use Rattle.docket.specs.declared.passes.sheet.Marks.{Marks}
 use Rattle.docket.specs.declared.kind.TheConstants.{PROGRAMME_LIST, RESIDENT_LIST, MATCHED, UNMATCHED, FILLED, EVENT}
 use Rattle.docket.proofs.PassFacts.{pass_more, pass_rest}
 use Rattle.docket.proofs.RankingFacts.{not_kind, ranked_other, ranking_fault-other}

@@ -13,7 +13,7 @@ use Rattle.docket.specs.declared.fault.DocketFault.{DocketFault}
 use Rattle.docket.specs.declared.fault.DocketFault.TheVariants.{FieldCount, BadName, BadEvent, BadSheet}
 use Rattle.docket.specs.Passes.{repeat_fault, limit_fault}
 use Rattle.docket.specs.Declarations.{IsDeclared}
-use Rattle.docket.specs.declared.declarations.Declarations.{Declarations}
+use Rattle.docket.specs.declared.store.declarations.Declarations.{Declarations}
 use Rattle.docket.proofs.DeclarationFacts.{declared_push, by_other, option_or-none}
 use Rattle.docket.proofs.WordFacts.{list_all_true_at}
 use Rattle.docket.proofs.FieldFacts.{field-get_or}

@@ -8,7 +8,7 @@ use Rattle.docket.specs.Fields.{Fields, field, is_kind, is_row_of, withdrawal_ki
 use Rattle.docket.specs.Contents.{names_of, programmes_of, residents_of, quotas_of, is_sheet_row, workers_in, who_of}
 use Rattle.docket.specs.Passes.{is_version_2}
 use Rattle.docket.specs.Whole.{AreWorkers}
-use Rattle.docket.specs.declared.declarations.Declarations.{Declarations}
+use Rattle.docket.specs.declared.store.declarations.Declarations.{Declarations}
 use Rattle.docket.specs.declared.kind.TheConstants.{PROGRAMME_LIST, CAPACITY, EVENT}
 
 -- the capacity in the C row, if there is one

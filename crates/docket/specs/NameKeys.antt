@@ -1,6 +1,6 @@
 -- How a name is kept that is found by its text.
 use Rattle.std.specs.Prelude.{◌≡◌, ◌≤◌, ◌-◌, ◌++◌, ℕ, nat_le, if◌then◌else◌, List, length, take, replicate}
-use Rattle.docket.specs.declared.name_key.TheConstants.{MAX_NAME}
+use Rattle.docket.specs.declared.store.name_key.TheConstants.{MAX_NAME}
 
 -- a text, and as many zeros after it as make it as long as the longest name
 unfoldable pub filled : List ℕ → List ℕ

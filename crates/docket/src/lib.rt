@@ -7,26 +7,15 @@
 //! other texts of faults. What nothing refuses: an `events_from` that names a later row, with which some walks are longer.
 #![tactic(auto)]
 
-mod declarations;
 mod docket;
 mod fault;
-mod found;
-mod journal;
 mod kind;
-mod flat_rows;
-mod name_key;
-mod names;
-mod numbers;
-mod ranking;
+mod passes;
 mod read;
 mod retrying;
 mod row;
 mod row_text;
-mod rows;
-mod sheet;
-mod tables;
-mod text_key;
-mod texts;
+mod store;
 mod words;
 mod write;
 

@@ -1,0 +1,253 @@
+//! The second pass: the lists, by number, and who is withdrawn.
+ghost use Rattle.std.specs.Prelude.{◌≡◌, ◌<◌, ◌+◌, [], false, length, take, drop, codes, bytes_eq, OnOk, IfOk};
+ghost use Rattle.match_model.specs.Draft.{instance_of as made_of};
+ghost use Rattle.std.specs.List.{list_all};
+ghost use Rattle.std.specs.Option.{option_or};
+ghost use Rattle.docket.specs.Fields.{field, kind_of, unless};
+ghost use Rattle.docket.specs.Contents.{is_declared, listed_in, draft_of, programmes_of, residents_of};
+ghost use Rattle.docket.specs.Passes.{first_from, ranking_fault, pairs_fault};
+ghost use Rattle.docket.specs.Answers.{Answers};
+ghost use Rattle.docket.specs.Rows.{row_at};
+ghost use Rattle.docket.specs.Ranking.{IsRanked};
+
+use crate::store::declarations::model_fault;
+use crate::fault::DocketFault;
+use crate::store::found::Found;
+use crate::kind::{PROGRAMME_LIST, RESIDENT_LIST, WITHDRAWAL};
+use crate::row::is_programme_side;
+use crate::store::tables::Tables;
+use match_model::{Instance, InstanceBuilder, ProgrammeNo, ResidentNo};
+use std::alloc::Global;
+
+// The residents whom row `k` lists.
+fn listed_residents(
+    tables: &Tables,
+    k: usize,
+    listed: &mut Vec<ResidentNo>,
+    found: &mut Found,
+) -> Result<(), DocketFault>
+    requires { k < length tables.now }
+    ensures listed { OnOk result (listed.new.items ≡ listed_in (residents_of tables.now) (row_at tables.now k)) }
+    ensures fault { Answers (unless (list_all (is_declared (residents_of tables.now)) (drop 2 (row_at tables.now k))) (DocketFault.UnknownName (k + 1))) result }
+{
+    listed.clear();
+    for i in 0..tables.listed(k) {
+        let Some(resident) = tables.listed_resident(k, i + 2, found) else {
+            return Err(DocketFault::UnknownName {
+                place: tables.place(k),
+            });
+        };
+        listed.push(resident)?;
+    }
+    Ok(())
+}
+
+// The programmes that row `k` lists.
+fn listed_programmes(
+    tables: &Tables,
+    k: usize,
+    listed: &mut Vec<ProgrammeNo>,
+    found: &mut Found,
+) -> Result<(), DocketFault>
+    requires { k < length tables.now }
+    ensures listed { OnOk result (listed.new.items ≡ listed_in (programmes_of tables.now) (row_at tables.now k)) }
+    ensures fault { Answers (unless (list_all (is_declared (programmes_of tables.now)) (drop 2 (row_at tables.now k))) (DocketFault.UnknownName (k + 1))) result }
+{
+    listed.clear();
+    for i in 0..tables.listed(k) {
+        let Some(programme) = tables.listed_programme(k, i + 2, found) else {
+            return Err(DocketFault::UnknownName {
+                place: tables.place(k),
+            });
+        };
+        listed.push(programme)?;
+    }
+    Ok(())
+}
+
+// `P,programme,resident,..`
+fn rank_residents(
+    tables: &Tables,
+    k: usize,
+    builder: &mut InstanceBuilder,
+    listed: &mut Vec<ResidentNo>,
+    found: &mut Found,
+) -> Result<(), DocketFault>
+    requires place { k < length tables.now }
+    requires kind { kind_of (row_at tables.now k) ≡ PROGRAMME_LIST }
+    requires ranked { IsRanked builder.old tables.now (take k tables.now) }
+    ensures ranked { OnOk result (IsRanked builder.new tables.now (take (k + 1) tables.now)) }
+    ensures fault { Answers (ranking_fault tables.now (take k tables.now) (row_at tables.now k)) result }
+{
+    let place = tables.place(k);
+    let Some(owner) = tables.programme(k, 1) else {
+        return Err(DocketFault::UnknownName { place });
+    };
+    listed_residents(tables, k, listed, found)?;
+    match builder.programme_list(owner, listed.as_slice()) {
+        Ok(()) => Ok(()),
+        Err(fault) => Err(model_fault(place, fault)),
+    }
+}
+
+// `R,resident,programme,..`
+fn rank_programmes(
+    tables: &Tables,
+    k: usize,
+    builder: &mut InstanceBuilder,
+    listed: &mut Vec<ProgrammeNo>,
+    found: &mut Found,
+) -> Result<(), DocketFault>
+    requires place { k < length tables.now }
+    requires kind { kind_of (row_at tables.now k) ≡ RESIDENT_LIST }
+    requires ranked { IsRanked builder.old tables.now (take k tables.now) }
+    ensures ranked { OnOk result (IsRanked builder.new tables.now (take (k + 1) tables.now)) }
+    ensures fault { Answers (ranking_fault tables.now (take k tables.now) (row_at tables.now k)) result }
+{
+    let place = tables.place(k);
+    let Some(owner) = tables.resident(k, 1) else {
+        unreachable!("the row declares its owner");
+    };
+    listed_programmes(tables, k, listed, found)?;
+    match builder.resident_list(owner, listed.as_slice()) {
+        Ok(()) => Ok(()),
+        Err(fault) => Err(model_fault(place, fault)),
+    }
+}
+
+// `W,P,programme`
+fn withdraw_programme(
+    tables: &Tables,
+    k: usize,
+    builder: &mut InstanceBuilder,
+) -> Result<(), DocketFault>
+    requires place { k < length tables.now }
+    requires kind { kind_of (row_at tables.now k) ≡ WITHDRAWAL }
+    requires side { field (row_at tables.now k) 1 ≡ codes "P" }
+    requires ranked { IsRanked builder.old tables.now (take k tables.now) }
+    ensures ranked { OnOk result (IsRanked builder.new tables.now (take (k + 1) tables.now)) }
+    ensures fault { Answers (ranking_fault tables.now (take k tables.now) (row_at tables.now k)) result }
+{
+    let place = tables.place(k);
+    let Some(programme) = tables.programme(k, 2) else {
+        return Err(DocketFault::UnknownName { place });
+    };
+    match builder.withdraw_programme(programme) {
+        Ok(()) => Ok(()),
+        Err(_) => unreachable!("the first pass refused a second withdrawal"),
+    }
+}
+
+// `W,R,resident`
+fn withdraw_resident(
+    tables: &Tables,
+    k: usize,
+    builder: &mut InstanceBuilder,
+) -> Result<(), DocketFault>
+    requires place { k < length tables.now }
+    requires kind { kind_of (row_at tables.now k) ≡ WITHDRAWAL }
+    requires side { bytes_eq (field (row_at tables.now k) 1) (codes "P") ≡ false }
+    requires ranked { IsRanked builder.old tables.now (take k tables.now) }
+    ensures ranked { OnOk result (IsRanked builder.new tables.now (take (k + 1) tables.now)) }
+    ensures fault { Answers (ranking_fault tables.now (take k tables.now) (row_at tables.now k)) result }
+{
+    let place = tables.place(k);
+    let Some(resident) = tables.resident(k, 2) else {
+        return Err(DocketFault::UnknownName { place });
+    };
+    match builder.withdraw_resident(resident) {
+        Ok(()) => Ok(()),
+        Err(_) => unreachable!("the first pass refused a second withdrawal"),
+    }
+}
+
+// `W,P,programme` or `W,R,resident`
+fn withdraw(tables: &Tables, k: usize, builder: &mut InstanceBuilder) -> Result<(), DocketFault>
+    requires place { k < length tables.now }
+    requires kind { kind_of (row_at tables.now k) ≡ WITHDRAWAL }
+    requires ranked { IsRanked builder.old tables.now (take k tables.now) }
+    ensures ranked { OnOk result (IsRanked builder.new tables.now (take (k + 1) tables.now)) }
+    ensures fault { Answers (ranking_fault tables.now (take k tables.now) (row_at tables.now k)) result }
+{
+    if is_programme_side(tables.field(k, 1)) {
+        withdraw_programme(tables, k, builder)
+    } else {
+        withdraw_resident(tables, k, builder)
+    }
+}
+
+// One row more of the second pass.
+fn rank_row(
+    tables: &Tables,
+    k: usize,
+    builder: &mut InstanceBuilder,
+    residents: &mut Vec<ResidentNo>,
+    programmes: &mut Vec<ProgrammeNo>,
+    found: &mut Found,
+) -> Result<(), DocketFault>
+    requires place { k < length tables.now }
+    requires ranked { IsRanked builder.old tables.now (take k tables.now) }
+    ensures ranked { OnOk result (IsRanked builder.new tables.now (take (k + 1) tables.now)) }
+    ensures fault { Answers (ranking_fault tables.now (take k tables.now) (row_at tables.now k)) result }
+{
+    let kind = tables.kind(k);
+    if kind == PROGRAMME_LIST {
+        return rank_residents(tables, k, builder, residents, found);
+    }
+    if kind == RESIDENT_LIST {
+        return rank_programmes(tables, k, builder, programmes, found);
+    }
+    if kind == WITHDRAWAL {
+        return withdraw(tables, k, builder);
+    }
+    Ok(())
+}
+
+// Hands the lists and withdrawals in to the builder, in the order of the rows.
+fn rank(alloc: Global, tables: &Tables, builder: &mut InstanceBuilder) -> Result<(), DocketFault>
+    requires { IsRanked builder.old tables.now [] }
+    ensures ranked { OnOk result (IsRanked builder.new tables.now tables.now) }
+    ensures fault { Answers (first_from (ranking_fault tables.now) [] tables.now) result }
+{
+    let mut residents = Vec::new(alloc);
+    let mut programmes = Vec::new(alloc);
+    let mut found = tables.found(alloc)?;
+    for k in 0..tables.events_from() {
+        rank_row(
+            tables,
+            k,
+            builder,
+            &mut residents,
+            &mut programmes,
+            &mut found,
+        )?;
+    }
+    Ok(())
+}
+
+// The instance of the builder, after the last record.
+fn finished(builder: InstanceBuilder, tables: &Tables) -> Result<Instance, DocketFault>
+    requires { IsRanked builder tables.now tables.now }
+    ensures instance { IfOk result (λ instance. instance ≡ made_of (draft_of tables.now)) }
+    ensures fault { Answers (pairs_fault tables.now) result }
+{
+    let place = tables.len() as u32;
+    match builder.finish() {
+        Ok(instance) => Ok(instance),
+        Err(refused) => Err(model_fault(place, refused.fault)),
+    }
+}
+
+/// The instance of the lists and withdrawals.
+pub(crate) fn instance_of(
+    alloc: Global,
+    tables: &Tables,
+    mut builder: InstanceBuilder,
+) -> Result<Instance, DocketFault>
+    requires { IsRanked builder tables.now [] }
+    ensures instance { IfOk result (λ instance. instance ≡ made_of (draft_of tables.now)) }
+    ensures fault { Answers (option_or (first_from (ranking_fault tables.now) [] tables.now) (pairs_fault tables.now)) result }
+{
+    rank(alloc, tables, &mut builder)?;
+    finished(builder, tables)
+}

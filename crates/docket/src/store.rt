@@ -1,0 +1,12 @@
+//! What is kept of a docket's records: the rows by their fields, and the names by their numbers.
+
+pub(crate) mod declarations;
+pub(crate) mod flat_rows;
+pub(crate) mod found;
+pub(crate) mod name_key;
+pub(crate) mod names;
+pub(crate) mod numbers;
+pub(crate) mod rows;
+pub(crate) mod tables;
+pub(crate) mod text_key;
+pub(crate) mod texts;
