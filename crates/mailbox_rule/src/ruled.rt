@@ -4,7 +4,7 @@ ghost use Rattle.mailbox_rule.specs.Replies.{MatchPut, MatchTake};
 
 use crate::ends::{PutEnd, PutReply, TakeEnd, TakeReply};
 use crate::fault::MailFault;
-use crate::rule::{Known, InOrder, Puts, Sides, Takes, Whole};
+use crate::rule::{InOrder, Known, Puts, Sides, Takes, Whole};
 use crossbeam_channel::{
     Pass, RuledReceiver, RuledSender, TryRecvError, TrySendError, bounded_with,
 };

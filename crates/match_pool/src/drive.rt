@@ -3,9 +3,9 @@ ghost use Rattle.std.specs.Prelude.{◌≡◌, ◌⊎◌, IfErr};
 ghost use Rattle.match_pool.specs.declared.fault.RunFault.TheVariants.{Memory, Thread};
 
 use crate::fault::RunFault;
-use crate::shared::SharedState;
 use crate::gate::Gate;
 use crate::mailboxes::Mailboxes;
+use crate::shared::SharedState;
 use crate::worker::Worker;
 use match_model::Instance;
 use offer_ledger::{ExchangeIdentity, Tally};

@@ -9,7 +9,7 @@ use crate::fault::{RunFault, Trouble};
 use crate::mailboxes::Mailboxes;
 use exchange_core::{Desk, Event, Pending};
 use match_model::{Instance, ResidentNo};
-use offer_ledger::{Ledger, ExchangeIdentity};
+use offer_ledger::{ExchangeIdentity, Ledger};
 
 /// How a run ended: closed, or stopped where it was stopped; else the desk that was left pending.
 pub(crate) fn ending_of<J: ExchangeIdentity, M: Mailboxes>(

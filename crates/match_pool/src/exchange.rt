@@ -5,7 +5,7 @@ use crate::mailboxes::Mailboxes;
 use crate::wait_queues::WaitQueues;
 use exchange_core::{AnswerKind, Event, Refused};
 use match_model::{Instance, ProgrammeNo, ResidentNo};
-use offer_ledger::{EntryRefused, Ledger, ExchangeIdentity, PutRefusal, Tally};
+use offer_ledger::{EntryRefused, ExchangeIdentity, Ledger, PutRefusal, Tally};
 
 /// The ledger, and the desks that wait for room.
 pub(crate) struct Exchange<J: ExchangeIdentity, M: Mailboxes> {
@@ -45,7 +45,10 @@ impl<J: ExchangeIdentity, M: Mailboxes> Exchange<J, M> {
     pub(crate) fn into_ledger(self) -> Ledger<J, M::OfferPut, M::AnswerPut>
         ensures { result ≡ self.ledger }
     {
-        let Exchange { ledger, wait_queues: _ } = self;
+        let Exchange {
+            ledger,
+            wait_queues: _,
+        } = self;
         ledger
     }
 }

@@ -2,23 +2,23 @@
 //! and the desks in hands and those that may have work under a third.
 #![tactic(auto)]
 
-mod exchange;
 mod compare;
 mod desks;
 mod done;
 mod drive;
 mod ending;
+mod exchange;
 mod fault;
-mod shared;
 mod gate;
-mod scheduler;
 mod mailboxes;
 mod naps;
 mod open;
 mod outcome;
 mod pool;
-mod run_queue;
 mod reserve;
+mod run_queue;
+mod scheduler;
+mod shared;
 mod wait_queues;
 mod woken;
 mod worker;

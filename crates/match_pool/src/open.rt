@@ -6,18 +6,18 @@ ghost use Rattle.match_pool.specs.Done.{Each};
 ghost use Rattle.match_pool.specs.Rooms.{room_of, offer_room_of, answer_room_of};
 ghost use Rattle.match_pool.specs.declared.fault.RunFault.TheVariants.{Memory};
 
-use crate::exchange::Exchange;
 use crate::desks::{BoundProgramme, BoundResident};
+use crate::exchange::Exchange;
 use crate::fault::RunFault;
-use crate::shared::SharedState;
 use crate::gate::Gate;
-use crate::scheduler::Scheduler;
 use crate::mailboxes::Mailboxes;
+use crate::scheduler::Scheduler;
+use crate::shared::SharedState;
 use crate::wait_queues::WaitQueues;
 use exchange_core::Capacity;
 use match_agents::{ProgrammeAgent, ResidentAgent};
 use match_model::{Instance, ProgrammeNo, ResidentNo};
-use offer_ledger::{Ledger, ExchangeIdentity, Tally};
+use offer_ledger::{ExchangeIdentity, Ledger, Tally};
 use std::alloc::Global;
 use std::sync::Mutex;
 use std::sync::ledger::Blank;
@@ -209,7 +209,13 @@ fn open_exchange<J: ExchangeIdentity, M: Mailboxes>(
     let wait_queues = WaitQueues::with_desks(alloc, desks)?;
     let (offer_puts, answer_puts) = puts;
     match Ledger::open(alloc, blank, inst, cap, workers, offer_puts, answer_puts) {
-        Ok((ledger, tallies)) => Ok((Exchange { ledger, wait_queues }, tallies)),
+        Ok((ledger, tallies)) => Ok((
+            Exchange {
+                ledger,
+                wait_queues,
+            },
+            tallies,
+        )),
         Err(_) => Err(RunFault::Memory),
     }
 }

@@ -11,11 +11,11 @@ use crate::done::{Done, Ending, Ends};
 use crate::ending::{ending_of, fault_of};
 use crate::fault::RunFault;
 use crate::gate::Gate;
-use crate::scheduler::Scheduler;
 use crate::mailboxes::Mailboxes;
+use crate::scheduler::Scheduler;
 use match_agents::{ProgrammeAgent, ResidentAgent};
 use match_model::{Assignment, Instance};
-use offer_ledger::{Ledger, ExchangeIdentity, PARTS, Tally};
+use offer_ledger::{ExchangeIdentity, Ledger, PARTS, Tally};
 use settle_law::{law_orderly, law_settled};
 
 /// The ledger of a run that had no trouble, how it ended, and the count of each worker.

@@ -60,7 +60,11 @@ impl<'a, G: Gate> Scheduler<'a, G> {
     }
 
     // Desks with nobody and with no work.
-    fn idle(alloc: Global, residents: u32, programmes: u32) -> Result<Scheduler<'a, G>, AllocError> {
+    fn idle(
+        alloc: Global,
+        residents: u32,
+        programmes: u32,
+    ) -> Result<Scheduler<'a, G>, AllocError> {
         let desks = residents as usize + programmes as usize;
         Ok(Scheduler {
             places: vec![in alloc; Place::Idle; desks]?,

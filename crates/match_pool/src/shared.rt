@@ -1,14 +1,14 @@
 //! What the workers share.
 ghost use Rattle.std.specs.Prelude.{◌≡◌, true};
 
-use crate::exchange::Exchange;
 use crate::desks::{BoundProgramme, BoundResident};
+use crate::exchange::Exchange;
 use crate::fault::Trouble;
 use crate::gate::Gate;
-use crate::scheduler::Scheduler;
 use crate::mailboxes::Mailboxes;
 use crate::naps::Naps;
-use offer_ledger::{Ledger, ExchangeIdentity};
+use crate::scheduler::Scheduler;
+use offer_ledger::{ExchangeIdentity, Ledger};
 use std::hint::spin_loop;
 use std::sync::atomic::{AtomicBool, Ordering};
 use std::sync::{Condvar, Mutex, MutexGuard, Wait};

@@ -2,14 +2,14 @@
 ghost use Rattle.std.specs.Prelude.{◌≡◌, ◌≢◌, None, slice_get};
 ghost use Rattle.match_agents.specs.Programmes.{wish_of};
 
-use crate::exchange::{Entry, Found};
 use crate::desks::{BoundProgramme, BoundResident};
+use crate::exchange::{Entry, Found};
 use crate::fault::Trouble;
-use crate::shared::SharedState;
 use crate::gate::{Gate, Go};
-use crate::scheduler::Next;
 use crate::mailboxes::Mailboxes;
 use crate::naps::Naps;
+use crate::scheduler::Next;
+use crate::shared::SharedState;
 use crate::woken::Woken;
 use exchange_core::{AnswerKind, AnswerNote, Desk, Event};
 use match_agents::Heard;
@@ -137,7 +137,11 @@ impl<'a, 'f, J: ExchangeIdentity, M: Mailboxes, G: Gate, R: Wait> Worker<'a, 'f,
 
     // Hears every answer that waits, and offers while there is a wish. Room that it was called for is used first: no
     // receipt may hold it up, since others wait for room behind it.
-    fn visit_programme(&mut self, agent: &mut BoundProgramme<J, M>, programme: ProgrammeNo) -> bool {
+    fn visit_programme(
+        &mut self,
+        agent: &mut BoundProgramme<J, M>,
+        programme: ProgrammeNo,
+    ) -> bool {
         let (mut more, is_called) = self
             .shared
             .lock_exchange(self.rt)

@@ -8,7 +8,7 @@ use exchange_core::{AnswerNote, Capacity, Event, OfferNote, Pending, Refused};
 use mailbox_rule::{ListPut, MailFault, PutEnd, RuledPut, RuledTake, mailbox};
 use match_model::Instance;
 use offer_ledger::{
-    EntryRefused, Ledger, LedgerFault, LedgerRefused, ExchangeIdentity, PARTS, PutRefusal, Tally,
+    EntryRefused, ExchangeIdentity, Ledger, LedgerFault, LedgerRefused, PARTS, PutRefusal, Tally,
 };
 use samples::events::{A, X, nine_events, nineteen_events};
 use std::alloc::Global;

@@ -8,7 +8,7 @@ use crate::seen::{Seen, begin, end};
 use exchange_core::{AnswerNote, Capacity, OfferNote};
 use mailbox_rule::{ListPut, MailFault, PutEnd};
 use match_model::Instance;
-use offer_ledger::{EntryRefused, Ledger, LedgerFault, ExchangeIdentity, PutRefusal, Tally};
+use offer_ledger::{EntryRefused, ExchangeIdentity, Ledger, LedgerFault, PutRefusal, Tally};
 use samples::events::{A, X};
 use std::alloc::Global;
 use std::io::Write;

@@ -10,11 +10,11 @@ ghost use Rattle.docket.specs.Answers.{Answers};
 ghost use Rattle.docket.specs.Rows.{row_at};
 ghost use Rattle.docket.specs.Ranking.{IsRanked};
 
-use crate::store::declarations::model_fault;
 use crate::fault::DocketFault;
-use crate::store::found::Found;
 use crate::kind::{PROGRAMME_LIST, RESIDENT_LIST, WITHDRAWAL};
 use crate::row::is_programme_side;
+use crate::store::declarations::model_fault;
+use crate::store::found::Found;
 use crate::store::tables::Tables;
 use match_model::{Instance, InstanceBuilder, ProgrammeNo, ResidentNo};
 use std::alloc::Global;

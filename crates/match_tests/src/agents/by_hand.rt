@@ -11,7 +11,7 @@ use desks::{Programme, Resident};
 use exchange_core::{AnswerNote, Capacity, Event, OfferNote};
 use mailbox_rule::{MailFault, PutEnd, RuledPut, RuledTake, TakeEnd, mailbox};
 use match_model::{Instance, ProgrammeNo, ResidentNo};
-use offer_ledger::{EntryRefused, Ledger, ExchangeIdentity, PARTS, Tally};
+use offer_ledger::{EntryRefused, ExchangeIdentity, Ledger, PARTS, Tally};
 use std::alloc::{AllocError, Global};
 use std::marker::Brand;
 use std::sync::Wait;
