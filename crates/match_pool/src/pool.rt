@@ -27,6 +27,9 @@ const MOST_WORKERS: usize = 8;
 pub type RuledDone<R> = Done<RuledMailboxes<R>>;
 
 /// Runs the exchange of an instance by this many workers, from 1 to 8, until it is closed or the gate stops it.
+///
+/// After a stop each worker enters the event that it has begun, and no other. A stop at the run's last receipt may come too
+/// late: a worker that has seen none yet may close the run once that receipt is entered, and then it ends as `Closed`.
 pub fn run<G: Gate + Sync, R: Threads + Wait + Sync + Send + Copy>(
     rt: R,
     alloc: Global,
