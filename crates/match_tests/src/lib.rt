@@ -30,4 +30,6 @@ mod pool;
 #[cfg(test)]
 mod slips;
 #[cfg(test)]
+mod stops;
+#[cfg(test)]
 mod workers;
