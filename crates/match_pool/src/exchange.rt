@@ -3,7 +3,7 @@ ghost use Rattle.std.specs.Prelude.{◌≡◌};
 
 use crate::mailboxes::Mailboxes;
 use crate::wait_queues::WaitQueues;
-use exchange_core::{AnswerKind, Event, Refused};
+use exchange_core::{AnswerKind, Desk, Event, Refused};
 use match_model::{Instance, ProgrammeNo, ResidentNo};
 use offer_ledger::{EntryRefused, ExchangeIdentity, Ledger, PutRefusal, Tally};
 
@@ -22,6 +22,8 @@ pub(crate) enum Entry {
     Made { more: bool, woken: Option<u32> },
     /// The mailbox was full, and the desk waits for room.
     Later,
+    /// The mailbox said that it is full, though the journal has room in it.
+    Missed,
     /// Nothing is entered any more.
     Ended,
     /// The core refused it.
@@ -54,22 +56,32 @@ impl<J: ExchangeIdentity, M: Mailboxes> Exchange<J, M> {
 }
 
 impl<J: ExchangeIdentity, M: Mailboxes> Exchange<J, M> {
-    /// Whether offers wait at a resident: put, and by the journal not taken yet.
-    pub(crate) fn offers_wait(&self, inst: &Instance, resident: ResidentNo) -> bool
+    // Whether offers wait at a resident: put, and by the journal not taken yet.
+    fn offers_wait(&self, inst: &Instance, resident: ResidentNo) -> bool
         requires { inst.now ≡ J.inst }
     {
         resident.0 < inst.residents() && self.ledger.core().has_offers(resident)
     }
 
-    /// Whether answers wait at a programme: put, and by the journal not heard yet.
-    pub(crate) fn answers_wait(&self, inst: &Instance, programme: ProgrammeNo) -> bool
+    // Whether answers wait at a programme: put, and by the journal not heard yet.
+    fn answers_wait(&self, inst: &Instance, programme: ProgrammeNo) -> bool
         requires { inst.now ≡ J.inst }
     {
         programme.0 < inst.programmes() && self.ledger.core().has_answers(programme)
     }
 
-    /// A programme's desk comes into a worker's hands, and waits for room no more. Whether answers wait at it, and
-    /// whether it was called for room.
+    /// Whether messages wait at a desk: put, and by the journal not received yet.
+    pub(crate) fn has_mail(&self, inst: &Instance, desk: Desk) -> bool
+        requires { inst.now ≡ J.inst }
+    {
+        match desk {
+            Desk::Resident(resident) => self.offers_wait(inst, resident),
+            Desk::Programme(programme) => self.answers_wait(inst, programme),
+        }
+    }
+
+    /// A programme's desk that waited comes into a worker's hands, and waits for room no more. Whether answers wait at
+    /// it, and whether it was called for room.
     pub(crate) fn programme_comes(
         &mut self,
         inst: &Instance,
@@ -146,13 +158,11 @@ impl<J: ExchangeIdentity, M: Mailboxes> Exchange<J, M> {
                     woken: if was_empty { Some(receiver) } else { None },
                 }
             }
-            Err(
-                EntryRefused::Step(Refused::MailboxFull)
-                | EntryRefused::PutRefused(PutRefusal::Full),
-            ) => {
+            Err(EntryRefused::Step(Refused::MailboxFull)) => {
                 self.wait_queues.join(receiver, sender);
                 Entry::Later
             }
+            Err(EntryRefused::PutRefused(PutRefusal::Full)) => Entry::Missed,
             Err(EntryRefused::Spoiled) => Entry::Ended,
             Err(EntryRefused::PutRefused(PutRefusal::Gone)) => Entry::Gone,
             Err(EntryRefused::Step(_)) => Entry::Refused,

@@ -29,7 +29,8 @@ pub enum RunFault {
         /// The take or hear.
         event: Event,
     },
-    /// The desk's log differs from the journal, or the desk was left pending.
+    /// The desk's log differs from the journal, or the desk was left pending: its mailbox had nothing where the journal has a
+    /// message, or no room where the journal has room, more often than its run has patience.
     #[error("a desk's log differs from the journal")]
     Torn(Desk),
     /// Nobody holds the other end of this desk's mailbox.
@@ -42,7 +43,7 @@ pub enum RunFault {
 pub(crate) enum Trouble {
     /// A receipt that the core refused.
     OutOfStep(Event),
-    /// A desk whose log is full, or whose event the core refused.
+    /// A desk whose log is full, whose event the core refused, or whose mailbox was at odds with the journal for too long.
     Torn(Desk),
     /// A desk whose mailbox has lost its other end.
     MailGone(Desk),

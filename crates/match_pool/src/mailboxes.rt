@@ -28,6 +28,10 @@ pub trait Mailboxes {
     // How many answers a mailbox has room for.
     ghost answer_room: { Self.AnswerPut → ℕ };
 
+    /// How often in a row a worker goes on after a mailbox that has nothing where the journal has a message in it, or
+    /// that is full where the journal has room in it. After so many times its run ends as torn.
+    const PATIENCE: u32;
+
     /// Opens this resident's mailbox, with room for so many offers, at least one. The one fault is `Memory`.
     fn open_offers(
         &self,
@@ -65,6 +69,8 @@ impl<R: Wait + Copy + Send> Mailboxes for RuledMailboxes<R> {
     type AnswerPut = RuledPut<AnswerNote, R>;
 
     type AnswerTake = RuledTake<AnswerNote, R>;
+
+    const PATIENCE: u32 = 1_000_000;
 
     ghost offer_room = { λ end. end.room };
 

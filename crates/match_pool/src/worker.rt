@@ -27,21 +27,22 @@ pub(crate) struct Worker<'a, 'f, J: ExchangeIdentity, M: Mailboxes, G: Gate, R: 
     number: usize,
     tally: Tally<J>,
     woken: Woken,
+    missed: u32,
     ghost named: { inst.now ≡ J.inst },
 }
 
 /// What a step at a desk leaves.
 #[derive(Clone, Copy, Debug, PartialEq, Eq)]
 enum Step {
-    /// The event is entered; whether the desk's mailbox has more.
-    Made { more: bool },
+    /// The worker stays at the desk: an event is entered, or its mailbox has nothing. Whether the mailbox may have more.
+    Stay { more: bool },
     /// The worker leaves the desk; whether it is to be come back to at once.
     Leave { again: bool },
 }
 
 /// Why a look into a mailbox gave no message.
 #[derive(Clone, Copy)]
-enum Miss {
+enum Look {
     /// None waits, as far as the mailbox has it.
     Empty,
     /// Nobody can put one any more.
@@ -49,6 +50,9 @@ enum Miss {
     /// The log has no room for one.
     LogFull,
 }
+
+/// After how many misses in a row a worker naps after each.
+const MISSES: u32 = 16;
 
 /// How often a worker that has found no desk naps and looks again, before it waits for news.
 const LOOKS: u32 = 8;
@@ -75,6 +79,7 @@ impl<'a, 'f, J: ExchangeIdentity, M: Mailboxes, G: Gate, R: Wait> Worker<'a, 'f,
             number,
             tally,
             woken: Woken::new(),
+            missed: 0,
         }
     }
 
@@ -112,12 +117,10 @@ impl<'a, 'f, J: ExchangeIdentity, M: Mailboxes, G: Gate, R: Wait> Worker<'a, 'f,
         }
     }
 
-    // Gives every answer that is due and takes the next offer, while there is one.
+    // Gives every answer that is due and takes the next offer, while there is one. The mailbox is looked into at first, and
+    // the ledger asked where it gives nothing.
     fn visit_resident(&mut self, agent: &mut BoundResident<J, M>, resident: ResidentNo) -> bool {
-        let mut more = self
-            .shared
-            .lock_exchange(self.rt)
-            .offers_wait(self.inst, resident);
+        let mut more = true;
         for _ in self.rt.forever() {
             if self.shared.is_ending() {
                 return false;
@@ -128,7 +131,7 @@ impl<'a, 'f, J: ExchangeIdentity, M: Mailboxes, G: Gate, R: Wait> Worker<'a, 'f,
                 None => return false,
             };
             match step {
-                Step::Made { more: now } => more = now,
+                Step::Stay { more: now } => more = now,
                 Step::Leave { again } => return again,
             }
         }
@@ -142,14 +145,18 @@ impl<'a, 'f, J: ExchangeIdentity, M: Mailboxes, G: Gate, R: Wait> Worker<'a, 'f,
         agent: &mut BoundProgramme<J, M>,
         programme: ProgrammeNo,
     ) -> bool {
-        let (mut more, is_called) = self
-            .shared
-            .lock_exchange(self.rt)
-            .programme_comes(self.inst, programme);
-        if more && is_called {
-            match self.offer_next(agent, programme) {
-                Step::Made { more: now } => more = now,
-                Step::Leave { .. } => return true,
+        let mut more = true;
+        if agent.asks_first() {
+            let (has_more, is_called) = self
+                .shared
+                .lock_exchange(self.rt)
+                .programme_comes(self.inst, programme);
+            more = has_more;
+            if more && is_called {
+                match self.offer_next(agent, programme) {
+                    Step::Stay { more: now } => more = now,
+                    Step::Leave { .. } => return true,
+                }
             }
         }
         for _ in self.rt.forever() {
@@ -162,7 +169,7 @@ impl<'a, 'f, J: ExchangeIdentity, M: Mailboxes, G: Gate, R: Wait> Worker<'a, 'f,
                 self.offer_next(agent, programme)
             };
             match step {
-                Step::Made { more: now } => more = now,
+                Step::Stay { more: now } => more = now,
                 Step::Leave { again } => return again,
             }
         }
@@ -210,8 +217,10 @@ impl<'a, 'f, J: ExchangeIdentity, M: Mailboxes, G: Gate, R: Wait> Worker<'a, 'f,
             .shared
             .lock_exchange(self.rt)
             .offer(self.inst, &mut self.tally, programme, resident);
-        if let Entry::Made { .. } = entry {
-            agent.offered(self.inst);
+        match entry {
+            Entry::Made { .. } => agent.offered(self.inst),
+            Entry::Later => agent.waits(),
+            Entry::Missed | Entry::Ended | Entry::Refused | Entry::Gone => {}
         }
         self.after_put(entry, Desk::Programme(programme), Desk::Resident(resident))
     }
@@ -223,7 +232,7 @@ impl<'a, 'f, J: ExchangeIdentity, M: Mailboxes, G: Gate, R: Wait> Worker<'a, 'f,
         self.list_woken();
         let programme = match agent.take() {
             Heard::Got(note) => note.programme,
-            heard => return self.after_miss(miss_of(&heard), desk),
+            heard => return self.after_look(look_of(&heard), desk),
         };
         self.pass(again);
         let entry = self
@@ -247,7 +256,7 @@ impl<'a, 'f, J: ExchangeIdentity, M: Mailboxes, G: Gate, R: Wait> Worker<'a, 'f,
         self.list_woken();
         let note = match agent.hear() {
             Heard::Got(note) => note,
-            heard => return self.after_miss(miss_of(&heard), desk),
+            heard => return self.after_look(look_of(&heard), desk),
         };
         self.pass(again);
         let AnswerNote { resident, kind } = note;
@@ -277,6 +286,7 @@ impl<'a, 'f, J: ExchangeIdentity, M: Mailboxes, G: Gate, R: Wait> Worker<'a, 'f,
         match entry {
             Entry::Made { more, woken } => self.made(more, woken),
             Entry::Later | Entry::Ended => LEAVE,
+            Entry::Missed => self.miss(sender),
             Entry::Refused => {
                 self.shared.fail(self.rt, Trouble::Torn(sender));
                 LEAVE
@@ -296,35 +306,54 @@ impl<'a, 'f, J: ExchangeIdentity, M: Mailboxes, G: Gate, R: Wait> Worker<'a, 'f,
                 self.shared.fail(self.rt, Trouble::OutOfStep(receipt));
                 LEAVE
             }
-            Entry::Later | Entry::Ended | Entry::Gone => LEAVE,
+            Entry::Later | Entry::Missed | Entry::Ended | Entry::Gone => LEAVE,
         }
     }
 
-    // What a look into the mailbox leaves that gave no message.
-    fn after_miss(&mut self, miss: Miss, desk: Desk) -> Step {
-        match miss {
-            Miss::Empty => Step::Leave { again: true },
-            Miss::Gone => {
-                self.shared.fail(self.rt, Trouble::MailGone(desk));
-                LEAVE
-            }
-            Miss::LogFull => {
+    // What a look into the mailbox leaves that gave no message: where none waits by the ledger, the desk does what else it
+    // has to do.
+    fn after_look(&mut self, look: Look, desk: Desk) -> Step {
+        if let Look::Gone = look {
+            self.shared.fail(self.rt, Trouble::MailGone(desk));
+            return LEAVE;
+        }
+        let waits = self.shared.lock_exchange(self.rt).has_mail(self.inst, desk);
+        if !waits {
+            return Step::Stay { more: false };
+        }
+        match look {
+            Look::Empty => self.miss(desk),
+            Look::Gone | Look::LogFull => {
                 self.shared.fail(self.rt, Trouble::Torn(desk));
                 LEAVE
             }
         }
     }
 
+    // A mailbox had nothing, or no room, against the journal: the desk is come back to, while there is patience.
+    fn miss(&mut self, desk: Desk) -> Step {
+        self.missed = self.missed.saturating_add(1);
+        if self.missed >= M::PATIENCE {
+            self.shared.fail(self.rt, Trouble::Torn(desk));
+            return LEAVE;
+        }
+        if self.missed > MISSES {
+            Naps::new().nap(self.rt);
+        }
+        Step::Leave { again: true }
+    }
+
     // An event was entered: the gate is told, and the desk that it woke is noted.
     fn made(&mut self, more: bool, woken: Option<u32>) -> Step {
         self.gate.entered(self.number);
+        self.missed = 0;
         if let Some(desk) = woken {
             self.woken.push(desk);
             if self.woken.is_full() {
                 self.list_woken();
             }
         }
-        Step::Made { more }
+        Step::Stay { more }
     }
 
     // Lists the desks that were woken, and wakes a worker that waits for one.
@@ -436,10 +465,10 @@ impl<'a, 'f, J: ExchangeIdentity, M: Mailboxes, G: Gate, R: Wait> Worker<'a, 'f,
 }
 
 // Why a look into a mailbox that gave nothing did so.
-fn miss_of<M>(heard: &Heard<M>) -> Miss {
+fn look_of<M>(heard: &Heard<M>) -> Look {
     match heard {
-        Heard::Gone => Miss::Gone,
-        Heard::LogFull => Miss::LogFull,
-        Heard::Nothing | Heard::Got(_) => Miss::Empty,
+        Heard::Gone => Look::Gone,
+        Heard::LogFull => Look::LogFull,
+        Heard::Nothing | Heard::Got(_) => Look::Empty,
     }
 }

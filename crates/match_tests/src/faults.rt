@@ -103,6 +103,51 @@ fn tells_whose_mailbox_is_gone(rt: HostRuntime) {
     }
 }
 
+// Slips that last, so that a desk stays pending, and which: a programme whose offer finds no room, a resident whose answer
+// finds none, and a resident or a programme in whose mailbox there is nothing though a message waits.
+fn lasting() -> [(Slip, Desk); 8] {
+    [
+        (Slip::Offer(Y, 0, PutSlip::AlwaysFull), Desk::Programme(A)),
+        (Slip::Offer(Z, 0, PutSlip::AlwaysFull), Desk::Programme(A)),
+        (Slip::Answer(B, 0, PutSlip::AlwaysFull), Desk::Resident(X)),
+        (Slip::Take(X, 0, TakeSlip::AlwaysNothing), Desk::Resident(X)),
+        (Slip::Take(X, 1, TakeSlip::AlwaysNothing), Desk::Resident(X)),
+        (Slip::Take(Y, 0, TakeSlip::AlwaysNothing), Desk::Resident(Y)),
+        (
+            Slip::Hear(A, 0, TakeSlip::AlwaysNothing),
+            Desk::Programme(A),
+        ),
+        (
+            Slip::Hear(B, 0, TakeSlip::AlwaysNothing),
+            Desk::Programme(B),
+        ),
+    ]
+}
+
+// Whether a run tells that this desk is torn.
+fn is_torn(told: &Result<bool, RunFault>, desk: &Desk) -> bool {
+    match told {
+        Err(RunFault::Torn(torn)) => torn == desk,
+        _ => false,
+    }
+}
+
+#[test]
+fn tells_the_desk_that_is_left_pending(rt: HostRuntime) {
+    for (slip, desk) in lasting() {
+        for cap in CAPACITIES {
+            for workers in 1..=4 {
+                let gate = Counting::new();
+                let told = told_by(rt, rt.alloc(), LARGER, (cap, workers), &gate, slip);
+                assert!(rt;
+                    is_torn(&told, &desk),
+                    "{slip:?}, {cap:?}, {workers} workers"
+                );
+            }
+        }
+    }
+}
+
 // A resident takes the offer of another programme first.
 fn offer_of(resident: ResidentNo, programme: ProgrammeNo) -> (Slip, Event) {
     let slip = TakeSlip::Gives(OfferNote { programme });

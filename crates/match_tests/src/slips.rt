@@ -7,6 +7,7 @@ use match_model::{ProgrammeNo, ResidentNo};
 use match_pool::Mailboxes;
 use std::alloc::Global;
 use std::marker::Model;
+use std::mem;
 use std::sync::Wait;
 
 /// How many messages an end gives at most.
@@ -17,15 +18,19 @@ const MOST: usize = 64;
 pub(super) enum PutSlip {
     /// It says that there is no room.
     Full,
+    /// It says that there is no room, from then on.
+    AlwaysFull,
     /// It says that nobody takes, from then on.
     Gone,
 }
 
-/// What a receiving end does at one of its calls, or from it on.
+/// What a receiving end does once, after so many messages, or from then on.
 #[derive(Clone, Copy, Debug, PartialEq, Eq)]
 pub(super) enum TakeSlip<M> {
     /// It gives nothing, though a message waits.
     Nothing,
+    /// It gives nothing, from then on.
+    AlwaysNothing,
     /// It says that nobody puts, from then on.
     Gone,
     /// It gives this message, and leaves the one that waits.
@@ -62,18 +67,19 @@ impl<M: Copy, R: Wait + Copy> PutEnd<M> for SlippingPut<M, R> {
         self.calls = call.saturating_add(1);
         match self.slip {
             Some((at, PutSlip::Full)) if at == call => PutReply::Full(m),
+            Some((at, PutSlip::AlwaysFull)) if at <= call => PutReply::Full(m),
             Some((at, PutSlip::Gone)) if at <= call => PutReply::Gone(m),
             _ => self.end.put(m),
         }
     }
 }
 
-/// A receiving end that slips at a call, counted from 0.
+/// A receiving end that slips when it has given so many messages.
 #[derive(Drop)]
 pub(super) struct SlippingTake<M: Copy, R: Wait + Copy> {
     end: RuledTake<M, R>,
     given: Vec<M>,
-    calls: u32,
+    has_slipped: bool,
     slip: Option<(u32, TakeSlip<M>)>,
     ghost reserved: { 64 ≤ vec_capacity given },
 }
@@ -97,11 +103,8 @@ impl<M: Copy, R: Wait + Copy> TakeEnd<M> for SlippingTake<M, R> {
         if self.given.len() >= MOST {
             return TakeReply::Nothing;
         }
-        let call = self.calls;
-        self.calls = call.saturating_add(1);
         let reply = match self.slip {
-            Some((at, TakeSlip::Gone)) if at <= call => TakeReply::Gone,
-            Some((at, slip)) if at == call => self.slipped(slip),
+            Some((at, slip)) if at as usize <= self.given.len() => self.slipped(slip),
             _ => self.end.take(),
         };
         match reply {
@@ -115,11 +118,14 @@ impl<M: Copy, R: Wait + Copy> TakeEnd<M> for SlippingTake<M, R> {
 }
 
 impl<M: Copy, R: Wait + Copy> SlippingTake<M, R> {
-    // What a slip gives in place of a take.
-    fn slipped(&self, slip: TakeSlip<M>) -> TakeReply<M> {
+    // What a slip gives in place of a take: but for two kinds, once.
+    fn slipped(&mut self, slip: TakeSlip<M>) -> TakeReply<M> {
+        let again = mem::replace(&mut self.has_slipped, true);
         match slip {
-            TakeSlip::Nothing => TakeReply::Nothing,
+            TakeSlip::AlwaysNothing => TakeReply::Nothing,
             TakeSlip::Gone => TakeReply::Gone,
+            _ if again => self.end.take(),
+            TakeSlip::Nothing => TakeReply::Nothing,
             TakeSlip::Gives(m) => TakeReply::Got(m),
             TakeSlip::Repeats => match self.given.last() {
                 Some(m) => TakeReply::Got(*m),
@@ -170,7 +176,7 @@ fn ends_of<M: Copy + Eq, R: Wait + Copy>(
     let take = SlippingTake {
         end: take,
         given: Vec::with_capacity(alloc, MOST)?,
-        calls: 0,
+        has_slipped: false,
         slip: take_slip,
     };
     Ok((put, take))
@@ -184,6 +190,8 @@ impl<R: Wait + Copy + Send> Mailboxes for Slipping<R> {
     type AnswerPut = SlippingPut<AnswerNote, R>;
 
     type AnswerTake = SlippingTake<AnswerNote, R>;
+
+    const PATIENCE: u32 = 50;
 
     ghost offer_room = { λ end. end.room };
 
