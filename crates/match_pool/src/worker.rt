@@ -317,7 +317,11 @@ impl<'a, 'f, J: ExchangeIdentity, M: Mailboxes, G: Gate, R: Wait> Worker<'a, 'f,
             self.shared.fail(self.rt, Trouble::MailGone(desk));
             return LEAVE;
         }
-        let waits = self.shared.lock_exchange(self.rt).has_mail(self.inst, desk);
+        let again = desk;
+        let waits = self
+            .shared
+            .lock_exchange(self.rt)
+            .has_mail(self.inst, again);
         if !waits {
             return Step::Stay { more: false };
         }

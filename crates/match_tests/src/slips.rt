@@ -119,7 +119,9 @@ impl<M: Copy, R: Wait + Copy> TakeEnd<M> for SlippingTake<M, R> {
 
 impl<M: Copy, R: Wait + Copy> SlippingTake<M, R> {
     // What a slip gives in place of a take: but for two kinds, once.
-    fn slipped(&mut self, slip: TakeSlip<M>) -> TakeReply<M> {
+    fn slipped(&mut self, slip: TakeSlip<M>) -> TakeReply<M>
+        ensures { self.new ≡ self.old }
+    {
         let again = mem::replace(&mut self.has_slipped, true);
         match slip {
             TakeSlip::AlwaysNothing => TakeReply::Nothing,
