@@ -1,5 +1,5 @@
 -- What room the mailboxes of a run have.
-use Rattle.std.specs.Prelude.{ℕ, ◌*◌, length, max, min}
+use Rattle.std.specs.Prelude.{ℕ, List, [], ◌≡◌, ◌*◌, length, max, min}
 use Rattle.match_model.specs.Instance.{Instance, list_of_resident, list_of_programme}
 use Rattle.exchange_core.specs.declared.event.Capacity.{Capacity}
 use Rattle.exchange_core.specs.declared.event.Capacity.TheVariants.{Full, Each}
@@ -16,3 +16,7 @@ offer_room_of inst cap r = room_of cap (length (list_of_resident inst r))
 -- a programme's mailbox: two answers from each resident on its list
 abbrev pub answer_room_of : Instance → Capacity → ℕ → ℕ
 answer_room_of inst cap p = room_of cap (2 * length (list_of_programme inst p))
+
+-- a sending end that has put nothing, with the room of its desk's mailbox
+abbrev pub IsUnused : {P N : Type 0} → (P → List N) → (P → ℕ) → (ℕ → ℕ) → ℕ → P → Type 0
+IsUnused puts room rooms desk end = (puts end ≡ []) × (room end ≡ rooms desk)

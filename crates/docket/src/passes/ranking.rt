@@ -5,7 +5,7 @@ ghost use Rattle.std.specs.List.{list_all};
 ghost use Rattle.std.specs.Option.{option_or};
 ghost use Rattle.docket.specs.Fields.{field, kind_of, unless};
 ghost use Rattle.docket.specs.Contents.{is_declared, listed_in, draft_of, programmes_of, residents_of};
-ghost use Rattle.docket.specs.Passes.{first_from, ranking_fault, pairs_fault};
+ghost use Rattle.docket.specs.Passes.{first_from, unknown_fault, ranking_fault, pairs_fault};
 ghost use Rattle.docket.specs.Answers.{Answers};
 ghost use Rattle.docket.specs.Rows.{row_at};
 ghost use Rattle.docket.specs.Ranking.{IsRanked};
@@ -28,7 +28,7 @@ fn listed_residents(
 ) -> Result<(), DocketFault>
     requires { k < length tables.now }
     ensures listed { OnOk result (listed.new.items ≡ listed_in (residents_of tables.now) (row_at tables.now k)) }
-    ensures fault { Answers (unless (list_all (is_declared (residents_of tables.now)) (drop 2 (row_at tables.now k))) (DocketFault.UnknownName (k + 1))) result }
+    ensures fault { Answers (unknown_fault (k + 1) (residents_of tables.now) (row_at tables.now k)) result }
 {
     listed.clear();
     for i in 0..tables.listed(k) {
@@ -51,7 +51,7 @@ fn listed_programmes(
 ) -> Result<(), DocketFault>
     requires { k < length tables.now }
     ensures listed { OnOk result (listed.new.items ≡ listed_in (programmes_of tables.now) (row_at tables.now k)) }
-    ensures fault { Answers (unless (list_all (is_declared (programmes_of tables.now)) (drop 2 (row_at tables.now k))) (DocketFault.UnknownName (k + 1))) result }
+    ensures fault { Answers (unknown_fault (k + 1) (programmes_of tables.now) (row_at tables.now k)) result }
 {
     listed.clear();
     for i in 0..tables.listed(k) {

@@ -4,7 +4,7 @@ ghost use Rattle.std.specs.List.{list_all};
 ghost use Rattle.std.specs.Option.{option_or};
 ghost use Rattle.docket.specs.Fields.{kind_of, unless};
 ghost use Rattle.docket.specs.Contents.{placement_of, quotas_of};
-ghost use Rattle.docket.specs.Passes.{first_from, mark_fault, missing_fault, filled_fault};
+ghost use Rattle.docket.specs.Passes.{first_from, mark_fault, missing_fault, filled_fault, placement_fault};
 ghost use Rattle.docket.specs.Answers.{Answers};
 ghost use Rattle.docket.specs.Rows.{row_at};
 
@@ -220,7 +220,7 @@ pub(crate) fn sheet_of(
 ) -> Result<Assignment, DocketFault>
     requires { instance.now.quotas ≡ quotas_of tables.now }
     ensures sheet { IfOk result (λ sheet. sheet ≡ placement_of tables.now) }
-    ensures fault { Answers (option_or (first_from (mark_fault tables.now) [] tables.now) (option_or (missing_fault tables.now) (first_from (filled_fault tables.now) [] tables.now))) result }
+    ensures fault { Answers (placement_fault tables.now) result }
 {
     let mut marks = Marks::new(alloc, tables)?;
     marks.add_rows(tables)?;

@@ -1,8 +1,7 @@
-use Rattle.std.proofs.Common.{◌≡◌, []}
 use Rattle.match_pool.specs.Done.{Each}
-use Rattle.match_pool.specs.Rooms.{offer_room_of}
+use Rattle.match_pool.specs.Rooms.{offer_room_of, IsUnused}
 use Rattle.match_pool.proofs.open.open_residents.Given as goal
 
 -- no sending end so far has put anything, and each has its room
 abbrev pub invariant-loop-r : goal.invariant-loop-r
-invariant-loop-r g l = Each l.side.puts.items l.r (λ r end. (g.M.OfferPut.PutEnd.puts end ≡ []) × (g.M.Mailboxes.offer_room end ≡ offer_room_of l.inst l.cap r))
+invariant-loop-r g l = Each l.side.puts.items l.r (IsUnused g.M.OfferPut.PutEnd.puts g.M.Mailboxes.offer_room (offer_room_of l.inst l.cap))
