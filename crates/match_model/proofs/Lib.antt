@@ -9,3 +9,6 @@ pub mod Kept
 pub mod Parted
 pub mod Instances
 pub mod Struck
+pub mod Prefixes
+pub mod Counts
+pub mod Listed
