@@ -12,3 +12,4 @@ pub mod Struck
 pub mod Prefixes
 pub mod Counts
 pub mod Listed
+pub mod Gathered
