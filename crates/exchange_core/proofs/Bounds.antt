@@ -15,9 +15,9 @@ use Rattle.exchange_core.specs.declared.event.Capacity.{Capacity}
 use Rattle.exchange_core.specs.Mail.{Answered, where_same, answered_by, answered_to, offers_of, offers_to, takes, answers_of, answers_to}
 use Rattle.exchange_core.specs.Calls.{beats_all, best_of, release_of, called_by, calls, is_rejection}
 use Rattle.exchange_core.specs.Legal.{IsLegal}
-use Rattle.exchange_core.proofs.Counts.{count_of, count_of_push, sum_below-add, sum_below-le, sum_below_zero, sum_below_counts, sum_by_same, sum_by_one}
-use Rattle.exchange_core.proofs.Rankings.{count_of_listed, listed_item, prefix_count, sum_by_listed}
-use Rattle.exchange_core.proofs.Prefixes.{push_induction, prefix_length}
+use Rattle.match_model.proofs.Counts.{count_of, count_of_push, sum_below-add, sum_below-le, sum_below_zero, sum_below_counts, sum_by_same, sum_by_one}
+use Rattle.match_model.proofs.Listed.{count_of_listed, listed_item, prefix_count, sum_by_listed}
+use Rattle.match_model.proofs.Prefixes.{push_induction, prefix_length}
 use Rattle.exchange_core.proofs.Mail.{where_same_at, where_same_apart}
 use Rattle.exchange_core.proofs.Calls.{calls_nil, calls_push, called_by_better, called_by_other}
 use Rattle.exchange_core.proofs.Members.{HasMembers, members_at, offers_to_members}

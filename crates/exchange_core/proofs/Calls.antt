@@ -5,7 +5,7 @@ use Rattle.exchange_core.specs.declared.event.AnswerKind.TheVariants.{Hold, Decl
 use Rattle.exchange_core.specs.Mail.{Answered}
 use Rattle.exchange_core.specs.Calls.{beats_all, best_of, release_of, called_by, calls_after, calls, held_after, last_hold}
 use Rattle.exchange_core.proofs.Rankings.{best_of_push_better, best_of_push_same}
-use Rattle.exchange_core.proofs.Prefixes.{push_induction}
+use Rattle.match_model.proofs.Prefixes.{push_induction}
 
 pub calls_after-append : (a earlier xs ys : List ℕ) → calls_after a earlier (xs ++ ys) ≡ calls_after a earlier xs ++ calls_after a (earlier ++ xs) ys
 calls_after-append a earlier [] ys = rw append-nil refl

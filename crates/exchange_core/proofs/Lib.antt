@@ -1,6 +1,4 @@
-pub mod Counts
 pub mod Rankings
-pub mod Prefixes
 pub mod Mail
 pub mod Calls
 pub mod Legal
@@ -8,7 +6,6 @@ pub mod Members
 pub mod Dues
 pub mod InOrder
 pub mod Rejections
-pub mod Closing
 pub mod Totals
 pub mod Bounds
 mod ListExamples

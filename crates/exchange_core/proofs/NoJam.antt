@@ -13,8 +13,8 @@ use Rattle.exchange_core.specs.declared.event.Capacity.TheVariants.{Full, Each}
 use Rattle.exchange_core.specs.Mail.{offers_of, offers_to, takes, answers_of, answers_to, hears}
 use Rattle.exchange_core.specs.Calls.{due, out}
 use Rattle.exchange_core.specs.Legal.{is_closed, room_for, OfferMayFollow, TakeMayFollow, AnswerMayFollow, HearMayFollow, IsAtRest, MayFollow, IsLegal}
-use Rattle.exchange_core.proofs.Rankings.{slice_get_place, listed_item}
-use Rattle.exchange_core.proofs.Prefixes.{item_at, prefix_whole}
+use Rattle.match_model.proofs.Listed.{slice_get_place, listed_item}
+use Rattle.match_model.proofs.Prefixes.{item_at, prefix_whole}
 use Rattle.exchange_core.proofs.Members.{offers_to_members, takes_members, answers_to_members}
 use Rattle.exchange_core.proofs.InOrder.{next_call, offers_in_order, takes_in_order, hears_in_order}
 use Rattle.exchange_core.proofs.Rejections.{calls_item_listed, out_within_quota}

@@ -16,9 +16,10 @@ use Rattle.exchange_core.specs.Mail.{Answered, where_same, answered_by, answered
 use Rattle.exchange_core.specs.Calls.{beats_all, best_of, release_of, called_by, calls, is_rejection, rejections, due, out}
 use Rattle.exchange_core.specs.Legal.{MayFollow, IsLegal}
 use Rattle.exchange_core.specs.Refusal.{is_number}
-use Rattle.exchange_core.proofs.Counts.{count_of, count_of_push, sum_below_zero, sum_below-le, sum_below_counts, sum_by_same, sum_by-le, sum_by_one}
-use Rattle.exchange_core.proofs.Rankings.{sum_by_listed, prefix_count, count_of_unlisted, listed_push_before, listed_push_last, count_of_listed, count_from_no_repeats, best_of_Some, best_of_push_better, best_of_push_same, prefix_listed}
-use Rattle.exchange_core.proofs.Prefixes.{push_induction}
+use Rattle.match_model.proofs.Counts.{count_of, count_of_push, sum_below_zero, sum_below-le, sum_below_counts, sum_by_same, sum_by-le, sum_by_one}
+use Rattle.match_model.proofs.Listed.{sum_by_listed, prefix_count, count_of_unlisted, listed_push_before, listed_push_last, count_of_listed, count_from_no_repeats, prefix_listed}
+use Rattle.exchange_core.proofs.Rankings.{best_of_Some, best_of_push_better, best_of_push_same}
+use Rattle.match_model.proofs.Prefixes.{push_induction}
 use Rattle.exchange_core.proofs.Mail.{where_same_at, where_same_apart}
 use Rattle.exchange_core.proofs.Calls.{best_of_nothing, calls_nil, calls_push, called_by_better, called_by_other}
 use Rattle.exchange_core.proofs.Legal.{legal_induction}

@@ -11,7 +11,7 @@ use Rattle.exchange_core.specs.Mail.{where_same, offered_by, offered_to, taken_b
 use Rattle.exchange_core.specs.Legal.{is_close, is_closed, MayFollow, IsLegal}
 use Rattle.exchange_core.proofs.Legal.{legal_induction}
 use Rattle.exchange_core.proofs.Mail.{is_closed_nil, is_closed_push}
-use Rattle.exchange_core.proofs.Counts.{sum_below, sum_below_zero, sum_below_same, sum_below-add, sum_below_one, sum_by_same}
+use Rattle.match_model.proofs.Counts.{sum_below, sum_below_zero, sum_below_same, sum_below-add, sum_below_one, sum_by_same}
 use Rattle.exchange_core.proofs.Members.{HasMembers, members_at}
 
 -- a sum over desks of what each gets from a list is a sum over the list of what the desks get

@@ -1,9 +1,10 @@
 //! One desk's part of a row of notes, and what waits there.
-ghost use Rattle.std.specs.Prelude.{◌≡◌, ◌+◌, ◌^◌, ◌<◌, ◌≤◌, length, slice_get, slice_set};
+ghost use Rattle.std.specs.Prelude.{◌≡◌, ◌+◌, ◌*◌, ◌^◌, ◌<◌, ◌≤◌, length, slice_get, slice_set};
 ghost use Rattle.exchange_core.specs.Left.{room_within};
 ghost use Rattle.exchange_core.specs.Notes.{IsRing, place_in, opened, pushed, popped, waiting_in};
 
 use crate::event::Capacity;
+use match_model::MAX_PAIRS;
 
 /// Where a desk's notes stand: the first of so many places of the row, the place of the note in front, counted from
 /// there, and how many notes wait. Past the last place the notes go on at the first.
@@ -95,7 +96,7 @@ impl Part {
 
 /// How many messages can ever wait in a mailbox, where this many can ever be sent there.
 pub(crate) fn room(cap: Capacity, most: usize) -> u32
-    requires { most ≤ 400000 }
+    requires { most ≤ 2 * MAX_PAIRS }
     ensures { result ≡ room_within cap most }
 {
     let room = match cap {

@@ -1,12 +1,9 @@
 //! What the core keeps of each programme's desk, with one row of notes for all their mailboxes.
 ghost use Rattle.std.specs.Prelude.{◌≡◌, ◌+◌, ◌-◌, if◌then◌else◌, ◌*◌, ◌^◌, ◌<◌, [], length, map, slice_get, slice_set, IfOk, not, nat_lt};
-ghost use Rattle.std.specs.List.{range_with_len};
-ghost use Rattle.match_model.specs.Instance.{quota, list_of_programme};
 ghost use Rattle.exchange_core.specs.Calls.{is_rejection};
-ghost use Rattle.exchange_core.specs.Left.{room_within};
 ghost use Rattle.exchange_core.specs.Pending.{has_answers, has_wish};
 ghost use Rattle.exchange_core.specs.Rows.{note_of, answer_of};
-ghost use Rattle.exchange_core.specs.Seats.{opened_programme, seat_of_programme, made_offer, sent_answer, heard_answer};
+ghost use Rattle.exchange_core.specs.Seats.{seat_of_programme, made_offer, sent_answer, heard_answer, opened_programmes};
 
 use crate::event::{AnswerKind, Capacity};
 use crate::part::{Part, room};
@@ -56,7 +53,7 @@ impl ProgrammeRow {
         inst: &Instance,
         cap: Capacity,
     ) -> Result<ProgrammeRow, AllocError>
-        ensures { IfOk result (λ desks. desks ≡ map (λ p. opened_programme (room_within cap (2 * length (list_of_programme inst.now p))) (quota inst.now p) (length (list_of_programme inst.now p))) (range_with_len 0 (length inst.now.quotas))) }
+        ensures { IfOk result (λ desks. desks ≡ opened_programmes inst.now cap) }
     {
         let count = inst.programmes();
         let mut seats = Vec::with_capacity(alloc, count as usize)?;

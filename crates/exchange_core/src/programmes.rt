@@ -1,10 +1,8 @@
 //! What the core keeps of the programmes' desks.
-ghost use Rattle.std.specs.Prelude.{◌≡◌, ◌+◌, ◌*◌, ◌^◌, ◌<◌, [], true, length, map, slice_get, slice_set, IfOk, not, nat_lt};
-ghost use Rattle.std.specs.List.{All, range_with_len};
-ghost use Rattle.exchange_core.specs.Left.{room_within};
+ghost use Rattle.std.specs.Prelude.{◌≡◌, ◌+◌, ◌*◌, ◌^◌, ◌<◌, [], true, length, slice_get, slice_set, IfOk, not, nat_lt};
+ghost use Rattle.std.specs.List.{All};
 ghost use Rattle.exchange_core.specs.Pending.{has_answers, has_wish, IsContent};
-ghost use Rattle.match_model.specs.Instance.{quota, list_of_programme};
-ghost use Rattle.exchange_core.specs.Seats.{opened_programme, seat_of_programme, made_offer, sent_answer, heard_answer};
+ghost use Rattle.exchange_core.specs.Seats.{seat_of_programme, made_offer, sent_answer, heard_answer, opened_programmes};
 
 use crate::event::{AnswerKind, Capacity};
 use crate::programme_row::ProgrammeRow;
@@ -44,7 +42,7 @@ impl ProgrammeDesks {
         inst: &Instance,
         cap: Capacity,
     ) -> Result<ProgrammeDesks, AllocError>
-        ensures { IfOk result (λ desks. desks ≡ map (λ p. opened_programme (room_within cap (2 * length (list_of_programme inst.now p))) (quota inst.now p) (length (list_of_programme inst.now p))) (range_with_len 0 (length inst.now.quotas))) }
+        ensures { IfOk result (λ desks. desks ≡ opened_programmes inst.now cap) }
     {
         let row = ProgrammeRow::open(alloc, inst, cap)?;
         let mut with_wish = 0;

@@ -1,12 +1,9 @@
 //! What the core keeps of each resident's desk, with one row of notes for all their mailboxes.
 ghost use Rattle.std.specs.Prelude.{◌≡◌, ◌<◌, [], length, map, slice_get, slice_set, IfOk, not, nat_lt, drop, None};
-ghost use Rattle.std.specs.List.{range_with_len};
 ghost use Rattle.std.specs.Option.{option_to_list};
 ghost use Rattle.exchange_core.specs.Pending.{has_offers};
-ghost use Rattle.match_model.specs.Instance.{list_of_resident};
 ghost use Rattle.exchange_core.specs.Calls.{held_after, release_of as released};
-ghost use Rattle.exchange_core.specs.Left.{room_within};
-ghost use Rattle.exchange_core.specs.Seats.{opened_resident, called_for, due_of, seat_of_resident, sent_offer, took_offer, gave_answer};
+ghost use Rattle.exchange_core.specs.Seats.{called_for, due_of, seat_of_resident, sent_offer, took_offer, gave_answer, opened_residents};
 
 use crate::event::{AnswerKind, Capacity};
 use crate::part::{Part, room};
@@ -55,7 +52,7 @@ impl ResidentRow {
         inst: &Instance,
         cap: Capacity,
     ) -> Result<ResidentRow, AllocError>
-        ensures { IfOk result (λ desks. desks ≡ map (λ r. opened_resident (room_within cap (length (list_of_resident inst.now r)))) (range_with_len 0 (length inst.now.resident_lists))) }
+        ensures { IfOk result (λ desks. desks ≡ opened_residents inst.now cap) }
     {
         let count = inst.residents();
         let mut seats = Vec::with_capacity(alloc, count as usize)?;

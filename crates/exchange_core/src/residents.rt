@@ -1,9 +1,7 @@
 //! What the core keeps of the residents' desks.
-ghost use Rattle.std.specs.Prelude.{◌≡◌, ◌<◌, [], true, length, map, slice_get, slice_set, IfOk, not, nat_lt};
-ghost use Rattle.std.specs.List.{All, range_with_len};
-ghost use Rattle.match_model.specs.Instance.{list_of_resident};
-ghost use Rattle.exchange_core.specs.Left.{room_within};
-ghost use Rattle.exchange_core.specs.Seats.{opened_resident, seat_of_resident, sent_offer, took_offer, gave_answer};
+ghost use Rattle.std.specs.Prelude.{◌≡◌, ◌<◌, [], true, length, slice_get, slice_set, IfOk, not, nat_lt};
+ghost use Rattle.std.specs.List.{All};
+ghost use Rattle.exchange_core.specs.Seats.{seat_of_resident, sent_offer, took_offer, gave_answer, opened_residents};
 ghost use Rattle.exchange_core.specs.Pending.{has_offers, IsQuiet};
 
 use crate::event::{AnswerKind, Capacity};
@@ -44,7 +42,7 @@ impl ResidentDesks {
         inst: &Instance,
         cap: Capacity,
     ) -> Result<ResidentDesks, AllocError>
-        ensures { IfOk result (λ desks. desks ≡ map (λ r. opened_resident (room_within cap (length (list_of_resident inst.now r)))) (range_with_len 0 (length inst.now.resident_lists))) }
+        ensures { IfOk result (λ desks. desks ≡ opened_residents inst.now cap) }
     {
         // For the proof alone: an instance keeps its limits.
         let _members = inst.residents();

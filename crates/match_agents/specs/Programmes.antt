@@ -1,8 +1,11 @@
 -- What a programme's desk keeps, and whom it would offer to next.
-use Rattle.std.specs.Prelude.{◌≡◌, ℕ, ◌-◌, ◌*◌, ◌≤◌, nat_lt, if◌then◌else◌, Option, None, [], ◌∷◌, ◌++◌, length, slice_get}
+use Rattle.std.specs.Prelude.{◌≡◌, ℕ, ◌-◌, ◌*◌, ◌≤◌, nat_lt, if◌then◌else◌, false, Option, None, List, [], ◌∷◌, ◌++◌, length, slice_get}
 use Rattle.match_model.specs.Instance.{Instance, IsProgramme, quota, list_of_programme}
-use Rattle.exchange_core.specs.Mail.{Answered}
+use Rattle.exchange_core.specs.declared.event.Event.{Event}
+use Rattle.exchange_core.specs.Mail.{Answered, offers_of, hears}
 use Rattle.exchange_core.specs.Calls.{rejections}
+use Rattle.exchange_core.specs.Legal.{is_closed}
+use Rattle.exchange_core.specs.Shown.{next_offer}
 use Rattle.match_agents.specs.Desks.{ProgrammeDesk}
 
 module _ {T : Type 0} where
@@ -19,6 +22,11 @@ module _ {T : Type 0} where
   wish_of inst desk =
       if nat_lt (desk.offered - rejections desk.heard) (quota inst desk.programme) then slice_get (list_of_programme inst desk.programme) desk.offered
       else None
+
+  -- a wish is the next offer after each list that isn't closed and has what the desk heard and as many offers of its own
+  abbrev pub IsNextOffer : Instance → ProgrammeDesk T → Option ℕ → Type 0
+  IsNextOffer inst desk wish = (j : List Event) → is_closed j ≡ false → desk.heard ≡ hears desk.programme j
+      → desk.offered ≡ length (offers_of desk.programme j) → wish ≡ next_offer inst j desk.programme
 
   -- the desk of a programme of the instance, with room for all answers that it can be called for, and no offers but down its list
   pub record IsProgrammeAgentOf (inst : Instance) (desk : ProgrammeDesk T) : Type 0 where

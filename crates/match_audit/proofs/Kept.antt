@@ -8,8 +8,8 @@ use Rattle.std.proofs.lemmas.List.Sums.{sum_by-cons}
 use Rattle.std.proofs.lemmas.List.Sorted.{IsNonDecreasingBy-from_sort, sum_by-IsPermutation, IsPermutation-sym, Contains-permutation}
 use Rattle.match_model.specs.Ranking.{place, IsListed, HasNoRepeats}
 use Rattle.match_model.proofs.Rankings.{is_listed_not, is_listed-false}
-use Rattle.exchange_core.proofs.Counts.{count_of}
-use Rattle.exchange_core.proofs.Rankings.{count_from_no_repeats, no_repeats_from_count, listed_push_parts, listed_push_before, listed_push_last, no_repeats_push, no_repeats_last}
+use Rattle.match_model.proofs.Counts.{count_of}
+use Rattle.match_model.proofs.Listed.{count_from_no_repeats, no_repeats_from_count, listed_push_parts, listed_push_before, listed_push_last, no_repeats_push, no_repeats_last}
 use Rattle.settle_law.proofs.Places.{HasNoRepeats-nil, IsListed-nil, IsListed-get_or, get_or-place}
 
 -- of the list those of whom P holds, each once

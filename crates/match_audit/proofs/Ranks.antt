@@ -7,7 +7,7 @@ use Rattle.std.proofs.lemmas.Option.{same_Some}
 use Rattle.match_model.specs.Ranking.{place, IsListed, is_listed}
 use Rattle.match_model.specs.Instance.{rank}
 use Rattle.match_model.proofs.Rankings.{place-le, is_listed-true, is_listed-false, is_listed_not}
-use Rattle.exchange_core.proofs.Rankings.{place-append, place-append_past}
+use Rattle.match_model.proofs.Listed.{place-append, place-append_past}
 
 -- a rank is the place of somebody listed, and there is none for whoever isn't
 pub rank_parts : (xs : List ℕ) (x : ℕ) (o : Option ℕ) → o ≡ rank xs x → ((k : ℕ) × (o ≡ Some k) × IsListed xs x × (place xs x ≡ k)) ⊎ ((o ≡ None) × (IsListed xs x → ⊥))

@@ -1,11 +1,9 @@
 //! The three lists of a report.
 ghost use Rattle.std.specs.Prelude.{◌≡◌, ◌↔◌, ◌++◌, ◌<◌, ℕ, List, Option, map, length, IfOk, OnOk, IsTrue};
-ghost use Rattle.std.specs.List.{Contains};
-ghost use Rattle.std.specs.List.Sorted.{IsStrictlyIncreasing};
-ghost use Rattle.match_model.specs.Ranking.{IsListed, HasNoRepeats};
+ghost use Rattle.match_model.specs.Ranking.{HasNoRepeats};
 ghost use Rattle.match_model.specs.Instance.{IsInstance, IsProgramme, IsResident, Acceptable, list_of_resident as ranking_of_resident};
-ghost use Rattle.settle_law.specs.Stable.{Blocks, Prefers, HasRoomFor};
-ghost use Rattle.match_audit.specs.Listing.{Lists};
+ghost use Rattle.settle_law.specs.Stable.{Blocks, HasRoomFor};
+ghost use Rattle.match_audit.specs.Listing.{Lists, ListsNumbers, IsPreferredFront};
 ghost use Rattle.match_audit.specs.Report.{IsUnacceptable, IsOver};
 ghost use Rattle.match_audit.specs.Loads.{AreLoads};
 
@@ -111,7 +109,7 @@ fn blocking_programmes(
     requires member { IsResident inst.now resident }
     requires size { length assignment.now ≡ length inst.now.resident_lists }
     requires loads { AreLoads inst.now assignment.now loads.now }
-    ensures { IfOk result (λ programmes. IsStrictlyIncreasing programmes.items × ((p : ℕ) → Contains programmes.items p ↔ Blocks inst.now assignment.now resident p)) }
+    ensures { IfOk result (λ programmes. ListsNumbers (Blocks inst.now assignment.now resident) programmes.items) }
 {
     let mut programmes = Vec::new(alloc);
     for programme in preferred(inst, resident, assignment.get(resident)) {
@@ -128,7 +126,7 @@ fn preferred(inst: &Instance, resident: ResidentNo, held: Option<ProgrammeNo>) -
     requires instance { IsInstance inst.now }
     requires member { IsResident inst.now resident }
     ensures once { HasNoRepeats result.now }
-    ensures front { (p : ℕ) → IsListed result.now p ↔ (IsListed (ranking_of_resident inst.now resident) p × Prefers (ranking_of_resident inst.now resident) p held) }
+    ensures front { IsPreferredFront (ranking_of_resident inst.now resident) held result.now }
 {
     let list = inst.list_of_resident(resident);
     let Some(held) = held else {

@@ -9,3 +9,7 @@ pub mod Kept
 pub mod Parted
 pub mod Instances
 pub mod Struck
+pub mod Prefixes
+pub mod Counts
+pub mod Listed
+pub mod Gathered

@@ -1,7 +1,8 @@
 -- Lemmas on rows that stand one after another in one list.
 use Rattle.std.proofs.Common.{◌≡◌, ℕ, ◌+◌, ◌-◌, ◌<◌, ◌≤◌, List, [], ◌∷◌, ◌++◌, length, get_or, set, take, drop, refl, ap, ◌∙◌, suc, zero, arith}
-use Rattle.std.specs.List.{slice_range}
+use Rattle.std.specs.List.{slice_range, sum_by}
 use Rattle.std.proofs.lemmas.List.{take_all, length-drop, length-take, take-append-le, drop-append-le, take-set-le, drop-set-lt, drop-set-add}
+use Rattle.std.proofs.lemmas.List.Sums.{sum_by-cons}
 use Rattle.match_model.specs.Rows.{parted, last_end, AreEnds}
 
 -- the last row ends within
@@ -121,3 +122,16 @@ module _ {T : Type 0} where
   -- how many items a row has
   pub within_row : (items : List T) (start end k : ℕ) → k < length (slice_range items start end) → start + k < end
   within_row items start end k h = let n = length-take (end - start) (drop start items) in omega arith
+
+  -- the rows have all items before where the last of them ends
+  pub length-all_parts : (start : ℕ) (ends : List ℕ) (items : List T) → AreEnds start ends (length items) →
+      start + (sum_by length (parted start ends items) + length (drop (last_end start ends) items)) ≡ length items
+  length-all_parts start [] items h = omega (arith, length-drop start items, h)
+  length-all_parts start (e ∷ es) items h =
+      let here = sum_by-cons (length {A = T}) (slice_range items start e) (parted e es items) in
+      let many = length-take (e - start) (drop start items) in
+      let behind = length-drop start items in
+      let rest = length-all_parts e es items h.1 in
+      let order = h.0 in
+      let within = start_within e es (length items) h.1 in
+      omega arith

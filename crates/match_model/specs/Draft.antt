@@ -79,9 +79,23 @@ abbrev pub items_of : Option (Vec ℕ) → Option (List ℕ)
 items_of None = None
 items_of (Some v) = Some v.items
 
+-- the draft of these parts
+abbrev pub draft_of : List ℕ → List (Option (Vec ℕ)) → List (Option (Vec ℕ)) → List Bool → List Bool → Draft
+draft_of quotas programmes residents programmes_gone residents_gone = record {
+  quotas = quotas;
+  programme_lists = map items_of programmes;
+  resident_lists = map items_of residents;
+  programmes_withdrawn = programmes_gone;
+  residents_withdrawn = residents_gone;
+}
+
 -- the lists in these places, without those whose owners are withdrawn
 abbrev pub lists_left : List (Option (Vec ℕ)) → List Bool → List (List ℕ)
 lists_left lists flags = remaining_lists (given_lists (map items_of lists)) flags
+
+-- the mutual parts of the lists in these places, of mine as of theirs without those whose owners are withdrawn
+abbrev pub mutual_left : List (Option (Vec ℕ)) → List Bool → List (Option (Vec ℕ)) → List Bool → List (List ℕ)
+mutual_left mine my_flags theirs their_flags = mutual_lists (lists_left mine my_flags) (lists_left theirs their_flags)
 
 -- whether no item stands in the list twice
 abbrev pub has_no_repeats : List ℕ → Bool
@@ -149,3 +163,12 @@ pub record IsDraft (d : Draft) : Type 0 where
 -- why the draft is not finished: want of memory, or more acceptable pairs than there may be
 abbrev pub IsFinishFault : Draft → ModelFault → Type 0
 IsFinishFault d fault = (fault ≡ Memory) ⊎ ((fault ≡ TooManyPairs) × (MAX_PAIRS < pair_count (instance_of d)))
+
+-- whether so many items are more than the most that there may be, if there is a most
+abbrev pub are_over : Option ℕ → ℕ → Bool
+are_over None n = false
+are_over (Some most) n = nat_lt most n
+
+-- why so many items are not gathered: want of memory, or they are more than there may be
+abbrev pub IsGatherFault : Option ℕ → ℕ → ModelFault → Type 0
+IsGatherFault most n fault = (fault ≡ Memory) ⊎ ((fault ≡ TooManyPairs) × (are_over most n ≡ true))

@@ -13,6 +13,16 @@ pub record Instance : Type 0 where
   pub programmes_withdrawn : List Bool
   pub residents_withdrawn : List Bool
 
+-- the instance of these parts
+abbrev pub instance_with : List ℕ → List (List ℕ) → List (List ℕ) → List Bool → List Bool → Instance
+instance_with quotas programmes residents programmes_gone residents_gone = record {
+  quotas = quotas;
+  programme_lists = programmes;
+  resident_lists = residents;
+  programmes_withdrawn = programmes_gone;
+  residents_withdrawn = residents_gone;
+}
+
 -- list i, which is empty past the end
 abbrev pub list_at : List (List ℕ) → ℕ → List ℕ
 list_at lists i = slice_index_or lists i []

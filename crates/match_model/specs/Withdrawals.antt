@@ -3,7 +3,7 @@ use Rattle.std.specs.Prelude.{◌≡◌, ℕ, not, Bool, false, Option, Some, Li
 use Rattle.std.specs.List.{filter}
 use Rattle.match_model.specs.Ranking.{IsListed}
 use Rattle.match_model.specs.Instance.{Instance, list_at, is_withdrawn}
-use Rattle.match_model.specs.Draft.{Draft, given_lists, remaining_lists}
+use Rattle.match_model.specs.Draft.{Draft, given_lists, remaining_lists, mutual_lists}
 
 -- r and p listed one another, as the lists were given, and neither is withdrawn
 pub record ListOneAnother (d : Draft) (r p : ℕ) : Type 0 where
@@ -41,3 +41,8 @@ with_flags inst programmes residents = record inst { programmes_withdrawn = prog
 -- nobody is withdrawn by these flags
 abbrev pub AreAllHere : List Bool → Type 0
 AreAllHere flags = (member : ℕ) → is_withdrawn flags member ≡ false
+
+-- where nobody is withdrawn, these lists are the mutual parts of what was given to these
+abbrev pub AreMutualWhereAllHere : Draft → List (List ℕ) → List (Option (List ℕ)) → List (Option (List ℕ)) → Type 0
+AreMutualWhereAllHere d lists mine theirs =
+    AreAllHere d.programmes_withdrawn → AreAllHere d.residents_withdrawn → lists ≡ mutual_lists (given_lists mine) (given_lists theirs)

@@ -23,14 +23,13 @@ pub struct InstanceBuilder {
 }
 
 impl Model for InstanceBuilder {
-    ghost use Rattle.std.specs.Prelude.{map};
-    ghost use Rattle.match_model.specs.Draft.{Draft, IsDraft, items_of};
+    ghost use Rattle.match_model.specs.Draft.{Draft, IsDraft, draft_of};
 
     ghost Value = { Draft };
 
-    ghost view = { λ b. record { quotas = b.quotas.items; programme_lists = map items_of b.programme_lists.items; resident_lists = map items_of b.resident_lists.items; programmes_withdrawn = b.programmes_withdrawn.items; residents_withdrawn = b.residents_withdrawn.items } };
+    ghost view = { λ b. draft_of b.quotas.items b.programme_lists.items b.resident_lists.items b.programmes_withdrawn.items b.residents_withdrawn.items };
 
-    ghost invariant = { λ b. IsDraft (record { quotas = b.quotas.items; programme_lists = map items_of b.programme_lists.items; resident_lists = map items_of b.resident_lists.items; programmes_withdrawn = b.programmes_withdrawn.items; residents_withdrawn = b.residents_withdrawn.items }) };
+    ghost invariant = { λ b. IsDraft (draft_of b.quotas.items b.programme_lists.items b.resident_lists.items b.programmes_withdrawn.items b.residents_withdrawn.items) };
 }
 
 /// Why `finish` refused, with the builder as it was.
@@ -193,8 +192,9 @@ impl InstanceBuilder {
         ensures within { OnOk result (pair_count (instance_of self.now) ≤ MAX_PAIRS) }
         ensures cause { IfErr result (IsFinishFault self.now) }
     {
-        let (programmes, programme_ranks, pairs) = mutual_parts::counted_mutual(
+        let (programmes, programme_ranks) = mutual_parts::mutual(
             self.alloc,
+            Some(MAX_PAIRS),
             &self.programme_lists,
             &self.programmes_withdrawn,
             &self.resident_lists,
@@ -202,12 +202,13 @@ impl InstanceBuilder {
         )?;
         let (residents, resident_ranks) = mutual_parts::mutual(
             self.alloc,
-            pairs as usize,
+            None,
             &self.resident_lists,
             &self.residents_withdrawn,
             &self.programme_lists,
             &self.programmes_withdrawn,
         )?;
+        let pairs = programmes.item_count() as u32;
         Ok(Instance {
             quotas: Vec::from_slice(self.alloc, &self.quotas)?,
             programme_lists: programmes.into_residents(self.alloc)?,

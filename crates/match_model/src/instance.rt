@@ -1,5 +1,5 @@
 //! An instance: quotas, mutual rankings and ranks, and who is withdrawn.
-ghost use Rattle.std.specs.Prelude.{◌≡◌, ◌<◌, ◌≤◌, length};
+ghost use Rattle.std.specs.Prelude.{◌≡◌, ◌<◌, ◌≤◌, length, slice_get};
 ghost use Rattle.match_model.specs.Instance.{IsInstance, IsProgramme, IsResident, pair_count, is_withdrawn, quota as quota_of, list_of_programme as ranking_of_programme, list_of_resident as ranking_of_resident, rank};
 
 use crate::limits::MAX_PAIRS;
@@ -22,15 +22,15 @@ pub struct Instance {
 }
 
 impl Model for Instance {
-    ghost use Rattle.match_model.specs.Instance.{Instance as Rankings, IsWellFormed};
+    ghost use Rattle.match_model.specs.Instance.{Instance as Rankings, IsWellFormed, instance_with};
     ghost use Rattle.match_model.specs.RankTable.{AreRankTables};
 
     ghost Value = { Rankings };
 
-    ghost view = { λ i. record { quotas = i.quotas.items; programme_lists = i.programme_lists.rows; resident_lists = i.resident_lists.rows; programmes_withdrawn = i.programmes_withdrawn.items; residents_withdrawn = i.residents_withdrawn.items } };
+    ghost view = { λ i. instance_with i.quotas.items i.programme_lists.rows i.resident_lists.rows i.programmes_withdrawn.items i.residents_withdrawn.items };
 
     ghost invariant = { λ i. record {
-      rankings : IsWellFormed (record { quotas = i.quotas.items; programme_lists = i.programme_lists.rows; resident_lists = i.resident_lists.rows; programmes_withdrawn = i.programmes_withdrawn.items; residents_withdrawn = i.residents_withdrawn.items }) i.pairs;
+      rankings : IsWellFormed (instance_with i.quotas.items i.programme_lists.rows i.resident_lists.rows i.programmes_withdrawn.items i.residents_withdrawn.items) i.pairs;
       programme_ranks : AreRankTables i.programme_lists.rows i.programme_ranks.rows;
       resident_ranks : AreRankTables i.resident_lists.rows i.resident_ranks.rows;
     } };
@@ -108,6 +108,15 @@ impl Instance {
         ensures within { length (ranking_of_programme self.now programme) ≤ MAX_PAIRS }
     {
         self.programme_lists.row(programme.0 as usize)
+    }
+
+    /// The resident at this place from 0 of a programme's list, if it is so long. The programme is a member.
+    pub fn listed_at(&self, programme: ProgrammeNo, place: u32) -> Option<ResidentNo>
+        requires { IsProgramme self.now programme }
+        ensures { result ≡ slice_get (ranking_of_programme self.now programme) place }
+    {
+        let list = self.list_of_programme(programme);
+        list.get(place as usize).copied()
     }
 
     /// Whom a resident ranks, best first, of those that rank it. The resident is a member.

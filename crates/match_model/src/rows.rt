@@ -1,6 +1,6 @@
 //! Rows of items, one after another in one vector.
-ghost use Rattle.std.specs.Prelude.{◌≡◌, ◌<◌, ◌≤◌, [], ◌∷◌, ◌++◌, length, map, replicate, slice_index_or, slice_set, IfOk, OnOk};
-ghost use Rattle.std.specs.List.{slice_range};
+ghost use Rattle.std.specs.Prelude.{◌≡◌, ◌+◌, ◌<◌, ◌≤◌, [], ◌∷◌, ◌++◌, length, map, replicate, slice_index_or, slice_set, IfOk, OnOk};
+ghost use Rattle.std.specs.List.{slice_range, sum_by};
 
 use crate::member::{ProgrammeNo, ResidentNo};
 use crate::ranking::{programme_numbers, resident_numbers};
@@ -78,8 +78,10 @@ impl<T: Copy> Rows<T> {
         self.ends.len()
     }
 
-    /// How many items there are in all, which is only the room that as many others are given.
-    pub(crate) fn item_count(&self) -> usize {
+    /// How many items there are in all, those of the row that is begun among them.
+    pub(crate) fn item_count(&self) -> usize
+        ensures { result ≡ sum_by length self.now.rows + length self.now.begun }
+    {
         self.items.len()
     }
 

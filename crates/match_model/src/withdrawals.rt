@@ -1,8 +1,8 @@
 //! What a withdrawal means.
 ghost use Rattle.std.specs.Prelude.{◌≡◌, ◌↔◌, ℕ};
 ghost use Rattle.match_model.specs.Instance.{Acceptable};
-ghost use Rattle.match_model.specs.Draft.{Draft, given_lists, mutual_lists, instance_of};
-ghost use Rattle.match_model.specs.Withdrawals.{ListOneAnother, AreAllHere, struck, with_flags};
+ghost use Rattle.match_model.specs.Draft.{Draft, instance_of};
+ghost use Rattle.match_model.specs.Withdrawals.{ListOneAnother, AreMutualWhereAllHere, struck, with_flags};
 
 /// What the instance of a draft says of withdrawals. A pair is acceptable exactly where each listed the other and
 /// neither is withdrawn. The lists are those of the draft in which the withdrawn members' lists are empty and their
@@ -10,6 +10,6 @@ ghost use Rattle.match_model.specs.Withdrawals.{ListOneAnother, AreAllHere, stru
 pub fn law_withdrawals()
     ensures acceptable { (d : Draft) (r p : ℕ) → Acceptable (instance_of d) r p ↔ ListOneAnother d r p }
     ensures struck { (d : Draft) → instance_of d ≡ with_flags (instance_of (struck d)) d.programmes_withdrawn d.residents_withdrawn }
-    ensures all_here { (d : Draft) → AreAllHere d.programmes_withdrawn → AreAllHere d.residents_withdrawn → (instance_of d).programme_lists ≡ mutual_lists (given_lists d.programme_lists) (given_lists d.resident_lists) }
-    ensures all_here_too { (d : Draft) → AreAllHere d.programmes_withdrawn → AreAllHere d.residents_withdrawn → (instance_of d).resident_lists ≡ mutual_lists (given_lists d.resident_lists) (given_lists d.programme_lists) }
+    ensures all_here { (d : Draft) → AreMutualWhereAllHere d (instance_of d).programme_lists d.programme_lists d.resident_lists }
+    ensures all_here_too { (d : Draft) → AreMutualWhereAllHere d (instance_of d).resident_lists d.resident_lists d.programme_lists }
 {}

@@ -3,7 +3,7 @@ use Rattle.std.proofs.Common.{◌≡◌, ℕ, ◌+◌, ◌<◌, ◌≤◌, ◌�
 use Rattle.std.proofs.lemmas.Bool.{cases_eq}
 use Rattle.std.proofs.lemmas.Option.{slice_get_within, slice_get_read}
 use Rattle.std.specs.Prelude.{slice_get, slice_index_or}
-use Rattle.exchange_core.proofs.Prefixes.{slice_get_push_parts}
+use Rattle.match_model.proofs.Prefixes.{slice_get_push_parts}
 use Rattle.match_pool.specs.Done.{Each}
 
 -- one item more has the property of its number

@@ -9,7 +9,7 @@ use Rattle.std.proofs.lemmas.Option.{same_Some}
 use Rattle.match_model.specs.Ranking.{place, IsListed, is_listed, IsBefore, HasNoRepeats}
 use Rattle.match_model.specs.Instance.{Instance, IsInstance, Acceptable, list_of_programme, list_of_resident, quota, rank}
 use Rattle.match_model.specs.Placement.{programme_of, IsMemberOf, member_count}
-use Rattle.exchange_core.proofs.Rankings.{same_from_place, place-append, no_repeats_before}
+use Rattle.match_model.proofs.Listed.{same_from_place, place-append, no_repeats_before}
 use Rattle.match_model.proofs.Instances.{acceptable_programme}
 use Rattle.settle_law.proofs.Places.{IsListed-nil, IsListed-cons, IsListed-cons_same, IsListed-cons_cases, IsListed-filter, HasNoRepeats-cons, HasNoRepeats-filter, listed_cases, place-append_other}
 use Rattle.settle_law.proofs.Counting.{different_among, different_pass}

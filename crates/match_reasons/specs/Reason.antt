@@ -1,7 +1,7 @@
 -- Why a placement doesn't give a programme to a resident.
-use Rattle.std.specs.Prelude.{◌≡◌, ℕ, ◌<◌, ◌≤◌, ◌⊎◌, true, Option, Some, None, List, take}
+use Rattle.std.specs.Prelude.{◌≡◌, ℕ, ◌<◌, ◌≤◌, ◌⊎◌, true, Option, Some, None, MatchOption, List, take}
 use Rattle.std.specs.List.{count_by}
-use Rattle.match_model.specs.Ranking.{place, IsBefore}
+use Rattle.match_model.specs.Ranking.{place, IsBefore, IsListed}
 use Rattle.match_model.specs.Instance.{Instance, IsProgramme, Acceptable, is_withdrawn, list_of_programme, list_of_resident, quota as quota_of, rank as rank_in}
 use Rattle.match_model.specs.Placement.{programme_of, IsMemberOf, holds, member_count}
 use Rattle.settle_law.specs.Stable.{Prefers, Blocks}
@@ -94,3 +94,7 @@ pub record IsAhead (m : List (Option ℕ)) (xs : List ℕ) (r p : ℕ) (ahead : 
   pub ranked : rank_in xs r ≡ Some ahead.rank
   pub count : ahead.count ≡ count_by (λ s. holds p (programme_of m s)) (take ahead.rank xs)
   pub last : IsLastAhead m xs p ahead.rank ahead.last_rank
+
+-- none where this list doesn't name r, else who stands before r there
+abbrev pub TellsAhead : List (Option ℕ) → List ℕ → ℕ → ℕ → Option Ahead → Type 0
+TellsAhead m xs r p told = MatchOption told (IsListed xs r → ⊥) (IsAhead m xs r p)

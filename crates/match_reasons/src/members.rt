@@ -1,9 +1,8 @@
 //! A programme's members in a placement: how many there are, and which of them its list names before somebody.
-ghost use Rattle.std.specs.Prelude.{◌≡◌, length, IsTrue, ◌↔◌, ◌<◌, MatchOption};
-ghost use Rattle.match_model.specs.Ranking.{IsListed};
+ghost use Rattle.std.specs.Prelude.{◌≡◌, length, IsTrue, ◌↔◌, ◌<◌};
 ghost use Rattle.match_model.specs.Instance.{IsInstance, IsProgramme, list_of_programme as ranking_of_programme};
 ghost use Rattle.match_model.specs.Placement.{IsMemberOf, member_count};
-ghost use Rattle.match_reasons.specs.Reason.{IsAhead};
+ghost use Rattle.match_reasons.specs.Reason.{TellsAhead};
 
 use match_model::{Assignment, Instance, ProgrammeNo, ResidentNo};
 
@@ -49,7 +48,7 @@ pub(crate) fn members_ahead(
     requires instance { IsInstance inst.now }
     requires programme { IsProgramme inst.now programme }
     requires one_place_each { length sheet.now ≡ length inst.now.resident_lists }
-    ensures { MatchOption result (IsListed (ranking_of_programme inst.now programme) resident → ⊥) (IsAhead sheet.now (ranking_of_programme inst.now programme) resident programme) }
+    ensures { TellsAhead sheet.now (ranking_of_programme inst.now programme) resident programme result }
 {
     let list = inst.list_of_programme(programme);
     let mut count = 0;

@@ -18,7 +18,7 @@ use std::sync::ledger::Blank;
 use std::test::Fail;
 
 // Ends in memory, with room for so many notes each.
-#[tactic(auto, using(exchange_core::proofs::Prefixes::slice_get_push_parts))]
+#[tactic(auto, using(match_model::proofs::Prefixes::slice_get_push_parts))]
 fn lists<M: Drop>(alloc: Global, count: u32, room: u32) -> Result<Vec<ListPut<M>>, MailFault>
     ensures { IfOk result (λ ends. (i : ℕ) (end : PutList M) → slice_get ends.items i ≡ Some end → end.puts ≡ []) }
 {
@@ -32,7 +32,7 @@ fn lists<M: Drop>(alloc: Global, count: u32, room: u32) -> Result<Vec<ListPut<M>
 }
 
 // Mailboxes with room for so many notes each.
-#[tactic(auto, using(exchange_core::proofs::Prefixes::slice_get_push_parts))]
+#[tactic(auto, using(match_model::proofs::Prefixes::slice_get_push_parts))]
 fn mailboxes<M: Copy + Eq + Drop, R: Wait + Copy + Drop>(
     alloc: Global,
     rt: R,

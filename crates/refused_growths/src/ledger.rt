@@ -16,7 +16,7 @@ use std::marker::Brand;
 use std::sync::ledger::Blank;
 
 // Two ends in memory, which have no room.
-#[tactic(auto, using(exchange_core::proofs::Prefixes::slice_get_push_parts))]
+#[tactic(auto, using(match_model::proofs::Prefixes::slice_get_push_parts))]
 fn lists<M: Drop>(alloc: Global) -> Result<Vec<ListPut<M>>, MailFault>
     ensures { IfOk result (λ ends. (i : ℕ) (end : PutList M) → slice_get ends.items i ≡ Some end → end.puts ≡ []) }
 {

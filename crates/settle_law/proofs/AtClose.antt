@@ -8,7 +8,8 @@ use Rattle.match_model.specs.Ranking.{place, IsListed, is_listed, IsBefore, HasN
 use Rattle.match_model.specs.Instance.{Instance, IsInstance, Acceptable, quota, list_of_programme, list_of_resident}
 use Rattle.match_model.specs.Placement.{programme_of, IsMemberOf, holds, member_count, IsAssignment}
 use Rattle.match_model.proofs.Rankings.{is_listed_from}
-use Rattle.exchange_core.proofs.Rankings.{best_of_Some, best_of_None, no_repeats_before}
+use Rattle.match_model.proofs.Listed.{no_repeats_before}
+use Rattle.exchange_core.proofs.Rankings.{best_of_Some, best_of_None}
 use Rattle.settle_law.specs.Stable.{Prefers, HasRoomFor, Blocks, IsStable, ComesFirst, IsBest}
 use Rattle.settle_law.proofs.Places.{listed_cases, get_or-place, IsListed-get_or, IsListed-filter, HasNoRepeats-filter, HasNoRepeats-cons, IsListed-cons_cases}
 use Rattle.settle_law.proofs.Counting.{different_among, different_pass, count_by-not}

@@ -4,7 +4,7 @@ use Rattle.std.specs.List.{sum_by, count_by, filter, range_with_len}
 use Rattle.std.proofs.lemmas.List.Sums.{sum_by-cons, length-filter, count_by-le-length}
 use Rattle.match_model.specs.Ranking.{IsListed, is_listed, HasNoRepeats}
 use Rattle.match_model.proofs.Rankings.{is_listed_from, is_listed-true}
-use Rattle.exchange_core.proofs.Rankings.{no_repeats_tail, no_repeats_head}
+use Rattle.match_model.proofs.Listed.{no_repeats_tail, no_repeats_head}
 use Rattle.settle_law.proofs.Places.{IsListed-cons, IsListed-cons_same, IsListed-cons_cases, IsListed-nil, range_has, HasNoRepeats-range, HasNoRepeats-filter, IsListed-filter}
 
 -- a test as a number, 1 where it passes

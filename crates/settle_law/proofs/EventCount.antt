@@ -7,8 +7,8 @@ use Rattle.exchange_core.specs.declared.event.Capacity.{Capacity}
 use Rattle.exchange_core.specs.Mail.{offers_of, offers_to, takes, answers_of, answers_to, hears}
 use Rattle.exchange_core.specs.Calls.{calls}
 use Rattle.exchange_core.specs.Legal.{IsLegal}
-use Rattle.exchange_core.proofs.Counts.{sum_below, sum_below-le, sum_below-add, sum_below_zero}
-use Rattle.exchange_core.proofs.Prefixes.{prefix_length}
+use Rattle.match_model.proofs.Counts.{sum_below, sum_below-le, sum_below-add, sum_below_zero}
+use Rattle.match_model.proofs.Prefixes.{prefix_length}
 use Rattle.exchange_core.proofs.Calls.{length-calls-le}
 use Rattle.exchange_core.proofs.InOrder.{offers_in_order, takes_in_order, answers_in_order, hears_in_order}
 use Rattle.exchange_core.proofs.Totals.{over_programmes, over_residents, offers_of_total, offers_to_total, takes_total, answers_of_total, answers_to_total, hears_total, length_by_kind, closes_within_one}

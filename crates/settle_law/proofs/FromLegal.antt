@@ -17,14 +17,14 @@ use Rattle.exchange_core.specs.Calls.{best_of, calls, is_rejection, out}
 use Rattle.exchange_core.specs.Legal.{MayFollow, IsLegal, IsAtRest, is_closed}
 use Rattle.exchange_core.specs.Left.{given}
 use Rattle.exchange_core.specs.Refusal.{is_number}
-use Rattle.exchange_core.proofs.Rankings.{prefix_listed}
+use Rattle.match_model.proofs.Listed.{prefix_listed}
 use Rattle.exchange_core.proofs.Mail.{takes_nil, takes_same, where_same_apart}
 use Rattle.exchange_core.proofs.Legal.{legal_push, legal_induction}
 use Rattle.exchange_core.proofs.InOrder.{offers_in_order, takes_in_order, listed_offer_to, listed_offer_of, takes_no_repeats, offer_acceptable}
-use Rattle.exchange_core.proofs.Prefixes.{prefix_whole}
-use Rattle.exchange_core.proofs.Closing.{closed_is_at_rest, length-given, given_at, given_past, rest_taken, rest_answered, rest_held, rest_out}
+use Rattle.match_model.proofs.Prefixes.{prefix_whole}
+use Rattle.settle_law.proofs.Closing.{closed_is_at_rest, length-given, given_at, given_past, rest_taken, rest_answered, rest_held, rest_out}
 use Rattle.exchange_core.proofs.Rejections.{is_rejection_of, rejections_of, rejections_of-calls, heard_rejections_within, out_and_rejections, out_within_quota}
-use Rattle.exchange_core.proofs.Counts.{sum_by_same}
+use Rattle.match_model.proofs.Counts.{sum_by_same}
 use Rattle.settle_law.specs.Stable.{IsAchievable}
 use Rattle.settle_law.specs.SettledLaws.{SparesAchievable}
 use Rattle.settle_law.proofs.Counting.{one_if, sum_by-le_listed}

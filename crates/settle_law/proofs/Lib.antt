@@ -1,3 +1,4 @@
+pub mod Closing
 pub mod Orderliness
 pub mod EventCount
 pub mod Places

@@ -9,7 +9,8 @@ use Rattle.match_model.specs.Instance.{Instance, IsInstance, Acceptable, quota, 
 use Rattle.match_model.specs.Placement.{programme_of, IsMemberOf, holds, member_count}
 use Rattle.match_model.proofs.Rankings.{is_listed-true}
 use Rattle.exchange_core.specs.Calls.{best_of}
-use Rattle.exchange_core.proofs.Rankings.{best_of_Some, best_of_None, same_from_place, place-append}
+use Rattle.match_model.proofs.Listed.{same_from_place, place-append}
+use Rattle.exchange_core.proofs.Rankings.{best_of_Some, best_of_None}
 use Rattle.settle_law.specs.Stable.{Prefers, IsStable, IsAchievable}
 use Rattle.settle_law.proofs.Places.{listed_cases, before_from_not_after, place-append_other, IsListed-cons_cases, HasNoRepeats-cons}
 use Rattle.settle_law.proofs.Counting.{different_pass, count_by-not}

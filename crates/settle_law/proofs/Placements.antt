@@ -8,7 +8,7 @@ use Rattle.std.proofs.lemmas.Option.{same_Some}
 use Rattle.std.proofs.lemmas.Bool.{cases_lt}
 use Rattle.match_model.specs.Ranking.{IsListed, HasNoRepeats}
 use Rattle.match_model.specs.Placement.{programme_of, IsMemberOf, holds, member_count}
-use Rattle.exchange_core.proofs.Counts.{sum_by_same}
+use Rattle.match_model.proofs.Counts.{sum_by_same}
 use Rattle.settle_law.proofs.Places.{range_has, HasNoRepeats-range, HasNoRepeats-filter, IsListed-filter, filter_keeps}
 use Rattle.settle_law.proofs.Counting.{one_if, sum_by_zeros, sum_by-plus, count_by-range_same}
 

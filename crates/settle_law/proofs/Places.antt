@@ -4,7 +4,7 @@ use Rattle.std.specs.List.{filter, range_with_len}
 use Rattle.std.proofs.lemmas.Bool.{eqb-false, cases_lt}
 use Rattle.std.proofs.lemmas.Option.{get_or_from_slice_get}
 use Rattle.match_model.specs.Ranking.{place, IsListed, IsBefore, HasNoRepeats}
-use Rattle.exchange_core.proofs.Rankings.{place-head, slice_get_place, same_from_place, no_repeats_tail, no_repeats_head}
+use Rattle.match_model.proofs.Listed.{place-head, slice_get_place, same_from_place, no_repeats_tail, no_repeats_head}
 
 -- whether an item is the head, with what that says of its place
 pub place_cases : (y : ℕ) (ys : List ℕ) (x : ℕ) →

@@ -9,7 +9,7 @@ use Rattle.match_model.specs.Ranking.{place, IsListed, is_listed, IsBefore}
 use Rattle.match_model.specs.Instance.{Instance, IsInstance, IsProgramme, IsResident, quota, list_of_resident}
 use Rattle.match_model.specs.Placement.{programme_of, IsMemberOf, member_count, IsAssignment}
 use Rattle.match_model.proofs.Instances.{acceptable_programme}
-use Rattle.exchange_core.proofs.Rankings.{same_from_place}
+use Rattle.match_model.proofs.Listed.{same_from_place}
 use Rattle.settle_law.specs.Stable.{Prefers, IsStable, IsAchievable, ComesFirst, IsWorst, IsSettled}
 use Rattle.settle_law.proofs.Places.{range_has}
 use Rattle.settle_law.proofs.Counting.{one_if, one_if_le, sum_by-le_listed, different_among, count_by-le_listed, same_terms}

@@ -7,7 +7,7 @@ use Rattle.match_model.specs.Instance.{list_of_resident}
 use Rattle.match_model.specs.Placement.{programme_of}
 use Rattle.settle_law.specs.Stable.{HasRoomFor, Prefers}
 use Rattle.settle_law.proofs.Places.{IsListed-get_or}
-use Rattle.exchange_core.proofs.Rankings.{no_repeats_before}
+use Rattle.match_model.proofs.Listed.{no_repeats_before}
 use Rattle.match_audit.proofs.Kept.{Keeps, Keeps_more_yes, Keeps_more_no, IsStrictlyIncreasing-sorted, Contains-sorted}
 use Rattle.match_audit.proofs.Blocking.{listed_by_resident, blocks_where}
 use Rattle.match_audit.proofs.findings.blocking_programmes.Goals.{then-has_room_for+in_ok-push, else-has_room_for}

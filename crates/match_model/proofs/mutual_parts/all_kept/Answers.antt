@@ -1,12 +1,12 @@
-use Rattle.std.proofs.Common.{◌≡◌, ◌∙◌, ℕ, List, [], ◌++◌, ◌∷◌, get_or, ltb, true, length, take, subst, sym, ap, arith}
-use Rattle.std.specs.List.{list_all, filter}
-use Rattle.std.proofs.lemmas.List.{take_all, take_more}
-use Rattle.match_model.specs.Ranking.{is_listed}
-use Rattle.match_model.specs.Draft.{lists_left, has_no_repeats}
+use Rattle.std.proofs.Common.{◌≡◌, ◌∙◌, ◌+◌, ℕ, List, [], get_or, ltb, true, length, subst, sym, ap, arith, refl, inr}
+use Rattle.std.specs.List.{list_all, sum_by}
+use Rattle.std.proofs.lemmas.List.{take_all}
+use Rattle.match_model.specs.Draft.{lists_left, has_no_repeats, are_over}
 use Rattle.match_model.specs.Owners.{kept_lists}
 use Rattle.match_model.specs.Rows.{RowLists}
 use Rattle.match_model.proofs.Mutual.{length-lists_left}
-use Rattle.match_model.proofs.Entered.{row_below, row_distinct, length-kept_lists, get_or-kept_lists}
+use Rattle.match_model.proofs.Entered.{row_below, row_distinct, length-kept_lists}
+use Rattle.match_model.proofs.Gathered.{over_none, kept_more, counted_so, over_in_all}
 use Rattle.match_model.proofs.mutual_parts.all_kept.Goals as goal
 
 pub note_places-requires-clause-below : goal.note_places-requires-clause-below
@@ -30,6 +30,11 @@ keep-requires-clause-below c =
     subst (λ (m : ℕ). list_all (λ x. ltb x m) c.remaining.result.now ≡ true) (sym (c.note_places.ensures.length ∙ c.loop-owner.auto.places))
     (subst (λ (xs : List ℕ). list_all (λ x. ltb x (length c.args.places.now)) xs ≡ true) here (c.requires.below i [] (omega (arith, length-lists_left c.args.lists.now c.args.withdrawn.now))))
 
+pub loop-owner-init : goal.loop-owner-init
+loop-owner-init c =
+    let empty = c.in_ok-kept.ensures in
+    record { ended = ap (λ (t : RowLists ℕ). t.rows) empty; none_begun = ap (λ (t : RowLists ℕ). t.begun) empty; within = over_none c.args.most }
+
 pub loop-owner-preserved : goal.loop-owner-preserved
 loop-owner-preserved c =
     let i : ℕ = c.loop-owner.owner in
@@ -37,21 +42,39 @@ loop-owner-preserved c =
     let rows : List (List ℕ) = c.args.rows.now.rows in
     let made : List (List ℕ) = kept_lists all rows in
     let many = length-lists_left c.args.lists.now c.args.withdrawn.now in
-    let here : get_or all i [] ≡ c.remaining.result.now = sym c.remaining.ensures in
-    let row : get_or rows i [] ≡ c.row-row.result.now = sym c.row-row.ensures in
-    let item : c.keep.new.kept.begun ≡ get_or made i [] = ap (λ (t : RowLists ℕ). t.begun) c.in_ok-keep.ensures
-    ∙ ap (λ (xs : List ℕ). xs ++ filter (is_listed c.row-row.result.now) c.remaining.result.now) c.loop-owner.invariant.none_begun
-    ∙ ap (λ (xs : List ℕ). filter (is_listed c.row-row.result.now) xs) (sym here)
-    ∙ ap (λ (r : List ℕ). filter (λ x. is_listed r x) (get_or all i [])) (sym row)
-    ∙ sym (get_or-kept_lists all rows i (omega arith)) in
+    let more = kept_more all rows i (omega arith) c.remaining.result.now c.row-row.result.now c.remaining.ensures c.row-row.ensures c.loop-owner.kept c.keep.new.kept c.end_row.new.self
+    c.loop-owner.invariant.ended c.loop-owner.invariant.none_begun c.in_ok-keep.ensures c.in_ok-end_row.ensures in
+    let none = ap (λ (t : RowLists ℕ). t.begun) c.in_ok-end_row.ensures in
+    let counted = counted_so made c.item_count-in-loop-owner.result (i + 1) c.end_row.new.self c.item_count-in-loop-owner.ensures more none in
     record {
-      ended = ap (λ (t : RowLists ℕ). t.rows) c.in_ok-end_row.ensures
-          ∙ ap (λ (t : RowLists ℕ). t.rows ++ c.keep.new.kept.begun ∷ []) c.in_ok-keep.ensures
-          ∙ ap (λ (ls : List (List ℕ)). ls ++ c.keep.new.kept.begun ∷ []) c.loop-owner.invariant.ended
-          ∙ ap (λ (l : List ℕ). take i made ++ l ∷ []) item
-          ∙ sym (take_more made i [] (omega (arith, length-kept_lists all rows)));
-      none_begun = ap (λ (t : RowLists ℕ). t.begun) c.in_ok-end_row.ensures;
+      ended = more;
+      none_begun = none;
+      within = ap (are_over c.args.most) (sym counted) ∙ sym c.is_over.ensures ∙ c.if-is_over.false;
     }
 
+pub returns-then-is_over-clause-cause : goal.returns-then-is_over-clause-cause
+returns-then-is_over-clause-cause c =
+    let i : ℕ = c.loop-owner.owner in
+    let all : List (List ℕ) = lists_left c.args.lists.now c.args.withdrawn.now in
+    let rows : List (List ℕ) = c.args.rows.now.rows in
+    let made : List (List ℕ) = kept_lists all rows in
+    let many = length-lists_left c.args.lists.now c.args.withdrawn.now in
+    let more = kept_more all rows i (omega arith) c.remaining.result.now c.row-row.result.now c.remaining.ensures c.row-row.ensures c.loop-owner.kept c.keep.new.kept c.end_row.new.self
+    c.loop-owner.invariant.ended c.loop-owner.invariant.none_begun c.in_ok-keep.ensures c.in_ok-end_row.ensures in
+    let none = ap (λ (t : RowLists ℕ). t.begun) c.in_ok-end_row.ensures in
+    let counted = counted_so made c.item_count-in-loop-owner.result (i + 1) c.end_row.new.self c.item_count-in-loop-owner.ensures more none in
+    inr (refl, over_in_all c.args.most made c.item_count-in-loop-owner.result (i + 1) counted (sym c.is_over.ensures ∙ c.if-is_over.true))
+
 pub returns-clause-lists : goal.returns-clause-lists
-returns-clause-lists c = c.loop-owner.invariant.ended ∙ take_all _ _ (omega (arith, length-kept_lists (lists_left c.args.lists.now c.args.withdrawn.now) c.args.rows.now.rows, length-lists_left c.args.lists.now c.args.withdrawn.now))
+returns-clause-lists c =
+    let made : List (List ℕ) = kept_lists (lists_left c.args.lists.now c.args.withdrawn.now) c.args.rows.now.rows in
+    let whole = take_all c.loop-owner.owner made (omega (arith, length-kept_lists (lists_left c.args.lists.now c.args.withdrawn.now) c.args.rows.now.rows, length-lists_left c.args.lists.now c.args.withdrawn.now)) in
+    let ended = c.loop-owner.invariant.ended ∙ whole in
+    let none = c.loop-owner.invariant.none_begun in
+    λ i. record { rows = ended i; begun = none i }
+
+pub returns-clause-within : goal.returns-clause-within
+returns-clause-within c =
+    let made : List (List ℕ) = kept_lists (lists_left c.args.lists.now c.args.withdrawn.now) c.args.rows.now.rows in
+    let whole = take_all c.loop-owner.owner made (omega (arith, length-kept_lists (lists_left c.args.lists.now c.args.withdrawn.now) c.args.rows.now.rows, length-lists_left c.args.lists.now c.args.withdrawn.now)) in
+    ap (λ (ls : List (List ℕ)). are_over c.args.most (sum_by length ls)) (sym whole) ∙ c.loop-owner.invariant.within

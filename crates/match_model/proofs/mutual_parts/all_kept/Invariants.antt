@@ -1,5 +1,6 @@
-use Rattle.std.proofs.Common.{◌≡◌, [], take}
-use Rattle.match_model.specs.Draft.{lists_left}
+use Rattle.std.proofs.Common.{◌≡◌, [], false, length, take}
+use Rattle.std.specs.List.{sum_by}
+use Rattle.match_model.specs.Draft.{lists_left, are_over}
 use Rattle.match_model.specs.Owners.{kept_lists}
 use Rattle.match_model.proofs.mutual_parts.all_kept.Given as goal
 
@@ -7,4 +8,5 @@ abbrev pub invariant-loop-owner : goal.invariant-loop-owner
 invariant-loop-owner l = record {
   ended : l.kept.rows ≡ take l.owner (kept_lists (lists_left l.lists l.withdrawn) l.rows.rows);
   none_begun : l.kept.begun ≡ [];
+  within : are_over l.most (sum_by length (take l.owner (kept_lists (lists_left l.lists l.withdrawn) l.rows.rows))) ≡ false;
 }

@@ -1,7 +1,7 @@
-use Rattle.std.proofs.Common.{◌≡◌, ◌≤◌, ℕ, Bool, List, length, map, arith, sym, ap, ◌∙◌, subst}
+use Rattle.std.proofs.Common.{◌≡◌, ◌≤◌, ◌+◌, ℕ, Bool, List, length, map, arith, sym, ap, ◌∙◌, subst}
 use Rattle.std.specs.Global.{Vec}
-use Rattle.std.specs.Result.{IsErrAnd}
-use Rattle.std.specs.Prelude.{Option, Result, Ok, Err, IfErr, ◌<◌, ◌⊎◌}
+use Rattle.std.proofs.lemmas.Bool.{ltb-false}
+use Rattle.std.specs.Prelude.{Option, ◌<◌, ◌⊎◌}
 use Rattle.match_model.specs.declared.fault.ModelFault.{ModelFault}
 use Rattle.match_model.specs.declared.fault.ModelFault.TheVariants.{Memory, TooManyPairs}
 use Rattle.match_model.specs.Instance.{Instance, IsWellFormed, pair_count}
@@ -9,34 +9,26 @@ use Rattle.std.specs.List.{sum_by}
 use Rattle.match_model.specs.RankTable.{AreRankTables}
 use Rattle.match_model.specs.Rows.{RowLists}
 use Rattle.match_model.specs.declared.limits.TheConstants.{MAX_PAIRS}
-use Rattle.match_model.specs.Draft.{Draft, IsFinishFault, instance_of, lists_left, mutual_lists, items_of}
+use Rattle.match_model.specs.Draft.{Draft, IsFinishFault, instance_of, mutual_left, items_of}
 use Rattle.match_model.proofs.Kept.{IsWellFormed-instance_of}
+use Rattle.match_model.proofs.Gathered.{same_err, fault_of_most}
 use Rattle.match_model.proofs.builder.InstanceBuilder.instance.Goals as goal
 
--- the mutual lists of what two vectors give, without whoever is withdrawn
-abbrev mutual_of : List (Option (Vec ℕ)) → List Bool → List (Option (Vec ℕ)) → List Bool → List (List ℕ)
-mutual_of mine my_flags theirs their_flags = mutual_lists (lists_left mine my_flags) (lists_left theirs their_flags)
-
 -- the same, of equal parts
-same_mutual : (ms ms' : List (Option (Vec ℕ))) (fs fs' : List Bool) (ts ts' : List (Option (Vec ℕ))) (gs gs' : List Bool) → ms ≡ ms' → fs ≡ fs' → ts ≡ ts' → gs ≡ gs' → mutual_of ms fs ts gs ≡ mutual_of ms' fs' ts' gs'
-same_mutual ms ms' fs fs' ts ts' gs gs' m f t g = λ i. mutual_of (m i) (f i) (t i) (g i)
+same_mutual : (ms ms' : List (Option (Vec ℕ))) (fs fs' : List Bool) (ts ts' : List (Option (Vec ℕ))) (gs gs' : List Bool) → ms ≡ ms' → fs ≡ fs' → ts ≡ ts' → gs ≡ gs' → mutual_left ms fs ts gs ≡ mutual_left ms' fs' ts' gs'
+same_mutual ms ms' fs fs' ts ts' gs gs' m f t g = λ i. mutual_left (m i) (f i) (t i) (g i)
 
 -- the parts of an instance, put in one at a time
 same_instance : (qs qs' : List ℕ) (ps ps' rs rs' : List (List ℕ)) (fs fs' gs gs' : List Bool) → qs ≡ qs' → ps ≡ ps' → rs ≡ rs' → fs ≡ fs' → gs ≡ gs' →
     (let a : Instance = record { quotas = qs; programme_lists = ps; resident_lists = rs; programmes_withdrawn = fs; residents_withdrawn = gs } in let b : Instance = record { quotas = qs'; programme_lists = ps'; resident_lists = rs'; programmes_withdrawn = fs'; residents_withdrawn = gs' } in a ≡ b)
 same_instance qs qs' ps ps' rs rs' fs fs' gs gs' e f g h k = λ i. record { quotas = e i; programme_lists = f i; resident_lists = g i; programmes_withdrawn = h i; residents_withdrawn = k i }
 
--- an error that is handed on
-same_err : {T : Type 0} (r : Result T ModelFault) (e : ModelFault) (P : ModelFault → Type 0) → IsErrAnd r (λ x. x ≡ e) → P e → IfErr r P
-same_err (Ok v) e P h p = tt
-same_err (Err x) e P h p = subst P (sym h) p
-
 pub invariant_of-result : goal.invariant_of-result
 invariant_of-result c =
-    let programmes : c.in_ok-programmes.programmes.rows ≡ mutual_of c.self.inside.programme_lists.items c.self.inside.programmes_withdrawn.items c.self.inside.resident_lists.items c.self.inside.residents_withdrawn.items =
-    c.in_ok-programmes.ensures.lists ∙ same_mutual _ _ _ _ _ _ _ _ c.deref.ensures.value c.deref-2.ensures.value c.deref-3.ensures.value c.deref-4.ensures.value in
-    let residents : c.in_ok-residents.residents.rows ≡ mutual_of c.self.inside.resident_lists.items c.self.inside.residents_withdrawn.items c.self.inside.programme_lists.items c.self.inside.programmes_withdrawn.items =
-    c.in_ok-residents.ensures.lists ∙ same_mutual _ _ _ _ _ _ _ _ c.deref-5.ensures.value c.deref-6.ensures.value c.deref-7.ensures.value c.deref-8.ensures.value in
+    let programmes : c.in_ok-programmes.programmes.rows ≡ mutual_left c.self.inside.programme_lists.items c.self.inside.programmes_withdrawn.items c.self.inside.resident_lists.items c.self.inside.residents_withdrawn.items =
+    ap (λ (v : RowLists ℕ). v.rows) c.in_ok-programmes.ensures.lists ∙ same_mutual _ _ _ _ _ _ _ _ c.deref.ensures.value c.deref-2.ensures.value c.deref-3.ensures.value c.deref-4.ensures.value in
+    let residents : c.in_ok-residents.residents.rows ≡ mutual_left c.self.inside.resident_lists.items c.self.inside.residents_withdrawn.items c.self.inside.programme_lists.items c.self.inside.programmes_withdrawn.items =
+    ap (λ (v : RowLists ℕ). v.rows) c.in_ok-residents.ensures.lists ∙ same_mutual _ _ _ _ _ _ _ _ c.deref-5.ensures.value c.deref-6.ensures.value c.deref-7.ensures.value c.deref-8.ensures.value in
     let quotas = c.in_ok-from_slice.ensures.items ∙ c.deref-9.ensures.value in
     let ps = ap (λ (v : RowLists ℕ). v.rows) c.in_ok-into_residents.ensures ∙ programmes in
     let rs = ap (λ (v : RowLists ℕ). v.rows) c.in_ok-into_programmes.ensures ∙ residents in
@@ -44,20 +36,22 @@ invariant_of-result c =
     let gs = c.in_ok-from_slice-3.ensures.items ∙ c.deref-11.ensures.value in
     let d : Draft = record { quotas = c.self.inside.quotas.items; programme_lists = map items_of c.self.inside.programme_lists.items; resident_lists = map items_of c.self.inside.resident_lists.items; programmes_withdrawn = c.self.inside.programmes_withdrawn.items; residents_withdrawn = c.self.inside.residents_withdrawn.items } in
     let same = same_mutual _ _ _ _ _ _ _ _ c.deref.ensures.value c.deref-2.ensures.value c.deref-3.ensures.value c.deref-4.ensures.value in
-    let counted : c.in_ok-programmes.pairs ≡ pair_count (instance_of d) = c.in_ok-programmes.ensures.count.0 ∙ ap (sum_by (length {A = ℕ})) same in
-    let few : pair_count (instance_of d) ≤ MAX_PAIRS = (let most = c.in_ok-programmes.ensures.count.1 in omega arith) in
+    let made : sum_by (length {A = ℕ}) (mutual_left _ _ _ _) ≡ pair_count (instance_of d) = ap (sum_by (length {A = ℕ})) same in
+    let few : pair_count (instance_of d) ≤ MAX_PAIRS = (let most = ltb-false MAX_PAIRS _ c.in_ok-programmes.ensures.within in omega arith) in
+    let all = ap (λ (v : RowLists ℕ). sum_by (length {A = ℕ}) v.rows + length v.begun) c.in_ok-programmes.ensures.lists in
+    let counted : c.item_count-pairs.result ≡ pair_count (instance_of d) = omega (arith, c.item_count-pairs.ensures, all, made) in
     record {
-      rankings = subst (λ (inst : Instance). IsWellFormed inst c.in_ok-programmes.pairs) (sym (same_instance _ _ _ _ _ _ _ _ _ _ quotas ps rs fs gs)) (IsWellFormed-instance_of d c.in_ok-programmes.pairs c.self.invariant few counted);
+      rankings = subst (λ (inst : Instance). IsWellFormed inst c.item_count-pairs.result) (sym (same_instance _ _ _ _ _ _ _ _ _ _ quotas ps rs fs gs)) (IsWellFormed-instance_of d c.item_count-pairs.result c.self.invariant few counted);
       programme_ranks = subst (λ (lists : List (List ℕ)). AreRankTables lists c.in_ok-programmes.programme_ranks.rows) (programmes ∙ sym ps) c.in_ok-programmes.ensures.ranks;
       resident_ranks = subst (λ (lists : List (List ℕ)). AreRankTables lists c.in_ok-residents.resident_ranks.rows) (residents ∙ sym rs) c.in_ok-residents.ensures.ranks;
     }
 
 pub returns-clause-made : goal.returns-clause-made
 returns-clause-made c =
-    let programmes : c.in_ok-programmes.programmes.rows ≡ mutual_of c.self.inside.programme_lists.items c.self.inside.programmes_withdrawn.items c.self.inside.resident_lists.items c.self.inside.residents_withdrawn.items =
-    c.in_ok-programmes.ensures.lists ∙ same_mutual _ _ _ _ _ _ _ _ c.deref.ensures.value c.deref-2.ensures.value c.deref-3.ensures.value c.deref-4.ensures.value in
-    let residents : c.in_ok-residents.residents.rows ≡ mutual_of c.self.inside.resident_lists.items c.self.inside.residents_withdrawn.items c.self.inside.programme_lists.items c.self.inside.programmes_withdrawn.items =
-    c.in_ok-residents.ensures.lists ∙ same_mutual _ _ _ _ _ _ _ _ c.deref-5.ensures.value c.deref-6.ensures.value c.deref-7.ensures.value c.deref-8.ensures.value in
+    let programmes : c.in_ok-programmes.programmes.rows ≡ mutual_left c.self.inside.programme_lists.items c.self.inside.programmes_withdrawn.items c.self.inside.resident_lists.items c.self.inside.residents_withdrawn.items =
+    ap (λ (v : RowLists ℕ). v.rows) c.in_ok-programmes.ensures.lists ∙ same_mutual _ _ _ _ _ _ _ _ c.deref.ensures.value c.deref-2.ensures.value c.deref-3.ensures.value c.deref-4.ensures.value in
+    let residents : c.in_ok-residents.residents.rows ≡ mutual_left c.self.inside.resident_lists.items c.self.inside.residents_withdrawn.items c.self.inside.programme_lists.items c.self.inside.programmes_withdrawn.items =
+    ap (λ (v : RowLists ℕ). v.rows) c.in_ok-residents.ensures.lists ∙ same_mutual _ _ _ _ _ _ _ _ c.deref-5.ensures.value c.deref-6.ensures.value c.deref-7.ensures.value c.deref-8.ensures.value in
     let quotas = c.in_ok-from_slice.ensures.items ∙ c.deref-9.ensures.value in
     let ps = ap (λ (v : RowLists ℕ). v.rows) c.in_ok-into_residents.ensures ∙ programmes in
     let rs = ap (λ (v : RowLists ℕ). v.rows) c.in_ok-into_programmes.ensures ∙ residents in
@@ -70,5 +64,11 @@ returns-in_err-programmes-clause-cause c =
     let e : ModelFault = c.in_err-programmes.field-0.0 in
     let same = same_mutual _ _ _ _ _ _ _ _ c.deref.ensures.value c.deref-2.ensures.value c.deref-3.ensures.value c.deref-4.ensures.value in
     let pairs = ap (sum_by (length {A = ℕ})) same ∙ ap (λ (d : Draft). pair_count (instance_of d)) c.self.view_is in
-    let cause = subst (λ (n : ℕ). (e ≡ Memory) ⊎ ((e ≡ TooManyPairs) × (MAX_PAIRS < n))) pairs c.in_err-programmes.ensures.cause in
+    let cause = subst (λ (n : ℕ). (e ≡ Memory) ⊎ ((e ≡ TooManyPairs) × (MAX_PAIRS < n))) pairs (fault_of_most MAX_PAIRS _ e c.in_err-programmes.ensures.cause) in
     same_err c.from_residual.result e (IsFinishFault c.args.self.now) c.from_residual.ensures.1 cause
+
+pub returns-clause-within : goal.returns-clause-within
+returns-clause-within c =
+    let same = same_mutual _ _ _ _ _ _ _ _ c.deref.ensures.value c.deref-2.ensures.value c.deref-3.ensures.value c.deref-4.ensures.value in
+    let pairs = ap (sum_by (length {A = ℕ})) same ∙ ap (λ (d : Draft). pair_count (instance_of d)) c.self.view_is in
+    subst (λ (n : ℕ). n ≤ MAX_PAIRS) pairs (ltb-false MAX_PAIRS _ c.in_ok-programmes.ensures.within)

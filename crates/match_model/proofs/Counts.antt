@@ -2,6 +2,7 @@
 use Rattle.std.proofs.Common.{◌≡◌, ℕ, zero, suc, ◌+◌, ◌<◌, ◌≤◌, Bool, false, cond, eqb, ◌⊎◌, inl, inr, List, [], ◌∷◌, ◌++◌, length, take, get_or, slice_get, Some, refl, ap, ap₂, sym, ◌∙◌, add-one, zero-add, arith, sum_by}
 use Rattle.std.proofs.lemmas.List.Sums.{sum_by-cons, sum_by_more}
 use Rattle.std.proofs.lemmas.Bool.{cases_lt, cases_eq, eq-eqb, ne_eqb}
+use Rattle.match_model.proofs.Rankings.{eqb_comm}
 
 -- how often x stands in the list
 abbrev pub count_of : ℕ → List ℕ → ℕ
@@ -56,13 +57,6 @@ sum_below_one f g (suc n) i d l h = go (cases_eq n i) (λ (m : i < n). sum_below
         let s : g n ≡ f n = h n ∙ (rw (ne_eqb n i q) (omega arith)) in
         let r : sum_below g n ≡ sum_below f n + d = before (omega arith) in
         omega arith
-
-eqb_comm : (a b : ℕ) → eqb a b ≡ eqb b a
-eqb_comm a b = step (cases_eq a b)
-  where
-    step : (a ≡ b) ⊎ (a ≡ b → ⊥) → eqb a b ≡ eqb b a
-    step (inl e) = eq-eqb a b e ∙ sym (eq-eqb b a (sym e))
-    step (inr n) = ne_eqb a b n ∙ sym (ne_eqb b a (λ e. n (sym e)))
 
 pub sum_below_zero : (n : ℕ) → sum_below (λ k. 0) n ≡ 0
 sum_below_zero zero = refl

@@ -12,7 +12,7 @@ use Rattle.exchange_core.specs.Mail.{offers_of, offers_to, takes, answers_of, an
 use Rattle.exchange_core.specs.Calls.{best_of, calls, rejections, due, out, last_hold}
 use Rattle.exchange_core.specs.Legal.{is_closed, IsAtRest, IsLegal}
 use Rattle.exchange_core.specs.Left.{held_by, given}
-use Rattle.exchange_core.proofs.Prefixes.{item_at, prefix_whole}
+use Rattle.match_model.proofs.Prefixes.{item_at, prefix_whole}
 use Rattle.exchange_core.proofs.Mail.{offers_of_same, offers_to_same, takes_same, answers_to_same, hears_same}
 use Rattle.exchange_core.proofs.Calls.{last_hold-calls}
 use Rattle.exchange_core.proofs.Legal.{closed_parts}
