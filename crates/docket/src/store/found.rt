@@ -27,6 +27,7 @@ impl Found {
     }
 
     // The number of a name, if it is among the names. Where names come in the order of their numbers, the next is tried.
+    #[inline(always)]
     fn number_in_order(&mut self, names: &Names, name: &[u8]) -> Option<usize>
         ensures number { result ≡ number_in names.now name.now }
         ensures within { IfSome result (λ i. i < length names.now) }
@@ -53,14 +54,13 @@ impl Found {
         ensures number { result ≡ number_in names.now name.now }
         ensures within { IfSome result (λ i. i < length names.now) }
     {
-        let Some(text) = text else {
-            return self.number_in_order(names, name);
-        };
-        let Some(last) = self.numbers.get_mut(text) else {
-            return self.number_in_order(names, name);
-        };
-        let number = names.number_near(*last, name)?;
-        *last = number;
-        Some(number)
+        if let Some(text) = text {
+            if let Some(last) = self.numbers.get_mut(text) {
+                let number = names.number_near(*last, name)?;
+                *last = number;
+                return Some(number);
+            }
+        }
+        self.number_in_order(names, name)
     }
 }

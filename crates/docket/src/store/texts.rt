@@ -226,7 +226,7 @@ impl Interner {
 
 // How many texts are kept one after another, each of them whole. Only a docket of long lists has more, and there the same
 // texts come again and again, so of those after these each different one is kept once.
-const MOST_PLAIN: usize = 4_194_304;
+const MOST_PLAIN: usize = 1_048_576;
 
 /// Texts, in order: the first of them one after another, and of all others each different one once.
 #[derive(Drop)]
