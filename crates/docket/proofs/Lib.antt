@@ -2,6 +2,7 @@ pub mod WordFacts
 pub mod FieldFacts
 pub mod FlatRowsFacts
 pub mod RowsFacts
+pub mod SameFacts
 pub mod RowKindFacts
 pub mod NameFacts
 pub mod NameKeyFacts

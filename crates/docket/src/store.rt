@@ -7,6 +7,7 @@ pub(crate) mod name_key;
 pub(crate) mod names;
 pub(crate) mod numbers;
 pub(crate) mod rows;
+pub(crate) mod same_text;
 pub(crate) mod tables;
 pub(crate) mod text_key;
 pub(crate) mod texts;

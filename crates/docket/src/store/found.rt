@@ -10,13 +10,37 @@ use std::alloc::{AllocError, Global};
 #[derive(Drop)]
 pub(crate) struct Found {
     numbers: Vec<usize>,
+    // The number that is tried for the next name whose text has none, and whether the last one came as it was tried.
+    next: usize,
+    in_order: bool,
 }
 
 impl Found {
     /// Nothing is found yet of so many texts.
     pub(crate) fn new(alloc: Global, texts: usize) -> Result<Found, AllocError> {
         let numbers = Vec::from_elem(alloc, 0, texts)?;
-        Ok(Found { numbers })
+        Ok(Found {
+            numbers,
+            next: 0,
+            in_order: false,
+        })
+    }
+
+    // The number of a name, if it is among the names. Where names come in the order of their numbers, the next is tried.
+    #[inline(always)]
+    fn number_in_order(&mut self, names: &Names, name: &[u8]) -> Option<usize>
+        ensures number { result ≡ number_in names.now name.now }
+        ensures within { IfSome result (λ i. i < length names.now) }
+    {
+        let tried = self.next;
+        let number = if self.in_order {
+            names.number_near(tried, name)?
+        } else {
+            names.number(name)?
+        };
+        self.in_order = number == tried;
+        self.next = number.saturating_add(1);
+        Some(number)
     }
 
     /// The number of a name, if it is among the names. Its text has this number, if it is kept by number.
@@ -30,14 +54,13 @@ impl Found {
         ensures number { result ≡ number_in names.now name.now }
         ensures within { IfSome result (λ i. i < length names.now) }
     {
-        let Some(text) = text else {
-            return names.number(name);
-        };
-        let Some(last) = self.numbers.get_mut(text) else {
-            return names.number(name);
-        };
-        let number = names.number_near(*last, name)?;
-        *last = number;
-        Some(number)
+        if let Some(text) = text {
+            if let Some(last) = self.numbers.get_mut(text) {
+                let number = names.number_near(*last, name)?;
+                *last = number;
+                return Some(number);
+            }
+        }
+        self.number_in_order(names, name)
     }
 }

@@ -4,6 +4,7 @@ ghost use Rattle.docket.specs.Words as words;
 ghost use Rattle.docket.specs.Contents.{number_in, is_declared};
 
 use crate::store::name_key::{MAX_NAME, NameKey};
+use crate::store::same_text::same_text;
 use indexmap::IndexSet;
 use std::alloc::{AllocError, Global};
 use std::hash::RandomState;
@@ -69,15 +70,11 @@ impl Names {
         ensures within { IfSome result (λ i. i < length self.now) }
     {
         let seen = &self.seen;
-        if name.len() > MAX_NAME {
-            return None;
-        }
-        let asked = NameKey::new(name);
         // For the proof alone: no two keys are equal.
         let _count = seen.len();
         match seen.get_index(first) {
-            Some(key) if *key == asked => Some(first),
-            _ => seen.get_index_of(&asked),
+            Some(key) if same_text(key.text(), name) => Some(first),
+            _ => self.number(name),
         }
     }
 

@@ -4,6 +4,7 @@ ghost use Rattle.docket.specs.Fields as fields;
 ghost use Rattle.docket.specs.FlatRows.{StartsWith};
 
 use crate::store::numbers::{Numbers, start_of};
+use crate::store::same_text::same_text;
 use crate::store::text_key::TextKey;
 use indexmap::IndexSet;
 use std::alloc::{AllocError, Global};
@@ -100,6 +101,40 @@ fn number_of_text(
     Ok(number)
 }
 
+// The number that is tried for the next text, and whether the last one came as it was tried.
+#[derive(Clone, Copy)]
+struct Order {
+    next: usize,
+    holds: bool,
+}
+
+// The number of a text among those that were seen, which it joins where it is new. Where texts come in the order in which
+// they were first seen, it is compared with the next one, and not looked up.
+fn number_of_next(
+    alloc: Global,
+    seen: &mut IndexSet<TextKey, RandomState>,
+    asked: &mut TextKey,
+    order: &mut Order,
+    text: &[u8],
+) -> Result<usize, AllocError>
+    ensures number { IfOk result (λ n. slice_get seen.new.keys n ≡ Some text.now) }
+    ensures kept { StartsWith seen.old.keys seen.new.keys }
+{
+    let tried = order.next;
+    if order.holds {
+        if let Some(key) = seen.get_index(tried) {
+            if same_text(key.text(), text) {
+                order.next = tried.saturating_add(1);
+                return Ok(tried);
+            }
+        }
+    }
+    let number = number_of_text(alloc, seen, asked, text)?;
+    order.holds = number == tried;
+    order.next = number.saturating_add(1);
+    Ok(number)
+}
+
 // Texts, in order. Each different one is kept once and has a number, and for each place the number of its text is kept.
 #[derive(Drop)]
 struct Interner {
@@ -107,6 +142,7 @@ struct Interner {
     seen: IndexSet<TextKey, RandomState>,
     // Room for the text that is looked for.
     asked: TextKey,
+    order: Order,
     numbers: Numbers,
 }
 
@@ -130,6 +166,10 @@ impl Interner {
             alloc,
             seen: IndexSet::with_hasher(alloc, keys),
             asked: TextKey::new(alloc),
+            order: Order {
+                next: 0,
+                holds: false,
+            },
             numbers: Numbers::new(alloc),
         }
     }
@@ -157,7 +197,13 @@ impl Interner {
     fn push(&mut self, text: &[u8]) -> Result<(), AllocError>
         ensures { OnOk result (self.new ≡ self.old ++ text.now ∷ []) }
     {
-        let number = number_of_text(self.alloc, &mut self.seen, &mut self.asked, text)?;
+        let number = number_of_next(
+            self.alloc,
+            &mut self.seen,
+            &mut self.asked,
+            &mut self.order,
+            text,
+        )?;
         let Ok(()) = self.numbers.push(number) else {
             self.numbers.clear();
             return Err(AllocError);
@@ -180,7 +226,7 @@ impl Interner {
 
 // How many texts are kept one after another, each of them whole. Only a docket of long lists has more, and there the same
 // texts come again and again, so of those after these each different one is kept once.
-const MOST_PLAIN: usize = 4_194_304;
+const MOST_PLAIN: usize = 1_048_576;
 
 /// Texts, in order: the first of them one after another, and of all others each different one once.
 #[derive(Drop)]
