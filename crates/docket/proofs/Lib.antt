@@ -22,3 +22,4 @@ pub mod RestFacts
 pub mod DocketFacts
 pub mod WholeFacts
 pub mod WriteFacts
+mod RowTextFacts
