@@ -23,3 +23,4 @@ pub mod RestFacts
 pub mod DocketFacts
 pub mod WholeFacts
 pub mod WriteFacts
+mod RowTextFacts

@@ -1,5 +1,7 @@
 -- The rows of workers, one after another.
-use Rattle.std.proofs.Common.{◌≡◌, ℕ, zero, suc, ◌+◌, ◌<◌, List, [], ◌∷◌, ◌++◌, length, take, get_or, sym, ap, ◌∙◌, arith, append_assoc, append-nil}
+use Rattle.std.proofs.Common.{◌≡◌, ℕ, zero, suc, Option, ◌+◌, ◌<◌, List, [], ◌∷◌, ◌++◌, length, take, get_or, sym, ap, ◌∙◌, arith, append_assoc, append-nil}
+use Rattle.std.specs.Io.KnownBytes.{Appends}
+use Rattle.std.proofs.KnownBytes.{Appends-nil, Appends-trans}
 use Rattle.residency.specs.Answer.{worker_row, worker_rows}
 
 -- the rows of the first counts, and one more
@@ -16,16 +18,14 @@ worker_rows-more first (events ∷ counts) (suc k) lt =
     rw (longer, last) (ap (λ rest. worker_row first events ++ rest) (worker_rows-more (first + 1) counts k (omega arith))
     ∙ sym (append_assoc (worker_row first events) (worker_rows (first + 1) (take k counts)) (worker_row (first + 1 + k) (get_or counts k 0))))
 
-pub workers_none : (start : List ℕ) → start ≡ start ++ worker_rows 0 []
+pub workers_none : (a : Option (List ℕ)) → Appends a a (worker_rows 0 [])
 unfolding worker_rows
-workers_none start = sym (append-nil start)
+workers_none a = Appends-nil a
 
-pub workers_next : (counts start now next : List ℕ) (k : ℕ) → k < length counts → now ≡ start ++ worker_rows 0 (take k counts)
-    → next ≡ now ++ worker_row k (get_or counts k 0) → next ≡ start ++ worker_rows 0 (take (k + 1) counts)
-workers_next counts start now next k lt h n =
+pub workers_next : (counts : List ℕ) (a b c : Option (List ℕ)) (k : ℕ) → k < length counts → Appends a b (worker_rows 0 (take k counts))
+    → Appends b c (worker_row k (get_or counts k 0)) → Appends a c (worker_rows 0 (take (k + 1) counts))
+workers_next counts a b c k lt h n =
     let here : 0 + k ≡ k = omega arith in
     let more : worker_rows 0 (take (k + 1) counts) ≡ worker_rows 0 (take k counts) ++ worker_row k (get_or counts k 0) =
     worker_rows-more 0 counts k lt ∙ ap (λ w. worker_rows 0 (take k counts) ++ worker_row w (get_or counts k 0)) here in
-    n ∙ ap (λ rows. rows ++ worker_row k (get_or counts k 0)) h
-    ∙ append_assoc start (worker_rows 0 (take k counts)) (worker_row k (get_or counts k 0))
-    ∙ ap (λ rows. start ++ rows) (sym more)
+    rw more (Appends-trans a b c _ _ h n)

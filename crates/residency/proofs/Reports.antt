@@ -1,7 +1,9 @@
 -- The rows of a report, one after another.
-use Rattle.std.proofs.Common.{◌≡◌, ℕ, ◌==◌, ◌&&◌, Bool, true, false, List, [], ◌∷◌, ◌++◌, length, codes, refl, arith}
+use Rattle.std.proofs.Common.{◌≡◌, ℕ, ◌==◌, ◌&&◌, Bool, true, false, List, [], ◌∷◌, Option, length, codes, refl, arith}
 use Rattle.std.specs.List.{flat_map}
 use Rattle.std.proofs.lemmas.Bool.{eqb-true}
+use Rattle.std.specs.Io.KnownBytes.{Appends}
+use Rattle.std.proofs.KnownBytes.{Appends-trans}
 use Rattle.docket.specs.Contents.{Contents}
 use Rattle.docket.specs.RowText.{row}
 use Rattle.match_audit.specs.declared.report.AuditReport.{AuditReport}
@@ -38,10 +40,11 @@ stability_row-unstable report h = by_test (finds_nothing report) refl
     by_test false e = rw e
 
 -- the report is its four parts
-pub report_text-rows : (d : Contents) (report : AuditReport) (none start unacceptable over whole : List ℕ) → none ≡ [] →
-    start ≡ none ++ stability_row report →
-    unacceptable ≡ start ++ flat_map (pair_row d (codes "X")) report.unacceptable.items →
-    over ≡ unacceptable ++ flat_map (over_row d) report.over.items →
-    whole ≡ over ++ flat_map (pair_row d (codes "B")) report.blocking.items → report_text d report ≡ whole
+pub report_text-rows : (d : Contents) (report : AuditReport) (none start unacceptable over whole : Option (List ℕ)) →
+    Appends none start (stability_row report) →
+    Appends start unacceptable (flat_map (pair_row d (codes "X")) report.unacceptable.items) →
+    Appends unacceptable over (flat_map (over_row d) report.over.items) →
+    Appends over whole (flat_map (pair_row d (codes "B")) report.blocking.items) → Appends none whole (report_text d report)
 unfolding report_text
-report_text-rows d report none start unacceptable over whole a b c e f = rw (f, e, c, b, a)
+report_text-rows d report none start unacceptable over whole b c e f =
+    Appends-trans none over whole _ _ (Appends-trans none unacceptable over _ _ (Appends-trans none start unacceptable _ _ b c) e) f

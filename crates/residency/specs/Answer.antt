@@ -52,6 +52,14 @@ refusal_fields d NotDue = []
 refusal_fields d MailboxFull = []
 refusal_fields d (StillPending what) = pending_word what ∷ pending_name d what ∷ []
 
+-- the fields of the row of a close that something pending of this kind and name kept from being accepted
+abbrev pub pending_fields : List ℕ → List ℕ → List ℕ → List (List ℕ)
+pending_fields place kind name = codes "N" ∷ place ∷ codes "still-pending" ∷ kind ∷ name ∷ []
+
+-- the fields of the row of an event that was refused at this place
+abbrev pub refused_fields : Contents → List ℕ → Refused → List (List ℕ)
+refused_fields d place refused = codes "N" ∷ place ∷ refusal_word refused ∷ refusal_fields d refused
+
 -- how many events the journal has, or 0 where there is none
 abbrev pub event_count : Option JournalParts → ℕ
 event_count (Some journal) = length journal.events

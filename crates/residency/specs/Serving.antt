@@ -43,6 +43,14 @@ wanted_text d cap ByWorker j by = journal_text d cap j (Some by)
 abbrev pub match_text : Contents → Capacity → JournalForm → List (Option ℕ) → List Event → ByWorkerParts → List ℕ
 match_text d cap form m j by = sheet_text d m ++ wanted_text d cap form j by
 
+-- the journal that a match's options want
+abbrev pub wanted_journal : Contents → MatchOptions → List Event → ByWorkerParts → List ℕ
+wanted_journal d o j by = wanted_text d o.capacity o.journal j by
+
+-- the sheet, and after it the journal that a match's options want
+abbrev pub wanted_match : Contents → MatchOptions → List (Option ℕ) → List Event → ByWorkerParts → List ℕ
+wanted_match d o m j by = match_text d o.capacity o.journal m j by
+
 -- an exchange over the docket that was run to its close within the limits: what it gives is the one settled assignment, and
 -- each event of its journal has some number below the number of workers
 pub record ClosedRun (d : Contents) (o : MatchOptions) : Type 0 where

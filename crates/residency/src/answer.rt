@@ -1,9 +1,8 @@
 //! Writing what a replay answered.
 ghost use Rattle.std.specs.Prelude.{◌≡◌, ◌≢◌, ◌++◌, ◌∷◌, [], ◌+◌, ◌<◌, ◌^◌, codes, decimal, option_copied, OnOk, IfErr};
-ghost use Rattle.std.specs.Io.KnownBytes.{Appends};
-ghost use Rattle.docket.specs.RowText.{row};
+ghost use Rattle.docket.specs.RowText.{Adds, Writes, row};
 ghost use Rattle.match_audit.specs.Replay.{NamesMember, RefusesMember, IsPendingMember};
-ghost use Rattle.residency.specs.Answer.{replay_text, answer_fields, worker_row, worker_rows, count_rows, refusal_word as word_of, refusal_fields, pending_word as kind_of, pending_name as name_of, event_count as count_of, fault_fields, IsAnswerOf};
+ghost use Rattle.residency.specs.Answer.{replay_text, answer_fields, worker_row, worker_rows, count_rows, refusal_word as word_of, pending_fields, refused_fields, pending_word as kind_of, pending_name as name_of, event_count as count_of, fault_fields, IsAnswerOf};
 ghost use Rattle.residency.specs.Serving.{IsWriteFault};
 
 use docket::{Docket, DocketFault, RowText};
@@ -67,140 +66,168 @@ fn event_count(docket: &Docket) -> usize
 }
 
 // Adds the row of a fault that one word tells.
-fn push_word(rows: &mut RowText, place: &[u8], word: &str) -> Result<(), DocketFault>
-    ensures row { OnOk result (rows.new ≡ rows.old ++ row (codes "N" ∷ place.now ∷ word.now ∷ [])) }
-    ensures err { IfErr result (λ fault. fault ≡ DocketFault.Memory) }
+fn push_word<W: Write>(
+    rows: &mut RowText,
+    writer: &mut W,
+    place: &[u8],
+    word: &str,
+) -> Result<(), DocketFault>
+    ensures row { OnOk result (Adds W.contents writer.old rows.old writer.new rows.new (row (codes "N" ∷ place.now ∷ word.now ∷ []))) }
+    ensures err { IfErr result (λ fault. fault ≡ DocketFault.Write) }
 {
-    rows.push(&[b"N", place, word.as_bytes()])
+    rows.push(writer, &[b"N", place, word.as_bytes()])
 }
 
 // Adds the row of a close that something pending kept from being accepted.
-fn push_pending(rows: &mut RowText, place: &[u8], kind: &str, name: &str) -> Result<(), DocketFault>
-    ensures row { OnOk result (rows.new ≡ rows.old ++ row (codes "N" ∷ place.now ∷ codes "still-pending" ∷ kind.now ∷ name.now ∷ [])) }
-    ensures err { IfErr result (λ fault. fault ≡ DocketFault.Memory) }
+fn push_pending<W: Write>(
+    rows: &mut RowText,
+    writer: &mut W,
+    place: &[u8],
+    kind: &str,
+    name: &str,
+) -> Result<(), DocketFault>
+    ensures row { OnOk result (Adds W.contents writer.old rows.old writer.new rows.new (row (pending_fields place.now kind.now name.now))) }
+    ensures err { IfErr result (λ fault. fault ≡ DocketFault.Write) }
 {
-    rows.push(&[
-        b"N",
-        place,
-        b"still-pending",
-        kind.as_bytes(),
-        name.as_bytes(),
-    ])
+    rows.push(
+        writer,
+        &[
+            b"N",
+            place,
+            b"still-pending",
+            kind.as_bytes(),
+            name.as_bytes(),
+        ],
+    )
 }
 
 // Adds the row of a refused event.
-fn push_refused(
+fn push_refused<W: Write>(
     rows: &mut RowText,
+    writer: &mut W,
     docket: &Docket,
     place: &[u8],
     refused: &Refused,
 ) -> Result<(), DocketFault>
     requires member { RefusesMember docket.now.instance refused.now }
-    ensures row { OnOk result (rows.new ≡ rows.old ++ row (codes "N" ∷ place.now ∷ word_of refused.now ∷ refusal_fields docket.now refused.now)) }
-    ensures err { IfErr result (λ fault. fault ≡ DocketFault.Memory) }
+    ensures row { OnOk result (Adds W.contents writer.old rows.old writer.new rows.new (row (refused_fields docket.now place.now refused.now))) }
+    ensures err { IfErr result (λ fault. fault ≡ DocketFault.Write) }
 {
     match refused {
         Refused::StillPending(what) => {
-            push_pending(rows, place, pending_word(what), pending_name(docket, what))
+            push_pending(
+                rows,
+                writer,
+                place,
+                pending_word(what),
+                pending_name(docket, what),
+            )
         }
-        _ => push_word(rows, place, refusal_word(refused)),
+        _ => push_word(rows, writer, place, refusal_word(refused)),
     }
 }
 
 // Adds the row of a fault.
-fn push_fault(
-    alloc: Global,
+fn push_fault<W: Write>(
     rows: &mut RowText,
+    writer: &mut W,
     docket: &Docket,
     fault: &ReplayFault,
 ) -> Result<(), DocketFault>
     requires member { NamesMember docket.now.instance fault.now }
-    ensures row { OnOk result (rows.new ≡ rows.old ++ row (fault_fields docket.now fault.now)) }
-    ensures err { IfErr result (λ fault. fault ≡ DocketFault.Memory) }
+    ensures row { OnOk result (Adds W.contents writer.old rows.old writer.new rows.new (row (fault_fields docket.now fault.now))) }
+    ensures err { IfErr result (λ fault. fault ≡ DocketFault.Write) }
 {
+    let mut room = itoa::Buffer::new();
     match fault {
-        ReplayFault::BadCapacity => push_word(rows, b"0", "bad-capacity"),
-        ReplayFault::Memory => push_word(rows, b"0", "memory"),
+        ReplayFault::BadCapacity => push_word(rows, writer, b"0", "bad-capacity"),
+        ReplayFault::Memory => push_word(rows, writer, b"0", "memory"),
         ReplayFault::At { place, refused } => {
-            let place = place.to_string(alloc)?;
-            push_refused(rows, docket, place.as_bytes(), refused)
+            let place = room.format(*place).as_bytes();
+            push_refused(rows, writer, docket, place, refused)
         }
         ReplayFault::NotClosed => {
-            let place = (event_count(docket) + 1).to_string(alloc)?;
-            push_word(rows, place.as_bytes(), "not-closed")
+            let place = room.format(event_count(docket) + 1).as_bytes();
+            push_word(rows, writer, place, "not-closed")
         }
         ReplayFault::SheetDiffers(resident) => {
-            rows.push(&[b"D", docket.resident_name(*resident).as_bytes()])
+            rows.push(writer, &[b"D", docket.resident_name(*resident).as_bytes()])
         }
     }
 }
 
 // Adds the row of a good replay.
-fn push_good(alloc: Global, rows: &mut RowText, events: usize) -> Result<(), DocketFault>
-    ensures row { OnOk result (rows.new ≡ rows.old ++ row (codes "G" ∷ decimal events ∷ [])) }
-    ensures err { IfErr result (λ fault. fault ≡ DocketFault.Memory) }
+fn push_good<W: Write>(rows: &mut RowText, writer: &mut W, events: usize) -> Result<(), DocketFault>
+    ensures row { OnOk result (Adds W.contents writer.old rows.old writer.new rows.new (row (codes "G" ∷ decimal events ∷ []))) }
+    ensures err { IfErr result (λ fault. fault ≡ DocketFault.Write) }
 {
-    let events = events.to_string(alloc)?;
-    rows.push(&[b"G", events.as_bytes()])
+    let mut room = itoa::Buffer::new();
+    let events = room.format(events);
+    rows.push(writer, &[b"G", events.as_bytes()])
 }
 
 // Adds the row of an answer.
-fn push_answer(
-    alloc: Global,
+fn push_answer<W: Write>(
     rows: &mut RowText,
+    writer: &mut W,
     docket: &Docket,
     answer: &Result<Replayed, ReplayFault>,
 ) -> Result<(), DocketFault>
     requires member { IsAnswerOf docket.now answer.now }
-    ensures row { OnOk result (rows.new ≡ rows.old ++ row (answer_fields docket.now answer.now)) }
-    ensures err { IfErr result (λ fault. fault ≡ DocketFault.Memory) }
+    ensures row { OnOk result (Adds W.contents writer.old rows.old writer.new rows.new (row (answer_fields docket.now answer.now))) }
+    ensures err { IfErr result (λ fault. fault ≡ DocketFault.Write) }
 {
     match answer {
-        Ok(replayed) => push_good(alloc, rows, replayed.events),
-        Err(fault) => push_fault(alloc, rows, docket, fault),
+        Ok(replayed) => push_good(rows, writer, replayed.events),
+        Err(fault) => push_fault(rows, writer, docket, fault),
     }
 }
 
 // Adds the row of a worker.
 #[tactic(auto, unfolding(crate::specs::Answer::worker_row))]
-fn push_worker(
-    alloc: Global,
+fn push_worker<W: Write>(
     rows: &mut RowText,
+    writer: &mut W,
     worker: usize,
     events: u64,
 ) -> Result<(), DocketFault>
-    ensures row { OnOk result (rows.new ≡ rows.old ++ worker_row worker events) }
-    ensures err { IfErr result (λ fault. fault ≡ DocketFault.Memory) }
+    ensures row { OnOk result (Adds W.contents writer.old rows.old writer.new rows.new (worker_row worker events)) }
+    ensures err { IfErr result (λ fault. fault ≡ DocketFault.Write) }
 {
-    let worker = worker.to_string(alloc)?;
-    let events = events.to_string(alloc)?;
-    rows.push(&[b"K", worker.as_bytes(), events.as_bytes()])
+    let (mut first, mut second) = (itoa::Buffer::new(), itoa::Buffer::new());
+    let worker = first.format(worker);
+    let events = second.format(events);
+    rows.push(writer, &[b"K", worker.as_bytes(), events.as_bytes()])
 }
 
 // Adds the row of each worker.
-fn push_workers(alloc: Global, rows: &mut RowText, counts: &[u64]) -> Result<(), DocketFault>
-    ensures rows { OnOk result (rows.new ≡ rows.old ++ worker_rows 0 counts.now) }
-    ensures err { IfErr result (λ fault. fault ≡ DocketFault.Memory) }
+fn push_workers<W: Write>(
+    rows: &mut RowText,
+    writer: &mut W,
+    counts: &[u64],
+) -> Result<(), DocketFault>
+    ensures rows { OnOk result (Adds W.contents writer.old rows.old writer.new rows.new (worker_rows 0 counts.now)) }
+    ensures err { IfErr result (λ fault. fault ≡ DocketFault.Write) }
 {
     for worker in 0..counts.len() {
-        push_worker(alloc, rows, worker, counts[worker])?;
+        push_worker(rows, writer, worker, counts[worker])?;
     }
     Ok(())
 }
 
 // Adds what follows the row of an answer.
 #[tactic(auto, unfolding(crate::specs::Answer::count_rows))]
-fn push_counts(
-    alloc: Global,
+fn push_counts<W: Write>(
     rows: &mut RowText,
+    writer: &mut W,
     answer: &Result<Replayed, ReplayFault>,
     counts: Option<&[u64]>,
 ) -> Result<(), DocketFault>
-    ensures rows { OnOk result (rows.new ≡ rows.old ++ count_rows answer.now (option_copied counts.entry)) }
-    ensures err { IfErr result (λ fault. fault ≡ DocketFault.Memory) }
+    ensures rows { OnOk result (Adds W.contents writer.old rows.old writer.new rows.new (count_rows answer.now (option_copied counts.entry))) }
+    ensures err { IfErr result (λ fault. fault ≡ DocketFault.Write) }
 {
     match (answer, counts) {
-        (Ok(_), Some(counts)) => push_workers(alloc, rows, counts),
+        (Ok(_), Some(counts)) => push_workers(rows, writer, counts),
         _ => Ok(()),
     }
 }
@@ -217,12 +244,12 @@ pub fn write_replay<W: Write>(
     writer: &mut W,
 ) -> Result<(), DocketFault>
     requires { IsAnswerOf docket.now answer.now }
-    ensures ok { OnOk result (Appends (W.contents writer.old) (W.contents writer.new) (replay_text docket.now answer.now (option_copied counts.entry))) }
+    ensures ok { OnOk result (Writes W.contents writer.old writer.new (replay_text docket.now answer.now (option_copied counts.entry))) }
     ensures fault { IfErr result IsWriteFault }
     ensures before { IfErr result (λ fault. fault ≢ DocketFault.Write → writer.new ≡ writer.old) }
 {
-    let mut rows = RowText::new(alloc);
-    push_answer(alloc, &mut rows, docket, answer)?;
-    push_counts(alloc, &mut rows, answer, counts)?;
+    let mut rows = RowText::new(alloc)?;
+    push_answer(&mut rows, writer, docket, answer)?;
+    push_counts(&mut rows, writer, answer, counts)?;
     rows.send(writer)
 }

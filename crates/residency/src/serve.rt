@@ -2,10 +2,10 @@
 ghost use Rattle.std.specs.Prelude.{◌≡◌, ◌≢◌, ◌++◌, ℕ, List, Some, false, length, option_copied, option_map, IfOk, IfErr, IfSome, OnOk};
 ghost use Rattle.std.specs.List.{All};
 ghost use Rattle.std.specs.Global.{Vec};
-ghost use Rattle.std.specs.Io.KnownBytes.{Appends};
 ghost use Rattle.match_audit.specs.Report.{Reports};
+ghost use Rattle.docket.specs.RowText.{Adds, Writes};
 ghost use Rattle.docket.specs.Whole.{IsSheetOf, NamesMembers, IsByWorker};
-ghost use Rattle.residency.specs.Serving.{WritesMatch, match_text, wanted_text, IsWriteFault, WritesReport, WritesReplay, IsMatchFault, IsAuditFault, IsReplayFault, AreDocket, IsFaultOf, IsBeforeWriting, IsAnswerTo, counts_in};
+ghost use Rattle.residency.specs.Serving.{WritesMatch, wanted_match, wanted_journal, IsWriteFault, WritesReport, WritesReplay, IsMatchFault, IsAuditFault, IsReplayFault, AreDocket, IsFaultOf, IsBeforeWriting, IsAnswerTo, counts_in};
 
 use crate::answer::write_replay;
 use crate::fault::ServeFault;
@@ -28,9 +28,9 @@ use std::sync::Wait;
 use std::thread::Threads;
 
 // Adds the journal of an exchange in the form that is wanted.
-fn push_wanted(
-    alloc: Global,
+fn push_wanted<W: Write>(
     rows: &mut RowText,
+    writer: &mut W,
     docket: &Docket,
     journal: &[Event],
     by: &ByWorker,
@@ -38,20 +38,20 @@ fn push_wanted(
 ) -> Result<(), DocketFault>
     requires journal { All (NamesMembers docket.now.instance) journal.now }
     requires by { IsByWorker journal.now by.now }
-    ensures rows { OnOk result (rows.new ≡ rows.old ++ wanted_text docket.now options.now.capacity options.now.journal journal.now by.now) }
-    ensures err { IfErr result (λ fault. fault ≡ DocketFault.Memory) }
+    ensures rows { OnOk result (Adds W.contents writer.old rows.old writer.new rows.new (wanted_journal docket.now options.now journal.now by.now)) }
+    ensures err { IfErr result (λ fault. fault ≡ DocketFault.Write) }
 {
     match options.journal {
         JournalForm::Absent => Ok(()),
-        JournalForm::Plain => push_journal(alloc, rows, docket, options.capacity, journal, None),
+        JournalForm::Plain => push_journal(rows, writer, docket, options.capacity, journal, None),
         JournalForm::ByWorker => {
-            push_journal(alloc, rows, docket, options.capacity, journal, Some(by))
+            push_journal(rows, writer, docket, options.capacity, journal, Some(by))
         }
     }
 }
 
-// Writes the sheet of what a closed exchange over the docket gave, and its journal where that is wanted. Both are made
-// before the first byte is written, so that want of memory leaves nothing half written.
+// Writes the sheet of what a closed exchange over the docket gave, and its journal where that is wanted. Both go through one
+// buffer, which is made before the first byte is written, so that want of memory leaves nothing half written.
 fn write_match<W: Write>(
     alloc: Global,
     docket: &Docket,
@@ -64,13 +64,13 @@ fn write_match<W: Write>(
     requires sheet { IsSheetOf docket.now assignment.now }
     requires journal { All (NamesMembers docket.now.instance) journal.now }
     requires by { IsByWorker journal.now by.now }
-    ensures text { OnOk result (Appends (W.contents writer.old) (W.contents writer.new) (match_text docket.now options.now.capacity options.now.journal assignment.now journal.now by.now)) }
+    ensures text { OnOk result (Writes W.contents writer.old writer.new (wanted_match docket.now options.now assignment.now journal.now by.now)) }
     ensures fault { IfErr result IsWriteFault }
     ensures before { IfErr result (λ fault. fault ≢ DocketFault.Write → writer.new ≡ writer.old) }
 {
-    let mut rows = RowText::new(alloc);
-    push_sheet(alloc, &mut rows, docket, assignment)?;
-    push_wanted(alloc, &mut rows, docket, journal, by, options)?;
+    let mut rows = RowText::new(alloc)?;
+    push_sheet(alloc, &mut rows, writer, docket, assignment)?;
+    push_wanted(&mut rows, writer, docket, journal, by, options)?;
     rows.send(writer)
 }
 

@@ -244,12 +244,12 @@ fn a_writer_that_fails(rt: HostRuntime) -> Result<(), Fail> {
 
 // A row of two fields, and one of a programme, as they are sent.
 fn gathered(alloc: Global, docket: &Docket) -> Result<Vec<u8>, DocketFault> {
-    let mut rows = RowText::new(alloc);
-    rows.push(&[b"U", b"x"])?;
-    if A.0 < docket.instance().programmes() {
-        rows.push_programme(docket, b"O", A, 2)?;
-    }
     let mut output = Vec::new(alloc);
+    let mut rows = RowText::new(alloc)?;
+    rows.push(&mut output, &[b"U", b"x"])?;
+    if A.0 < docket.instance().programmes() {
+        rows.push_programme(&mut output, docket, b"O", A, 2)?;
+    }
     rows.send(&mut output)?;
     Ok(output)
 }

@@ -4,7 +4,7 @@ use Rattle.docket.proofs.WriteFacts.{rows_next}
 use Rattle.docket.proofs.write.push_programmes.Goals as goal
 
 pub loop-p-preserved : goal.loop-p-preserved
-loop-p-preserved c =
+loop-p-preserved g c =
     let below : c.loop-p.p < length c.args.docket.now.programmes =
     omega (arith, c.programmes-p-end.ensures.count, c.instance.ensures.whole.programmes, ap (λ i. length i.quotas) c.instance.ensures.instance) in
     λ m h. rows_next (filled_row c.args.docket.now m) _ _ _ c.loop-p.p (c.loop-p.invariant m h) (rw (h c.loop-p.p below) at c.in_ok-push_programme.ensures.row)

@@ -4,7 +4,7 @@ use Rattle.docket.proofs.WriteFacts.{sheet_text-rows}
 use Rattle.docket.proofs.write.push_sheet.Goals as goal
 
 pub returns-clause-rows : goal.returns-clause-rows
-returns-clause-rows c =
+returns-clause-rows g c =
     on_ok_weaker c.push_programmes.result
     (λ rows. sheet_text-rows c.args.docket.now c.args.assignment.now _ _ _ c.in_ok-push_residents.ensures.rows
     (rows c.args.assignment.now (λ p h. rw c.as_slice.ensures.value (c.in_ok-counts.ensures.counts p

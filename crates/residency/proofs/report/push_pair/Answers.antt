@@ -5,7 +5,7 @@ use Rattle.residency.proofs.report.push_pair.Goals as goal
 
 pub returns-clause-row : goal.returns-clause-row
 unfolding pair_row
-returns-clause-row c =
+returns-clause-row g c =
     let resident = sym (c.as_bytes-resident.ensures.value ∙ c.resident_name.ensures) in
     let programme = sym (c.as_bytes-programme.ensures.value ∙ c.programme_name.ensures) in
     on_ok_weaker c.push.result (λ h. rw (resident, programme) h) c.push.ensures.row

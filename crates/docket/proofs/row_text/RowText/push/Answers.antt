@@ -1,11 +1,18 @@
-use Rattle.std.proofs.Common.{◌≢◌}
-use Rattle.csv.specs.Writing.{writer_setup}
-use Rattle.csv.specs.declared.writer.QuoteStyle.TheVariants as style
-use Rattle.docket.specs.RowText.{row}
+use Rattle.std.proofs.Common.{◌<◌, ◌≤◌, [], length, map, sym, arith, take_all}
+use Rattle.std.proofs.lemmas.List.{get_or-map, length-map}
+use Rattle.std.proofs.lemmas.Result.{on_ok_weaker}
+use Rattle.docket.proofs.RowTextFacts.{fields_next, row_whole}
 use Rattle.docket.proofs.row_text.RowText.push.Goals as goal
 
+pub loop-i-preserved : goal.loop-i-preserved
+loop-i-preserved g c =
+    let all = map (λ f. f.now) c.args.fields.now in
+    let lt : c.loop-i.i < length all = omega (arith, c.loop-i-test.true, length-map c.args.fields.now (λ f. f.now)) in
+    fields_next _ _ _ _ all _ c.loop-i.i lt c.loop-i.invariant c.in_ok-put_comma.ensures.text c.in_ok-put_field.ensures.text
+    (sym (get_or-map (λ f. f.now) c.args.fields.now c.loop-i.i _ [] c.loop-i-test.true))
+
 pub returns-clause-row : goal.returns-clause-row
-unfolding row
-returns-clause-row c =
-    let plain : (writer_setup c.self.inside.rows).style ≢ style.NonNumeric = rw c.self.invariant.setup (λ e. cc e) in
-    rw (← c.self.view_is) (rw c.self.invariant.setup at (c.in-Ok.ensures.bytes c.self.invariant.fields c.self.invariant.wrote plain))
+returns-clause-row g c =
+    let all = map (λ f. f.now) c.args.fields.now in
+    let past : length all ≤ c.loop-i.i = omega (arith, c.loop-i-test.false, length-map c.args.fields.now (λ f. f.now)) in
+    on_ok_weaker c.put_end.result (λ h. row_whole _ _ _ all (rw (take_all c.loop-i.i all past) at c.loop-i.invariant) h) c.put_end.ensures.text

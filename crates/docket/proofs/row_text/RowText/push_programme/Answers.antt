@@ -7,8 +7,8 @@ use Rattle.docket.proofs.row_text.RowText.push_programme.Goals as goal
 
 pub returns-clause-row : goal.returns-clause-row
 unfolding programme_row
-returns-clause-row c =
+returns-clause-row g c =
     let name = sym (c.as_bytes-name.ensures.value ∙ c.programme_name.ensures) in
-    let filled = sym (c.as_bytes.ensures.value ∙ c.in-Ok-Ok.ensures.ok) in
-    let places = sym (c.as_bytes-2.ensures.value ∙ (c.in-Ok-Ok.ensures'.ok ∙ ap decimal (c.quota-quota.ensures ∙ ap (λ i. quota i c.args.programme) c.instance.ensures.instance))) in
+    let filled = sym (c.as_bytes-filled.ensures.value ∙ c.format-2.ensures.text) in
+    let places = sym (c.as_bytes-quota.ensures.value ∙ (c.format.ensures.text ∙ ap decimal (c.quota.ensures ∙ ap (λ i. quota i c.args.programme) c.instance.ensures.instance))) in
     on_ok_weaker c.push.result (λ h. rw (name, filled, places) h) c.push.ensures.row
