@@ -1,13 +1,18 @@
 """Prints a docket of as many members as there may be, in which each programme lists every resident. With the word
-`mutual` each resident lists every programme too."""
+`mutual` each resident lists every programme too, and with `long-names` each name has 32 bytes."""
 import sys
 
 PROGRAMMES = 2000
 RESIDENTS = 20000
 
-programmes = [f"p{p}" for p in range(PROGRAMMES)]
-residents = [f"r{r}" for r in range(RESIDENTS)]
-listed = programmes if sys.argv[1:] == ["mutual"] else []
+words = sys.argv[1:]
+if words == ["long-names"]:
+    programmes = [f"programme-of-the-long-names-{p:04}" for p in range(PROGRAMMES)]
+    residents = [f"resident-of-the-long-names-{r:05}" for r in range(RESIDENTS)]
+else:
+    programmes = [f"p{p}" for p in range(PROGRAMMES)]
+    residents = [f"r{r}" for r in range(RESIDENTS)]
+listed = programmes if words == ["mutual"] else []
 for programme in programmes:
     print("Q", programme, 10, sep=",")
 for programme in programmes:

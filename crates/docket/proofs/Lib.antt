@@ -1,6 +1,7 @@
 pub mod WordFacts
 pub mod FieldFacts
 pub mod FlatRowsFacts
+pub mod FourFacts
 pub mod RowsFacts
 pub mod SameFacts
 pub mod RowKindFacts

@@ -49,7 +49,7 @@ bounded_front (x ∷ xs) (suc n) zero f = f 0
 bounded_front (x ∷ xs) (suc n) (suc i) f = bounded_front xs n i (λ k. f (suc k))
 
 -- a front of a front
-take_twice : (m n : ℕ) (xs : List ℕ) → m ≤ n → take m (take n xs) ≡ take m xs
+pub take_twice : (m n : ℕ) (xs : List ℕ) → m ≤ n → take m (take n xs) ≡ take m xs
 take_twice zero n xs h = refl
 take_twice (suc m) zero xs h = absurd (omega arith)
 take_twice (suc m) (suc n) [] h = refl

@@ -1,5 +1,5 @@
 -- Facts on texts that are compared by words.
-use Rattle.std.proofs.Common.{◌≡◌, ◌≤◌, ◌<◌, ◌-◌, ◌+◌, ◌⊎◌, inl, inr, ℕ, suc, List, [], ◌∷◌, length, take, drop, get_or, arith, rules, Bool, true, false, refl, sym, ap, ◌∙◌, subst}
+use Rattle.std.proofs.Common.{◌≡◌, ◌≤◌, ◌<◌, ◌-◌, ◌+◌, ◌⊎◌, inl, inr, ℕ, suc, List, [], ◌∷◌, length, take, drop, get_or, arith, rules, Bool, true, refl, sym, ap, ◌∙◌, subst}
 use Rattle.std.specs.Prelude.{◌&&◌, nat_eq, min}
 use Rattle.std.specs.Int.{w64, to_le_bytes}
 use Rattle.std.proofs.lemmas.Bool.{and_parts, cases_lt}
