@@ -29,7 +29,8 @@ impl Model for InstanceBuilder {
 
     ghost view = { λ b. draft_of b.quotas.items b.programme_lists.items b.resident_lists.items b.programmes_withdrawn.items b.residents_withdrawn.items };
 
-    ghost invariant = { λ b. IsDraft (draft_of b.quotas.items b.programme_lists.items b.resident_lists.items b.programmes_withdrawn.items b.residents_withdrawn.items) };
+    ghost invariant = { λ b. IsDraft
+        (draft_of b.quotas.items b.programme_lists.items b.resident_lists.items b.programmes_withdrawn.items b.residents_withdrawn.items) };
 }
 
 /// Why `finish` refused, with the builder as it was.
