@@ -80,8 +80,8 @@ items_of None = None
 items_of (Some v) = Some v.items
 
 -- the draft of these parts
-abbrev pub draft_of : List ℕ → List (Option (Vec ℕ)) → List (Option (Vec ℕ)) → List Bool → List Bool → Draft
-draft_of quotas programmes residents programmes_gone residents_gone = record {
+abbrev pub draft_with : List ℕ → List (Option (Vec ℕ)) → List (Option (Vec ℕ)) → List Bool → List Bool → Draft
+draft_with quotas programmes residents programmes_gone residents_gone = record {
   quotas = quotas;
   programme_lists = map items_of programmes;
   resident_lists = map items_of residents;

@@ -23,13 +23,14 @@ pub struct InstanceBuilder {
 }
 
 impl Model for InstanceBuilder {
-    ghost use Rattle.match_model.specs.Draft.{Draft, IsDraft, draft_of};
+    ghost use Rattle.match_model.specs.Draft.{Draft, IsDraft, draft_with};
 
     ghost Value = { Draft };
 
-    ghost view = { λ b. draft_of b.quotas.items b.programme_lists.items b.resident_lists.items b.programmes_withdrawn.items b.residents_withdrawn.items };
+    ghost view = { λ b. draft_with b.quotas.items b.programme_lists.items b.resident_lists.items b.programmes_withdrawn.items b.residents_withdrawn.items };
 
-    ghost invariant = { λ b. IsDraft (draft_of b.quotas.items b.programme_lists.items b.resident_lists.items b.programmes_withdrawn.items b.residents_withdrawn.items) };
+    ghost invariant = { λ b. IsDraft
+        (draft_with b.quotas.items b.programme_lists.items b.resident_lists.items b.programmes_withdrawn.items b.residents_withdrawn.items) };
 }
 
 /// Why `finish` refused, with the builder as it was.
