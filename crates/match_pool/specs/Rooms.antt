@@ -18,5 +18,5 @@ abbrev pub answer_room_of : Instance → Capacity → ℕ → ℕ
 answer_room_of inst cap p = room_of cap (2 * length (list_of_programme inst p))
 
 -- a sending end that has put nothing, with the room of its desk's mailbox
-abbrev pub IsUnused : {P N : Type 0} → (P → List N) → (P → ℕ) → (ℕ → ℕ) → ℕ → P → Type 0
-IsUnused puts room rooms desk end = (puts end ≡ []) × (room end ≡ rooms desk)
+abbrev pub IsNew : {P N : Type 0} → (P → List N) → (P → ℕ) → (ℕ → ℕ) → ℕ → P → Type 0
+IsNew puts room rooms desk end = (puts end ≡ []) × (room end ≡ rooms desk)

@@ -3,7 +3,7 @@ ghost use Rattle.std.specs.Prelude.{◌≡◌, ◌≢◌, ◌≤◌, ◌++◌, �
 ghost use Rattle.exchange_core.specs.Shown.{is_capacity};
 ghost use Rattle.match_model.specs.Instance.{IsResident, IsProgramme, list_of_resident, list_of_programme};
 ghost use Rattle.match_pool.specs.Done.{Each};
-ghost use Rattle.match_pool.specs.Rooms.{room_of, offer_room_of, answer_room_of, IsUnused};
+ghost use Rattle.match_pool.specs.Rooms.{room_of, offer_room_of, answer_room_of, IsNew};
 ghost use Rattle.match_pool.specs.declared.fault.RunFault.TheVariants.{Memory};
 
 use crate::desks::{BoundProgramme, BoundResident};
@@ -93,7 +93,7 @@ fn open_residents<J: ExchangeIdentity, M: Mailboxes>(
 ) -> Result<Residents<J, M>, RunFault>
     requires instance { inst.now ≡ J.inst }
     requires admitted { is_capacity cap ≡ true }
-    ensures puts { IfOk result (λ side. Each side.puts.items (length inst.now.resident_lists) (IsUnused M.OfferPut.puts M.offer_room (offer_room_of inst.now cap))) }
+    ensures puts { IfOk result (λ side. Each side.puts.items (length inst.now.resident_lists) (IsNew M.OfferPut.puts M.offer_room (offer_room_of inst.now cap))) }
     ensures fault { IfErr result (λ fault. fault ≡ Memory) }
 {
     let count = inst.residents();
@@ -113,7 +113,7 @@ fn open_programmes<J: ExchangeIdentity, M: Mailboxes>(
 ) -> Result<Programmes<J, M>, RunFault>
     requires instance { inst.now ≡ J.inst }
     requires admitted { is_capacity cap ≡ true }
-    ensures puts { IfOk result (λ side. Each side.puts.items (length inst.now.quotas) (IsUnused M.AnswerPut.puts M.answer_room (answer_room_of inst.now cap))) }
+    ensures puts { IfOk result (λ side. Each side.puts.items (length inst.now.quotas) (IsNew M.AnswerPut.puts M.answer_room (answer_room_of inst.now cap))) }
     ensures fault { IfErr result (λ fault. fault ≡ Memory) }
 {
     let count = inst.programmes();
@@ -201,8 +201,8 @@ fn open_exchange<J: ExchangeIdentity, M: Mailboxes>(
     requires capacity { cap ≡ J.cap }
     requires workers { workers ≡ J.workers }
     requires blank { (blank.name ≡ J.name) × (blank.parts ≡ J.parts) × (J.parts ≡ 8) }
-    requires offer_puts { Each puts.0.items (length inst.now.resident_lists) (IsUnused M.OfferPut.puts M.offer_room (offer_room_of inst.now cap)) }
-    requires answer_puts { Each puts.1.items (length inst.now.quotas) (IsUnused M.AnswerPut.puts M.answer_room (answer_room_of inst.now cap)) }
+    requires offer_puts { Each puts.0.items (length inst.now.resident_lists) (IsNew M.OfferPut.puts M.offer_room (offer_room_of inst.now cap)) }
+    requires answer_puts { Each puts.1.items (length inst.now.quotas) (IsNew M.AnswerPut.puts M.answer_room (answer_room_of inst.now cap)) }
     ensures { IfErr result (λ fault. fault ≡ Memory) }
 {
     let desks = inst.residents() as usize + inst.programmes() as usize;
