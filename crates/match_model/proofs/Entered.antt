@@ -14,7 +14,7 @@ use Rattle.match_model.specs.Ranking.{is_listed}
 use Rattle.match_model.specs.Instance.{list_at}
 use Rattle.match_model.specs.Draft.{mutual_lists, lists_left, has_no_repeats}
 use Rattle.match_model.specs.Owners.{owners_below, AreOwners, stepped, AreStepped, AreCounts, AreBegun, kept_lists, AreRows, AreCovered}
-use Rattle.match_model.proofs.Mutual.{length-lists_left}
+use Rattle.match_model.proofs.Mutual.{length-lists_left, length-mutual_lists, get_or-mutual_lists}
 use Rattle.match_model.proofs.Rankings.{is_listed-cons, is_listed-append, is_listed_alone, is_listed-filter, is_listed_at, is_listed_nowhere, has_no_repeats-filter, HasNoRepeats-from_test}
 
 -- one number more at the end
@@ -304,6 +304,19 @@ kept_distinct lists rows a = λ i d h.
     let within : i < length lists = omega (arith, length-kept_lists lists rows) in
     subst (λ (list : List ℕ). has_no_repeats list ≡ true) (sym (get_or-kept_lists lists rows i within) ∙ get_or_default (kept_lists lists rows) i [] d h)
     (has_no_repeats-filter (λ x. is_listed (list_at rows i) x) (list_at lists i) (a i [] within))
+
+-- so it is with mutual lists
+pub mutual_below : (mine theirs : List (List ℕ)) (n : ℕ) → All (λ list. list_all (λ x. ltb x n) list ≡ true) mine → All (λ list. list_all (λ x. ltb x n) list ≡ true) (mutual_lists mine theirs)
+mutual_below mine theirs n a = λ i d h.
+    let within : i < length mine = omega (arith, length-mutual_lists mine theirs) in
+    subst (λ (list : List ℕ). list_all (λ x. ltb x n) list ≡ true) (sym (get_or-mutual_lists mine theirs i within) ∙ get_or_default (mutual_lists mine theirs) i [] d h)
+    (list_all-filter (λ x. ltb x n) (λ x. is_listed (list_at theirs x) i) (list_at mine i) (a i [] within))
+
+pub mutual_distinct : (mine theirs : List (List ℕ)) → All (λ list. has_no_repeats list ≡ true) mine → All (λ list. has_no_repeats list ≡ true) (mutual_lists mine theirs)
+mutual_distinct mine theirs a = λ i d h.
+    let within : i < length mine = omega (arith, length-mutual_lists mine theirs) in
+    subst (λ (list : List ℕ). has_no_repeats list ≡ true) (sym (get_or-mutual_lists mine theirs i within) ∙ get_or_default (mutual_lists mine theirs) i [] d h)
+    (has_no_repeats-filter (λ x. is_listed (list_at theirs x) i) (list_at mine i) (a i [] within))
 
 pub kept_covered : (lists rows : List (List ℕ)) → AreCovered (kept_lists lists rows) rows
 kept_covered lists rows = λ i x e. ⊎_elim

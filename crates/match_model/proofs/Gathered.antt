@@ -61,3 +61,12 @@ same_err (Err x) e P h p = subst P (sym h) p
 pub fault_of_most : (most n : ℕ) (e : ModelFault) → IsGatherFault (Some most) n e → (e ≡ Memory) ⊎ ((e ≡ TooManyPairs) × (most < n))
 fault_of_most most n e (inl m) = inl m
 fault_of_most most n e (inr t) = inr (t.0, ltb-true most n t.1)
+
+-- where there is no most, a fault of gathering is want of memory
+pub memory_alone : {T : Type 0} (n : ℕ) (r : Result T ModelFault) → IfErr r (IsGatherFault None n) → IfErr r (λ fault. fault ≡ Memory)
+memory_alone n (Ok v) h = tt
+memory_alone n (Err e) (inl m) = m
+memory_alone n (Err e) (inr t) = absurd (false≢true t.1)
+  where
+    false≢true : false ≡ true → ⊥
+    false≢true e = cc

@@ -1,14 +1,14 @@
 -- The instance of a draft keeps what an instance keeps.
-use Rattle.std.proofs.Common.{◌≡◌, ℕ, ◌<◌, ◌≤◌, Bool, true, false, cond, ltb, List, [], ◌∷◌, length, unwrap_or, refl, sym, ap, ◌∙◌, subst, arith, ◌&&◌, ⊎_elim}
+use Rattle.std.proofs.Common.{◌≡◌, ℕ, ◌<◌, ◌≤◌, Bool, true, false, cond, eqb, ltb, List, [], ◌∷◌, length, unwrap_or, refl, sym, ap, ◌∙◌, subst, arith, ◌&&◌, ◌||◌, ⊎_elim}
 use Rattle.std.specs.List.{list_all, All, filter}
 use Rattle.std.proofs.lemmas.Bool.{cases_lt}
-use Rattle.std.proofs.lemmas.List.{length-map, get_or_past, get_or_default}
+use Rattle.std.proofs.lemmas.List.{length-map, get_or_past, get_or_default, ext_get_or}
 use Rattle.std.proofs.lemmas.List.Sums.{get_or-le-sum_by}
 use Rattle.match_model.specs.Ranking.{is_listed, IsListed}
 use Rattle.match_model.specs.Instance.{IsWellFormed, is_withdrawn, list_at, list_of_programme, list_of_resident, pair_count}
 use Rattle.match_model.specs.Draft.{Draft, IsDraft, given_lists, programme_lists_left, resident_lists_left, instance_of, mutual_lists, has_no_repeats}
 use Rattle.match_model.specs.declared.limits.TheConstants.{MAX_RESIDENTS, MAX_QUOTA, MAX_PAIRS}
-use Rattle.match_model.proofs.Rankings.{is_listed-filter, has_no_repeats-filter, HasNoRepeats-from_test, length-le_below, is_listed-true, is_listed_from}
+use Rattle.match_model.proofs.Rankings.{is_listed-cons, is_listed_at, is_listed-filter, has_no_repeats-filter, HasNoRepeats-from_test, length-le_below, is_listed-true, is_listed_from}
 use Rattle.match_model.proofs.Mutual.{length-mutual_lists, get_or-mutual_lists}
 use Rattle.match_model.proofs.Remaining.{length-remaining_lists, remaining_withdrawn, remaining_all}
 
@@ -41,6 +41,31 @@ and_comm false false = refl
 turned : (mine theirs : List (List ℕ)) (i x : ℕ) → IsListed (list_at (mutual_lists mine theirs) i) x → IsListed (list_at (mutual_lists theirs mine) x) i
 turned mine theirs i x h =
     is_listed-true _ i (listed_both theirs mine x i ∙ and_comm (is_listed (list_at theirs x) i) (is_listed (list_at mine i) x) ∙ sym (listed_both mine theirs i x) ∙ is_listed_from _ x h)
+
+-- tests that agree on the items of a list keep the same of them
+filter_listed : (p q : ℕ → Bool) (xs : List ℕ) → ((x : ℕ) → is_listed xs x ≡ true → p x ≡ q x) → filter p xs ≡ filter q xs
+filter_listed p q [] h = refl
+filter_listed p q (x ∷ xs) h =
+    let rest = filter_listed p q xs (λ y e. h y (is_listed-cons x xs y ∙ ap (λ b. eqb x y || b) e ∙ either (eqb x y))) in
+    ap (λ b. cond b (x ∷ filter p xs) (filter p xs)) (h x (is_listed_at (x ∷ xs) x 0 (omega arith) refl)) ∙ ap (λ (ys : List ℕ). cond (q x) (x ∷ ys) ys) rest
+  where
+    either : (b : Bool) → b || true ≡ true
+    either true = refl
+    either false = refl
+
+-- the mutual lists of the other side have of a list's items what the other side's lists have
+pub mutual_in_turn : (mine theirs : List (List ℕ)) → mutual_lists mine (mutual_lists theirs mine) ≡ mutual_lists mine theirs
+mutual_in_turn mine theirs =
+    ext_get_or [] (mutual_lists mine (mutual_lists theirs mine)) (mutual_lists mine theirs)
+    (length-mutual_lists mine (mutual_lists theirs mine) ∙ sym (length-mutual_lists mine theirs))
+    (λ i h. mutual_list_at mine (mutual_lists theirs mine) i
+    ∙ filter_listed (λ x. is_listed (list_at (mutual_lists theirs mine) x) i) (λ x. is_listed (list_at theirs x) i) (list_at mine i)
+    (λ x e. listed_both theirs mine x i ∙ ap (λ b. is_listed (list_at theirs x) i && b) e ∙ here (is_listed (list_at theirs x) i))
+    ∙ sym (mutual_list_at mine theirs i))
+  where
+    here : (b : Bool) → b && true ≡ b
+    here true = refl
+    here false = refl
 
 fewer_kept : (q : ℕ → Bool) (xs : List ℕ) → length (filter q xs) ≤ length xs
 fewer_kept q [] = omega arith

@@ -195,19 +195,16 @@ impl InstanceBuilder {
     {
         let (programmes, programme_ranks) = mutual_parts::mutual(
             self.alloc,
-            Some(MAX_PAIRS),
             &self.programme_lists,
             &self.programmes_withdrawn,
             &self.resident_lists,
             &self.residents_withdrawn,
         )?;
-        let (residents, resident_ranks) = mutual_parts::mutual(
+        let (residents, resident_ranks) = mutual_parts::mutual_in_turn(
             self.alloc,
-            None,
             &self.resident_lists,
             &self.residents_withdrawn,
-            &self.programme_lists,
-            &self.programmes_withdrawn,
+            &programmes,
         )?;
         let pairs = programmes.item_count() as u32;
         Ok(Instance {

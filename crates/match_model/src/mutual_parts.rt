@@ -1,15 +1,16 @@
 //! The mutual parts of lists, where for each owner a row says who lists it.
-ghost use Rattle.std.specs.Prelude.{◌≡◌, ◌<◌, ◌^◌, nat_lt, [], length, map, true, false, ◌++◌, OnOk, IfOk, IfErr};
+ghost use Rattle.std.specs.Prelude.{◌≡◌, ℕ, ◌<◌, ◌^◌, nat_lt, List, [], length, map, true, false, ◌++◌, Some, OnOk, IfOk, IfErr};
 ghost use Rattle.std.specs.List.{All, list_all, filter, sum_by};
 ghost use Rattle.match_model.specs.Ranking.{is_listed};
-ghost use Rattle.match_model.specs.Draft.{items_of, lists_left, mutual_left, AreLists, are_over, IsGatherFault};
+ghost use Rattle.match_model.specs.Draft.{items_of, lists_left, mutual_left, mutual_lists, has_no_repeats, AreLists, are_over, IsGatherFault};
 ghost use Rattle.match_model.specs.Owners.{AreRows, kept_lists};
 ghost use Rattle.match_model.specs.Places.{ArePlaces};
 ghost use Rattle.match_model.specs.RankTable.{AreRankTables};
+ghost use Rattle.match_model.specs.declared.fault.ModelFault.TheVariants.{Memory};
 
 use crate::fault::ModelFault;
 use crate::limits::MAX_PAIRS;
-use crate::owners::owners;
+use crate::owners::{owners, owners_of_rows};
 use crate::places::{note_places, stands_in};
 use crate::rank_table::rank_tables;
 use crate::ranking::remaining;
@@ -77,11 +78,34 @@ fn all_kept(
     Ok(kept)
 }
 
-/// Each member's list, in its order, with only those who list that member, and the table of their ranks. They are
-/// refused where they have more items than there may be, if `most` says how many.
-pub(crate) fn mutual(
+/// What each list keeps by its owner's row, which names others of so many, and the table of the ranks of what is kept.
+fn kept_with_ranks(
     alloc: Global,
     most: Option<usize>,
+    lists: &[Option<Vec<u32>>],
+    withdrawn: &[bool],
+    others: usize,
+    rows: &Rows<u32>,
+) -> Result<(Rows<u32>, Rows<(u32, u32)>), ModelFault>
+    requires few { others < 2 ^ 32 }
+    requires flags { length withdrawn.now ≡ length lists.now }
+    requires lists { AreLists (map items_of lists.now) others }
+    requires rows { AreRows (length lists.now) others rows.now.rows }
+    ensures lists { IfOk result (λ made. made.0 ≡ record { rows = kept_lists (lists_left lists.now withdrawn.now) rows.now.rows; begun = [] }) }
+    ensures within { OnOk result (are_over most (sum_by length (kept_lists (lists_left lists.now withdrawn.now) rows.now.rows)) ≡ false) }
+    ensures ranks { IfOk result (λ made. AreRankTables made.0.rows made.1.rows) }
+    ensures cause { IfErr result (IsGatherFault most (sum_by length (kept_lists (lists_left lists.now withdrawn.now) rows.now.rows))) }
+{
+    let mut places = vec![in alloc; 0; others]?;
+    let kept = all_kept(alloc, most, lists, withdrawn, rows, &mut places)?;
+    let ranks = rank_tables(alloc, &kept, rows, &mut places)?;
+    Ok((kept, ranks))
+}
+
+/// Each member's list, in its order, with only those who list that member, and the table of their ranks. They are
+/// refused where they have more items than there may be pairs.
+pub(crate) fn mutual(
+    alloc: Global,
     mine: &[Option<Vec<u32>>],
     mine_withdrawn: &[bool],
     theirs: &[Option<Vec<u32>>],
@@ -93,13 +117,38 @@ pub(crate) fn mutual(
     requires lists { AreLists (map items_of mine.now) (length theirs.now) }
     requires others { AreLists (map items_of theirs.now) (length mine.now) }
     ensures lists { IfOk result (λ made. made.0 ≡ record { rows = mutual_left mine.now mine_withdrawn.now theirs.now theirs_withdrawn.now; begun = [] }) }
-    ensures within { OnOk result (are_over most (sum_by length (mutual_left mine.now mine_withdrawn.now theirs.now theirs_withdrawn.now)) ≡ false) }
+    ensures within { OnOk result (are_over (Some MAX_PAIRS) (sum_by length (mutual_left mine.now mine_withdrawn.now theirs.now theirs_withdrawn.now)) ≡ false) }
     ensures ranks { IfOk result (λ made. AreRankTables made.0.rows made.1.rows) }
-    ensures cause { IfErr result (IsGatherFault most (sum_by length (mutual_left mine.now mine_withdrawn.now theirs.now theirs_withdrawn.now))) }
+    ensures cause { IfErr result (IsGatherFault (Some MAX_PAIRS) (sum_by length (mutual_left mine.now mine_withdrawn.now theirs.now theirs_withdrawn.now))) }
 {
     let rows = owners(alloc, mine.len(), theirs, theirs_withdrawn)?;
-    let mut places = vec![in alloc; 0; theirs.len()]?;
-    let kept = all_kept(alloc, most, mine, mine_withdrawn, &rows, &mut places)?;
-    let ranks = rank_tables(alloc, &kept, &rows, &mut places)?;
-    Ok((kept, ranks))
+    kept_with_ranks(
+        alloc,
+        Some(MAX_PAIRS),
+        mine,
+        mine_withdrawn,
+        theirs.len(),
+        &rows,
+    )
+}
+
+/// Each member's list, in its order, with only those who list that member, and the table of their ranks, by the mutual
+/// lists of the other side, which are few and have whoever the member lists in turn.
+pub(crate) fn mutual_in_turn(
+    alloc: Global,
+    mine: &[Option<Vec<u32>>],
+    mine_withdrawn: &[bool],
+    theirs: &Rows<u32>,
+) -> Result<(Rows<u32>, Rows<(u32, u32)>), ModelFault>
+    requires few { length theirs.now.rows < 2 ^ 32 }
+    requires flags { length mine_withdrawn.now ≡ length mine.now }
+    requires lists { AreLists (map items_of mine.now) (length theirs.now.rows) }
+    requires below { All (λ list. list_all (λ x. nat_lt x (length mine.now)) list ≡ true) theirs.now.rows }
+    requires distinct { All (λ list. has_no_repeats list ≡ true) theirs.now.rows }
+    ensures lists { (their_lists : List (List ℕ)) → theirs.now.rows ≡ mutual_lists their_lists (lists_left mine.now mine_withdrawn.now) → IfOk result (λ made. made.0 ≡ record { rows = mutual_lists (lists_left mine.now mine_withdrawn.now) their_lists; begun = [] }) }
+    ensures ranks { IfOk result (λ made. AreRankTables made.0.rows made.1.rows) }
+    ensures cause { IfErr result (λ fault. fault ≡ Memory) }
+{
+    let rows = owners_of_rows(alloc, mine.len(), theirs)?;
+    kept_with_ranks(alloc, None, mine, mine_withdrawn, theirs.len(), &rows)
 }

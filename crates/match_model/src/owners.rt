@@ -85,3 +85,37 @@ pub(crate) fn owners(
     }
     Ok(rows)
 }
+
+/// For each number below `count` in how many rows it stands.
+fn lengths_by_rows(alloc: Global, count: usize, lists: &Rows<u32>) -> Result<Vec<usize>, AllocError>
+    requires few { length lists.now.rows < 2 ^ 32 }
+    requires below { All (λ list. list_all (λ x. nat_lt x count) list ≡ true) lists.now.rows }
+    requires distinct { All (λ list. has_no_repeats list ≡ true) lists.now.rows }
+    ensures { IfOk result (λ counts. AreCounts count (length lists.now.rows) lists.now.rows counts.items) }
+{
+    let mut counts: Vec<usize> = vec![in alloc; 0; count]?;
+    for owner in 0..lists.len() {
+        count_items(&mut counts, lists.row(owner));
+    }
+    Ok(counts)
+}
+
+/// The owners where the lists are rows, as `owners` gives them.
+pub(crate) fn owners_of_rows(
+    alloc: Global,
+    count: usize,
+    lists: &Rows<u32>,
+) -> Result<Rows<u32>, AllocError>
+    requires few { length lists.now.rows < 2 ^ 32 }
+    requires below { All (λ list. list_all (λ x. nat_lt x count) list ≡ true) lists.now.rows }
+    requires distinct { All (λ list. has_no_repeats list ≡ true) lists.now.rows }
+    ensures { IfOk result (λ made. AreOwners count (length lists.now.rows) lists.now.rows made.rows) }
+{
+    let lengths = lengths_by_rows(alloc, count, lists)?;
+    let mut rows = Rows::of_lengths(alloc, &lengths)?;
+    let mut counts: Vec<usize> = vec![in alloc; 0; count]?;
+    for owner in 0..lists.len() {
+        enter(&mut rows, &mut counts, owner as u32, lists.row(owner));
+    }
+    Ok(rows)
+}

@@ -1,16 +1,19 @@
-use Rattle.std.proofs.Common.{◌≡◌, ◌≤◌, ◌+◌, ℕ, Bool, List, length, map, arith, sym, ap, ◌∙◌, subst}
+use Rattle.std.proofs.Common.{◌≡◌, ◌≤◌, ◌+◌, ℕ, Bool, List, [], length, map, arith, sym, ap, ◌∙◌, subst, ltb, true}
 use Rattle.std.specs.Global.{Vec}
 use Rattle.std.proofs.lemmas.Bool.{ltb-false}
+use Rattle.std.proofs.lemmas.List.{length-map}
 use Rattle.std.specs.Prelude.{Option, ◌<◌, ◌⊎◌}
 use Rattle.match_model.specs.declared.fault.ModelFault.{ModelFault}
 use Rattle.match_model.specs.declared.fault.ModelFault.TheVariants.{Memory, TooManyPairs}
 use Rattle.match_model.specs.Instance.{Instance, IsWellFormed, pair_count}
-use Rattle.std.specs.List.{sum_by}
+use Rattle.std.specs.List.{All, list_all, sum_by}
 use Rattle.match_model.specs.RankTable.{AreRankTables}
 use Rattle.match_model.specs.Rows.{RowLists}
 use Rattle.match_model.specs.declared.limits.TheConstants.{MAX_PAIRS}
-use Rattle.match_model.specs.Draft.{Draft, IsFinishFault, instance_of, mutual_left, items_of}
+use Rattle.match_model.specs.Draft.{Draft, AreLists, IsFinishFault, instance_of, lists_left, mutual_left, mutual_lists, has_no_repeats, items_of}
 use Rattle.match_model.proofs.Kept.{IsWellFormed-instance_of}
+use Rattle.match_model.proofs.Mutual.{left_below, left_distinct, length-mutual_lists, length-lists_left}
+use Rattle.match_model.proofs.Entered.{mutual_below, mutual_distinct}
 use Rattle.match_model.proofs.Gathered.{same_err, fault_of_most}
 use Rattle.match_model.proofs.builder.InstanceBuilder.instance.Goals as goal
 
@@ -18,22 +21,66 @@ use Rattle.match_model.proofs.builder.InstanceBuilder.instance.Goals as goal
 same_mutual : (ms ms' : List (Option (Vec ℕ))) (fs fs' : List Bool) (ts ts' : List (Option (Vec ℕ))) (gs gs' : List Bool) → ms ≡ ms' → fs ≡ fs' → ts ≡ ts' → gs ≡ gs' → mutual_left ms fs ts gs ≡ mutual_left ms' fs' ts' gs'
 same_mutual ms ms' fs fs' ts ts' gs gs' m f t g = λ i. mutual_left (m i) (f i) (t i) (g i)
 
+same_left : (ms ms' : List (Option (Vec ℕ))) (fs fs' : List Bool) → ms ≡ ms' → fs ≡ fs' → lists_left ms fs ≡ lists_left ms' fs'
+same_left ms ms' fs fs' m f = λ i. lists_left (m i) (f i)
+
 -- the parts of an instance, put in one at a time
 same_instance : (qs qs' : List ℕ) (ps ps' rs rs' : List (List ℕ)) (fs fs' gs gs' : List Bool) → qs ≡ qs' → ps ≡ ps' → rs ≡ rs' → fs ≡ fs' → gs ≡ gs' →
     (let a : Instance = record { quotas = qs; programme_lists = ps; resident_lists = rs; programmes_withdrawn = fs; residents_withdrawn = gs } in let b : Instance = record { quotas = qs'; programme_lists = ps'; resident_lists = rs'; programmes_withdrawn = fs'; residents_withdrawn = gs' } in a ≡ b)
 same_instance qs qs' ps ps' rs rs' fs fs' gs gs' e f g h k = λ i. record { quotas = e i; programme_lists = f i; resident_lists = g i; programmes_withdrawn = h i; residents_withdrawn = k i }
 
+-- how many programmes there are, by their mutual lists
+many_rows : (ms : List (Option (Vec ℕ))) (fs : List Bool) (ts : List (Option (Vec ℕ))) (gs : List Bool) (rows : RowLists ℕ) → rows ≡ record { rows = mutual_left ms fs ts gs; begun = [] } → length rows.rows ≡ length ms
+many_rows ms fs ts gs rows e = ap (λ (v : RowLists ℕ). length v.rows) e ∙ length-mutual_lists (lists_left ms fs) (lists_left ts gs) ∙ length-lists_left ms fs
+
+-- the lists of one side have so many others, whichever way these are counted
+lists_as_read : (ms ms' : List (Option (Vec ℕ))) (n n' : ℕ) → ms ≡ ms' → n ≡ n' → AreLists (map items_of ms') n' → AreLists (map items_of ms) n
+lists_as_read ms ms' n n' e many a = subst (λ (k : ℕ). AreLists (map items_of ms) k) (sym many) (subst (λ (ls : List (Option (Vec ℕ))). AreLists (map items_of ls) n') (sym e) a)
+
+pub mutual_in_turn-requires-clause-few : goal.mutual_in_turn-requires-clause-few
+mutual_in_turn-requires-clause-few c =
+    let many = many_rows _ _ _ _ c.in_ok-programmes.programmes c.in_ok-programmes.ensures.lists in
+    let same = ap (length {A = Option (Vec ℕ)}) c.deref.ensures.value in
+    let each = c.self.invariant.one_list_each in
+    let mapped = length-map c.self.inside.programme_lists.items items_of in
+    omega (arith, many, same, each, mapped, c.self.invariant.programmes_within)
+
+pub mutual_in_turn-requires-clause-lists : goal.mutual_in_turn-requires-clause-lists
+mutual_in_turn-requires-clause-lists c =
+    let many = many_rows _ _ _ _ c.in_ok-programmes.programmes c.in_ok-programmes.ensures.lists in
+    let same = ap (length {A = Option (Vec ℕ)}) c.deref.ensures.value in
+    let mapped = length-map c.self.inside.programme_lists.items items_of in
+    lists_as_read c.deref-5.result.now c.self.inside.resident_lists.items (length c.in_ok-programmes.programmes.rows) (length c.self.inside.quotas.items) c.deref-5.ensures.value (many ∙ same ∙ sym mapped ∙ c.self.invariant.one_list_each) c.self.invariant.resident_lists
+
+pub mutual_in_turn-requires-clause-below : goal.mutual_in_turn-requires-clause-below
+mutual_in_turn-requires-clause-below c =
+    let rows = ap (λ (v : RowLists ℕ). v.rows) c.in_ok-programmes.ensures.lists in
+    let mapped = length-map c.self.inside.resident_lists.items items_of in
+    let lists = lists_as_read c.deref.result.now c.self.inside.programme_lists.items (length c.deref-5.result.now) (length (map items_of c.self.inside.resident_lists.items)) c.deref.ensures.value (ap (length {A = Option (Vec ℕ)}) c.deref-5.ensures.value ∙ sym mapped) c.self.invariant.programme_lists in
+    subst (All (λ list. list_all (λ x. ltb x (length c.deref-5.result.now)) list ≡ true)) (sym rows)
+    (mutual_below (lists_left c.deref.result.now c.deref-2.result.now) (lists_left c.deref-3.result.now c.deref-4.result.now) (length c.deref-5.result.now) (left_below c.deref.result.now c.deref-2.result.now (length c.deref-5.result.now) lists))
+
+pub mutual_in_turn-requires-clause-distinct : goal.mutual_in_turn-requires-clause-distinct
+mutual_in_turn-requires-clause-distinct c =
+    let rows = ap (λ (v : RowLists ℕ). v.rows) c.in_ok-programmes.ensures.lists in
+    let mapped = length-map c.self.inside.resident_lists.items items_of in
+    let lists = lists_as_read c.deref.result.now c.self.inside.programme_lists.items (length c.deref-5.result.now) (length (map items_of c.self.inside.resident_lists.items)) c.deref.ensures.value (ap (length {A = Option (Vec ℕ)}) c.deref-5.ensures.value ∙ sym mapped) c.self.invariant.programme_lists in
+    subst (All (λ list. has_no_repeats list ≡ true)) (sym rows)
+    (mutual_distinct (lists_left c.deref.result.now c.deref-2.result.now) (lists_left c.deref-3.result.now c.deref-4.result.now) (left_distinct c.deref.result.now c.deref-2.result.now (length c.deref-5.result.now) lists))
+
 pub invariant_of-result : goal.invariant_of-result
 invariant_of-result c =
     let programmes : c.in_ok-programmes.programmes.rows ≡ mutual_left c.self.inside.programme_lists.items c.self.inside.programmes_withdrawn.items c.self.inside.resident_lists.items c.self.inside.residents_withdrawn.items =
     ap (λ (v : RowLists ℕ). v.rows) c.in_ok-programmes.ensures.lists ∙ same_mutual _ _ _ _ _ _ _ _ c.deref.ensures.value c.deref-2.ensures.value c.deref-3.ensures.value c.deref-4.ensures.value in
+    let their_lists : List (List ℕ) = lists_left c.self.inside.programme_lists.items c.self.inside.programmes_withdrawn.items in
+    let left = same_left _ _ _ _ c.deref-5.ensures.value c.deref-6.ensures.value in
     let residents : c.in_ok-residents.residents.rows ≡ mutual_left c.self.inside.resident_lists.items c.self.inside.residents_withdrawn.items c.self.inside.programme_lists.items c.self.inside.programmes_withdrawn.items =
-    ap (λ (v : RowLists ℕ). v.rows) c.in_ok-residents.ensures.lists ∙ same_mutual _ _ _ _ _ _ _ _ c.deref-5.ensures.value c.deref-6.ensures.value c.deref-7.ensures.value c.deref-8.ensures.value in
-    let quotas = c.in_ok-from_slice.ensures.items ∙ c.deref-9.ensures.value in
+    ap (λ (v : RowLists ℕ). v.rows) (c.in_ok-residents.ensures.lists their_lists (programmes ∙ ap (mutual_lists their_lists) (sym left))) ∙ ap (λ (lists : List (List ℕ)). mutual_lists lists their_lists) left in
+    let quotas = c.in_ok-from_slice.ensures.items ∙ c.deref-7.ensures.value in
     let ps = ap (λ (v : RowLists ℕ). v.rows) c.in_ok-into_residents.ensures ∙ programmes in
     let rs = ap (λ (v : RowLists ℕ). v.rows) c.in_ok-into_programmes.ensures ∙ residents in
-    let fs = c.in_ok-from_slice-2.ensures.items ∙ c.deref-10.ensures.value in
-    let gs = c.in_ok-from_slice-3.ensures.items ∙ c.deref-11.ensures.value in
+    let fs = c.in_ok-from_slice-2.ensures.items ∙ c.deref-8.ensures.value in
+    let gs = c.in_ok-from_slice-3.ensures.items ∙ c.deref-9.ensures.value in
     let d : Draft = record { quotas = c.self.inside.quotas.items; programme_lists = map items_of c.self.inside.programme_lists.items; resident_lists = map items_of c.self.inside.resident_lists.items; programmes_withdrawn = c.self.inside.programmes_withdrawn.items; residents_withdrawn = c.self.inside.residents_withdrawn.items } in
     let same = same_mutual _ _ _ _ _ _ _ _ c.deref.ensures.value c.deref-2.ensures.value c.deref-3.ensures.value c.deref-4.ensures.value in
     let made : sum_by (length {A = ℕ}) (mutual_left _ _ _ _) ≡ pair_count (instance_of d) = ap (sum_by (length {A = ℕ})) same in
@@ -50,13 +97,15 @@ pub returns-clause-made : goal.returns-clause-made
 returns-clause-made c =
     let programmes : c.in_ok-programmes.programmes.rows ≡ mutual_left c.self.inside.programme_lists.items c.self.inside.programmes_withdrawn.items c.self.inside.resident_lists.items c.self.inside.residents_withdrawn.items =
     ap (λ (v : RowLists ℕ). v.rows) c.in_ok-programmes.ensures.lists ∙ same_mutual _ _ _ _ _ _ _ _ c.deref.ensures.value c.deref-2.ensures.value c.deref-3.ensures.value c.deref-4.ensures.value in
+    let their_lists : List (List ℕ) = lists_left c.self.inside.programme_lists.items c.self.inside.programmes_withdrawn.items in
+    let left = same_left _ _ _ _ c.deref-5.ensures.value c.deref-6.ensures.value in
     let residents : c.in_ok-residents.residents.rows ≡ mutual_left c.self.inside.resident_lists.items c.self.inside.residents_withdrawn.items c.self.inside.programme_lists.items c.self.inside.programmes_withdrawn.items =
-    ap (λ (v : RowLists ℕ). v.rows) c.in_ok-residents.ensures.lists ∙ same_mutual _ _ _ _ _ _ _ _ c.deref-5.ensures.value c.deref-6.ensures.value c.deref-7.ensures.value c.deref-8.ensures.value in
-    let quotas = c.in_ok-from_slice.ensures.items ∙ c.deref-9.ensures.value in
+    ap (λ (v : RowLists ℕ). v.rows) (c.in_ok-residents.ensures.lists their_lists (programmes ∙ ap (mutual_lists their_lists) (sym left))) ∙ ap (λ (lists : List (List ℕ)). mutual_lists lists their_lists) left in
+    let quotas = c.in_ok-from_slice.ensures.items ∙ c.deref-7.ensures.value in
     let ps = ap (λ (v : RowLists ℕ). v.rows) c.in_ok-into_residents.ensures ∙ programmes in
     let rs = ap (λ (v : RowLists ℕ). v.rows) c.in_ok-into_programmes.ensures ∙ residents in
-    let fs = c.in_ok-from_slice-2.ensures.items ∙ c.deref-10.ensures.value in
-    let gs = c.in_ok-from_slice-3.ensures.items ∙ c.deref-11.ensures.value in
+    let fs = c.in_ok-from_slice-2.ensures.items ∙ c.deref-8.ensures.value in
+    let gs = c.in_ok-from_slice-3.ensures.items ∙ c.deref-9.ensures.value in
     rw (← c.self.view_is) (same_instance _ _ _ _ _ _ _ _ _ _ quotas ps rs fs gs)
 
 pub returns-in_err-programmes-clause-cause : goal.returns-in_err-programmes-clause-cause
