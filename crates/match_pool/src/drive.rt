@@ -12,7 +12,7 @@ use offer_ledger::{ExchangeIdentity, Tally};
 use std::alloc::Global;
 use std::sync::Wait;
 use std::thread;
-use std::thread::{Builder, Threads};
+use std::thread::{Builder, JoinHandle, Scope, Threads};
 
 /// How much stack a worker's thread has, in bytes. A worker uses some 5,000 of them.
 const STACK_BYTES: usize = 256 * 1024;
@@ -41,38 +41,86 @@ where
 {
     let workers = tallies.len();
     let mut handles = Vec::with_capacity(alloc, workers)?;
-    let mut back = Vec::with_capacity(alloc, workers)?;
+    let back = Vec::with_capacity(alloc, workers)?;
     let all_started = thread::scope(
         thread::scope_env(),
         rt,
         |scope| -> bool
             requires { inst.now ≡ J.inst }
-        {
-            let mut number = 0;
-            let mut all_started = true;
-            for tally in tallies {
-                let worker = Worker::new(rt, inst, gate, shared, number, tally);
-                let thread = Builder::new().stack_size(STACK_BYTES);
-                let started = match thread.spawn_scoped(scope, move || worker.work()) {
-                    Ok(handle) => handles.push(handle).is_ok(),
-                    Err(_) => false,
-                };
-                if !started {
-                    all_started = false;
-                    shared.end(rt);
-                }
-                number = number.saturating_add(1);
-            }
-            for handle in handles {
-                if back.push(handle.join(rt)).is_err() {
-                    all_started = false;
-                }
-            }
-            all_started
-        },
+        { start_all(scope, rt, inst, shared, gate, tallies, &mut handles) },
     );
     if !all_started {
         return Err(RunFault::Thread);
+    }
+    join_all(rt, handles, back)
+}
+
+// Starts a worker for each tally. Answers whether all were started; where one wasn't, the run is ended.
+fn start_all<'s, 'f, E, J, M, G, R>(
+    scope: &Scope<'s, E>,
+    rt: &'s R,
+    inst: &'s Instance,
+    shared: &'s SharedState<'f, J, M, G>,
+    gate: &'s G,
+    tallies: Vec<Tally<J>>,
+    handles: &mut Vec<JoinHandle<Tally<J>>>,
+) -> bool
+where
+    J: ExchangeIdentity + Send + Sync,
+    M: Mailboxes + Send + Sync,
+    M::OfferPut: Send,
+    M::OfferTake: Send,
+    M::AnswerPut: Send,
+    M::AnswerTake: Send,
+    G: Gate + Sync,
+    R: Wait + Sync,
+    requires { inst.now ≡ J.inst }
+{
+    let mut number = 0;
+    let mut all_started = true;
+    for tally in tallies {
+        let started = match start(scope, Worker::new(rt, inst, gate, shared, number, tally)) {
+            Some(handle) => handles.push(handle).is_ok(),
+            None => false,
+        };
+        if !started {
+            all_started = false;
+            shared.end(rt);
+        }
+        number = number.saturating_add(1);
+    }
+    all_started
+}
+
+// Starts a worker. None where the system refuses.
+fn start<'s, 'f, E, J, M, G, R>(
+    scope: &Scope<'s, E>,
+    worker: Worker<'s, 'f, J, M, G, R>,
+) -> Option<JoinHandle<Tally<J>>>
+where
+    J: ExchangeIdentity + Send + Sync,
+    M: Mailboxes + Send + Sync,
+    M::OfferPut: Send,
+    M::OfferTake: Send,
+    M::AnswerPut: Send,
+    M::AnswerTake: Send,
+    G: Gate + Sync,
+    R: Wait + Sync,
+{
+    let thread = Builder::new().stack_size(STACK_BYTES);
+    thread.spawn_scoped(scope, move || worker.work()).ok()
+}
+
+// Joins the workers, each of which ends with the run: their tallies by worker.
+fn join_all<J: ExchangeIdentity, R: Threads>(
+    rt: &R,
+    handles: Vec<JoinHandle<Tally<J>>>,
+    mut back: Vec<Tally<J>>,
+) -> Result<Vec<Tally<J>>, RunFault>
+    ensures { IfErr result (λ fault. fault ≡ Memory) }
+{
+    for handle in handles {
+        back.push(handle.join(rt))?;
     }
     Ok(back)
 }
