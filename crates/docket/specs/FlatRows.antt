@@ -2,6 +2,7 @@
 use Rattle.std.specs.Prelude.{◌≡◌, ℕ, ◌-◌, ◌<◌, List, [], ◌∷◌, length, take, drop, map, slice_index_or}
 use Rattle.std.specs.List.{All}
 use Rattle.csv.specs.Records.{Rising, last_end}
+use Rattle.docket.specs.Fields.{Fields}
 
 -- the parts of a list that end there, after a start
 unfoldable pub cut : {A : Type 0} → ℕ → List ℕ → List A → List (List A)
@@ -24,3 +25,13 @@ AreNumbersOf texts numbers = All (λ n. n < length texts) numbers
 -- the first texts are these
 abbrev pub StartsWith : List (List ℕ) → List (List ℕ) → Type 0
 StartsWith first texts = take (length first) texts ≡ first
+
+-- texts in order, and the different ones, by number
+pub record TextsInOrder : Type 0 where
+  pub items : Fields
+  pub texts : Fields
+
+-- rows in order, and the different texts of their fields, by number
+pub record NumberedRows : Type 0 where
+  pub rows : List Fields
+  pub texts : Fields

@@ -2,7 +2,7 @@
 
 pub(crate) mod declarations;
 pub(crate) mod flat_rows;
-pub(crate) mod found;
+pub(crate) mod members;
 pub(crate) mod name_key;
 pub(crate) mod names;
 pub(crate) mod numbers;

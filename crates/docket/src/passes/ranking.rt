@@ -14,7 +14,6 @@ use crate::fault::DocketFault;
 use crate::kind::{PROGRAMME_LIST, RESIDENT_LIST, WITHDRAWAL};
 use crate::row::is_programme_side;
 use crate::store::declarations::model_fault;
-use crate::store::found::Found;
 use crate::store::tables::Tables;
 use match_model::{Instance, InstanceBuilder, ProgrammeNo, ResidentNo};
 use std::alloc::Global;
@@ -24,7 +23,6 @@ fn listed_residents(
     tables: &Tables,
     k: usize,
     listed: &mut Vec<ResidentNo>,
-    found: &mut Found,
 ) -> Result<(), DocketFault>
     requires { k < length tables.now }
     ensures listed { OnOk result (listed.new.items ≡ listed_in (residents_of tables.now) (row_at tables.now k)) }
@@ -32,7 +30,7 @@ fn listed_residents(
 {
     listed.clear();
     for i in 0..tables.listed(k) {
-        let Some(resident) = tables.listed_resident(k, i + 2, found) else {
+        let Some(resident) = tables.resident(k, i + 2) else {
             return Err(DocketFault::UnknownName {
                 place: tables.place(k),
             });
@@ -47,7 +45,6 @@ fn listed_programmes(
     tables: &Tables,
     k: usize,
     listed: &mut Vec<ProgrammeNo>,
-    found: &mut Found,
 ) -> Result<(), DocketFault>
     requires { k < length tables.now }
     ensures listed { OnOk result (listed.new.items ≡ listed_in (programmes_of tables.now) (row_at tables.now k)) }
@@ -55,7 +52,7 @@ fn listed_programmes(
 {
     listed.clear();
     for i in 0..tables.listed(k) {
-        let Some(programme) = tables.listed_programme(k, i + 2, found) else {
+        let Some(programme) = tables.programme(k, i + 2) else {
             return Err(DocketFault::UnknownName {
                 place: tables.place(k),
             });
@@ -71,7 +68,6 @@ fn rank_residents(
     k: usize,
     builder: &mut InstanceBuilder,
     listed: &mut Vec<ResidentNo>,
-    found: &mut Found,
 ) -> Result<(), DocketFault>
     requires place { k < length tables.now }
     requires kind { kind_of (row_at tables.now k) ≡ PROGRAMME_LIST }
@@ -83,7 +79,7 @@ fn rank_residents(
     let Some(owner) = tables.programme(k, 1) else {
         return Err(DocketFault::UnknownName { place });
     };
-    listed_residents(tables, k, listed, found)?;
+    listed_residents(tables, k, listed)?;
     match builder.programme_list(owner, listed.as_slice()) {
         Ok(()) => Ok(()),
         Err(fault) => Err(model_fault(place, fault)),
@@ -96,7 +92,6 @@ fn rank_programmes(
     k: usize,
     builder: &mut InstanceBuilder,
     listed: &mut Vec<ProgrammeNo>,
-    found: &mut Found,
 ) -> Result<(), DocketFault>
     requires place { k < length tables.now }
     requires kind { kind_of (row_at tables.now k) ≡ RESIDENT_LIST }
@@ -108,7 +103,7 @@ fn rank_programmes(
     let Some(owner) = tables.resident(k, 1) else {
         unreachable!("the row declares its owner");
     };
-    listed_programmes(tables, k, listed, found)?;
+    listed_programmes(tables, k, listed)?;
     match builder.resident_list(owner, listed.as_slice()) {
         Ok(()) => Ok(()),
         Err(fault) => Err(model_fault(place, fault)),
@@ -183,7 +178,6 @@ fn rank_row(
     builder: &mut InstanceBuilder,
     residents: &mut Vec<ResidentNo>,
     programmes: &mut Vec<ProgrammeNo>,
-    found: &mut Found,
 ) -> Result<(), DocketFault>
     requires place { k < length tables.now }
     requires ranked { IsRanked builder.old tables.now (take k tables.now) }
@@ -192,10 +186,10 @@ fn rank_row(
 {
     let kind = tables.kind(k);
     if kind == PROGRAMME_LIST {
-        return rank_residents(tables, k, builder, residents, found);
+        return rank_residents(tables, k, builder, residents);
     }
     if kind == RESIDENT_LIST {
-        return rank_programmes(tables, k, builder, programmes, found);
+        return rank_programmes(tables, k, builder, programmes);
     }
     if kind == WITHDRAWAL {
         return withdraw(tables, k, builder);
@@ -211,16 +205,8 @@ fn rank(alloc: Global, tables: &Tables, builder: &mut InstanceBuilder) -> Result
 {
     let mut residents = Vec::new(alloc);
     let mut programmes = Vec::new(alloc);
-    let mut found = tables.found(alloc)?;
     for k in 0..tables.events_from() {
-        rank_row(
-            tables,
-            k,
-            builder,
-            &mut residents,
-            &mut programmes,
-            &mut found,
-        )?;
+        rank_row(tables, k, builder, &mut residents, &mut programmes)?;
     }
     Ok(())
 }

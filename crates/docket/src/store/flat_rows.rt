@@ -1,38 +1,36 @@
 //! Rows, one after another, and where each of them ends.
-ghost use Rattle.std.specs.Prelude.{◌≡◌, ◌<◌, ◌++◌, ◌∷◌, [], length, drop, OnOk};
+ghost use Rattle.std.specs.Prelude.{◌≡◌, ◌<◌, ◌≤◌, ◌++◌, ◌∷◌, [], Some, length, drop, slice_get, IfSome, IfNone, OnOk};
 ghost use Rattle.csv.specs.Records.{fields_of};
 ghost use Rattle.docket.specs.Fields as fields;
 ghost use Rattle.docket.specs.Rows.{row_at};
 
 use crate::store::numbers::{Numbers, start_of};
-use crate::store::texts::Texts;
+use crate::store::texts::NumberedTexts;
 use csv::ByteRecord;
 use std::alloc::{AllocError, Global};
 use std::hash::RandomState;
 use std::marker::Model;
 
-/// Rows in one long record, and where each of them ends in it.
+/// Rows in one long record of texts by number, and where each of them ends in it.
 #[derive(Drop)]
 pub(crate) struct FlatRows {
-    fields: Texts,
+    fields: NumberedTexts,
     ends: Numbers,
 }
 
 impl Model for FlatRows {
-    ghost use Rattle.std.specs.Prelude.{List};
-    ghost use Rattle.docket.specs.Fields.{Fields};
-    ghost use Rattle.docket.specs.FlatRows.{cut, AreCuts};
+    ghost use Rattle.docket.specs.FlatRows.{NumberedRows, cut, AreCuts};
 
-    ghost Value = { List Fields };
+    ghost Value = { NumberedRows };
 
-    ghost view = { λ a. cut 0 a.ends a.fields };
+    ghost view = { λ a. record { rows = cut 0 a.ends a.fields.items; texts = a.fields.texts } };
 
-    ghost invariant = { λ a. AreCuts a.ends a.fields };
+    ghost invariant = { λ a. AreCuts a.ends a.fields.items };
 }
 
 // Adds the fields of a row from field `from` on.
-fn append(fields: &mut Texts, row: &ByteRecord, from: usize) -> Result<(), AllocError>
-    ensures { OnOk result (fields.new ≡ fields.old ++ drop from (fields_of row.now)) }
+fn append(fields: &mut NumberedTexts, row: &ByteRecord, from: usize) -> Result<(), AllocError>
+    ensures { OnOk result (fields.new.items ≡ fields.old.items ++ drop from (fields_of row.now)) }
 {
     for i in from..row.len() {
         if let Some(text) = row.get(i) {
@@ -45,17 +43,17 @@ fn append(fields: &mut Texts, row: &ByteRecord, from: usize) -> Result<(), Alloc
 impl FlatRows {
     /// No rows yet. Their texts are hashed by these keys.
     pub(crate) fn new(alloc: Global, keys: RandomState) -> FlatRows
-        ensures { result ≡ [] }
+        ensures { result.rows ≡ [] }
     {
         FlatRows {
-            fields: Texts::new(alloc, keys),
+            fields: NumberedTexts::new(alloc, keys),
             ends: Numbers::new(alloc),
         }
     }
 
     /// Takes every row away.
     pub(crate) fn clear(&mut self)
-        ensures { self.new ≡ [] }
+        ensures { self.new.rows ≡ [] }
     {
         self.fields.clear();
         self.ends.clear();
@@ -63,7 +61,7 @@ impl FlatRows {
 
     /// Adds the fields of a row from field `from` on, as a row. Where memory is wanting no row is kept.
     pub(crate) fn push(&mut self, row: &ByteRecord, from: usize) -> Result<(), AllocError>
-        ensures { OnOk result (self.new ≡ self.old ++ drop from (fields_of row.now) ∷ []) }
+        ensures { OnOk result (self.new.rows ≡ self.old.rows ++ drop from (fields_of row.now) ∷ []) }
     {
         let Ok(()) = append(&mut self.fields, row, from) else {
             self.fields.clear();
@@ -80,36 +78,51 @@ impl FlatRows {
 
     /// How many fields row `k` has.
     pub(crate) fn width(&self, k: usize) -> usize
-        requires { k < length self.now }
-        ensures { result ≡ length (row_at self.now k) }
+        requires { k < length self.now.rows }
+        ensures { result ≡ length (row_at self.now.rows k) }
     {
         self.ends.get(k) - start_of(&self.ends, k)
     }
 
-    /// How many different texts are kept by number.
-    pub(crate) fn numbered(&self) -> usize {
-        self.fields.numbered()
+    /// How many different texts there are.
+    pub(crate) fn different(&self) -> usize
+        ensures { result ≡ length self.now.texts }
+    {
+        self.fields.different()
     }
 
-    /// Field `i` of row `k`, which is empty past the end, and the number of its text if it is kept by number.
+    /// The text of this number.
+    pub(crate) fn text(&self, number: usize) -> &[u8]
+        requires { number < length self.now.texts }
+        ensures { slice_get self.now.texts number ≡ Some result.now }
+    {
+        self.fields.text(number)
+    }
+
+    /// The number of the text of field `i` of row `k`; none past the end, where a field is empty.
     #[inline(always)]
-    pub(crate) fn numbered_field(&self, k: usize, i: usize) -> (&[u8], Option<usize>)
-        requires { k < length self.now }
-        ensures { result.0.now ≡ fields.field (row_at self.now k) i }
+    pub(crate) fn number(&self, k: usize, i: usize) -> Option<usize>
+        requires { k < length self.now.rows }
+        ensures within { IfSome result (λ n. n < length self.now.texts) }
+        ensures text { IfSome result (λ n. slice_get self.now.texts n ≡ Some (fields.field (row_at self.now.rows k) i)) }
+        ensures past { IfNone result (fields.field (row_at self.now.rows k) i ≡ []) }
     {
         let start = start_of(&self.ends, k);
         if i < self.ends.get(k) - start {
-            self.fields.get(start + i)
+            Some(self.fields.number(start + i))
         } else {
-            (&[], None)
+            None
         }
     }
 
     /// Field `i` of row `k`, which is empty past the end.
     pub(crate) fn field(&self, k: usize, i: usize) -> &[u8]
-        requires { k < length self.now }
-        ensures { result.now ≡ fields.field (row_at self.now k) i }
+        requires { k < length self.now.rows }
+        ensures { result.now ≡ fields.field (row_at self.now.rows k) i }
     {
-        self.numbered_field(k, i).0
+        match self.number(k, i) {
+            Some(number) => self.text(number),
+            None => &[],
+        }
     }
 }

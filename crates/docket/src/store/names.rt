@@ -4,7 +4,6 @@ ghost use Rattle.docket.specs.Words as words;
 ghost use Rattle.docket.specs.Contents.{number_in, is_declared};
 
 use crate::store::name_key::{MAX_NAME, NameKey};
-use crate::store::same_text::same_text;
 use indexmap::IndexSet;
 use std::alloc::{AllocError, Global};
 use std::hash::RandomState;
@@ -62,20 +61,6 @@ impl Names {
             return None;
         }
         seen.get_index_of(&NameKey::new(name))
-    }
-
-    /// The number of a name, if it was seen, which is tried with this number first.
-    pub(crate) fn number_near(&self, first: usize, name: &[u8]) -> Option<usize>
-        ensures number { result ≡ number_in self.now name.now }
-        ensures within { IfSome result (λ i. i < length self.now) }
-    {
-        let seen = &self.seen;
-        // For the proof alone: no two keys are equal.
-        let _count = seen.len();
-        match seen.get_index(first) {
-            Some(key) if same_text(key.text(), name) => Some(first),
-            _ => self.number(name),
-        }
     }
 
     /// Adds a name, and says whether it is new.

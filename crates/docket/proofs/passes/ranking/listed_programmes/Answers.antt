@@ -6,13 +6,13 @@ use Rattle.docket.proofs.passes.ranking.listed_programmes.Goals as goal
 
 pub returns-in_default-clause-fault : goal.returns-in_default-clause-fault
 returns-in_default-clause-fault c =
-    let fail = listed_fail (programmes_of c.args.tables.now) (row_at c.args.tables.now c.args.k) c.loop-i.i (omega arith) (sym c.listed_programme.ensures ∙ c.in_default.is) in
+    let fail = listed_fail (programmes_of c.args.tables.now) (row_at c.args.tables.now c.args.k) c.loop-i.i (omega arith) (sym c.programme.ensures ∙ c.in_default.is) in
     rw (fail, c.place.ensures.place) (inr refl)
 
 pub loop-i-preserved : goal.loop-i-preserved
 loop-i-preserved c =
     listed_step (programmes_of c.args.tables.now) (row_at c.args.tables.now c.args.k) c.loop-i.i c.in-Some.programme c.loop-i.listed.items c.push.new.self.items (omega arith)
-    c.loop-i.invariant.0 c.loop-i.invariant.1 (sym c.listed_programme.ensures ∙ c.in-Some.is) c.in_ok-push.ensures.items
+    c.loop-i.invariant.0 c.loop-i.invariant.1 (sym c.programme.ensures ∙ c.in-Some.is) c.in_ok-push.ensures.items
 
 pub returns-clause-listed : goal.returns-clause-listed
 returns-clause-listed c =

@@ -14,7 +14,7 @@ loop-k-preserved c =
 
 pub returns-in_err-rank_row-clause-fault : goal.returns-in_err-rank_row-clause-fault
 returns-in_err-rank_row-clause-fault c =
-    let p = err_from_is_err_and c.from_residual-in_err-rank_row.result c.from_residual-in_err-rank_row.ensures.1 in
+    let p = err_from_is_err_and c.from_residual.result c.from_residual.ensures.1 in
     rw (p.1, p.2) (pass_fault (ranking_fault c.args.tables.now) c.args.tables.now c.loop-k.k _ (omega arith) c.loop-k.invariant.1 c.in_err-rank_row.ensures.fault)
 
 pub returns-clause-ranked : goal.returns-clause-ranked
