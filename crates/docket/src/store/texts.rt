@@ -1,5 +1,5 @@
 //! The different texts of a docket, each kept once, and texts in order by their numbers.
-ghost use Rattle.std.specs.Prelude.{◌≡◌, ◌<◌, ◌++◌, ◌∷◌, [], Some, length, slice_get, IfOk, OnOk};
+ghost use Rattle.std.specs.Prelude.{◌≡◌, ◌<◌, ◌++◌, ◌∷◌, [], Some, true, length, slice_get, IfOk, OnOk};
 ghost use Rattle.docket.specs.Fields as fields;
 ghost use Rattle.docket.specs.FlatRows.{StartsWith};
 
@@ -16,13 +16,17 @@ const FEW: usize = 64;
 
 /// The different texts, numbered from 0 in the order in which they were first seen.
 ///
-/// A text is looked up by its hash where the number that was last found in its place of the table of guesses is another
-/// text's: a guess is compared, and never taken on trust.
+/// Where texts come in the order of their numbers the next number is tried, else the one that was last found in the text's
+/// place of the table of guesses. A guess is compared and never taken on trust; a text is looked up by its hash where the
+/// guess is another text's.
 #[derive(Drop)]
 pub(crate) struct Texts {
     seen: IndexSet<TextKey, RandomState>,
     // Room for the text that is looked for.
     asked: TextKey,
+    // The number after the last one found, and whether that one came in order.
+    next: usize,
+    in_order: bool,
     guesses: Vec<u32>,
 }
 
@@ -42,6 +46,8 @@ impl Texts {
         Texts {
             seen: IndexSet::with_hasher(alloc, keys),
             asked: TextKey::new(alloc),
+            next: 0,
+            in_order: false,
             guesses: Vec::new(alloc),
         }
     }
@@ -64,19 +70,44 @@ impl Texts {
         }
     }
 
+    // Whether this is the text of this number, if there is one.
+    #[inline(always)]
+    fn is_text(&self, number: usize, text: &[u8]) -> bool
+        ensures { result ≡ true → slice_get self.now number ≡ Some text.now }
+    {
+        match self.seen.get_index(number) {
+            Some(key) => same_text(key.text(), text),
+            None => false,
+        }
+    }
+
     /// The number of a text, which joins where it is new. No text leaves.
     #[inline(always)]
     pub(crate) fn number(&mut self, alloc: Global, text: &[u8]) -> Result<usize, AllocError>
         ensures number { IfOk result (λ n. slice_get self.new n ≡ Some text.now) }
         ensures kept { StartsWith self.old self.new }
     {
+        let next = self.next;
+        if self.in_order && self.is_text(next, text) {
+            self.next = next.saturating_add(1);
+            return Ok(next);
+        }
+        let number = self.number_by_guess(alloc, text)?;
+        self.in_order = number == next;
+        self.next = number.saturating_add(1);
+        Ok(number)
+    }
+
+    // The number of a text, which joins where it is new, by the guess for its place or by its hash.
+    fn number_by_guess(&mut self, alloc: Global, text: &[u8]) -> Result<usize, AllocError>
+        ensures number { IfOk result (λ n. slice_get self.new n ≡ Some text.now) }
+        ensures kept { StartsWith self.old self.new }
+    {
         let place = place_of(text);
         if let Some(guess) = self.guesses.get(place) {
             let tried = *guess as usize;
-            if let Some(key) = self.seen.get_index(tried) {
-                if same_text(key.text(), text) {
-                    return Ok(tried);
-                }
+            if self.is_text(tried, text) {
+                return Ok(tried);
             }
         }
         self.number_by_hash(alloc, place, text)
