@@ -2,6 +2,7 @@
 //! and the desks in hands and those that may have work under a third.
 #![tactic(auto)]
 
+mod both;
 mod compare;
 mod desks;
 mod done;

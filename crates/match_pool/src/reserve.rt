@@ -2,10 +2,13 @@
 ghost use Rattle.std.specs.Prelude.{◌≡◌, ◌↔◌, length, replicate, true, IfOk, IfErr};
 ghost use Rattle.exchange_core.specs.Legal.{IsClosed};
 ghost use Rattle.exchange_core.specs.Left.{given};
+ghost use Rattle.exchange_core.specs.Mail.{takes, hears};
+ghost use Rattle.match_pool.specs.Compare.{AreLogs, AreByResident, AreByProgramme, taken_of, heard_of};
 ghost use Rattle.match_pool.specs.Done.{IsRunOf, IsSettledRun, AreCounted, IsFault};
 ghost use Rattle.match_pool.specs.declared.fault.RunFault.TheVariants.{Memory};
 
-use crate::compare::Cursors;
+use crate::both::do_both;
+use crate::compare::{Comparison, Logs};
 use crate::desks::{BoundProgramme, BoundResident};
 use crate::done::{Done, Ending};
 use crate::fault::RunFault;
@@ -13,103 +16,31 @@ use crate::gate::Gate;
 use crate::mailboxes::Mailboxes;
 use crate::outcome::{Outcome, outcome_of};
 use crate::shared::SharedState;
+use exchange_core::{Desk, Event};
 use match_agents::{ProgrammeAgent, ResidentAgent};
 use match_model::{Assignment, Instance};
 use offer_ledger::{ExchangeIdentity, Tally};
 use std::alloc::Global;
 use std::sync::Mutex;
+use std::thread::Threads;
 
 /// Room for the comparison and for the result, so that nothing more is asked of memory after the joins.
 pub(crate) struct Reserve<M: Mailboxes> {
-    logs: Logs<M>,
+    residents: Logs<ResidentAgent<M::OfferTake>>,
+    programmes: Logs<ProgrammeAgent<M::AnswerTake>>,
     assignment: Assignment,
     entered: Vec<u64>,
-}
-
-/// The agents of a run, out of their locks, and the walk that compares them with its journal.
-struct Logs<M: Mailboxes> {
-    cursors: Cursors,
-    residents: Vec<ResidentAgent<M::OfferTake>>,
-    programmes: Vec<ProgrammeAgent<M::AnswerTake>>,
-}
-
-// As one call, so that whoever lets logs go proves nothing of its parts.
-impl<M: Mailboxes> Drop for Logs<M> {
-    fn drop(self) {
-        let Logs {
-            cursors: _,
-            residents: _,
-            programmes: _,
-        } = self;
-    }
 }
 
 // As one call, so that whoever lets a reserve go proves nothing of its parts.
 impl<M: Mailboxes> Drop for Reserve<M> {
     fn drop(self) {
         let Reserve {
-            logs: _,
+            residents: _,
+            programmes: _,
             assignment: _,
             entered: _,
         } = self;
-    }
-}
-
-impl<M: Mailboxes> Logs<M> {
-    // Room for the agents of this instance.
-    fn with_room(alloc: Global, inst: &Instance) -> Result<Logs<M>, RunFault>
-        ensures { IfErr result (λ fault. fault ≡ Memory) }
-    {
-        Ok(Logs {
-            cursors: Cursors::new(alloc, inst.residents(), inst.programmes())?,
-            residents: Vec::with_capacity(alloc, inst.residents() as usize)?,
-            programmes: Vec::with_capacity(alloc, inst.programmes() as usize)?,
-        })
-    }
-
-    // Takes the agents out of their locks, by desk.
-    fn fill<J: ExchangeIdentity>(
-        &mut self,
-        residents: Vec<Mutex<BoundResident<J, M>>>,
-        programmes: Vec<Mutex<BoundProgramme<J, M>>>,
-    ) -> Result<(), RunFault>
-        ensures { IfErr result (λ fault. fault ≡ Memory) }
-    {
-        for agent in residents {
-            self.residents.push(agent.into_inner().into_agent())?;
-        }
-        for agent in programmes {
-            self.programmes.push(agent.into_inner().into_agent())?;
-        }
-        Ok(())
-    }
-
-    // The result, where every log is the journal's.
-    fn result<J: ExchangeIdentity>(
-        self,
-        inst: &Instance,
-        outcome: Outcome<J, M>,
-        assignment: Assignment,
-    ) -> Result<Done<M>, RunFault>
-        requires instance { inst.now ≡ J.inst }
-        requires room { length assignment ≡ length inst.now.resident_lists }
-        requires ending { (outcome.ending ≡ Ending.Closed) ↔ IsClosed outcome.ledger.journal }
-        ensures run { IfOk result (λ done. IsRunOf done M.OfferPut.puts M.OfferTake.taken M.AnswerPut.puts M.AnswerTake.taken inst.now J.cap) }
-        ensures given { IfOk result (λ done. done.assignment ≡ given inst.now done.journal.items) }
-        ensures same { IfOk result (λ done. (done.journal.items ≡ outcome.ledger.journal) × (done.who.items ≡ outcome.ledger.who) × (done.entered ≡ outcome.entered)) }
-        ensures ended { IfOk result (λ done. done.ending ≡ outcome.ending) }
-        ensures settled { IfOk result (λ done. done.ending ≡ Ending.Closed → IsSettledRun inst.now done.journal.items done.assignment) }
-        ensures fault { IfErr result (IsFault inst.now J.cap) }
-    {
-        let Logs {
-            cursors,
-            residents,
-            programmes,
-        } = self;
-        match cursors.compare(inst, outcome.ledger.journal(), &residents, &programmes) {
-            Ok(()) => Ok(outcome.done(inst, assignment, residents, programmes)),
-            Err(desk) => Err(RunFault::Torn(desk)),
-        }
     }
 }
 
@@ -124,25 +55,38 @@ impl<M: Mailboxes> Reserve<M> {
         ensures uncounted { IfOk result (λ reserve. reserve.entered.items ≡ replicate workers 0) }
         ensures fault { IfErr result (λ fault. fault ≡ Memory) }
     {
-        let logs = Logs::with_room(alloc, inst)?;
+        let residents = Logs::with_room(alloc, inst.residents())?;
+        let programmes = Logs::with_room(alloc, inst.programmes())?;
         let entered = vec![in alloc; 0_u64; workers]?;
         match Assignment::new(alloc, inst.residents()) {
             Ok(assignment) => Ok(Reserve {
-                logs,
+                residents,
+                programmes,
                 assignment,
                 entered,
             }),
             Err(_) => Err(RunFault::Memory),
         }
     }
+}
 
+impl<M: Mailboxes + Send + Sync> Reserve<M> {
     /// What a run gives whose workers are joined, with these tallies by worker.
-    pub(crate) fn finish<J: ExchangeIdentity, G: Gate>(
+    pub(crate) fn finish<J, G, R>(
         self,
+        rt: &R,
         inst: &Instance,
         shared: SharedState<'_, J, M, G>,
         tallies: Vec<Tally<J>>,
     ) -> Result<Done<M>, RunFault>
+    where
+        J: ExchangeIdentity + Send + Sync,
+        M::OfferPut: Send,
+        M::OfferTake: Send,
+        M::AnswerPut: Send,
+        M::AnswerTake: Send,
+        G: Gate,
+        R: Threads,
         requires instance { inst.now ≡ J.inst }
         requires parts { J.parts ≡ 8 }
         requires uncounted { self.entered.items ≡ replicate J.workers 0 }
@@ -155,13 +99,74 @@ impl<M: Mailboxes> Reserve<M> {
         ensures fault { IfErr result (IsFault inst.now J.cap) }
     {
         let Reserve {
-            mut logs,
+            residents,
+            programmes,
             assignment,
             entered,
         } = self;
-        let (residents, programmes, ledger, scheduler) = shared.into_parts();
+        let workers = tallies.len();
+        let (resident_seats, programme_seats, ledger, scheduler) = shared.into_parts();
         let outcome = outcome_of(inst, ledger, &scheduler, tallies, entered)?;
-        logs.fill(residents, programmes)?;
-        logs.result(inst, outcome, assignment)
+        let journal = outcome.ledger.journal();
+        let room = (residents, programmes);
+        let seats = (resident_seats, programme_seats);
+        match agents_of(rt, workers, inst, journal, room, seats) {
+            Ok((residents, programmes)) => {
+                Ok(outcome.done(inst, assignment, residents, programmes))
+            }
+            Err(desk) => Err(RunFault::Torn(desk)),
+        }
     }
+}
+
+/// The agents of a run, by desk.
+type Agents<M> = (
+    Vec<ResidentAgent<<M as Mailboxes>::OfferTake>>,
+    Vec<ProgrammeAgent<<M as Mailboxes>::AnswerTake>>,
+);
+
+// The agents, out of their locks, where every log is the journal's: the takes and the hears are compared side by side. An
+// error is a desk whose log differs.
+fn agents_of<J, M, R>(
+    rt: &R,
+    workers: usize,
+    inst: &Instance,
+    journal: &[Event],
+    room: (
+        Logs<ResidentAgent<M::OfferTake>>,
+        Logs<ProgrammeAgent<M::AnswerTake>>,
+    ),
+    seats: (
+        Vec<Mutex<BoundResident<J, M>>>,
+        Vec<Mutex<BoundProgramme<J, M>>>,
+    ),
+) -> Result<Agents<M>, Desk>
+where
+    J: ExchangeIdentity + Send + Sync,
+    M: Mailboxes + Send + Sync,
+    M::OfferPut: Send,
+    M::OfferTake: Send,
+    M::AnswerPut: Send,
+    M::AnswerTake: Send,
+    R: Threads,
+    ensures takes { IfOk result (λ agents. AreLogs taken_of agents.0.items (length inst.now.resident_lists) (λ r. takes r journal.now)) }
+    ensures taken { IfOk result (λ agents. AreByResident M.OfferTake.taken agents.0.items) }
+    ensures hears { IfOk result (λ agents. AreLogs heard_of agents.1.items (length inst.now.quotas) (λ p. hears p journal.now)) }
+    ensures heard { IfOk result (λ agents. AreByProgramme M.AnswerTake.taken agents.1.items) }
+{
+    let takes = Comparison {
+        logs: room.0,
+        seats: seats.0,
+        journal,
+        count: inst.residents(),
+    };
+    let hears = Comparison {
+        logs: room.1,
+        seats: seats.1,
+        journal,
+        count: inst.programmes(),
+    };
+    let (residents, programmes) = do_both(rt, workers, takes, hears);
+    let residents = residents?;
+    Ok((residents, programmes?))
 }

@@ -6,11 +6,10 @@ use crate::exchange::Exchange;
 use crate::fault::Trouble;
 use crate::gate::Gate;
 use crate::mailboxes::Mailboxes;
-use crate::naps::Naps;
+use crate::naps::{NapRoom, Naps};
 use crate::scheduler::Scheduler;
 use offer_ledger::{ExchangeIdentity, Ledger};
 use std::hint::spin_loop;
-use std::sync::atomic::{AtomicBool, Ordering};
 use std::sync::{Condvar, Mutex, MutexGuard, Wait};
 
 /// How often a lock is tried before a worker naps, and how long it pauses after each time.
@@ -36,18 +35,18 @@ fn try_soon<T>(lock: &Mutex<T>) -> Option<MutexGuard<'_, T>> {
 
 // The value under a lock that each worker wants for each event. Where another has it a worker steps back for a while, so
 // that the other works on alone: a lock that changes hands for each event makes both slower than one.
-fn lock_soon<'a, T, R: Wait>(rt: &R, lock: &'a Mutex<T>) -> MutexGuard<'a, T> {
+fn lock_soon<'a, T, R: Wait>(rt: &R, lock: &'a Mutex<T>, room: &NapRoom) -> MutexGuard<'a, T> {
     match try_soon(lock) {
         Some(guard) => guard,
-        None => lock_later(rt, lock),
+        None => lock_later(rt, lock, room),
     }
 }
 
 // The value under a lock that another worker has: tried after each of some naps, and then waited for.
-fn lock_later<'a, T, R: Wait>(rt: &R, lock: &'a Mutex<T>) -> MutexGuard<'a, T> {
-    let mut naps = Naps::new();
+fn lock_later<'a, T, R: Wait>(rt: &R, lock: &'a Mutex<T>, room: &NapRoom) -> MutexGuard<'a, T> {
+    let mut naps = Naps::for_lock();
     for _ in 0..NAPS {
-        naps.nap(rt);
+        naps.nap(rt, room);
         if let Some(guard) = try_soon(lock) {
             return guard;
         }
@@ -70,7 +69,8 @@ pub(crate) struct SharedState<'a, J: ExchangeIdentity, M: Mailboxes, G: Gate> {
     pub(crate) exchange: Mutex<Exchange<J, M>>,
     pub(crate) scheduler: Mutex<Scheduler<'a, G>>,
     pub(crate) news: Condvar,
-    pub(crate) ending: AtomicBool,
+    for_lock: NapRoom,
+    for_work: NapRoom,
 }
 
 // As one call, so that whoever lets the shared state go proves nothing of its parts.
@@ -82,7 +82,8 @@ impl<'a, J: ExchangeIdentity, M: Mailboxes, G: Gate> Drop for SharedState<'a, J,
             exchange: _,
             scheduler: _,
             news: _,
-            ending: _,
+            for_lock: _,
+            for_work: _,
         } = self;
     }
 }
@@ -96,7 +97,8 @@ impl<'a, J: ExchangeIdentity, M: Mailboxes, G: Gate> SharedState<'a, J, M, G> {
             exchange,
             scheduler,
             news: _,
-            ending: _,
+            for_lock: _,
+            for_work: _,
         } = self;
         let ledger = exchange.into_inner().into_ledger();
         (residents, programmes, ledger, scheduler.into_inner())
@@ -117,28 +119,36 @@ impl<'a, J: ExchangeIdentity, M: Mailboxes, G: Gate> SharedState<'a, J, M, G> {
             exchange: Mutex::new(exchange),
             scheduler: Mutex::new(scheduler),
             news: Condvar::new(),
-            ending: AtomicBool::new(false),
+            for_lock: NapRoom::new(),
+            for_work: NapRoom::new(),
         }
     }
 
     /// The ledger and those who wait for room, under their lock.
     pub(crate) fn lock_exchange<R: Wait>(&self, rt: &R) -> MutexGuard<'_, Exchange<J, M>> {
-        lock_soon(rt, &self.exchange)
+        lock_soon(rt, &self.exchange, &self.for_lock)
     }
 
     /// The desks in hands and the list, under their lock.
     pub(crate) fn lock_scheduler<R: Wait>(&self, rt: &R) -> MutexGuard<'_, Scheduler<'a, G>> {
-        lock_soon(rt, &self.scheduler)
+        lock_soon(rt, &self.scheduler, &self.for_lock)
+    }
+
+    /// Naps once, having found nothing to do. Whoever naps for a lock goes on, since what there is to do may be in its hands.
+    pub(crate) fn nap<R: Wait>(&self, rt: &R, naps: &mut Naps) {
+        self.for_lock.rouse();
+        naps.nap(rt, &self.for_work);
     }
 
     /// Whether the run ends.
     pub(crate) fn is_ending(&self) -> bool {
-        self.ending.load(Ordering::SeqCst)
+        self.for_lock.is_over()
     }
 
     /// Ends the run: the workers leave once what they have begun is entered.
     pub(crate) fn end<R: Wait>(&self, rt: &R) {
-        self.ending.store(true, Ordering::SeqCst);
+        self.for_lock.end();
+        self.for_work.end();
         self.lock_scheduler(rt).ended = true;
         self.news.notify_all();
     }

@@ -342,7 +342,7 @@ impl<'a, 'f, J: ExchangeIdentity, M: Mailboxes, G: Gate, R: Wait> Worker<'a, 'f,
             return LEAVE;
         }
         if self.missed > MISSES {
-            Naps::new().nap(self.rt);
+            self.shared.nap(self.rt, &mut Naps::for_work());
         }
         Step::Leave { again: true }
     }
@@ -434,12 +434,12 @@ impl<'a, 'f, J: ExchangeIdentity, M: Mailboxes, G: Gate, R: Wait> Worker<'a, 'f,
     // and then waits for news. Who naps needs no waking.
     fn claim_or_look(&self, desk: u32) -> Next {
         let mut found = self.shared.lock_scheduler(self.rt).claim_or_next(desk);
-        let mut naps = Naps::new();
+        let mut naps = Naps::for_work();
         for _ in 0..LOOKS {
             if found != Next::Nothing {
                 return found;
             }
-            naps.nap(self.rt);
+            self.shared.nap(self.rt, &mut naps);
             found = self.shared.lock_scheduler(self.rt).next();
         }
         match found {

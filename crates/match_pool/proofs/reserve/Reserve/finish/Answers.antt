@@ -1,15 +1,13 @@
-use Rattle.std.proofs.Common.{◌≡◌, true, sym, ◌∙◌}
-use Rattle.std.proofs.lemmas.Result.{IfOk-weaker}
-use Rattle.match_pool.specs.Done.{AreCounted}
-use Rattle.match_pool.specs.declared.done.Ending.TheVariants.{Stopped}
+use Rattle.std.proofs.Common.{List, length, subst}
+use Rattle.exchange_core.specs.declared.event.Event.{Event}
+use Rattle.exchange_core.specs.Mail.{takes, hears}
+use Rattle.match_pool.specs.Compare.{AreLogs, taken_of, heard_of}
 use Rattle.match_pool.proofs.reserve.Reserve.finish.Goals as goal
 
-pub returns-clause-stopped : goal.returns-clause-stopped
-returns-clause-stopped g c =
-    IfOk-weaker c.result.result _ (λ done. done.ending ≡ Stopped → g.G.Gate.MAY_STOP ≡ true)
-    (λ done ended is_stopped. c.in_ok-outcome.ensures.stopped (sym ended ∙ is_stopped)) c.result.ensures.ended
+pub done-requires-clause-takes : goal.done-requires-clause-takes
+done-requires-clause-takes g c = λ _ _.
+    subst (λ (j : List Event). AreLogs taken_of c.in-Ok.residents.items (length c.args.inst.now.resident_lists) (λ r. takes r j)) c.journal-journal.ensures.journal c.in-Ok.ensures.takes
 
-pub returns-clause-counts : goal.returns-clause-counts
-returns-clause-counts g c =
-    IfOk-weaker c.result.result _ (λ done. AreCounted g.J.ExchangeIdentity.workers done.journal.items done.who.items done.entered.items)
-    (λ done same. rw (same.0, same.1, same.2) c.in_ok-outcome.ensures.counts) c.result.ensures.same
+pub done-requires-clause-hears : goal.done-requires-clause-hears
+done-requires-clause-hears g c = λ _ _.
+    subst (λ (j : List Event). AreLogs heard_of c.in-Ok.programmes.items (length c.args.inst.now.quotas) (λ p. hears p j)) c.journal-journal.ensures.journal c.in-Ok.ensures.hears
