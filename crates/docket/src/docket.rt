@@ -4,7 +4,7 @@ ghost use Rattle.match_model.specs.Instance.{IsProgramme, IsResident};
 ghost use Rattle.docket.specs.Texts as texts;
 ghost use Rattle.docket.specs.Whole.{IsWhole};
 
-use crate::store::names::Names;
+use crate::store::name_list::NameList;
 use exchange_core::{Capacity, Event};
 use match_model::{Assignment, Instance, ProgrammeNo, ResidentNo};
 use std::marker::Model;
@@ -48,8 +48,8 @@ impl Model for Journal {
 
 /// What a docket says.
 pub struct Docket {
-    pub(crate) programmes: Names,
-    pub(crate) residents: Names,
+    pub(crate) programmes: NameList,
+    pub(crate) residents: NameList,
     pub(crate) instance: Instance,
     pub(crate) sheet: Option<Assignment>,
     pub(crate) journal: Option<Journal>,

@@ -4,6 +4,7 @@ pub(crate) mod declarations;
 pub(crate) mod flat_rows;
 pub(crate) mod members;
 pub(crate) mod name_key;
+pub(crate) mod name_list;
 pub(crate) mod names;
 pub(crate) mod numbers;
 pub(crate) mod rows;

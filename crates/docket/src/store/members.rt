@@ -5,6 +5,7 @@ ghost use Rattle.docket.specs.Contents.{number_in};
 ghost use Rattle.docket.specs.Rows.{row_at};
 
 use crate::kind::MAX_RECORDS;
+use crate::store::name_list::NameList;
 use crate::store::names::Names;
 use crate::store::rows::ReadRows;
 use std::alloc::{AllocError, Global};
@@ -80,10 +81,10 @@ impl Members {
         }
     }
 
-    /// The names alone.
-    pub(crate) fn into_names(self) -> Names
-        ensures { result ≡ self.names }
+    /// The names by their numbers alone.
+    pub(crate) fn into_names(self, alloc: Global) -> Result<NameList, AllocError>
+        ensures { IfOk result (λ names. names ≡ self.names) }
     {
-        self.names
+        self.names.into_list(alloc)
     }
 }

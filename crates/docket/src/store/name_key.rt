@@ -46,6 +46,16 @@ impl NameKey {
         }
     }
 
+    /// One more key of the same text.
+    pub(crate) fn copy(&self) -> NameKey
+        ensures { result ≡ self.now }
+    {
+        NameKey {
+            bytes: self.bytes,
+            len: self.len,
+        }
+    }
+
     /// The text.
     pub(crate) fn text(&self) -> &[u8]
         ensures { result.now ≡ self.now }

@@ -1,14 +1,14 @@
 //! Names, numbered from 0 in the order in which they were first seen.
-ghost use Rattle.std.specs.Prelude.{◌≡◌, ◌<◌, ◌+◌, ◌++◌, ◌∷◌, [], Some, not, if◌then◌else◌, length, slice_get, IfOk, OnOk, OnErr, IfSome, true};
+ghost use Rattle.std.specs.Prelude.{◌≡◌, ◌<◌, ◌++◌, ◌∷◌, [], not, if◌then◌else◌, length, IfOk, OnOk, OnErr, IfSome, true};
 ghost use Rattle.docket.specs.Words as words;
 ghost use Rattle.docket.specs.Contents.{number_in, is_declared};
 
 use crate::store::name_key::{MAX_NAME, NameKey};
+use crate::store::name_list::NameList;
 use indexmap::IndexSet;
 use std::alloc::{AllocError, Global};
 use std::hash::RandomState;
 use std::marker::Model;
-use std::str;
 
 /// Names, numbered from 0 in the order in which they were first seen.
 pub(crate) struct Names {
@@ -73,17 +73,10 @@ impl Names {
         Ok(self.seen.insert(NameKey::new(name))?)
     }
 
-    /// The name of a number. The number was given to a name.
-    pub(crate) fn name(&self, number: usize) -> &str
-        requires { number < length self.now }
-        ensures { slice_get self.now number ≡ Some result.now }
+    /// The names by their numbers alone.
+    pub(crate) fn into_list(self, alloc: Global) -> Result<NameList, AllocError>
+        ensures { IfOk result (λ names. names ≡ self) }
     {
-        match self.seen.get_index(number) {
-            Some(name) => match str::from_utf8(name.text()) {
-                Ok(text) => text,
-                Err(_) => unreachable!("a name is ASCII"),
-            },
-            None => unreachable!("the number was given to a name"),
-        }
+        NameList::of(alloc, self.seen.as_slice())
     }
 }
