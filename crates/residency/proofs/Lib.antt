@@ -3,3 +3,4 @@ pub mod Reports
 pub mod Audits
 mod CountRows
 mod Sending
+mod OnWords

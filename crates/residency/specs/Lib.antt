@@ -1,4 +1,5 @@
 pub mod Options
+pub mod Line
 pub mod Status
 pub mod Outcome
 pub mod Report

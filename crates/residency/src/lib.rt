@@ -2,8 +2,7 @@
 //!
 //! The program is `serve_words` over the words and the streams that it is given.
 //!
-//! What only tests refuse: a `read_line` that gives another order for the words, since its contract says what every order
-//! keeps and not which it is; other texts of faults, of help and of the version.
+//! What only tests refuse: other texts of faults, of help and of the version, and another number of workers than `+1` says.
 #![tactic(auto)]
 
 mod answer;

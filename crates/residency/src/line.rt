@@ -1,6 +1,11 @@
 //! The command line.
-ghost use Rattle.std.specs.Prelude.{◌≡◌, ◌≤◌, IfOk, IfErr, IfSome};
-ghost use Rattle.residency.specs.declared.line.LineFault.TheVariants.{Memory};
+ghost use Rattle.std.specs.Prelude.{◌≡◌, ◌≤◌, IfOk, IfErr, IfSome, None, Some, codes, map, true, false};
+ghost use Rattle.exchange_core.specs.Shown.{is_capacity};
+ghost use Rattle.residency.specs.declared.line.LineFault.TheVariants.{BadCapacity, Memory};
+ghost use Rattle.clap.specs.Values.{kind_of};
+ghost use Rattle.clap.specs.declared.error.kind.ErrorKind.TheVariants.{MissingSubcommand};
+ghost use Rattle.clap.specs.Words.{HasKind, app_of, fault_of, found_of, new_app, rows_of, rule_of, subcommand_of, subcommand_rows_of, with_subcommand};
+ghost use Rattle.residency.specs.Line.{GivesJournal, GivesOptions, GivesRoom, GivesWorkers, HasBadRoom, IsErrorOf, IsNamed, NamesNone, Orders, Refuses, commands_app, flag_rule, match_app, program_app, valued_rule, workers_rule};
 ghost use Rattle.residency.specs.Options.{IsOrder, IsWithinLimits};
 ghost use Rattle.residency.specs.Status.{IsLineFault};
 
@@ -8,6 +13,7 @@ use crate::options::{JournalForm, MatchOptions, Order};
 use clap::error::ErrorKind;
 use clap::{Arg, ArgAction, ArgMatches, Command};
 use docket::capacity_of;
+use exchange_core::Capacity;
 use std::alloc::{AllocError, Global};
 use std::convert::AsStr;
 use thiserror::Error;
@@ -72,7 +78,8 @@ impl From<AllocError> for LineFault {
 
 // The fault that an error of the parser is.
 fn line_fault(error: clap::Error) -> LineFault
-    ensures { IsLineFault result }
+    ensures fault { IsLineFault result }
+    ensures kind { IsErrorOf (λ kind. kind ≡ kind_of error) result }
 {
     match error.kind() {
         ErrorKind::OutOfMemory => LineFault::Memory,
@@ -87,13 +94,18 @@ fn described<'a>(
     call: &'a str,
     about: &'a str,
     help: &'a str,
-) -> Command<'a> {
+) -> Command<'a>
+    ensures { app_of result ≡ new_app name.entry.now }
+{
     let command = Command::new(alloc, name).override_usage(call);
     command.about(about).after_help(help)
 }
 
 // How many threads work on a match.
-fn workers_option<'a>(alloc: Global) -> Arg<'a> {
+fn workers_option<'a>(alloc: Global) -> Arg<'a>
+    ensures rule { rule_of result ≡ workers_rule }
+    ensures own { result.global ≡ false }
+{
     Arg::new(alloc, "workers")
         .long("workers")
         .value_name("N")
@@ -103,7 +115,10 @@ fn workers_option<'a>(alloc: Global) -> Arg<'a> {
 }
 
 // The room of each mailbox of a match.
-fn capacity_option<'a>(alloc: Global) -> Arg<'a> {
+fn capacity_option<'a>(alloc: Global) -> Arg<'a>
+    ensures rule { rule_of result ≡ valued_rule (codes "capacity") (codes "full") }
+    ensures own { result.global ≡ false }
+{
     Arg::new(alloc, "capacity")
         .long("capacity")
         .value_name("full|N")
@@ -112,7 +127,10 @@ fn capacity_option<'a>(alloc: Global) -> Arg<'a> {
 }
 
 // Whether a match writes its journal.
-fn journal_option<'a>(alloc: Global) -> Arg<'a> {
+fn journal_option<'a>(alloc: Global) -> Arg<'a>
+    ensures rule { rule_of result ≡ flag_rule (codes "journal") }
+    ensures own { result.global ≡ false }
+{
     Arg::new(alloc, "journal")
         .long("journal")
         .help("Writes the journal of every event after the sheet")
@@ -120,7 +138,10 @@ fn journal_option<'a>(alloc: Global) -> Arg<'a> {
 }
 
 // Whether a match writes its journal with the worker of each event.
-fn by_worker_option<'a>(alloc: Global) -> Arg<'a> {
+fn by_worker_option<'a>(alloc: Global) -> Arg<'a>
+    ensures rule { rule_of result ≡ flag_rule (codes "journal-by-worker") }
+    ensures own { result.global ≡ false }
+{
     Arg::new(alloc, "journal-by-worker")
         .long("journal-by-worker")
         .help("Writes the journal with the worker of each event")
@@ -128,7 +149,9 @@ fn by_worker_option<'a>(alloc: Global) -> Arg<'a> {
 }
 
 // The command that runs a match, with its options.
-fn match_command<'a>(alloc: Global) -> Result<Command<'a>, AllocError> {
+fn match_command<'a>(alloc: Global) -> Result<Command<'a>, AllocError>
+    ensures { IfOk result (λ command. app_of command ≡ match_app) }
+{
     let about = "Writes the sheet of the settled match";
     let call = "residency match [OPTIONS] < docket.csv";
     let command = described(alloc, "match", call, about, MATCH_HELP);
@@ -139,21 +162,27 @@ fn match_command<'a>(alloc: Global) -> Result<Command<'a>, AllocError> {
 }
 
 // The command that audits a sheet.
-fn audit_command<'a>(alloc: Global) -> Command<'a> {
+fn audit_command<'a>(alloc: Global) -> Command<'a>
+    ensures { app_of result ≡ new_app (codes "audit") }
+{
     let about = "Says whether the docket's sheet is stable";
     let call = "residency audit < docket-and-sheet.csv";
     described(alloc, "audit", call, about, AUDIT_HELP)
 }
 
 // The command that replays a journal.
-fn replay_command<'a>(alloc: Global) -> Command<'a> {
+fn replay_command<'a>(alloc: Global) -> Command<'a>
+    ensures { app_of result ≡ new_app (codes "replay") }
+{
     let about = "Says whether the docket's journal is a good exchange that gives its sheet";
     let call = "residency replay < docket-and-journal.csv";
     described(alloc, "replay", call, about, REPLAY_HELP)
 }
 
 // The program, without its commands. Its commands are named after it.
-fn program<'a>(alloc: Global) -> Result<Command<'a>, AllocError> {
+fn program<'a>(alloc: Global) -> Result<Command<'a>, AllocError>
+    ensures { IfOk result (λ command. app_of command ≡ program_app) }
+{
     let program = Command::new(alloc, "residency").bin_name("residency")?;
     Ok(
         program
@@ -167,12 +196,17 @@ fn program<'a>(alloc: Global) -> Result<Command<'a>, AllocError> {
 }
 
 // A program with one command more.
-fn with_command<'a>(program: Command<'a>, command: Command<'a>) -> Result<Command<'a>, AllocError> {
+fn with_command<'a>(program: Command<'a>, command: Command<'a>) -> Result<Command<'a>, AllocError>
+    requires { (app_of command).top.is_plain ≡ true }
+    ensures { IfOk result (λ both. app_of both ≡ with_subcommand (app_of program.entry) (app_of command.entry).top) }
+{
     program.subcommand(command)
 }
 
 // The program with its commands.
-fn commands<'a>(alloc: Global) -> Result<Command<'a>, AllocError> {
+fn commands<'a>(alloc: Global) -> Result<Command<'a>, AllocError>
+    ensures { IfOk result (λ command. app_of command ≡ commands_app) }
+{
     let matching = with_command(program(alloc)?, match_command(alloc)?)?;
     let auditing = with_command(matching, audit_command(alloc))?;
     with_command(auditing, replay_command(alloc))
@@ -182,6 +216,7 @@ fn commands<'a>(alloc: Global) -> Result<Command<'a>, AllocError> {
 fn workers_of(matches: &ArgMatches) -> usize
     ensures some { 1 ≤ result }
     ensures few { result ≤ 8 }
+    ensures given { GivesWorkers (rows_of (found_of matches.now)) result }
 {
     match matches.get_one::<u64>("workers") {
         Some(workers) => workers.clamp(1, 8) as usize,
@@ -189,41 +224,69 @@ fn workers_of(matches: &ArgMatches) -> usize
     }
 }
 
-// The options that the words of a match give.
-fn match_options(matches: &ArgMatches) -> Result<MatchOptions, LineFault>
-    ensures options { IfOk result IsWithinLimits }
-    ensures fault { IfErr result IsLineFault }
+// The room of each mailbox, which is full where there is none.
+fn room_of(matches: &ArgMatches) -> Result<Capacity, LineFault>
+    ensures admitted { IfOk result (λ room. is_capacity room ≡ true) }
+    ensures given { IfOk result (GivesRoom (rows_of (found_of matches.now))) }
+    ensures fault { IfErr result (λ fault. fault ≡ BadCapacity) }
+    ensures bad { IfErr result (λ fault. HasBadRoom (Some (codes "match", rows_of (found_of matches.now)))) }
 {
-    let mut options = MatchOptions::default();
-    if let Some(text) = matches.get_str("capacity") {
-        match capacity_of(text.as_bytes()) {
-            Some(capacity) => options.capacity = capacity,
-            None => return Err(LineFault::BadCapacity),
-        }
+    match matches.get_str("capacity") {
+        Some(text) => capacity_of(text.as_bytes()).ok_or(LineFault::BadCapacity),
+        None => Ok(Capacity::Full),
     }
-    options.workers = workers_of(matches);
-    options.journal = if matches.get_flag("journal-by-worker") {
+}
+
+// The journal that is wanted.
+fn journal_of(matches: &ArgMatches) -> JournalForm
+    ensures { GivesJournal (rows_of (found_of matches.now)) result }
+{
+    if matches.get_flag("journal-by-worker") {
         JournalForm::ByWorker
     } else if matches.get_flag("journal") {
         JournalForm::Plain
     } else {
         JournalForm::Absent
+    }
+}
+
+// The options that the words of a match give.
+fn match_options(matches: &ArgMatches) -> Result<MatchOptions, LineFault>
+    ensures limits { IfOk result IsWithinLimits }
+    ensures options { IfOk result (GivesOptions (rows_of (found_of matches.now))) }
+    ensures fault { IfErr result (λ fault. fault ≡ BadCapacity) }
+    ensures bad { IfErr result (λ fault. HasBadRoom (Some (codes "match", rows_of (found_of matches.now)))) }
+{
+    let capacity = match room_of(matches) {
+        Ok(capacity) => capacity,
+        Err(fault) => return Err(fault),
     };
-    Ok(options)
+    Ok(MatchOptions {
+        workers: workers_of(matches),
+        capacity,
+        journal: journal_of(matches),
+    })
 }
 
 // What the words are by these commands.
 fn matches_of<'a, S: AsStr>(
     commands: &mut Command<'a>,
     words: &'a [S],
-) -> Result<ArgMatches<'a>, clap::Error> {
+) -> Result<ArgMatches<'a>, clap::Error>
+    requires { app_of commands.old ≡ commands_app }
+    ensures found { IfOk result (λ matches. subcommand_rows_of matches ≡ subcommand_of commands_app (map S.text words.entry.now)) }
+    ensures refused { IfErr result (HasKind (fault_of commands_app (map S.text words.entry.now))) }
+{
     commands.try_get_matches_from_mut(words)
 }
 
 // The order that these matches name, if they name a command.
 fn order_named(matches: &ArgMatches) -> Result<Option<Order>, LineFault>
     ensures order { IfOk result (λ named. IfSome named IsOrder) }
-    ensures fault { IfErr result IsLineFault }
+    ensures named { IfOk result (λ named. IfSome named (IsNamed (subcommand_rows_of matches.now))) }
+    ensures none { IfOk result (λ named. named ≡ None → NamesNone (subcommand_rows_of matches.now)) }
+    ensures fault { IfErr result (λ fault. fault ≡ BadCapacity) }
+    ensures bad { IfErr result (λ fault. HasBadRoom (subcommand_rows_of matches.now)) }
 {
     match matches.subcommand() {
         Some(("match", options)) => match match_options(options) {
@@ -238,7 +301,7 @@ fn order_named(matches: &ArgMatches) -> Result<Option<Order>, LineFault>
 
 // What is told where no command is named.
 fn nothing_named(commands: &mut Command) -> LineFault
-    ensures { IsLineFault result }
+    ensures { IsErrorOf (λ kind. kind ≡ MissingSubcommand) result }
 {
     match commands.error(ErrorKind::MissingSubcommand, "a command is wanted") {
         Ok(error) => line_fault(error),
@@ -248,8 +311,10 @@ fn nothing_named(commands: &mut Command) -> LineFault
 
 /// The order that the words give, the program's own name left out.
 pub fn read_line<'a, S: AsStr>(alloc: Global, words: &'a [S]) -> Result<Order, LineFault>
-    ensures order { IfOk result IsOrder }
+    ensures order { IfOk result (Orders (map S.text words.entry.now)) }
+    ensures limits { IfOk result IsOrder }
     ensures fault { IfErr result IsLineFault }
+    ensures refused { IfErr result (Refuses (map S.text words.entry.now)) }
 {
     let mut commands = commands(alloc)?;
     let matches = match matches_of(&mut commands, words) {

@@ -1,8 +1,8 @@
 //! The program, over any streams: it serves what its words order, and its exit status tells how that ended.
-ghost use Rattle.std.specs.Prelude.{◌≡◌, IfOk};
+ghost use Rattle.std.specs.Prelude.{◌≡◌, IfOk, IfErr};
 ghost use Rattle.std.specs.Process.{exit_status as exit_status_in};
 ghost use Rattle.residency.specs.Options.{IsOrder};
-ghost use Rattle.residency.specs.Program.{Ends, EndsServing, IsRefusedStatus, unordered_status_of};
+ghost use Rattle.residency.specs.Program.{Ends, EndsServing, IsUsageFaultOf, IsOrderOf, IsRefusedStatus, unordered_status_of};
 
 use crate::line::{LineFault, read_line};
 use crate::options::Order;
@@ -32,7 +32,9 @@ pub enum UsageFault {
 
 // What the words order, the program's own name left out.
 fn order_of(alloc: Global, words: io::Result<Vec<String>>) -> Result<Order, UsageFault>
-    ensures { IfOk result IsOrder }
+    ensures order { IfOk result (IsOrderOf words) }
+    ensures limits { IfOk result IsOrder }
+    ensures fault { IfErr result (IsUsageFaultOf words) }
 {
     match words {
         Ok(words) => match read_line(alloc, words.as_slice()) {
@@ -112,7 +114,7 @@ where
     W: Write,
     T: Print + Eprint,
     H: Threads + Wait + RandomSource + Sync + Send + Copy,
-    ensures { Ends (R.remaining reader) (W.contents writer.old) (W.contents writer.new) (exit_status_in result) }
+    ensures { Ends words (R.remaining reader) (W.contents writer.old) (W.contents writer.new) (exit_status_in result) }
 {
     match order_of(alloc, words) {
         Ok(order) => serve_and_tell(rt, alloc, &order, reader, writer, told),

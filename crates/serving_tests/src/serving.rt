@@ -731,7 +731,7 @@ fn order_of(alloc: Global, words: &[&str]) -> Result<Order, u8> {
 }
 
 // Command lines, and what they order, or the status of their fault.
-const LINES: [(&[&str], Result<Order, u8>); 19] = [
+const LINES: [(&[&str], Result<Order, u8>); 21] = [
     (&["match"], Ok(MATCH)),
     (&["match", "--workers", "2"], Ok(MATCH)),
     (
@@ -741,6 +741,7 @@ const LINES: [(&[&str], Result<Order, u8>); 19] = [
     (&["match", "--capacity", "0"], Err(2)),
     (&["match", "--capacity", "1025"], Err(2)),
     (&["match", "--workers", "1"], Ok(ALONE)),
+    (&["match", "--workers", "+1"], Ok(ALONE)),
     (&["match", "--workers", "0"], Err(2)),
     (&["match", "--journal-by-worker"], Ok(BY_WORKER)),
     (
@@ -760,6 +761,7 @@ const LINES: [(&[&str], Result<Order, u8>); 19] = [
     (&["match", "more"], Err(2)),
     (&["--help"], Err(0)),
     (&["audit", "--help"], Err(0)),
+    (&["help", "audit"], Err(0)),
 ];
 
 #[test]

@@ -1,0 +1,116 @@
+-- What words order, as the parser of command lines reads them.
+use Rattle.std.specs.Prelude.{◌≡◌, ◌≤◌, ◌⊎◌, ℕ, true, codes, decimal, List, [], ◌∷◌, Option, Some, None}
+use Rattle.clap.specs.Values.{kind_of}
+use Rattle.clap.specs.Words.{App, IsAmong, Row, Rule, Text, first_of, fault_of, new_app, new_rule, one_of, subcommand_of, with_rule, with_subcommand}
+use Rattle.clap.specs.Simple.{new_shape, on_top}
+use Rattle.clap.specs.declared.error.kind.ErrorKind.{ErrorKind}
+use Rattle.clap.specs.declared.error.kind.ErrorKind.TheVariants.{MissingSubcommand}
+use Rattle.clap.specs.declared.builder.action.ArgAction.TheVariants.{SetTrue}
+use Rattle.clap.specs.declared.builder.value_parser.ValueParser.TheVariants.{Unsigned}
+use Rattle.docket.specs.Words.{capacity_of}
+use Rattle.exchange_core.specs.declared.event.Capacity.{Capacity}
+use Rattle.residency.specs.declared.line.LineFault.{LineFault}
+use Rattle.residency.specs.declared.line.LineFault.TheVariants.{Memory, Line, BadCapacity}
+use Rattle.residency.specs.declared.options.JournalForm.{JournalForm}
+use Rattle.residency.specs.declared.options.JournalForm.TheVariants.{Absent, Plain, ByWorker}
+use Rattle.residency.specs.declared.options.MatchOptions.{MatchOptions}
+use Rattle.residency.specs.declared.options.Order.{Order}
+use Rattle.residency.specs.declared.options.Order.TheVariants.{Match, Audit, Replay}
+
+-- an option with a value, which is this where it isn't given
+abbrev pub valued_rule : Text → Text → Rule
+valued_rule id value = record (new_rule id) { long = Some id; value_names = 1; defaults = value ∷ [] }
+
+-- an option that is given or not
+abbrev pub flag_rule : Text → Rule
+flag_rule id = record (new_rule id) { long = Some id; action = Some SetTrue }
+
+-- the number of workers: from 1 to 8, and 2 where it isn't given
+abbrev pub workers_rule : Rule
+workers_rule = record (valued_rule (codes "workers") (codes "2")) { parser = Some (Unsigned 1 8) }
+
+-- the command that runs a match, with its four options
+abbrev pub match_app : App
+match_app = with_rule (with_rule (with_rule (with_rule (new_app (codes "match")) workers_rule)
+    (valued_rule (codes "capacity") (codes "full"))) (flag_rule (codes "journal"))) (flag_rule (codes "journal-by-worker"))
+
+-- the program, without its commands: no name of the program comes before the words
+abbrev pub program_app : App
+program_app = on_top (λ s. record s { no_binary_name = true; has_version = true; subcommand_required = true }) (new_app (codes "residency"))
+
+-- the program with its three commands
+abbrev pub commands_app : App
+commands_app = with_subcommand (with_subcommand (with_subcommand program_app match_app.top) (new_shape (codes "audit"))) (new_shape (codes "replay"))
+
+-- the command that gives an order
+abbrev pub command_of : Order → Text
+command_of (Match o) = codes "match"
+command_of Audit = codes "audit"
+command_of Replay = codes "replay"
+
+-- a flag stands in the words, or doesn't
+abbrev pub IsFlagged : Text → List Row → Type 0
+IsFlagged id rows = one_of id rows ≡ Some (codes "true")
+
+abbrev pub IsUnflagged : Text → List Row → Type 0
+IsUnflagged id rows = one_of id rows ≡ Some (codes "false")
+
+-- the values give the number of workers where they have one from 1 to 8
+abbrev pub GivesWorkers : List Row → ℕ → Type 0
+GivesWorkers rows workers = (n : ℕ) → 1 ≤ n → n ≤ 8 → one_of (codes "workers") rows ≡ Some (decimal n) → workers ≡ n
+
+-- the values give the room of each mailbox
+abbrev pub GivesRoom : List Row → Capacity → Type 0
+GivesRoom rows room = (text : Text) → first_of (codes "capacity") rows ≡ Some text → capacity_of text ≡ Some room
+
+-- the values give the journal by workers where that is asked for, or else the plain one where that is, or else none
+pub record GivesJournal (rows : List Row) (form : JournalForm) : Type 0 where
+  pub by_worker : IsFlagged (codes "journal-by-worker") rows → form ≡ ByWorker
+  pub plain : IsUnflagged (codes "journal-by-worker") rows → IsFlagged (codes "journal") rows → form ≡ Plain
+  pub absent : IsUnflagged (codes "journal-by-worker") rows → IsUnflagged (codes "journal") rows → form ≡ Absent
+
+-- the values give a match its options
+pub record GivesOptions (rows : List Row) (o : MatchOptions) : Type 0 where
+  pub workers : GivesWorkers rows o.workers
+  pub capacity : GivesRoom rows o.capacity
+  pub journal : GivesJournal rows o.journal
+
+-- the values give the order its options
+abbrev pub GivesOrder : List Row → Order → Type 0
+GivesOrder rows (Match o) = GivesOptions rows o
+GivesOrder rows Audit = Unit {0}
+GivesOrder rows Replay = Unit {0}
+
+-- the command that was found, and its values, give the order
+pub record IsNamed (found : Option (Text × List Row)) (order : Order) : Type 0 where
+  pub rows : List Row
+  pub command : found ≡ Some (command_of order, rows)
+  pub options : GivesOrder rows order
+
+-- the words give the order
+abbrev pub Orders : List Text → Order → Type 0
+Orders words = IsNamed (subcommand_of commands_app words)
+
+-- a match was found, and the room of its mailboxes is no capacity
+pub record HasBadRoom (found : Option (Text × List Row)) : Type 0 where
+  pub rows : List Row
+  pub command : found ≡ Some (codes "match", rows)
+  pub text : Text
+  pub room : first_of (codes "capacity") rows ≡ Some text
+  pub bad : capacity_of text ≡ None
+
+-- what was found is none of the three commands
+abbrev pub NamesNone : Option (Text × List Row) → Type 0
+NamesNone found = (order : Order) (rows : List Row) → found ≡ Some (command_of order, rows) → ⊥
+
+-- the fault is want of memory, or an error of a kind with this property
+abbrev pub IsErrorOf : (ErrorKind → Type 0) → LineFault → Type 0
+IsErrorOf P Memory = Unit {0}
+IsErrorOf P BadCapacity = ⊥
+IsErrorOf P (Line error) = P (kind_of error)
+
+-- the words give no order: memory failed, the parser refuses them, they name no command, or the capacity is bad
+abbrev pub Refuses : List Text → LineFault → Type 0
+Refuses words fault = IsErrorOf (λ kind. IsAmong kind (fault_of commands_app words)) fault
+    ⊎ ((NamesNone (subcommand_of commands_app words) × IsErrorOf (λ kind. kind ≡ MissingSubcommand) fault)
+    ⊎ (HasBadRoom (subcommand_of commands_app words) × (fault ≡ BadCapacity)))
