@@ -1,11 +1,12 @@
 -- Lemmas on the owners of the lists in which a number stands.
-use Rattle.std.proofs.Common.{◌≡◌, ℕ, ◌+◌, ◌-◌, ◌<◌, ◌≤◌, Bool, true, false, cond, eqb, ltb, List, [], ◌∷◌, ◌++◌, length, get_or, set, take, replicate, map, Option, refl, sym, ap, ◌∙◌, subst, arith, not, ◌&&◌, ◌||◌, suc, zero, zero-add, ⊎_elim}
+use Rattle.std.proofs.Common.{◌≡◌, ℕ, ◌+◌, ◌-◌, ◌^◌, ◌<◌, ◌≤◌, Bool, true, false, cond, eqb, ltb, List, [], ◌∷◌, ◌++◌, length, get_or, set, take, replicate, map, Option, refl, sym, ap, ◌∙◌, subst, arith, not, ◌&&◌, ◌||◌, suc, zero, zero-add, ⊎_elim}
 use Rattle.std.specs.Global.{Vec}
+use Rattle.std.specs.Vec.{with_items}
 use Rattle.std.specs.List.{All, filter, list_all, range_with_len, enumerate_from}
 use Rattle.std.specs.List.Sorted.{IsNonDecreasing}
 use Rattle.std.proofs.lemmas.List.Kept.{IsNonDecreasingBy-filter}
 use Rattle.std.proofs.lemmas.Bool.{cases_lt, eqb-true, ltb-true, lt-ltb, and_parts, and_from}
-use Rattle.std.proofs.lemmas.List.{length-map, get_or-map, length-replicate, get_or-replicate, length-set, get_or-set_other, get_or_past, get_or-take, length-take, take_more, take_more_set, take_all, length_push, append-nil, get_or_default}
+use Rattle.std.proofs.lemmas.List.{length-map, get_or-map, length-replicate, get_or-replicate, length-set, get_or-set_other, get_or_past, get_or-take, length-take, take_more, take_more_set, take_all, length_push, append-nil, get_or_default, with_items_is}
 use Rattle.std.proofs.lemmas.Grind.{get_or-set_at}
 use Rattle.std.proofs.lemmas.List.FromFn.{length-range_with_len, get_or-range_with_len, length-enumerate_from, get_or-enumerate_from}
 use Rattle.std.proofs.lemmas.List.Sums.{length-filter, count_by-le-length}
@@ -131,6 +132,21 @@ AreCounts-more count n lists before after a e = record {
   number = λ x h. e.item x (omega (arith, a.one_each)) ∙ ap (stepped (λ k. k + 1) (is_listed (list_at lists n) x)) (a.number x h)
       ∙ sym (ap (λ (row : List ℕ). length row) (owners_more n lists x) ∙ length-with_owner n (is_listed (list_at lists n) x) (owners_below n lists x));
 }
+
+-- where there are few lists, a number has few owners
+pub counts_few : (count n : ℕ) (lists : List (List ℕ)) (counts before : List ℕ) → before ≡ counts → AreCounts count n lists counts → n < 2 ^ 32 → (x : ℕ) → x < length before → get_or before x 0 < 2 ^ 32
+counts_few count n lists counts before e a few x h =
+    let number = a.number x (omega (arith, h, ap (λ (ns : List ℕ). length ns) e, a.one_each)) in
+    let here = ap (λ (ns : List ℕ). get_or ns x 0) e in
+    omega (arith, number, here, owners_few n lists x, few)
+
+-- one list more, counted in a vector
+pub counts_more : (count n : ℕ) (lists : List (List ℕ)) (list : List ℕ) (counts : Vec ℕ) (before after : List ℕ) → list ≡ list_at lists n → before ≡ counts.items → length before ≡ counts.len
+    → AreStepped 0 (λ _ k. k + 1) list before after → AreCounts count n lists counts.items → AreCounts count (n + 1) lists (with_items counts after).items
+counts_more count n lists list counts before after same e len stepped a =
+    let step : ℕ → ℕ → ℕ = λ _ k. k + 1 in
+    let counted = subst (λ (ns : List ℕ). AreStepped 0 step (list_at lists n) ns after) e (subst (λ (items : List ℕ). AreStepped 0 step items before after) same stepped) in
+    subst (AreCounts count (n + 1) lists) (sym (with_items_is counts after (stepped.one_each ∙ len))) (AreCounts-more count n lists counts.items after a counted)
 
 -- rows of these lengths in which nobody is entered yet
 pub AreBegun-none : (count all : ℕ) (lists rows : List (List ℕ)) (lengths counts : List ℕ) → AreCounts count all lists lengths → rows ≡ map (λ n. replicate n 0) lengths → counts ≡ replicate count 0 → AreBegun count all 0 lists rows counts

@@ -25,11 +25,17 @@ pub over_more : (most : Option ℕ) (n m : ℕ) → n ≤ m → are_over most n 
 over_more None n m l e = absurd (cc)
 over_more (Some k) n m l e = let h : k < n = ltb-true k n e in lt-ltb k m (omega arith)
 
+-- after so many lists of those made: their rows, nothing begun, and their items
+pub record AreGathered (made : List (List ℕ)) (k : ℕ) (kept : RowLists ℕ) (items : ℕ) : Type 0 where
+  pub ended : kept.rows ≡ take k made
+  pub none_begun : kept.begun ≡ []
+  pub counted : items ≡ sum_by length (take k made)
+
 -- one list more
 module _ (all rows : List (List ℕ)) (i : ℕ) (within : i < length all) (list row : List ℕ) (here : list ≡ list_at all i) (at : row ≡ list_at rows i) (before kept after : RowLists ℕ) where
-  pub kept_more : before.rows ≡ take i (kept_lists all rows) → before.begun ≡ [] → kept ≡ record before { begun = before.begun ++ filter (is_listed row) list }
+  rows_more : before.rows ≡ take i (kept_lists all rows) → before.begun ≡ [] → kept ≡ record before { begun = before.begun ++ filter (is_listed row) list }
       → after ≡ record { rows = kept.rows ++ kept.begun ∷ []; begun = [] } → after.rows ≡ take (i + 1) (kept_lists all rows)
-  kept_more ended none keeps ends =
+  rows_more ended none keeps ends =
       let made : List (List ℕ) = kept_lists all rows in
       let item : kept.begun ≡ list_at made i = ap (λ (t : RowLists ℕ). t.begun) keeps
       ∙ ap (λ (xs : List ℕ). xs ++ filter (is_listed row) list) none
@@ -42,13 +48,16 @@ module _ (all rows : List (List ℕ)) (i : ℕ) (within : i < length all) (list 
       ∙ ap (λ (l : List ℕ). take i made ++ l ∷ []) item
       ∙ sym (take_more made i [] (omega (arith, length-kept_lists all rows)))
 
--- how many they are then, and that all are no fewer
-pub counted_so : (made : List (List ℕ)) (n k : ℕ) (after : RowLists ℕ) → n ≡ sum_by length after.rows + length after.begun → after.rows ≡ take k made → after.begun ≡ [] → n ≡ sum_by length (take k made)
-counted_so made n k after counted ended none =
-    let all = ap (sum_by (length {A = ℕ})) ended in
-    let begun = ap (length {A = ℕ}) none in
-    omega arith
+  pub kept_more : before.rows ≡ take i (kept_lists all rows) → before.begun ≡ [] → kept ≡ record before { begun = before.begun ++ filter (is_listed row) list }
+      → after ≡ record { rows = kept.rows ++ kept.begun ∷ []; begun = [] } → (n : ℕ) → n ≡ sum_by length after.rows + length after.begun → AreGathered (kept_lists all rows) (i + 1) after n
+  kept_more ended none keeps ends n counted =
+      let more = rows_more ended none keeps ends in
+      let begun = ap (λ (t : RowLists ℕ). t.begun) ends in
+      let items = ap (sum_by (length {A = ℕ})) more in
+      let nothing = ap (length {A = ℕ}) begun in
+      record { ended = more; none_begun = begun; counted = omega arith }
 
+-- all are no fewer
 pub over_in_all : (most : Option ℕ) (made : List (List ℕ)) (n k : ℕ) → n ≡ sum_by length (take k made) → are_over most n ≡ true → are_over most (sum_by length made) ≡ true
 over_in_all most made n k counted e = over_more most n (sum_by length made) (let l = sum_by-take-le (length {A = ℕ}) made k in omega arith) e
 

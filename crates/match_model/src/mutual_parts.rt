@@ -145,7 +145,7 @@ pub(crate) fn mutual_in_turn(
     requires lists { AreLists (map items_of mine.now) (length theirs.now.rows) }
     requires below { All (λ list. list_all (λ x. nat_lt x (length mine.now)) list ≡ true) theirs.now.rows }
     requires distinct { All (λ list. has_no_repeats list ≡ true) theirs.now.rows }
-    ensures lists { (their_lists : List (List ℕ)) → theirs.now.rows ≡ mutual_lists their_lists (lists_left mine.now mine_withdrawn.now) → IfOk result (λ made. made.0 ≡ record { rows = mutual_lists (lists_left mine.now mine_withdrawn.now) their_lists; begun = [] }) }
+    ensures lists { IfOk result (λ made. made.0 ≡ record { rows = mutual_lists (lists_left mine.now mine_withdrawn.now) theirs.now.rows; begun = [] }) }
     ensures ranks { IfOk result (λ made. AreRankTables made.0.rows made.1.rows) }
     ensures cause { IfErr result (λ fault. fault ≡ Memory) }
 {

@@ -81,35 +81,6 @@ fn serve_programme<
     Ok(())
 }
 
-/// Serves each programme's desk, and then each resident's.
-fn serve_all<
-    J: ExchangeIdentity,
-    P: PutEnd<OfferNote>,
-    Q: PutEnd<AnswerNote>,
-    T: TakeEnd<OfferNote> + Drop,
-    U: TakeEnd<AnswerNote> + Drop,
->(
-    inst: &Instance,
-    ledger: &mut Ledger<J, P, Q>,
-    tally: &mut Tally<J>,
-    residents: &mut [Resident<J, T>],
-    programmes: &mut [Programme<J, U>],
-) -> Result<(), EntryRefused>
-    requires { inst.now ≡ J.inst }
-{
-    for p in 0..inst.programmes() {
-        if let Some(desk) = programmes.get_mut(p as usize) {
-            serve_programme(inst, ledger, tally, desk, ProgrammeNo(p))?;
-        }
-    }
-    for r in 0..inst.residents() {
-        if let Some(desk) = residents.get_mut(r as usize) {
-            serve_resident(inst, ledger, tally, desk, ResidentNo(r))?;
-        }
-    }
-    Ok(())
-}
-
 /// A mailbox with room for all that can be sent to a resident, and its agent.
 fn resident_desk<J: ExchangeIdentity, R: Wait + Copy>(
     alloc: Global,
@@ -269,7 +240,7 @@ fn have_heard<J: ExchangeIdentity, U: TakeEnd<AnswerNote> + Drop>(
     Ok(true)
 }
 
-/// Serves all desks as long as there is anything to do, and closes.
+/// Serves each programme's desk and then each resident's, as long as there is anything to do, and closes.
 fn serve_to_close<
     J: ExchangeIdentity,
     P: PutEnd<OfferNote>,
@@ -286,7 +257,16 @@ fn serve_to_close<
     requires { inst.now ≡ J.inst }
 {
     for _ in 0..TURNS {
-        serve_all(inst, ledger, tally, residents, programmes)?;
+        for p in 0..inst.programmes() {
+            if let Some(desk) = programmes.get_mut(p as usize) {
+                serve_programme(inst, ledger, tally, desk, ProgrammeNo(p))?;
+            }
+        }
+        for r in 0..inst.residents() {
+            if let Some(desk) = residents.get_mut(r as usize) {
+                serve_resident(inst, ledger, tally, desk, ResidentNo(r))?;
+            }
+        }
     }
     ledger.close(inst, tally)
 }

@@ -6,7 +6,7 @@ use Rattle.match_model.specs.Owners.{kept_lists}
 use Rattle.match_model.specs.Rows.{RowLists}
 use Rattle.match_model.proofs.Mutual.{length-lists_left}
 use Rattle.match_model.proofs.Entered.{row_below, row_distinct, length-kept_lists}
-use Rattle.match_model.proofs.Gathered.{over_none, kept_more, counted_so, over_in_all}
+use Rattle.match_model.proofs.Gathered.{over_none, kept_more, over_in_all}
 use Rattle.match_model.proofs.mutual_parts.all_kept.Goals as goal
 
 pub note_places-requires-clause-below : goal.note_places-requires-clause-below
@@ -39,31 +39,23 @@ pub loop-owner-preserved : goal.loop-owner-preserved
 loop-owner-preserved c =
     let i : ℕ = c.loop-owner.owner in
     let all : List (List ℕ) = lists_left c.args.lists.now c.args.withdrawn.now in
-    let rows : List (List ℕ) = c.args.rows.now.rows in
-    let made : List (List ℕ) = kept_lists all rows in
     let many = length-lists_left c.args.lists.now c.args.withdrawn.now in
-    let more = kept_more all rows i (omega arith) c.remaining.result.now c.row-row.result.now c.remaining.ensures c.row-row.ensures c.loop-owner.kept c.keep.new.kept c.end_row.new.self
-    c.loop-owner.invariant.ended c.loop-owner.invariant.none_begun c.in_ok-keep.ensures c.in_ok-end_row.ensures in
-    let none = ap (λ (t : RowLists ℕ). t.begun) c.in_ok-end_row.ensures in
-    let counted = counted_so made c.item_count-in-loop-owner.result (i + 1) c.end_row.new.self c.item_count-in-loop-owner.ensures more none in
+    let more = kept_more all c.args.rows.now.rows i (omega arith) c.remaining.result.now c.row-row.result.now c.remaining.ensures c.row-row.ensures c.loop-owner.kept c.keep.new.kept c.end_row.new.self
+    c.loop-owner.invariant.ended c.loop-owner.invariant.none_begun c.in_ok-keep.ensures c.in_ok-end_row.ensures c.item_count-in-loop-owner.result c.item_count-in-loop-owner.ensures in
     record {
-      ended = more;
-      none_begun = none;
-      within = ap (are_over c.args.most) (sym counted) ∙ sym c.is_over.ensures ∙ c.if-is_over.false;
+      ended = more.ended;
+      none_begun = more.none_begun;
+      within = ap (are_over c.args.most) (sym more.counted) ∙ sym c.is_over.ensures ∙ c.if-is_over.false;
     }
 
 pub returns-then-is_over-clause-cause : goal.returns-then-is_over-clause-cause
 returns-then-is_over-clause-cause c =
     let i : ℕ = c.loop-owner.owner in
     let all : List (List ℕ) = lists_left c.args.lists.now c.args.withdrawn.now in
-    let rows : List (List ℕ) = c.args.rows.now.rows in
-    let made : List (List ℕ) = kept_lists all rows in
     let many = length-lists_left c.args.lists.now c.args.withdrawn.now in
-    let more = kept_more all rows i (omega arith) c.remaining.result.now c.row-row.result.now c.remaining.ensures c.row-row.ensures c.loop-owner.kept c.keep.new.kept c.end_row.new.self
-    c.loop-owner.invariant.ended c.loop-owner.invariant.none_begun c.in_ok-keep.ensures c.in_ok-end_row.ensures in
-    let none = ap (λ (t : RowLists ℕ). t.begun) c.in_ok-end_row.ensures in
-    let counted = counted_so made c.item_count-in-loop-owner.result (i + 1) c.end_row.new.self c.item_count-in-loop-owner.ensures more none in
-    inr (refl, over_in_all c.args.most made c.item_count-in-loop-owner.result (i + 1) counted (sym c.is_over.ensures ∙ c.if-is_over.true))
+    let more = kept_more all c.args.rows.now.rows i (omega arith) c.remaining.result.now c.row-row.result.now c.remaining.ensures c.row-row.ensures c.loop-owner.kept c.keep.new.kept c.end_row.new.self
+    c.loop-owner.invariant.ended c.loop-owner.invariant.none_begun c.in_ok-keep.ensures c.in_ok-end_row.ensures c.item_count-in-loop-owner.result c.item_count-in-loop-owner.ensures in
+    inr (refl, over_in_all c.args.most (kept_lists all c.args.rows.now.rows) c.item_count-in-loop-owner.result (i + 1) more.counted (sym c.is_over.ensures ∙ c.if-is_over.true))
 
 pub returns-clause-lists : goal.returns-clause-lists
 returns-clause-lists c =

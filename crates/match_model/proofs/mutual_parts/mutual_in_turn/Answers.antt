@@ -1,11 +1,10 @@
-use Rattle.std.proofs.Common.{◌≡◌, ◌∙◌, ℕ, List, [], length, sym, ap, subst}
+use Rattle.std.proofs.Common.{◌≡◌, ℕ, List, [], length, sym, subst}
 use Rattle.std.specs.List.{sum_by}
 use Rattle.std.specs.Prelude.{IfOk}
-use Rattle.match_model.specs.Draft.{lists_left, mutual_lists}
+use Rattle.match_model.specs.Draft.{lists_left}
 use Rattle.match_model.specs.Owners.{AreOwners, AreRows, kept_lists}
 use Rattle.match_model.proofs.Mutual.{length-lists_left}
 use Rattle.match_model.proofs.Entered.{AreRows-owners, kept_are_mutual}
-use Rattle.match_model.proofs.Kept.{mutual_in_turn}
 use Rattle.match_model.proofs.Gathered.{memory_alone}
 use Rattle.match_model.proofs.mutual_parts.mutual_in_turn.Goals as goal
 
@@ -16,13 +15,11 @@ kept_with_ranks-requires-clause-rows c =
     (AreRows-owners (length c.args.mine.now) (length c.args.theirs.now.rows) c.args.theirs.now.rows c.in_ok-rows.rows.rows c.in_ok-rows.ensures)
 
 pub returns-clause-lists : goal.returns-clause-lists
-returns-clause-lists c = λ their_lists e.
+returns-clause-lists c =
     let left : List (List ℕ) = lists_left c.args.mine.now c.args.mine_withdrawn.now in
     let owned : AreOwners (length left) (length c.args.theirs.now.rows) c.args.theirs.now.rows c.in_ok-rows.rows.rows =
     subst (λ (n : ℕ). AreOwners n (length c.args.theirs.now.rows) c.args.theirs.now.rows c.in_ok-rows.rows.rows) (sym (length-lists_left c.args.mine.now c.args.mine_withdrawn.now)) c.in_ok-rows.ensures in
-    let made : kept_lists left c.in_ok-rows.rows.rows ≡ mutual_lists left their_lists =
-    kept_are_mutual left c.args.theirs.now.rows c.in_ok-rows.rows.rows owned ∙ ap (mutual_lists left) e ∙ mutual_in_turn left their_lists in
-    subst (λ (lists : List (List ℕ)). IfOk c.kept_with_ranks.result (λ made. made.0 ≡ record { rows = lists; begun = [] })) made c.kept_with_ranks.ensures.lists
+    subst (λ (lists : List (List ℕ)). IfOk c.kept_with_ranks.result (λ made. made.0 ≡ record { rows = lists; begun = [] })) (kept_are_mutual left c.args.theirs.now.rows c.in_ok-rows.rows.rows owned) c.kept_with_ranks.ensures.lists
 
 pub returns-clause-cause : goal.returns-clause-cause
 returns-clause-cause c = memory_alone (sum_by length (kept_lists (lists_left c.args.mine.now c.args.mine_withdrawn.now) c.in_ok-rows.rows.rows)) c.kept_with_ranks.result c.kept_with_ranks.ensures.cause

@@ -5,7 +5,7 @@ use Rattle.match_model.specs.Instance.{list_at}
 use Rattle.match_model.specs.Draft.{lists_left}
 use Rattle.match_model.specs.Owners.{AreBegun, AreCounts, AreStepped}
 use Rattle.match_model.proofs.Mutual.{length-lists_left}
-use Rattle.match_model.proofs.Entered.{is_listed_below, AreBegun-none, AreBegun-more, AreOwners-begun, owners_few, owners_room}
+use Rattle.match_model.proofs.Entered.{is_listed_below, AreBegun-none, AreBegun-more, AreOwners-begun, counts_few, owners_room}
 use Rattle.match_model.proofs.owners.owners.Goals as goal
 
 pub enter-requires-clause-room : goal.enter-requires-clause-room
@@ -22,13 +22,7 @@ enter-requires-clause-room c = λ x e.
     omega (arith, number, many, here, room)
 
 pub enter-requires-clause-few : goal.enter-requires-clause-few
-enter-requires-clause-few c = λ x h.
-    let i : ℕ = c.loop-owner.owner in
-    let all : List (List ℕ) = lists_left c.args.lists.now c.args.withdrawn.now in
-    let same = ap (λ (ns : List ℕ). length ns) c.deref_mut.ensures.value in
-    let number = c.loop-owner.invariant.counted.number x (omega (arith, h, same, c.loop-owner.invariant.counted.one_each)) in
-    let here = ap (λ (ns : List ℕ). get_or ns x 0) c.deref_mut.ensures.value in
-    omega (arith, number, here, owners_few i all x, c.loop-owner-test.true, c.requires.few)
+enter-requires-clause-few c = counts_few c.args.count c.loop-owner.owner (lists_left c.args.lists.now c.args.withdrawn.now) c.loop-owner.counts.items c.deref_mut.result.now c.deref_mut.ensures.value c.loop-owner.invariant.counted (omega (arith, c.loop-owner-test.true, c.requires.few))
 
 pub loop-owner-init : goal.loop-owner-init
 loop-owner-init c =

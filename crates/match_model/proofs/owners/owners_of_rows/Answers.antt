@@ -3,7 +3,7 @@ use Rattle.std.proofs.lemmas.List.{with_items_is}
 use Rattle.match_model.specs.Ranking.{is_listed}
 use Rattle.match_model.specs.Instance.{list_at}
 use Rattle.match_model.specs.Owners.{AreBegun, AreCounts, AreStepped}
-use Rattle.match_model.proofs.Entered.{is_listed_below, AreBegun-none, AreBegun-more, AreOwners-begun, owners_few, owners_room}
+use Rattle.match_model.proofs.Entered.{is_listed_below, AreBegun-none, AreBegun-more, AreOwners-begun, counts_few, owners_room}
 use Rattle.match_model.proofs.owners.owners_of_rows.Goals as goal
 
 pub enter-requires-clause-room : goal.enter-requires-clause-room
@@ -20,13 +20,7 @@ enter-requires-clause-room c = λ x e.
     omega (arith, number, many, here, room)
 
 pub enter-requires-clause-few : goal.enter-requires-clause-few
-enter-requires-clause-few c = λ x h.
-    let i : ℕ = c.loop-owner.owner in
-    let all : List (List ℕ) = c.args.lists.now.rows in
-    let same = ap (λ (ns : List ℕ). length ns) c.deref_mut.ensures.value in
-    let number = c.loop-owner.invariant.counted.number x (omega (arith, h, same, c.loop-owner.invariant.counted.one_each)) in
-    let here = ap (λ (ns : List ℕ). get_or ns x 0) c.deref_mut.ensures.value in
-    omega (arith, number, here, owners_few i all x, c.loop-owner-test.true, c.requires.few)
+enter-requires-clause-few c = counts_few c.args.count c.loop-owner.owner c.args.lists.now.rows c.loop-owner.counts.items c.deref_mut.result.now c.deref_mut.ensures.value c.loop-owner.invariant.counted (omega (arith, c.loop-owner-test.true, c.requires.few))
 
 pub loop-owner-init : goal.loop-owner-init
 loop-owner-init c =

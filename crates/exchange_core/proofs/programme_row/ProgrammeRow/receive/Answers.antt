@@ -1,4 +1,4 @@
-use Rattle.std.proofs.Common.{◌≡◌, ◌∙◌, ◌++◌, ◌∷◌, [], ◌<◌, ℕ, List, map, slice_set, length, sym, ap, refl, subst, arith}
+use Rattle.std.proofs.Common.{◌≡◌, ◌∙◌, ◌++◌, ◌∷◌, [], ◌<◌, ℕ, List, map, get_or, slice_set, length, sym, ap, refl, subst, arith}
 use Rattle.std.proofs.lemmas.List.{length-set, length-map, map_push}
 use Rattle.exchange_core.specs.declared.part.Part.{Part}
 use Rattle.exchange_core.specs.declared.programme_row.ProgrammeSeat.{ProgrammeSeat}
@@ -13,29 +13,22 @@ use Rattle.exchange_core.proofs.programme_row.ProgrammeRow.receive.Goals as goal
 use Rattle.exchange_core.specs.Mail.{Answered}
 use Rattle.exchange_core.proofs.NoteCodes.{answer_of_note}
 
+-- where fewer answers wait than may, the part of the seat has room
+room_left : (notes : List ℕ) (seats : List ProgrammeSeat) (rows : List ProgrammeLeft) (i r : ℕ) (seat : ProgrammeSeat) → map (shown_programme notes) seats ≡ rows → i ≡ r → r < length rows → seat ≡ get_or seats i seat
+    → length (get_or rows r (opened_programme 0 0 0)).waiting < (get_or rows r (opened_programme 0 0 0)).room → seat.part.len < seat.part.room
+room_left notes seats rows i r seat view same member is few =
+    let here = subst (λ (s : ProgrammeLeft). length s.waiting < s.room) (now_at (shown_programme notes) seats rows i r seat (opened_programme 0 0 0) view same member is) few in
+    omega (arith, here, length-map (waiting_in notes seat.part) answer_of, length-waiting notes seat.part)
+
 pub push-part-requires-clause-within : goal.push-part-requires-clause-within
 push-part-requires-clause-within c =
-    let part : ProgrammeSeat → Part = λ s. s.part in
     let notes : List ℕ = c.self.inside.notes.items in
     let seats : List ProgrammeSeat = c.self.inside.seats.items in
-    let seat : ProgrammeSeat = c.index.result.now in
     let h = index_within (shown_programme notes) seats c.args.self.now c.programme.inside.0 c.args.programme c.self.view_is c.programme.view_is c.requires.member in
-    let shown = now_at (shown_programme notes) seats c.args.self.now c.programme.inside.0 c.args.programme seat (opened_programme 0 0 0) c.self.view_is c.programme.view_is c.requires.member c.index.ensures in
-    let few = subst (λ (s : ProgrammeLeft). length s.waiting < s.room) shown c.requires.room in
-    let more : seat.part.len < seat.part.room = omega (arith, few, length-map (waiting_in notes seat.part) answer_of, length-waiting notes seat.part) in
-    part_within part shown_programme seats (length notes) c.programme.inside.0 seat h c.index.ensures c.self.invariant.laid
+    part_within (λ (s : ProgrammeSeat). s.part) shown_programme seats (length notes) c.programme.inside.0 c.index.result.now h c.index.ensures c.self.invariant.laid
 
 pub push-part-requires-clause-room : goal.push-part-requires-clause-room
-push-part-requires-clause-room c =
-    let part : ProgrammeSeat → Part = λ s. s.part in
-    let notes : List ℕ = c.self.inside.notes.items in
-    let seats : List ProgrammeSeat = c.self.inside.seats.items in
-    let seat : ProgrammeSeat = c.index.result.now in
-    let h = index_within (shown_programme notes) seats c.args.self.now c.programme.inside.0 c.args.programme c.self.view_is c.programme.view_is c.requires.member in
-    let shown = now_at (shown_programme notes) seats c.args.self.now c.programme.inside.0 c.args.programme seat (opened_programme 0 0 0) c.self.view_is c.programme.view_is c.requires.member c.index.ensures in
-    let few = subst (λ (s : ProgrammeLeft). length s.waiting < s.room) shown c.requires.room in
-    let more : seat.part.len < seat.part.room = omega (arith, few, length-map (waiting_in notes seat.part) answer_of, length-waiting notes seat.part) in
-    more
+push-part-requires-clause-room c = room_left c.self.inside.notes.items c.self.inside.seats.items c.args.self.now c.programme.inside.0 c.args.programme c.index.result.now c.self.view_is c.programme.view_is c.requires.member c.index.ensures c.requires.room
 
 pub invariant_of-self : goal.invariant_of-self
 invariant_of-self c =
@@ -44,9 +37,7 @@ invariant_of-self c =
     let seats : List ProgrammeSeat = c.self.inside.seats.items in
     let seat : ProgrammeSeat = c.index.result.now in
     let h = index_within (shown_programme notes) seats c.args.self.now c.programme.inside.0 c.args.programme c.self.view_is c.programme.view_is c.requires.member in
-    let shown = now_at (shown_programme notes) seats c.args.self.now c.programme.inside.0 c.args.programme seat (opened_programme 0 0 0) c.self.view_is c.programme.view_is c.requires.member c.index.ensures in
-    let few = subst (λ (s : ProgrammeLeft). length s.waiting < s.room) shown c.requires.room in
-    let more : seat.part.len < seat.part.room = omega (arith, few, length-map (waiting_in notes seat.part) answer_of, length-waiting notes seat.part) in
+    let more = room_left notes seats c.args.self.now c.programme.inside.0 c.args.programme seat c.self.view_is c.programme.view_is c.requires.member c.index.ensures c.requires.room in
     let ring = ring_at part shown_programme seats c.programme.inside.0 seat h c.index.ensures c.self.invariant.rings in
     record {
       laid = laid_set part shown_programme seats (length c.push-part.new.notes.items) c.programme.inside.0 seat _ c.index.ensures (ap span c.push-part.ensures.part)
@@ -61,9 +52,7 @@ returns c =
     let seats : List ProgrammeSeat = c.self.inside.seats.items in
     let seat : ProgrammeSeat = c.index.result.now in
     let h = index_within (shown_programme notes) seats c.args.self.now c.programme.inside.0 c.args.programme c.self.view_is c.programme.view_is c.requires.member in
-    let shown = now_at (shown_programme notes) seats c.args.self.now c.programme.inside.0 c.args.programme seat (opened_programme 0 0 0) c.self.view_is c.programme.view_is c.requires.member c.index.ensures in
-    let few = subst (λ (s : ProgrammeLeft). length s.waiting < s.room) shown c.requires.room in
-    let more : seat.part.len < seat.part.room = omega (arith, few, length-map (waiting_in notes seat.part) answer_of, length-waiting notes seat.part) in
+    let more = room_left notes seats c.args.self.now c.programme.inside.0 c.args.programme seat c.self.view_is c.programme.view_is c.requires.member c.index.ensures c.requires.room in
     let ring = ring_at part shown_programme seats c.programme.inside.0 seat h c.index.ensures c.self.invariant.rings in
     let new : ProgrammeSeat = record { part = c.push-part.result; offered = c.index_mut.result.now.offered; out = c.index_mut.result.now.out; places = c.index_mut.result.now.places; listed = c.index_mut.result.now.listed } in
     let again : c.index_mut.result.now ≡ seat = same_seat seats c.programme.inside.0 c.index_mut.result.now seat h c.index_mut.ensures.value c.index.ensures in

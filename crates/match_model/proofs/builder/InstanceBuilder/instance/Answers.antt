@@ -11,7 +11,7 @@ use Rattle.match_model.specs.RankTable.{AreRankTables}
 use Rattle.match_model.specs.Rows.{RowLists}
 use Rattle.match_model.specs.declared.limits.TheConstants.{MAX_PAIRS}
 use Rattle.match_model.specs.Draft.{Draft, AreLists, IsFinishFault, instance_of, lists_left, mutual_left, mutual_lists, has_no_repeats, items_of}
-use Rattle.match_model.proofs.Kept.{IsWellFormed-instance_of}
+use Rattle.match_model.proofs.Kept.{IsWellFormed-instance_of, mutual_in_turn}
 use Rattle.match_model.proofs.Mutual.{left_below, left_distinct, length-mutual_lists, length-lists_left}
 use Rattle.match_model.proofs.Entered.{mutual_below, mutual_distinct}
 use Rattle.match_model.proofs.Gathered.{same_err, fault_of_most}
@@ -21,8 +21,16 @@ use Rattle.match_model.proofs.builder.InstanceBuilder.instance.Goals as goal
 same_mutual : (ms ms' : List (Option (Vec ℕ))) (fs fs' : List Bool) (ts ts' : List (Option (Vec ℕ))) (gs gs' : List Bool) → ms ≡ ms' → fs ≡ fs' → ts ≡ ts' → gs ≡ gs' → mutual_left ms fs ts gs ≡ mutual_left ms' fs' ts' gs'
 same_mutual ms ms' fs fs' ts ts' gs gs' m f t g = λ i. mutual_left (m i) (f i) (t i) (g i)
 
-same_left : (ms ms' : List (Option (Vec ℕ))) (fs fs' : List Bool) → ms ≡ ms' → fs ≡ fs' → lists_left ms fs ≡ lists_left ms' fs'
-same_left ms ms' fs fs' m f = λ i. lists_left (m i) (f i)
+-- the rows made for the programmes are the mutual lists of what was read, and so of what the builder has
+programmes_made : (rows : RowLists ℕ) (ms ms' : List (Option (Vec ℕ))) (fs fs' : List Bool) (ts ts' : List (Option (Vec ℕ))) (gs gs' : List Bool) → rows ≡ record { rows = mutual_left ms fs ts gs; begun = [] }
+    → ms ≡ ms' → fs ≡ fs' → ts ≡ ts' → gs ≡ gs' → rows.rows ≡ mutual_left ms' fs' ts' gs'
+programmes_made rows ms ms' fs fs' ts ts' gs gs' made m f t g = ap (λ (v : RowLists ℕ). v.rows) made ∙ same_mutual ms ms' fs fs' ts ts' gs gs' m f t g
+
+-- and so are those made for the residents by the rows of the programmes
+residents_made : (rows programmes : RowLists ℕ) (ms : List (Option (Vec ℕ))) (fs : List Bool) (ts ts' : List (Option (Vec ℕ))) (gs gs' : List Bool) → programmes.rows ≡ mutual_left ms fs ts' gs'
+    → rows ≡ record { rows = mutual_lists (lists_left ts gs) programmes.rows; begun = [] } → ts ≡ ts' → gs ≡ gs' → rows.rows ≡ mutual_left ts' gs' ms fs
+residents_made rows programmes ms fs ts ts' gs gs' theirs made t g =
+    ap (λ (v : RowLists ℕ). v.rows) made ∙ (λ i. mutual_lists (lists_left (t i) (g i)) (theirs i)) ∙ mutual_in_turn (lists_left ts' gs') (lists_left ms fs)
 
 -- the parts of an instance, put in one at a time
 same_instance : (qs qs' : List ℕ) (ps ps' rs rs' : List (List ℕ)) (fs fs' gs gs' : List Bool) → qs ≡ qs' → ps ≡ ps' → rs ≡ rs' → fs ≡ fs' → gs ≡ gs' →
@@ -70,17 +78,11 @@ mutual_in_turn-requires-clause-distinct c =
 
 pub invariant_of-result : goal.invariant_of-result
 invariant_of-result c =
-    let programmes : c.in_ok-programmes.programmes.rows ≡ mutual_left c.self.inside.programme_lists.items c.self.inside.programmes_withdrawn.items c.self.inside.resident_lists.items c.self.inside.residents_withdrawn.items =
-    ap (λ (v : RowLists ℕ). v.rows) c.in_ok-programmes.ensures.lists ∙ same_mutual _ _ _ _ _ _ _ _ c.deref.ensures.value c.deref-2.ensures.value c.deref-3.ensures.value c.deref-4.ensures.value in
-    let their_lists : List (List ℕ) = lists_left c.self.inside.programme_lists.items c.self.inside.programmes_withdrawn.items in
-    let left = same_left _ _ _ _ c.deref-5.ensures.value c.deref-6.ensures.value in
-    let residents : c.in_ok-residents.residents.rows ≡ mutual_left c.self.inside.resident_lists.items c.self.inside.residents_withdrawn.items c.self.inside.programme_lists.items c.self.inside.programmes_withdrawn.items =
-    ap (λ (v : RowLists ℕ). v.rows) (c.in_ok-residents.ensures.lists their_lists (programmes ∙ ap (mutual_lists their_lists) (sym left))) ∙ ap (λ (lists : List (List ℕ)). mutual_lists lists their_lists) left in
-    let quotas = c.in_ok-from_slice.ensures.items ∙ c.deref-7.ensures.value in
+    let programmes = programmes_made c.in_ok-programmes.programmes _ _ _ _ _ _ _ _ c.in_ok-programmes.ensures.lists c.deref.ensures.value c.deref-2.ensures.value c.deref-3.ensures.value c.deref-4.ensures.value in
+    let residents = residents_made c.in_ok-residents.residents c.in_ok-programmes.programmes _ _ _ _ _ _ programmes c.in_ok-residents.ensures.lists c.deref-5.ensures.value c.deref-6.ensures.value in
     let ps = ap (λ (v : RowLists ℕ). v.rows) c.in_ok-into_residents.ensures ∙ programmes in
     let rs = ap (λ (v : RowLists ℕ). v.rows) c.in_ok-into_programmes.ensures ∙ residents in
-    let fs = c.in_ok-from_slice-2.ensures.items ∙ c.deref-8.ensures.value in
-    let gs = c.in_ok-from_slice-3.ensures.items ∙ c.deref-9.ensures.value in
+    let parts = same_instance _ _ _ _ _ _ _ _ _ _ (c.in_ok-from_slice.ensures.items ∙ c.deref-7.ensures.value) ps rs (c.in_ok-from_slice-2.ensures.items ∙ c.deref-8.ensures.value) (c.in_ok-from_slice-3.ensures.items ∙ c.deref-9.ensures.value) in
     let d : Draft = record { quotas = c.self.inside.quotas.items; programme_lists = map items_of c.self.inside.programme_lists.items; resident_lists = map items_of c.self.inside.resident_lists.items; programmes_withdrawn = c.self.inside.programmes_withdrawn.items; residents_withdrawn = c.self.inside.residents_withdrawn.items } in
     let same = same_mutual _ _ _ _ _ _ _ _ c.deref.ensures.value c.deref-2.ensures.value c.deref-3.ensures.value c.deref-4.ensures.value in
     let made : sum_by (length {A = ℕ}) (mutual_left _ _ _ _) ≡ pair_count (instance_of d) = ap (sum_by (length {A = ℕ})) same in
@@ -88,25 +90,19 @@ invariant_of-result c =
     let all = ap (λ (v : RowLists ℕ). sum_by (length {A = ℕ}) v.rows + length v.begun) c.in_ok-programmes.ensures.lists in
     let counted : c.item_count-pairs.result ≡ pair_count (instance_of d) = omega (arith, c.item_count-pairs.ensures, all, made) in
     record {
-      rankings = subst (λ (inst : Instance). IsWellFormed inst c.item_count-pairs.result) (sym (same_instance _ _ _ _ _ _ _ _ _ _ quotas ps rs fs gs)) (IsWellFormed-instance_of d c.item_count-pairs.result c.self.invariant few counted);
+      rankings = subst (λ (inst : Instance). IsWellFormed inst c.item_count-pairs.result) (sym parts) (IsWellFormed-instance_of d c.item_count-pairs.result c.self.invariant few counted);
       programme_ranks = subst (λ (lists : List (List ℕ)). AreRankTables lists c.in_ok-programmes.programme_ranks.rows) (programmes ∙ sym ps) c.in_ok-programmes.ensures.ranks;
       resident_ranks = subst (λ (lists : List (List ℕ)). AreRankTables lists c.in_ok-residents.resident_ranks.rows) (residents ∙ sym rs) c.in_ok-residents.ensures.ranks;
     }
 
 pub returns-clause-made : goal.returns-clause-made
 returns-clause-made c =
-    let programmes : c.in_ok-programmes.programmes.rows ≡ mutual_left c.self.inside.programme_lists.items c.self.inside.programmes_withdrawn.items c.self.inside.resident_lists.items c.self.inside.residents_withdrawn.items =
-    ap (λ (v : RowLists ℕ). v.rows) c.in_ok-programmes.ensures.lists ∙ same_mutual _ _ _ _ _ _ _ _ c.deref.ensures.value c.deref-2.ensures.value c.deref-3.ensures.value c.deref-4.ensures.value in
-    let their_lists : List (List ℕ) = lists_left c.self.inside.programme_lists.items c.self.inside.programmes_withdrawn.items in
-    let left = same_left _ _ _ _ c.deref-5.ensures.value c.deref-6.ensures.value in
-    let residents : c.in_ok-residents.residents.rows ≡ mutual_left c.self.inside.resident_lists.items c.self.inside.residents_withdrawn.items c.self.inside.programme_lists.items c.self.inside.programmes_withdrawn.items =
-    ap (λ (v : RowLists ℕ). v.rows) (c.in_ok-residents.ensures.lists their_lists (programmes ∙ ap (mutual_lists their_lists) (sym left))) ∙ ap (λ (lists : List (List ℕ)). mutual_lists lists their_lists) left in
-    let quotas = c.in_ok-from_slice.ensures.items ∙ c.deref-7.ensures.value in
+    let programmes = programmes_made c.in_ok-programmes.programmes _ _ _ _ _ _ _ _ c.in_ok-programmes.ensures.lists c.deref.ensures.value c.deref-2.ensures.value c.deref-3.ensures.value c.deref-4.ensures.value in
+    let residents = residents_made c.in_ok-residents.residents c.in_ok-programmes.programmes _ _ _ _ _ _ programmes c.in_ok-residents.ensures.lists c.deref-5.ensures.value c.deref-6.ensures.value in
     let ps = ap (λ (v : RowLists ℕ). v.rows) c.in_ok-into_residents.ensures ∙ programmes in
     let rs = ap (λ (v : RowLists ℕ). v.rows) c.in_ok-into_programmes.ensures ∙ residents in
-    let fs = c.in_ok-from_slice-2.ensures.items ∙ c.deref-8.ensures.value in
-    let gs = c.in_ok-from_slice-3.ensures.items ∙ c.deref-9.ensures.value in
-    rw (← c.self.view_is) (same_instance _ _ _ _ _ _ _ _ _ _ quotas ps rs fs gs)
+    let parts = same_instance _ _ _ _ _ _ _ _ _ _ (c.in_ok-from_slice.ensures.items ∙ c.deref-7.ensures.value) ps rs (c.in_ok-from_slice-2.ensures.items ∙ c.deref-8.ensures.value) (c.in_ok-from_slice-3.ensures.items ∙ c.deref-9.ensures.value) in
+    rw (← c.self.view_is) parts
 
 pub returns-in_err-programmes-clause-cause : goal.returns-in_err-programmes-clause-cause
 returns-in_err-programmes-clause-cause c =
