@@ -17,9 +17,7 @@ use exchange_core::Capacity;
 use std::alloc::{AllocError, Global};
 use std::convert::AsStr;
 use thiserror::Error;
-
-// The version of the program.
-const VERSION: &str = "1.0.0";
+use version::VERSION;
 
 // What the help of each command says of what it reads and writes, of the exit status, and of an example.
 const MATCH_HELP: &str =

@@ -1,0 +1,107 @@
+#!/usr/bin/env python3
+"""Notes what ./check has passed, so that a release is made of nothing else.
+
+checked.py begin: before the first part. checked.py end: after the last one; what it notes is kept in .build/passed."""
+from __future__ import annotations
+
+import hashlib
+import json
+import os
+import subprocess
+import sys
+from typing import Any, Dict, List, Optional
+
+PROGRAMS = {"residency": "residency_cli", "residency-why": "residency_why"}
+# A note names one, so a note that an earlier form of this file left is none.
+FORM = 1
+
+
+def said_by(top: str, *words: str) -> str:
+    """What a command says, or no text where it fails or is missing."""
+    try:
+        ran = subprocess.run(words, cwd=top, capture_output=True, text=True, stdin=subprocess.DEVNULL, check=False)
+    except OSError:
+        return ""
+    return ran.stdout.strip() if ran.returncode == 0 else ""
+
+
+def state_of(top: str) -> Dict[str, str]:
+    """The commit and its tree that are checked out, and what isn't committed of the files that lie there."""
+    return {"commit": said_by(top, "git", "rev-parse", "HEAD"), "tree": said_by(top, "git", "rev-parse", "HEAD^{tree}"),
+            "changed": said_by(top, "git", "status", "--porcelain")}
+
+
+def built(top: str, crate: str) -> str:
+    return f"{top}/crates/{crate}/out/{crate}"
+
+
+def sum_of(path: str) -> str:
+    """The SHA-256 of a file, or no text where there is none."""
+    try:
+        with open(path, "rb") as file:
+            return hashlib.sha256(file.read()).hexdigest()
+    except OSError:
+        return ""
+
+
+def sums_of(top: str) -> Dict[str, str]:
+    return {name: sum_of(built(top, crate)) for name, crate in PROGRAMS.items()}
+
+
+def toolchain(top: str) -> str:
+    return said_by(top, "rt", "version") or said_by(top, "/opt/rattle/bin/rt", "version")
+
+
+def note_of(top: str) -> Optional[Dict[str, Any]]:
+    """What ./check noted when it passed last, if it did."""
+    try:
+        with open(f"{top}/.build/passed") as file:
+            note = json.load(file)
+    except (OSError, ValueError):
+        return None
+    return note if isinstance(note, dict) and note.get("form") == FORM else None
+
+
+def lines_of(path: str) -> List[str]:
+    try:
+        with open(path) as file:
+            return file.read().splitlines()
+    except OSError:
+        return []
+
+
+def begin(top: str) -> None:
+    """Forgets what was passed before, and keeps what is checked out now."""
+    os.makedirs(f"{top}/.build", exist_ok=True)
+    for name in ("passed", "parts"):
+        if os.path.exists(f"{top}/.build/{name}"):
+            os.remove(f"{top}/.build/{name}")
+    with open(f"{top}/.build/begun", "w") as file:
+        json.dump(state_of(top), file)
+
+
+def end(top: str) -> str:
+    """Notes that all has passed, and answers what is to be told of it."""
+    with open(f"{top}/.build/begun") as file:
+        before = json.load(file)
+    now = state_of(top)
+    if not now["commit"]:
+        return "check: passed; no release can be made of it, since this is no git checkout"
+    if before != now or now["changed"]:
+        what = f"has changes ({now['changed'].splitlines()[0].strip()})" if now["changed"] else "changed meanwhile"
+        return f"check: passed; no release can be made of it, since the checkout {what}"
+    note = {"form": FORM, "commit": now["commit"], "tree": now["tree"], "toolchain": toolchain(top), "programs": sums_of(top),
+            "parts": lines_of(f"{top}/.build/parts")}
+    with open(f"{top}/.build/passed", "w") as file:
+        json.dump(note, file, indent=1)
+    return f"check: passed; tools/release may make a release of {now['commit'][:12]}"
+
+
+if __name__ == "__main__":
+    ROOT = os.path.dirname(os.path.dirname(os.path.abspath(__file__)))
+    if sys.argv[1:] == ["begin"]:
+        begin(ROOT)
+    elif sys.argv[1:] == ["end"]:
+        print(end(ROOT))
+    else:
+        sys.exit("checked.py: begin or end is wanted")

@@ -1,0 +1,63 @@
+"""Makes a release's pages from the repository's: README's parts for users, and the pages of docs/ that they lead to."""
+from __future__ import annotations
+
+import os
+import re
+from typing import Dict, List
+
+BEGIN, END = "<!-- for users -->", "<!-- for all others -->"
+# Pages that users' pages name, and that are for whoever works on the programs.
+NOT_FOR_USERS = ("docs/DECISIONS", "docs/decisions", "docs/architecture", "docs/house")
+LINK = re.compile(r"(!?)\[([^\]]*)\]\(([^)#\s]*)(#[^)]*)?\)")
+LAUNCHERS = {"./residency": "residency", "./why": "residency-why", "./office": "office"}
+LAUNCHER = re.compile(r"\./(?:residency|why|office)\b(?![/-])")
+
+
+def users_part(text: str) -> str:
+    """README between each begin and the end after it. ValueError where one is missing."""
+    parts = text.split(BEGIN)[1:]
+    if not parts:
+        raise ValueError(f"README.md has no {BEGIN}")
+    return "\n\n".join(["# Residency", *(part.split(END)[0].strip("\n") for part in parts)]) + "\n"
+
+
+def installed(text: str) -> str:
+    """A page's text with the programs as they are called once they are installed."""
+    return LAUNCHER.sub(lambda found: LAUNCHERS[found[0]], text)
+
+
+def targets_of(text: str, folder: str) -> List[str]:
+    """The paths that a page in this folder links to."""
+    return [os.path.normpath(os.path.join(folder, found[3])) for found in LINK.finditer(text) if found[3] and "://" not in found[3]]
+
+
+def within(text: str, folder: str, names: "set[str]") -> str:
+    """A page's text in which a link to a file that isn't in the release is its words alone."""
+    def plain(found: "re.Match[str]") -> str:
+        is_there = not found[3] or "://" in found[3] or os.path.normpath(os.path.join(folder, found[3])) in names
+        return found[0] if is_there else found[2]
+    return LINK.sub(plain, text)
+
+
+def release_pages(top: str) -> Dict[str, bytes]:
+    """The pages by their paths, README.md first, and the pictures that they show."""
+    def read(path: str) -> bytes:
+        with open(f"{top}/{path}", "rb") as file:
+            return file.read()
+
+    texts = {"README.md": users_part(read("README.md").decode())}
+    pictures: Dict[str, bytes] = {}
+    wanted = ["README.md"]
+    while wanted:
+        page = wanted.pop(0)
+        for path in targets_of(texts[page], os.path.dirname(page)):
+            if path in texts or path in pictures or not path.startswith("docs/") or path.startswith(NOT_FOR_USERS):
+                continue
+            if path.endswith(".md"):
+                texts[path] = read(path).decode()
+                wanted.append(path)
+            else:
+                pictures[path] = read(path)
+    names = {*texts, *pictures, "CHANGELOG.md", "VERDICT"}
+    pages = {path: installed(within(text, os.path.dirname(path), names)).encode() for path, text in texts.items()}
+    return {**pages, **pictures}

@@ -1,0 +1,190 @@
+"""What ./residency, ./why and ./office of a clone do without a toolchain, when they build, and what a start through them costs."""
+from __future__ import annotations
+
+import glob
+import os
+import shutil
+import subprocess
+import time
+from typing import TYPE_CHECKING, List, Optional
+
+import roots
+
+if TYPE_CHECKING:
+    from typing import Protocol
+
+    class Trial(Protocol):
+        def tell(self, is_right: bool, what: str) -> None: ...
+        def same(self, got: object, wanted: object, what: str) -> None: ...
+        def leave_out(self, what: str) -> None: ...
+
+TOP = os.path.dirname(os.path.dirname(os.path.dirname(os.path.abspath(__file__))))
+SHEET = b"M,x,a\nM,y,b\nF,a,1,1\nF,b,1,1\n"
+# The most that a start through ./residency may cost over the program itself, in seconds.
+MOST_COST = 0.020
+
+
+def some_tools(root: roots.Root, names: List[str], folder: str) -> str:
+    """A folder of the root with these programs of the machine."""
+    roots.put_programs(names, root.root, folder)
+    return folder if root.words else f"{root.root}{folder}"
+
+
+def unpackers(root: roots.Root) -> str:
+    """What unpacks an archive and is none of coreutils."""
+    return some_tools(root, ["tar", "gzip"], "/unpack")
+
+
+def tracked(*folders: str) -> List[str]:
+    ran = subprocess.run(["git", "-C", TOP, "ls-files", "--", *folders], capture_output=True, text=True, check=True)
+    return [path for path in ran.stdout.splitlines() if os.path.isfile(f"{TOP}/{path}")]
+
+
+def copy_of(*folders: str, to: str) -> None:
+    """Copies the files that git knows, as they lie here."""
+    for path in tracked(*folders):
+        os.makedirs(os.path.dirname(f"{to}/{path}"), exist_ok=True)
+        shutil.copy2(f"{TOP}/{path}", f"{to}/{path}")
+
+
+def without_toolchain(trial: Trial, root: roots.Root, release: str) -> None:
+    """One line and status 1 where there is no program; else the one that RESIDENCY_BIN tells, or an unpacked one beside the clone."""
+    if not root.words:
+        trial.leave_out("launchers without a toolchain")
+        return
+    at = f"{root.home}/work/clone"
+    clone = root.path(at)
+    copy_of("residency", "why", "office", "tools", "docs/help", "crates.txt", "crates", "examples", to=clone)
+    docket = "< examples/two-by-two.csv"
+    starts = ["./residency match " + docket, "./why x " + docket, "./office run examples/office/programmes.csv examples/office/residents.csv --out new"]
+
+    def refused(line: str, wanted: bytes, **known: str) -> None:
+        status, out, err = root.run(line, at, **known)
+        trial.tell((status, out) == (1, b"") and err.count(b"\n") == 1 and err.startswith(b"residency: ") and wanted in err,
+                   f"{line} {known} ends with {status}, {out!r}, {err!r}")
+
+    for line in starts:
+        refused(line, b"the toolchain (rt) that builds it is missing; a release has it")
+        refused(line, b"RESIDENCY_BIN is /nowhere", RESIDENCY_BIN="/nowhere")
+    refused(starts[0], b"RESIDENCY_BIN is ", RESIDENCY_BIN=at)
+    with open(f"{TOP}/docs/help/help.txt", "rb") as file:
+        trial.same(root.run("./residency --help", at)[:2], (0, file.read()), "./residency --help of a clone with no program")
+    trial.same(root.run("./residency --version", at)[1], b"residency " + root.run("tools/version", at)[1], "./residency --version of it")
+    programs = f"{root.home}/.local/bin"
+    for told in (programs, f"{programs}/residency"):
+        trial.same(root.run(starts[0], at, RESIDENCY_BIN=told)[:2], (0, SHEET), f"./residency with RESIDENCY_BIN={told}")
+        trial.same(root.run("./why --help", at, RESIDENCY_BIN=told)[:2], root.run("residency-why --help", at)[:2], f"./why with RESIDENCY_BIN={told}")
+    shutil.copytree(root.path(release), f"{clone}/../{os.path.basename(release)}")
+    trial.same(root.run(starts[0], at)[:2], (0, SHEET), "./residency beside a release")
+    trial.same(root.run("./why --help", at)[:2], root.run("residency-why --help", at)[:2], "./why beside a release")
+    trial.same(root.run(f"cd .. && ln -s clone/residency link && ./link match < clone/{docket[2:]}", at)[:2], (0, SHEET), "a link to ./residency")
+    shutil.rmtree(f"{clone}/../{os.path.basename(release)}")
+    # A program that was built and is older than a source, and one that isn't.
+    program = f"{clone}/crates/residency_cli/out/residency_cli"
+    os.makedirs(os.path.dirname(program))
+    shutil.copy(root.path(f"{release}/bin/residency"), program)
+    find = some_tools(root, ["find"], "/find")
+    trial.same(root.run(starts[0], at, first=find)[:2], (0, SHEET), "./residency that is built")
+    os.utime(program, (1, 1))
+    status, out, err = root.run(starts[0], at, first=find)
+    trial.tell((status, out) == (1, b"") and b"is older than crates" in err and err.count(b"\n") == 1, f"./residency that is old: {err!r}")
+    shutil.rmtree(os.path.dirname(clone))
+
+
+STAND_IN = """#!/bin/bash
+# Stands in for what proves and builds: it notes its program, may touch a source meanwhile, and may fail.
+cd "$(dirname "$0")/.."
+echo "$1" >> built
+[ ! -e fails ] || exit 1
+[ ! -e meanwhile ] || touch "$(cat meanwhile)"
+sleep 0.05
+mkdir -p "crates/$1/out"
+printf '#!/bin/sh\\necho "$@"\\n' > "crates/$1/out/$1"
+chmod +x "crates/$1/out/$1"
+"""
+
+
+class Clone:
+    """A clone whose builds are counted."""
+
+    def __init__(self, trial: Trial, folder: str) -> None:
+        self.trial, self.folder = trial, folder
+        copy_of("residency", "why", "tools", "docs/help", "crates.txt", "crates", to=folder)
+        self.write("tools/build", STAND_IN)
+        self.write("bin/rt", "#!/bin/sh\n")
+        self.known = {**os.environ, "PATH": f"{folder}/bin:{os.environ['PATH']}"}
+        self.known.pop("RESIDENCY_BIN", None)
+
+    def write(self, path: str, text: str) -> None:
+        os.makedirs(os.path.dirname(f"{self.folder}/{path}"), exist_ok=True)
+        with open(f"{self.folder}/{path}", "w") as file:
+            file.write(text)
+        os.chmod(f"{self.folder}/{path}", 0o755)
+
+    def start(self, launcher: str = "./residency", status: int = 0) -> None:
+        ran = subprocess.run([launcher, "word"], cwd=self.folder, env=self.known, capture_output=True, text=True, check=False)
+        self.trial.same((ran.returncode, ran.stdout), (status, "" if status else "word\n"), f"{launcher} of a counted clone ({ran.stderr})")
+
+    def builds(self) -> int:
+        try:
+            with open(f"{self.folder}/built") as file:
+                return file.read().count("\n")
+        except OSError:
+            return 0
+
+    def after(self, changed: Optional[str], wanted: int, what: str, launcher: str = "./residency") -> None:
+        """Changes a file, starts twice, and wants so many builds."""
+        before = self.builds()
+        time.sleep(0.02)
+        if changed:
+            with open(f"{self.folder}/{changed}", "a") as file:
+                file.write("\n")
+        self.start(launcher)
+        self.start(launcher)
+        self.trial.same(self.builds() - before, wanted, f"builds of {launcher} after {what}")
+
+
+def freshness(trial: Trial, folder: str) -> None:
+    """A start builds where a source of its program is newer, once, and only there."""
+    clone = Clone(trial, folder)
+    clone.after(None, 1, "nothing was built")
+    clone.after(None, 0, "nothing")
+    specs = os.path.relpath(glob.glob(f"{folder}/crates/docket/specs/*.antt")[0], folder)
+    for path in ("crates/match_model/src/lib.rt", specs, "crates.txt", "crates/residency_cli/src/main.rt", "crates/version/src/lib.rt",
+                 "crates/docket/src/new.rt"):
+        clone.after(path, 1, f"{path} changed")
+    proof = os.path.relpath(glob.glob(f"{folder}/crates/match_model/proofs/*.antt")[0], folder)
+    for path in (proof, "crates/residency_why/src/main.rt", "crates/samples/src/lib.rt", "crates/docket/src/new.rt~"):
+        clone.after(path, 0, f"{path} changed")
+    clone.after(None, 1, "nothing of it was built", "./why")
+    clone.after("crates/match_reasons/src/lib.rt", 1, "crates/match_reasons changed", "./why")
+    clone.after(None, 0, "crates/match_reasons changed")
+    # A source that is written while the program is built is newer than the program.
+    clone.write("meanwhile", "crates/docket/src/lib.rt")
+    before = clone.builds()
+    clone.after("crates/docket/src/read.rt", 2, "a change, and another while it built")
+    os.remove(f"{folder}/meanwhile")
+    clone.start()
+    clone.after(None, 0, "a build with nothing beside")
+    # What couldn't be built is tried again.
+    clone.write("fails", "")
+    time.sleep(0.02)
+    clone.write("crates/docket/src/read.rt", "")
+    before = clone.builds()
+    clone.start(status=1)
+    clone.start(status=1)
+    trial.same(clone.builds() - before, 2, "builds that fail")
+
+
+def seconds_of(words: List[str]) -> float:
+    start = time.perf_counter()
+    subprocess.run(words, stdout=subprocess.DEVNULL, stdin=subprocess.DEVNULL, check=True)
+    return time.perf_counter() - start
+
+
+def cost(trial: Trial) -> None:
+    """What a start through ./residency takes over the program itself, at the best of many turns."""
+    program = f"{TOP}/crates/residency_cli/out/residency_cli"
+    turns = [(seconds_of([f"{TOP}/residency", "--version"]), seconds_of([program, "--version"])) for _ in range(41)]
+    over = min(turn[0] for turn in turns) - min(turn[1] for turn in turns)
+    trial.tell(over <= MOST_COST, f"a start through ./residency costs {over * 1000:.1f} ms over the program")
