@@ -4,12 +4,14 @@ from __future__ import annotations
 from .docket import Docket, Journal, read_docket, write_docket
 from .errors import (DocketFault, KeyFault, MarketFault, ProgramError, ProgramFailed, ProgramMissing, ProgramTimeout,
                      ResidencyError, UnknownStatus)
+from .key import from_cell, read_key, to_cell, write_key
 from .lint import lint
 from .market import Market
-from .names import Member, Names, read_key, write_key
+from .names import Member, Names, docket_names
 from .program import find_program
 from .results import Audit, Match, Replay, Why
 
 __all__ = ["Audit", "Docket", "DocketFault", "Journal", "KeyFault", "Market", "MarketFault", "Match", "Member", "Names",
            "ProgramError", "ProgramFailed", "ProgramMissing", "ProgramTimeout", "Replay", "ResidencyError", "UnknownStatus",
-           "Why", "find_program", "lint", "read_docket", "read_key", "write_docket", "write_key"]
+           "Why", "docket_names", "find_program", "from_cell", "lint", "read_docket", "read_key", "to_cell", "write_docket",
+           "write_key"]
