@@ -4,6 +4,8 @@ from __future__ import annotations
 import re
 from typing import Iterator, List, Optional, Tuple
 
+from . import text
+
 BYTE_ORDER_MARK = b"\xef\xbb\xbf"
 _NAME = re.compile(r"[A-Za-z0-9._-]{1,32}\Z")
 _NUMBER = re.compile(r"[0-9]{1,9}\Z")
@@ -80,14 +82,14 @@ def records(data: bytes) -> Iterator[List[str]]:
     >>> list(records(b'\\xef\\xbb\\xbfQ,north,1\\r\\rP,"no""rth",kim\\n'))
     [['Q', 'north', '1'], ['P', 'no"rth', 'kim']]
     """
-    text = data[len(BYTE_ORDER_MARK) if data.startswith(BYTE_ORDER_MARK) else 0:].decode("latin-1")
+    letters = data[len(BYTE_ORDER_MARK) if data.startswith(BYTE_ORDER_MARK) else 0:].decode("latin-1")
     at = 0
-    while at < len(text):
-        line = _LINE.match(text, at)
+    while at < len(letters):
+        line = _LINE.match(letters, at)
         if line is None:
             at += 1
         elif '"' in line.group():
-            fields, at = _record(text, at)
+            fields, at = _record(letters, at)
             yield fields
         else:
             at = line.end()
@@ -102,8 +104,7 @@ def shown(field: str, most: int = 60) -> str:
     """
     cut = field[:4 * most + 4]
     try:
-        text = cut.encode("latin-1").decode("utf-8", "strict" if len(cut) == len(field) else "ignore")
+        read = cut.encode("latin-1").decode("utf-8", "strict" if len(cut) == len(field) else "ignore")
     except UnicodeError:
-        text = "".join(c if c.isascii() else f"\\x{ord(c):02x}" for c in cut)
-    text = text if len(text) <= most else text[:most] + "…"
-    return "".join(c if c.isprintable() else c.encode("unicode_escape").decode("ascii") for c in text)
+        read = "".join(c if c.isascii() else f"\\x{ord(c):02x}" for c in cut)
+    return text.shown(read, most)

@@ -60,10 +60,12 @@ class Replay:
 
 @dataclass(frozen=True)
 class Why:
-    """Why a resident is not, or is, with a programme: the program's sentence, in the caller's names.
+    """Why a resident is, or isn't, with a programme.
 
-    Where the program tells them in a table (`why --all`), `choice` is the place in the resident's list as written,
-    `answer` the table's word, `rank` the resident's place with the programme and `last_rank` that of the last whom it took.
+    `choice` is the programme's place in the resident's list as written, None where the resident doesn't list it. Where
+    the program has a table of all answers, `answer` is the table's word, `rank` the resident's place with the programme,
+    `last_rank` that of the last whom it took and `quota` its places, each None where it doesn't belong to that answer.
+    Else `text` is the program's sentence, in the caller's names.
     """
 
     resident: str

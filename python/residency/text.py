@@ -33,6 +33,16 @@ def tidy(text: str) -> str:
     return " ".join(unicodedata.normalize("NFC", text).split())
 
 
+def shown(text: str, most: int = 60) -> str:
+    """The text as a terminal may show it: no control characters, and not long.
+
+    >>> shown("a\\x1b[2J"), shown("a" * 100, 5)
+    ('a\\\\x1b[2J', 'aaaaa…')
+    """
+    cut = text if len(text) <= most else text[:most] + "…"
+    return "".join(c if c.isprintable() else c.encode("unicode_escape").decode("ascii") for c in cut)
+
+
 def _unmarked(data: bytes) -> str:
     """The character set of bytes without a mark: UTF-16 where every other byte of much of it is 0, else UTF-8 if it can be."""
     if data[1::2].count(0) > len(data) // 4:
