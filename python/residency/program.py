@@ -53,7 +53,7 @@ def _places(name: str) -> Iterator[Path]:
     package = Path(__file__).resolve().parent
     clone = package.parent.parent
     yield clone / "crates" / crate / "out" / crate
-    for folder in package.parents[:4]:
+    for folder in (folder for folder in package.parents[:4] if folder.name):
         yield folder / "bin" / file
     yield from sorted(clone.parent.glob(f"residency-*/bin/{file}"), reverse=True)
 
