@@ -2,8 +2,9 @@
 import argparse
 import os
 import sys
+import textwrap
 from datetime import date
-from typing import Dict, List, Optional, Sequence
+from typing import Callable, Dict, List, NoReturn, Optional, Sequence, Tuple
 
 from ..errors import DocketFault, MarketFault, ProgramError, ResidencyError
 from ..lint import lint
@@ -13,23 +14,21 @@ from . import compare, folder, running
 from .cells import known_delimiter
 from .faults import MOST_LINES, Faults, OfficeError, TablesError, shown
 from .headings import Words
-from .letters import Letters, checked_template
+from .letters import FIELDS, Letters, checked_template
 from .lists import market_of
 from .page import About
 from .running import Run, Wishes
 from .tables import Options, Table, read_table
 from .text import bytes_of, decoded, known_encoding
 
-STATUSES = """\
-exit statuses: 0 done; 1 a file, the output or the built program failed; 2 a wrong command line, or a folder that is there
-already; 3 a fault in the tables, the docket or a folder, with nothing written."""
-ABOUT = """\
-Matches residents with programmes from two tables as a spreadsheet saves them (CSV), by the built program.
-`office COMMAND --help` says more of each command."""
-TABLES = """\
-A table is wide (a row for each member: Programme, Places, Rank 1, Rank 2, ..; Applicant, Rank 1, Rank 2, ..) or long (a
-row for each rank: Programme, Places, Rank, Applicant; Applicant, Rank, Programme). Both have a heading row. A column
-headed ID tells two people of one name apart. What parts the cells and the character set are found from the whole file."""
+STATUSES = ("exit statuses: 0 done; 1 a file, the output or the built program failed; 2 a wrong command line, or a folder that "
+            "is there already; 3 a fault in the tables, the docket or a folder, with nothing written.")
+ABOUT = ("Matches residents with programmes from two tables as a spreadsheet saves them (CSV), by the built program.\n"
+         "`office COMMAND --help` says more of each command.")
+TABLES = ("A table is wide (a row for each member: Programme, Places, Rank 1, Rank 2, ..; Applicant, Rank 1, Rank 2, ..) or long "
+          "(a row for each rank: Programme, Places, Rank, Applicant; Applicant, Rank, Programme). Both have a heading row. A "
+          "column headed ID tells two people of one name apart. What parts the cells and the character set are found from the "
+          "whole file.")
 
 
 def main(words: Optional[Sequence[str]] = None) -> int:
@@ -98,23 +97,34 @@ def say(line: str) -> None:
 
 
 # Command lines.
+class Parser(argparse.ArgumentParser):
+    """A command line whose help and faults are told as all else is."""
+
+    def print_help(self, file=None) -> None:
+        say(self.format_help().rstrip())
+
+    def error(self, message: str) -> NoReturn:
+        raise OfficeError(f"{shown(message, 300)} ({self.prog} --help says more)", 2)
+
+
+def wrapped(*paragraphs: str) -> str:
+    return "\n\n".join(textwrap.fill(paragraph, 78) for text in paragraphs for paragraph in text.split("\n") if paragraph)
+
+
 def parser() -> argparse.ArgumentParser:
     """The whole command line, from which man pages and completions may be made, too."""
-    top = argparse.ArgumentParser(prog="office", description=ABOUT, epilog=STATUSES,
-                                  formatter_class=argparse.RawDescriptionHelpFormatter)
+    top = Parser(prog="office", description=wrapped(ABOUT), epilog=wrapped(STATUSES),
+                 formatter_class=argparse.RawDescriptionHelpFormatter)
     commands = top.add_subparsers(dest="command", metavar="COMMAND", required=True)
-    add_check(commands)
-    add_lint(commands)
-    add_run(commands)
-    add_withdraw(commands)
-    add_compare(commands)
-    add_letters(commands)
+    for add in (add_check, add_lint, add_run, add_withdraw, add_compare, add_letters):
+        add(commands)
     return top
 
 
-def command(commands, name: str, about: str, example: str, does) -> argparse.ArgumentParser:
-    one = commands.add_parser(name, help=about[0].lower() + about[1:].split(".")[0], description=about, epilog=f"example: {example}\n\n{STATUSES}",
-                              formatter_class=argparse.RawDescriptionHelpFormatter)
+def command(commands, name: str, about: Sequence[str], example: str, does: Callable[[argparse.Namespace], int]) -> argparse.ArgumentParser:
+    """A command; the first paragraph about it is its line in the list of all."""
+    one = commands.add_parser(name, help=about[0][0].lower() + about[0][1:].rstrip("."), description=wrapped(*about),
+                              epilog=f"example: {example}\n\n{wrapped(STATUSES)}", formatter_class=argparse.RawDescriptionHelpFormatter)
     one.set_defaults(does=does)
     return one
 
@@ -159,24 +169,27 @@ def seconds(text: str) -> float:
 
 
 def add_check(commands) -> None:
-    one = command(commands, "check", "Tells every fault of two tables, or of a docket, at once; writes nothing.\n\n" + TABLES,
+    one = command(commands, "check", ("Tells every fault of two tables, or of a docket, at once.", "It writes nothing.", TABLES),
                   "office check programmes.csv residents.csv", check)
     one.add_argument("files", nargs="+", metavar="FILE", help="PROGRAMMES and RESIDENTS, or one docket")
     add_tables(one)
 
 
 def add_lint(commands) -> None:
-    one = command(commands, "lint", "Tells every fault of a docket, with its record, its cell and what stands there.\n\nThe first "
-                  "line begins with what the program says of the same docket.", "office lint docket.csv", lint_command)
+    one = command(commands, "lint", ("Tells every fault of a docket, with its record, its cell and what stands there.",
+                                     "The first line begins with what the program says of the same docket."),
+                  "office lint docket.csv", lint_command)
     one.add_argument("docket", metavar="DOCKET", help="the docket's file, or - for standard input")
     one.add_argument("--all", action="store_true", help="tell every fault, however many there are")
 
 
 def add_run(commands) -> None:
-    one = command(commands, "run", "Matches two tables into a new folder.\n\nThe folder has the docket, the key from its names to the "
-                  "real ones, the sheet, the journal, audit and\nreplay, a page, a letter for each resident, a roster for each "
-                  "programme, the unfilled places and a row for each\nresident for a database. It appears complete or not at all.\n\n" + TABLES,
-                  "office run programmes.csv residents.csv --out match-2026", run)
+    one = command(commands, "run", (
+        "Matches two tables into a new folder.",
+        "The folder has the docket, the key from its names to the real ones, the sheet, the journal, audit and replay, a page, "
+        "a letter for each resident, a roster for each programme, the unfilled places and a row for each resident for a "
+        "database. It appears complete or not at all.", TABLES),
+        "office run programmes.csv residents.csv --out match-2026", run)
     one.add_argument("programmes", metavar="PROGRAMMES", help="the table of programmes")
     one.add_argument("residents", metavar="RESIDENTS", help="the table of residents")
     one.add_argument("--out", required=True, metavar="FOLDER", help="the folder to make, which isn't there yet")
@@ -186,9 +199,10 @@ def add_run(commands) -> None:
 
 
 def add_withdraw(commands) -> None:
-    one = command(commands, "withdraw", "Matches a folder's docket again with members withdrawn, into a new folder, and tells what "
-                  "changed.\n\nA name is the one of the tables, the ID, or the docket's name.",
-                  "office withdraw match-2026 \"Zoë O'Connor\" --out match-2026-b", withdraw)
+    one = command(commands, "withdraw", (
+        "Matches a folder's docket again with members withdrawn, into a new folder, and tells what changed.",
+        "A name is the one of the tables, the ID, or the docket's name."),
+        "office withdraw match-2026 'Greta Weiß' --out match-2026-b", withdraw)
     one.add_argument("folder", metavar="FOLDER", help="a folder that run or withdraw made")
     one.add_argument("names", nargs="*", metavar="NAME", help="who withdraws")
     one.add_argument("--programme", action="append", default=[], metavar="NAME", help="a programme that withdraws")
@@ -198,26 +212,37 @@ def add_withdraw(commands) -> None:
 
 
 def add_compare(commands) -> None:
-    one = command(commands, "compare", "Tells who stands otherwise in the second of two folders: two runs, or two years.\n\nMembers are "
-                  "known by their IDs where all have one, else by their names.", "office compare match-2025 match-2026", compare_command)
-    one.add_argument("before", metavar="FOLDER", help="the folder of before")
-    one.add_argument("now", metavar="FOLDER", help="the folder of now")
+    one = command(commands, "compare", (
+        "Tells who stands otherwise in the second of two folders: two runs, or two years.",
+        "Members are known by their IDs where all have one, else by their names."),
+        "office compare match-2025 match-2026", compare_command)
+    one.add_argument("before", metavar="BEFORE", help="the folder of before")
+    one.add_argument("now", metavar="NOW", help="the folder of now")
     one.add_argument("--out", metavar="FILE", help="a CSV file to write the changes to, which isn't there yet")
 
 
 def add_letters(commands) -> None:
-    one = command(commands, "letters", "Writes the letters of a folder again, into a new folder, from a template of your own.\n\nIn it "
-                  "$name, $outcome, $list, $programme, $choice, $listed, $id, $day, $date, $title, $docket_name and\n$docket_sha256 stand "
-                  "for what they say, and $$ for the sign.", "office letters match-2026 --template letter.txt --out letters-2026", letters)
+    one = command(commands, "letters", (
+        "Writes the letters of a folder again, into a new folder, from a template of your own.",
+        f"In it ${', $'.join(FIELDS)} stand for what they say, and $$ for the sign."),
+        "office letters match-2026 --template letter.txt --out letters-2026", letters)
     one.add_argument("folder", metavar="FOLDER", help="a folder that run or withdraw made")
     one.add_argument("--out", required=True, metavar="FOLDER", help="the folder to make, which isn't there yet")
     one.add_argument("--template", metavar="FILE", help="the text of the letters (the one of run)")
     one.add_argument("--date", type=day, default=None, metavar="YYYY-MM-DD", help="the day that the letters name (that of the run)")
 
 
+def as_text(word: str) -> str:
+    """A name of the command line as text, also where the system's character set isn't UTF-8. OfficeError where it is none."""
+    try:
+        return os.fsencode(word).decode("utf-8") if any("\ud800" <= c <= "\udfff" for c in word) else word
+    except UnicodeError:
+        raise OfficeError(f"{shown(word)} is no text", 2) from None
+
+
 # What each command does.
 def options_of(given: argparse.Namespace) -> Options:
-    return Options(Words(given.heading, given.ignore), by_table(given.encoding, known_encoding), by_table(given.delimiter, known_delimiter),
+    return Options(Words([as_text(one) for one in given.heading], [as_text(one) for one in given.ignore]), by_table(given.encoding, known_encoding), by_table(given.delimiter, known_delimiter),
                    given.allow_gaps)
 
 
@@ -314,9 +339,8 @@ def template_of(path: Optional[str]) -> Optional[str]:
 
 
 def run(given: argparse.Namespace) -> int:
-    wishes = wishes_of(given, " ".join(given.title.split()) or running.TITLE)
-    if os.path.lexists(given.out):
-        raise OfficeError(f"{shown(given.out)} is there already; nothing was written", 2)
+    wishes = wishes_of(given, " ".join(as_text(given.title).split()) or running.TITLE)
+    folder.refuse(given.out)
     try:
         tables, market = read_tables(given.programmes, given.residents, options_of(given))
     except TablesError as error:
@@ -348,9 +372,8 @@ def withdraw(given: argparse.Namespace) -> int:
         raise OfficeError("who withdraws? give a name", 2)
     before = Run(given.folder)
     out = given.out or folder.free_name(given.folder)
-    if os.path.lexists(out):
-        raise OfficeError(f"{shown(out)} is there already; nothing was written", 2)
-    market = running.withdrawn(before, given.programme, given.resident, given.names)
+    folder.refuse(out)
+    market = running.withdrawn(before, *([as_text(name) for name in names] for names in (given.programme, given.resident, given.names)))
     result = running.matched(market, given.timeout)
     found = compare.changes(before.outcome, result.outcome)
     with folder.new_folder(out) as draft:
@@ -362,8 +385,8 @@ def withdraw(given: argparse.Namespace) -> int:
 
 
 def compare_command(given: argparse.Namespace) -> int:
-    if given.out and os.path.lexists(given.out):
-        raise OfficeError(f"{shown(given.out)} is there already; nothing was written", 2)
+    if given.out:
+        folder.refuse(given.out)
     before, now = Run(given.before), Run(given.now)
     found = compare.changes(before.outcome, now.outcome)
     if given.out:

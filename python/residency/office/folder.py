@@ -78,25 +78,44 @@ def new_folder(out: str) -> Iterator[Draft]:
     OfficeError where it is there already or can't be written; no half of it is left behind, whatever ends the command.
     """
     target = Path(os.path.abspath(out))
-    if os.path.lexists(target):
-        raise OfficeError(f"{shown(out)} is there already; nothing was written", 2)
+    refuse(out)
+    part = None
+    before = stopping()
     try:
-        part = Path(tempfile.mkdtemp(prefix=f".{target.name[:100]}.part-", dir=target.parent))
-    except (OSError, ValueError) as error:
-        raise OfficeError(f"{shown(out)} can't be made: {cause_of(error)}") from None
-    before = {number: signal.signal(number, stop) for number in (signal.SIGTERM, signal.SIGHUP)} if in_main_thread() else {}
-    try:
+        part = beside(target)
         yield Draft(part)
         part.chmod(0o777 & ~umask())
-        if os.path.lexists(target):
-            raise OfficeError(f"{shown(out)} is there already; nothing was written", 2)
+        refuse(out)
         os.rename(part, target)
     except OSError as error:
         raise OfficeError(f"{shown(out)} can't be written: {cause_of(error)}; nothing was left there") from None
     finally:
-        shutil.rmtree(part, ignore_errors=True)
+        for number in before:
+            signal.signal(number, signal.SIG_IGN)
+        if part is not None:
+            shutil.rmtree(part, ignore_errors=True)
         for number, handler in before.items():
             signal.signal(number, handler)
+
+
+def beside(target: Path) -> Path:
+    """A new folder beside a path, so that it can be renamed to it."""
+    return Path(tempfile.mkdtemp(prefix=f".{target.name[:100]}.part-", dir=target.parent))
+
+
+def refuse(out: str) -> None:
+    """OfficeError where something stands at this path, or where it is none."""
+    if "\0" in out:
+        raise OfficeError(f"{shown(out)} can't be written: it is no path")
+    if os.path.lexists(out):
+        raise OfficeError(f"{shown(out)} is there already; nothing was written", 2)
+
+
+def stopping() -> Dict[int, Any]:
+    """Makes signals that end a process clean up first; answers what they did before."""
+    if threading.current_thread() is not threading.main_thread():
+        return {}
+    return {number: signal.signal(number, stop) for number in (signal.SIGTERM, signal.SIGHUP, signal.SIGINT)}
 
 
 def new_file(out: str, data: bytes) -> None:
@@ -109,10 +128,6 @@ def new_file(out: str, data: bytes) -> None:
     except (OSError, ValueError) as error:
         part.unlink(missing_ok=True)
         raise OfficeError(f"{shown(out)} can't be written: {cause_of(error)}") from None
-
-
-def in_main_thread() -> bool:
-    return threading.current_thread() is threading.main_thread()
 
 
 def umask() -> int:

@@ -114,8 +114,8 @@ class Page:
                              (("", "Choice"), ("n", "Residents"), ("", "Share")), rows, "bars"))
 
     def bar(self, count: int, most: int, kind: str) -> str:
-        share = f"{100 * count / self.taking_part:.0f} %" if self.taking_part else ""
-        return f'<span class="{kind}" style="width:{75 * count / most:.1f}%"></span>{share}'
+        share = f"{100 * count / self.taking_part:.0f}%" if self.taking_part else ""
+        return f'<span class="{kind}" style="width:{70 * count / most:.1f}%"></span>{share}'
 
     def unmatched(self) -> str:
         parts: List[str] = []

@@ -29,7 +29,7 @@ tbody tr:nth-child(even) > * { background: var(--band); }
 thead .n { white-space: normal; }
 th:last-child, td:last-child { padding-right: .2rem; }
 td.short { color: var(--short); font-weight: 600; }
-td.share { width: 55%; }
+td.share { width: 55%; white-space: nowrap; }
 .bar { display: inline-block; height: .95em; vertical-align: -.1em; margin-right: .4em; background: var(--bar); border-radius: 2px;
   print-color-adjust: exact; -webkit-print-color-adjust: exact; }
 .bar.left { background: var(--bar-left); }
