@@ -7,7 +7,7 @@ from . import calls
 from .docket import Docket, read_docket, write_docket
 from .errors import KeyFault, MarketFault
 from .names import Member, Names
-from .near import NearNames
+from .near import MOST_NEAR, NearNames
 from .passes import MOST_PAIRS, MOST_PLACES, MOST_PROGRAMMES, MOST_RESIDENTS
 from .program import DEFAULT_TIMEOUT
 from .results import Audit, Match, Replay, Why
@@ -212,7 +212,7 @@ class _Faults:
     def unknown(self, who: str, name: object) -> str:
         """What is wrong with a name that no member of a side has."""
         if who not in self._near:
-            self._near[who] = NearNames(name for name in self._known[who] if isinstance(name, str))
+            self._near[who] = NearNames((name for name in self._known[who] if isinstance(name, str)), MOST_NEAR)
         near = self._near[who].near(name) if isinstance(name, str) else None
         return f"no {who} is named {_shown(name)}" + (f"; is it {shown(near)}?" if near else "")
 

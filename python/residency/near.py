@@ -4,6 +4,8 @@ from __future__ import annotations
 import unicodedata
 from typing import Dict, Iterable, List, Optional, Set, Tuple
 
+# Where much is wrong, near names are looked for so often and no more.
+MOST_NEAR = 100
 # Names of fewer letters than this are near only where they differ in accents or case.
 _SHORT, _LONG = 4, 8
 # Of names that share a third of their letters with a misspelt one, so many are looked at.
@@ -26,19 +28,22 @@ def edits(one: str, other: str, most: int) -> int:
     >>> edits("south", "sout", 2), edits("jonh", "john", 2), edits("kwame", "fatima", 2)
     (1, 1, 3)
     """
+    far = most + 1
+    if abs(len(one) - len(other)) > most:
+        return far
     before: List[int] = []
-    last = list(range(len(other) + 1))
+    last = [min(j, far) for j in range(len(other) + 1)]
     for i, c in enumerate(one, 1):
-        row = [i]
-        for j, d in enumerate(other, 1):
-            cost = min(last[j] + 1, row[j - 1] + 1, last[j - 1] + (c != d))
-            if i > 1 and j > 1 and c == other[j - 2] and one[i - 2] == d:
+        row = [min(i, far)] + [far] * len(other)
+        for j in range(max(1, i - most), min(len(other), i + most) + 1):
+            cost = min(last[j] + 1, row[j - 1] + 1, last[j - 1] + (c != other[j - 1]))
+            if i > 1 and j > 1 and c == other[j - 2] and one[i - 2] == other[j - 1]:
                 cost = min(cost, before[j - 2] + 1)
-            row.append(cost)
+            row[j] = min(cost, far)
         if min(row) > most:
-            return most + 1
+            return far
         before, last = last, row
-    return min(last[-1], most + 1)
+    return last[-1]
 
 
 def _thirds(size: int) -> Tuple[Tuple[int, int], ...]:
@@ -60,7 +65,9 @@ class NearNames:
     >>> names.near("Programme 3")
     """
 
-    def __init__(self, known: Iterable[str]) -> None:
+    def __init__(self, known: Iterable[str], most: Optional[int] = None) -> None:
+        """Over these names; after `most` questions, where it is given, the answer is None, since a person reads no more."""
+        self._left = most
         self._names: List[str] = []
         self._folded: List[str] = []
         self._whole: Dict[str, Set[int]] = {}
@@ -83,7 +90,11 @@ class NearNames:
 
         None where there is no such name, or more than one; and of names whose digits differ none is near another.
         """
-        plain = folded(name)[:200]
+        if self._left is not None:
+            self._left -= 1
+            if self._left < 0:
+                return None
+        plain = folded(name[:200])
         for found in (self._whole.get(plain), self._words.get(" ".join(sorted(plain.split())))):
             if found and plain:
                 return self._only(found)

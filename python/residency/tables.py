@@ -6,7 +6,7 @@ from typing import Dict, Iterable, List, NamedTuple, Optional, Sequence, Set, Tu
 
 from .errors import MarketFault
 from .names import Member, Named, Names
-from .near import NearNames
+from .near import MOST_NEAR, NearNames
 from .passes import MOST_PLACES
 from .text import shown, tidy
 
@@ -95,7 +95,7 @@ class Side:
             ids = ", ".join(shown(self.members[index][1]) or "no ID" for index in found[:5])
             return f"{len(found)} {self.who}s are named {shown(text)}: name one by its ID ({ids})"
         if self._near is None:
-            self._near = NearNames(dict.fromkeys(name for name, _ in self.members))
+            self._near = NearNames(dict.fromkeys(name for name, _ in self.members), MOST_NEAR)
         near = self._near.near(text)
         return f"no {self.who} is named {shown(text)}" + (f"; is it {shown(near)}?" if near else "")
 
