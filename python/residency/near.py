@@ -88,7 +88,8 @@ class NearNames:
     def near(self, name: str) -> Optional[str]:
         """The known name that differs in accents, case or the order of words alone, else in one letter, else in two.
 
-        None where there is no such name, or more than one; and of names whose digits differ none is near another.
+        None where there is no such name, or more than one of those looked at; and of names whose digits differ none is
+        near another.
         """
         if self._left is not None:
             self._left -= 1
