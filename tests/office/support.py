@@ -14,7 +14,7 @@ from residency.office import main
 TOP = Path(__file__).resolve().parent.parent.parent
 OFFICE = str(TOP / "office")
 SAMPLES = TOP / "examples" / "office"
-PICTURES = False
+PICTURES = FULL = False
 # Four programmes and seven residents, two of whom rank nobody or are ranked back by nobody.
 PROGRAMMES = """\
 Programme,Places,Rank 1,Rank 2,Rank 3,Rank 4

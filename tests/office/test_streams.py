@@ -6,6 +6,7 @@ import sys
 
 import planted
 from residency.office import command
+from residency.program import find_program
 from support import OFFICE, PROGRAMMES, RESIDENTS, SAMPLES, TOP, OfficeTest, office, spawn
 
 COMMANDS = ("check", "lint", "run", "withdraw", "compare", "letters")
@@ -78,6 +79,18 @@ record 5: unknown name (cell 4: sout; is it south?)
         # What stands on standard input is nothing to a docket that is named.
         self.assertEqual(spawn(["lint", docket], shell="< /dev/null"), (3, self.WANTED, ""))
         self.assertEqual(office("lint", self.write("good.csv", (TOP / "examples" / "two-by-two.csv").read_bytes())), (0, "no fault\n", ""))
+
+    def test_the_first_fault_is_the_programs(self) -> None:
+        small = "Q,a,1\nP,a,x\nR,x,a\n"
+        program = str(find_program("residency"))
+        for text in (small, "Q,a", "Z,a", "Q,a/b,1", "Q,a,", "Q,a,1\nQ,a,2", "Q,a,1\nP,b", "M,x,a", "E,close", "Q,a,1\nR,x,a\nF,a,0,1",
+                     "Q,a,10001", "Q;a;1", ",,\nQ,a", "Q,a,1\nR,x,b,a a", "Q,b,1\nR,y,\n", 'Q,a,1\r\n\r\n"Q","a",1\r\n', small + "C,0",
+                     small + "C,full\nC,1", small + "C,1\nE,offer,x,a", small + "C,1\nE,answer,x,a,maybe", small + "E,take,x\n",
+                     small + "M,x,a\nF,a,0,1\n", small + "U,x\nU,x\nF,a,0,1", small + "U,x\nF,a,0,2", small + "F,a,0,1",
+                     "Q,a,1\nP,a,y,y\nR,x\n", "V,3", "V", "Q,a,1\nV,2", "W,P,a", "V,2\nW,Q,a", "V,2\nW,P,a", "V,2\nQ,a,1\nW,P,a\nW,P,a"):
+            said = subprocess.run([program, "match"], input=text.encode(), capture_output=True).stderr.decode()
+            wanted = said.replace("residency: ", "").strip() or "no fault"
+            self.assertEqual(office("lint", self.write("docket.csv", text)).out.splitlines()[0].split(" (")[0], wanted, text)
 
     def test_an_empty_docket_is_told(self) -> None:
         for text in ("", "\n\n", "V,2\n", "\ufeff"):

@@ -101,7 +101,7 @@ class Members:
         name = cell_of(row, self.columns.owner)
         if not name:
             return self.tell("row", number, self.columns.owner, f"the row has no {self.table.owners}'s name", ("no name",))
-        if plain(name) in TOTALS:
+        if name not in self.by_name and len(name) < 20 and plain(name) in TOTALS:
             return self.tell("row", number, self.columns.owner, f"{shown(name)} is no {self.table.owners}; leave the row out")
         entry = self.entry(number, row, name)
         if entry is None:
