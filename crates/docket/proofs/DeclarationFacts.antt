@@ -19,6 +19,7 @@ use Rattle.docket.specs.Passes.{repeat_fault, limit_fault, next_place, is_versio
 use Rattle.docket.specs.Answers.{Refuses, at_record}
 use Rattle.docket.specs.Declarations.{IsDeclared, capacity_in, names_withdrawn, AreByWorker, who_if}
 use Rattle.docket.specs.Rows.{IsEventOf}
+use Rattle.docket.specs.FlatRows.{AreNames, StartsWith}
 use Rattle.docket.specs.Whole.{AreWorkers}
 use Rattle.docket.specs.declared.store.declarations.Declarations.{Declarations}
 use Rattle.docket.specs.declared.kind.TheConstants.{QUOTA, PROGRAMME_LIST, RESIDENT_LIST, MATCHED, UNMATCHED, FILLED, CAPACITY, EVENT}
@@ -26,6 +27,7 @@ use Rattle.docket.specs.declared.fault.DocketFault.{DocketFault}
 use Rattle.docket.specs.declared.fault.DocketFault.TheVariants.{DeclaredTwice, Model, BadEvent}
 use Rattle.docket.specs.declared.kind.EventWord.{EventWord}
 use Rattle.docket.proofs.NameFacts.{is_declared-map}
+use Rattle.docket.proofs.TextFacts.{names_grown}
 use Rattle.docket.proofs.WithdrawalFacts.{names_withdrawn-if, is_version_2-other}
 use Rattle.docket.proofs.RowsFacts.{event_kind_is, event_word_is}
 use Rattle.docket.proofs.WordFacts.{workers_within, worker_within}
@@ -216,38 +218,58 @@ list_any-if p rows row = list_any-append p rows (row ∷ []) ∙ by (list_any p 
     by false true = refl
     by false false = refl
 
+-- what is declared stays so where texts join
+pub declared_grown : (d : Declarations) (texts more : List (List ℕ)) (rows : List Fields) → StartsWith texts more → IsDeclared d texts rows → IsDeclared d more rows
+declared_grown d texts more rows s h = record {
+  quotas = h.quotas;
+  programme_lists = h.programme_lists;
+  resident_lists = h.resident_lists;
+  programmes = names_grown texts more d.programmes (programmes_of rows) s h.programmes;
+  residents = names_grown texts more d.residents (residents_of rows) s h.residents;
+  ranked = names_grown texts more d.ranked (names_of PROGRAMME_LIST rows) s h.ranked;
+  capacity = h.capacity;
+  no_events = h.no_events;
+  by_worker = h.by_worker;
+  sheet_rows = h.sheet_rows;
+  version = h.version;
+  withdrawn_programmes = names_grown texts more d.withdrawn_programmes (names_withdrawn (codes "P") rows) s h.withdrawn_programmes;
+  withdrawn_residents = names_grown texts more d.withdrawn_residents (names_withdrawn (codes "R") rows) s h.withdrawn_residents;
+  no_programme_gone = h.no_programme_gone;
+  no_resident_gone = h.no_resident_gone;
+}
+
 -- one row more of kind k
-pub declared_push : (d e : Declarations) (rows : List Fields) (row : Fields) (k : ℕ) → kind_of row ≡ k → IsDeclared d rows
+pub declared_push : (d e : Declarations) (texts : List (List ℕ)) (rows : List Fields) (row : Fields) (k : ℕ) → kind_of row ≡ k → IsDeclared d texts rows
     → e.builder.quotas ≡ (if k == QUOTA then d.builder.quotas ++ unwrap_or (number_of (field row 2)) 0 ∷ [] else d.builder.quotas)
     → e.builder.programme_lists ≡ (if k == QUOTA then d.builder.programme_lists ++ None ∷ [] else d.builder.programme_lists)
     → e.builder.resident_lists ≡ (if k == RESIDENT_LIST then d.builder.resident_lists ++ None ∷ [] else d.builder.resident_lists)
-    → e.programmes ≡ (if k == QUOTA then d.programmes ++ field row 1 ∷ [] else d.programmes)
-    → e.residents ≡ (if k == RESIDENT_LIST then d.residents ++ field row 1 ∷ [] else d.residents)
-    → e.ranked ≡ (if k == PROGRAMME_LIST then d.ranked ++ field row 1 ∷ [] else d.ranked)
+    → AreNames texts e.programmes (if k == QUOTA then programmes_of rows ++ field row 1 ∷ [] else programmes_of rows)
+    → AreNames texts e.residents (if k == RESIDENT_LIST then residents_of rows ++ field row 1 ∷ [] else residents_of rows)
+    → AreNames texts e.ranked (if k == PROGRAMME_LIST then names_of PROGRAMME_LIST rows ++ field row 1 ∷ [] else names_of PROGRAMME_LIST rows)
     → e.capacity ≡ option_or d.capacity (if k == CAPACITY then Some (unwrap_or (capacity_of (field row 1)) Full) else None)
     → ((k == EVENT) ≡ true → is_some d.capacity ≡ true)
     → e.has_sheet_row ≡ (if (k == MATCHED) || (k == UNMATCHED) || (k == FILLED) then true else d.has_sheet_row)
     → e.is_version_2 ≡ (if k == version_kind then is_version_2 (rows ++ row ∷ []) else d.is_version_2)
-    → e.withdrawn_programmes ≡ (if k == withdrawal_kind then names_withdrawn (codes "P") (rows ++ row ∷ []) else d.withdrawn_programmes)
-    → e.withdrawn_residents ≡ (if k == withdrawal_kind then names_withdrawn (codes "R") (rows ++ row ∷ []) else d.withdrawn_residents)
+    → AreNames texts e.withdrawn_programmes (if k == withdrawal_kind then names_withdrawn (codes "P") (rows ++ row ∷ []) else names_withdrawn (codes "P") rows)
+    → AreNames texts e.withdrawn_residents (if k == withdrawal_kind then names_withdrawn (codes "R") (rows ++ row ∷ []) else names_withdrawn (codes "R") rows)
     → e.builder.programmes_withdrawn ≡ (if k == QUOTA then d.builder.programmes_withdrawn ++ false ∷ [] else d.builder.programmes_withdrawn)
     → e.builder.residents_withdrawn ≡ (if k == RESIDENT_LIST then d.builder.residents_withdrawn ++ false ∷ [] else d.builder.residents_withdrawn)
     → AreByWorker e.workers e.who.items (rows ++ row ∷ [])
-    → IsDeclared e (rows ++ row ∷ [])
-declared_push d e rows row k kind h q pl rl p r ra c ev sh ve wp wr pg rg bw = record {
+    → IsDeclared e texts (rows ++ row ∷ [])
+declared_push d e texts rows row k kind h q pl rl p r ra c ev sh ve wp wr pg rg bw = record {
   quotas = rw (quotas_of-if rows row, kind, ← h.quotas) q;
   programme_lists = rw (programmes_of-if rows row, kind, nones-if (programmes_of rows) (field row 1) (k == QUOTA), ← h.programme_lists) pl;
   resident_lists = rw (residents_of-if rows row, kind, nones-if (residents_of rows) (field row 1) (k == RESIDENT_LIST), ← h.resident_lists) rl;
-  programmes = rw (programmes_of-if rows row, kind, ← h.programmes) p;
-  residents = rw (residents_of-if rows row, kind, ← h.residents) r;
-  ranked = rw (names_of-if PROGRAMME_LIST rows row, kind, ← h.ranked) ra;
+  programmes = rw (programmes_of-if rows row, kind) p;
+  residents = rw (residents_of-if rows row, kind) r;
+  ranked = rw (names_of-if PROGRAMME_LIST rows row, kind) ra;
   capacity = rw (capacity_in-if rows row, kind, ← h.capacity) c;
   no_events = λ none. rw (list_any-if (is_kind EVENT) rows row, kind) (no_event (k == EVENT) d.capacity (if k == CAPACITY then Some (unwrap_or (capacity_of (field row 1)) Full) else None) ev h.no_events (sym c ∙ none));
   by_worker = bw;
   sheet_rows = rw (list_any-if is_sheet_row rows row, kind, ← h.sheet_rows) sh;
   version = same_version (k == version_kind) (rw kind refl) ve;
-  withdrawn_programmes = withdrawn (codes "P") d.withdrawn_programmes e.withdrawn_programmes (k == withdrawal_kind) (rw kind refl) h.withdrawn_programmes wp;
-  withdrawn_residents = withdrawn (codes "R") d.withdrawn_residents e.withdrawn_residents (k == withdrawal_kind) (rw kind refl) h.withdrawn_residents wr;
+  withdrawn_programmes = withdrawn (codes "P") e.withdrawn_programmes (k == withdrawal_kind) (rw kind refl) wp;
+  withdrawn_residents = withdrawn (codes "R") e.withdrawn_residents (k == withdrawal_kind) (rw kind refl) wr;
   no_programme_gone = rw (programmes_of-if rows row, kind, here-if (programmes_of rows) (field row 1) (k == QUOTA), ← h.no_programme_gone) pg;
   no_resident_gone = rw (residents_of-if rows row, kind, here-if (residents_of rows) (field row 1) (k == RESIDENT_LIST), ← h.no_resident_gone) rg;
 }
@@ -257,10 +279,11 @@ declared_push d e rows row k kind h q pl rl p r ra c ev sh ve wp wr pg rg bw = r
     same_version true is v = v
     same_version false is v = v ∙ h.version ∙ sym (is_version_2-other rows row is)
 
-    withdrawn : (side : List ℕ) (old new : List (List ℕ)) (b : Bool) → is_kind withdrawal_kind row ≡ b → old ≡ names_withdrawn side rows
-        → new ≡ (if b then names_withdrawn side (rows ++ row ∷ []) else old) → new ≡ names_withdrawn side (rows ++ row ∷ [])
-    withdrawn side old new true is was w = w
-    withdrawn side old new false is was w = w ∙ was ∙ sym (rw (names_withdrawn-if side rows row, is) refl)
+    withdrawn : (side numbers : List ℕ) (b : Bool) → is_kind withdrawal_kind row ≡ b
+        → AreNames texts numbers (if b then names_withdrawn side (rows ++ row ∷ []) else names_withdrawn side rows)
+        → AreNames texts numbers (names_withdrawn side (rows ++ row ∷ []))
+    withdrawn side numbers true is w = w
+    withdrawn side numbers false is w = rw (names_withdrawn-if side rows row, is) w
 
     no_event : (b : Bool) (o more : Option Capacity) → (b ≡ true → is_some o ≡ true) → (o ≡ None → list_any (is_kind EVENT) rows ≡ false)
         → option_or o more ≡ None → (if b then true else list_any (is_kind EVENT) rows) ≡ false

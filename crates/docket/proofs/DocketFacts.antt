@@ -26,6 +26,7 @@ use Rattle.docket.proofs.DeclarationFacts.{refuses_first, refuses_second, no_fau
 use Rattle.docket.proofs.RankingFacts.{lists_of-none}
 use Rattle.docket.proofs.WithdrawalFacts.{withdrawn_of-none}
 use Rattle.docket.proofs.SoundFacts.{both_none}
+use Rattle.docket.proofs.TextFacts.{names_length}
 
 -- a list with an item isn't empty
 not_empty : {A : Type 0} (x : A) (xs : List A) → nat_eq (length (x ∷ xs)) 0 ≡ false
@@ -52,10 +53,13 @@ no_members (r ∷ rows) = by (is_kind QUOTA r) (is_kind RESIDENT_LIST r) (no_mem
     by false false more = more
 
 -- whether there is a sheet, by what is declared
-pub sheet_is : (d : Declarations) (rows : List Fields) → IsDeclared d rows
+pub sheet_is : (d : Declarations) (texts : List (List ℕ)) (rows : List Fields) → IsDeclared d texts rows
     → (d.has_sheet_row || (nat_eq (length d.programmes) 0 && nat_eq (length d.residents) 0)) ≡ has_sheet rows
 unfolding has_sheet
-sheet_is d rows h = rw (h.sheet_rows, h.programmes, h.residents, no_members rows) refl
+sheet_is d texts rows h =
+    let p : length d.programmes ≡ length (programmes_of rows) = names_length texts d.programmes (programmes_of rows) h.programmes in
+    let r : length d.residents ≡ length (residents_of rows) = names_length texts d.residents (residents_of rows) h.residents in
+    rw (h.sheet_rows, p, r, no_members rows) refl
 
 -- who made the events, as the first pass has it
 pub by_worker_is : (workers : Option ℕ) (who : List ℕ) (rows : List Fields) → AreByWorker workers who rows
@@ -64,8 +68,8 @@ by_worker_is None who rows h = rw (← h.workers_are) (refl, tt)
 by_worker_is (Some n) who rows h = rw (← h.workers_are, ← h.who_are) (refl, h.within)
 
 -- before the second pass
-pub ranked_start : (d : Declarations) (rows : List Fields) → IsDeclared d rows → IsRanked d.builder rows []
-ranked_start d rows h = record {
+pub ranked_start : (d : Declarations) (texts : List (List ℕ)) (rows : List Fields) → IsDeclared d texts rows → IsRanked d.builder rows []
+ranked_start d texts rows h = record {
   quotas = h.quotas;
   programme_lists = h.programme_lists ∙ sym (lists_of-none PROGRAMME_LIST (programmes_of rows) (residents_of rows));
   resident_lists = h.resident_lists ∙ sym (lists_of-none RESIDENT_LIST (residents_of rows) (programmes_of rows));

@@ -3,7 +3,6 @@ pub mod FieldFacts
 pub mod FlatRowsFacts
 pub mod FourFacts
 pub mod RowsFacts
-pub mod SameFacts
 pub mod RowKindFacts
 pub mod NameFacts
 pub mod NameKeyFacts
@@ -13,7 +12,9 @@ pub mod DeclarationFacts
 pub mod SoundFacts
 pub mod NumberFacts
 pub mod VersionFacts
+pub mod ShortFacts
 pub mod TextFacts
+pub mod MemberFacts
 pub mod PassFacts
 pub mod ReadInvariant
 pub mod RankingFacts

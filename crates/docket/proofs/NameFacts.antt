@@ -4,12 +4,16 @@ use Rattle.std.specs.Prelude.{bytes_eq, slice_get, IsUtf8, ◌&&◌, ◌||◌, n
 use Rattle.std.specs.List.{list_all, list_any, position_from, AllByRecursion, IsDistinct}
 use Rattle.std.proofs.lemmas.Map.Keys.{IsDistinct-head, IsDistinct-tail}
 use Rattle.std.proofs.lemmas.List.{get_or_past}
+use Rattle.std.specs.List.{All}
+use Rattle.std.proofs.lemmas.List.Elements.{All-head, All-tail}
 use Rattle.std.proofs.lemmas.Iterator.Adapters.{position_from-zero}
 use Rattle.std.proofs.lemmas.Str.{IsUtf8-from_ascii}
 use Rattle.std.proofs.lemmas.Bool.{and_parts}
 use Rattle.std.proofs.lemmas.Slice.Eq.{bytes_eq-Decides}
 use Rattle.docket.specs.Words.{is_name, is_name_byte}
 use Rattle.docket.specs.Contents.{number_in, is_declared}
+use Rattle.docket.specs.FlatRows.{AreShort}
+use Rattle.docket.specs.declared.store.name_key.TheConstants.{MAX_NAME}
 use Rattle.docket.proofs.WordFacts.{list_all_true_at}
 
 -- a position among images
@@ -47,11 +51,6 @@ is_declared-any names name = is_some-position (bytes_eq name) names
 pub number_in-map : {K : Type 0} (f : K → List ℕ) (keys : List K) (text : List ℕ) → number_in (map f keys) text ≡ position (λ k. bytes_eq text (f k)) keys
 unfolding number_in
 number_in-map f keys text = position-map (bytes_eq text) f keys
-
--- the names after one is added
-pub names_after : (names : List (List ℕ)) (name : List ℕ)
-    → (if list_any (bytes_eq name) names then names else names ++ name ∷ []) ≡ (if is_declared names name then names else names ++ name ∷ [])
-names_after names name = ap (λ b. if b then names else names ++ name ∷ []) (sym (is_declared-any names name))
 
 -- each byte of a name is ASCII
 pub ascii_byte : (c : ℕ) → is_name_byte c ≡ true → c < 128
@@ -102,7 +101,7 @@ name_length name h =
     let few = (and_parts (nat_le 1 (length name)) (nat_le (length name) 32) sized.0).1 in
     search (rules, few)
 
--- a longer text differs from it
+-- a longer text differs from a text
 longer_differs : (text name : List ℕ) → length name < length text → bytes_eq text name ≡ false
 longer_differs text name h = by (bytes_eq text name) refl
   where
@@ -110,16 +109,15 @@ longer_differs text name h = by (bytes_eq text name) refl
     by true e = let same = ap length ((bytes_eq-Decides text name).0 e) in absurd (omega arith)
     by false e = refl
 
-longer_nowhere : (names : List (List ℕ)) (text : List ℕ) → list_all is_name names ≡ true → 32 < length text → list_any (bytes_eq text) names ≡ false
+longer_nowhere : (texts : List (List ℕ)) (text : List ℕ) → All (λ t. length t ≤ MAX_NAME) texts → MAX_NAME < length text → list_any (bytes_eq text) texts ≡ false
 longer_nowhere [] text all h = refl
 longer_nowhere (x ∷ xs) text all h =
-    let parts = and_parts (is_name x) (list_all is_name xs) all in
-    let few = name_length x parts.0 in
-    rw (longer_differs text x (omega arith)) (longer_nowhere xs text parts.1 h)
+    let few = All-head (λ t. length t ≤ MAX_NAME) x xs all in
+    rw (longer_differs text x (omega arith)) (longer_nowhere xs text (All-tail (λ t. length t ≤ MAX_NAME) x xs all) h)
 
 -- so it has no number
-pub longer_unnumbered : (names : List (List ℕ)) (text : List ℕ) → list_all is_name names ≡ true → 32 < length text → number_in names text ≡ None
-longer_unnumbered names text all h = none (number_in names text) (is_declared-any names text ∙ longer_nowhere names text all h)
+pub longer_unnumbered : (texts : List (List ℕ)) (text : List ℕ) → AreShort texts → MAX_NAME < length text → number_in texts text ≡ None
+longer_unnumbered texts text all h = none (number_in texts text) (is_declared-any texts text ∙ longer_nowhere texts text all.fits h)
   where
     none : (o : Option ℕ) → is_some o ≡ false → o ≡ None
     none None e = refl

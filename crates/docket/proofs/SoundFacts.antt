@@ -96,12 +96,12 @@ unfolding repeat_fault limit_fault
 sheet_row_free before row k kind q p r c e v w = rw (kind, q, p, r, c, e, v, w) refl
 
 -- a row of a sheet more
-pub sheet_row_declared : (d : Declarations) (rows : List Fields) (row : Fields)
-    → (kind_of row ≡ MATCHED) ⊎ ((kind_of row ≡ UNMATCHED) ⊎ (kind_of row ≡ FILLED)) → IsDeclared d rows
-    → IsDeclared (record d { has_sheet_row = true }) (rows ++ row ∷ []) × (option_or (repeat_fault rows row) (limit_fault rows row) ≡ None)
-sheet_row_declared d rows row (inl m) h =
-    (declared_push d _ rows row MATCHED m h refl refl refl refl refl refl (option_or-none d.capacity) (λ e. cc e) refl refl refl refl refl refl (by_other _ _ rows row MATCHED m refl refl h.by_worker), sheet_row_free rows row MATCHED m refl refl refl refl refl refl refl)
-sheet_row_declared d rows row (inr (inl u)) h =
-    (declared_push d _ rows row UNMATCHED u h refl refl refl refl refl refl (option_or-none d.capacity) (λ e. cc e) refl refl refl refl refl refl (by_other _ _ rows row UNMATCHED u refl refl h.by_worker), sheet_row_free rows row UNMATCHED u refl refl refl refl refl refl refl)
-sheet_row_declared d rows row (inr (inr f)) h =
-    (declared_push d _ rows row FILLED f h refl refl refl refl refl refl (option_or-none d.capacity) (λ e. cc e) refl refl refl refl refl refl (by_other _ _ rows row FILLED f refl refl h.by_worker), sheet_row_free rows row FILLED f refl refl refl refl refl refl refl)
+pub sheet_row_declared : (d : Declarations) (texts : List (List ℕ)) (rows : List Fields) (row : Fields)
+    → (kind_of row ≡ MATCHED) ⊎ ((kind_of row ≡ UNMATCHED) ⊎ (kind_of row ≡ FILLED)) → IsDeclared d texts rows
+    → IsDeclared (record d { has_sheet_row = true }) texts (rows ++ row ∷ []) × (option_or (repeat_fault rows row) (limit_fault rows row) ≡ None)
+sheet_row_declared d texts rows row (inl m) h =
+    (declared_push d _ texts rows row MATCHED m h refl refl refl h.programmes h.residents h.ranked (option_or-none d.capacity) (λ e. cc e) refl refl h.withdrawn_programmes h.withdrawn_residents refl refl (by_other _ _ rows row MATCHED m refl refl h.by_worker), sheet_row_free rows row MATCHED m refl refl refl refl refl refl refl)
+sheet_row_declared d texts rows row (inr (inl u)) h =
+    (declared_push d _ texts rows row UNMATCHED u h refl refl refl h.programmes h.residents h.ranked (option_or-none d.capacity) (λ e. cc e) refl refl h.withdrawn_programmes h.withdrawn_residents refl refl (by_other _ _ rows row UNMATCHED u refl refl h.by_worker), sheet_row_free rows row UNMATCHED u refl refl refl refl refl refl refl)
+sheet_row_declared d texts rows row (inr (inr f)) h =
+    (declared_push d _ texts rows row FILLED f h refl refl refl h.programmes h.residents h.ranked (option_or-none d.capacity) (λ e. cc e) refl refl h.withdrawn_programmes h.withdrawn_residents refl refl (by_other _ _ rows row FILLED f refl refl h.by_worker), sheet_row_free rows row FILLED f refl refl refl refl refl refl refl)

@@ -1,13 +1,20 @@
 -- Facts on texts that are kept by number.
-use Rattle.std.proofs.Common.{◌≡◌, ◌<◌, ◌+◌, ℕ, suc, List, [], ◌∷◌, ◌++◌, length, get_or, map, take, arith, sym, ◌∙◌, refl, ap, Option, Some, true}
-use Rattle.std.specs.Prelude.{slice_get, bytes_eq}
-use Rattle.std.proofs.lemmas.List.{map_push, length-map, get_or-map, get_or-take, take_more}
+use Rattle.std.proofs.Common.{◌≡◌, ◌≤◌, ◌<◌, ℕ, suc, List, [], ◌∷◌, ◌++◌, Bool, true, false, length, get_or, map, take, arith, sym, ◌∙◌, refl, ap, Some, append-nil, append_assoc}
+use Rattle.std.specs.Prelude.{slice_get, bytes_eq, if◌then◌else◌}
+use Rattle.std.specs.List.{All}
+use Rattle.std.proofs.lemmas.List.{map_push, length-map, get_or-map, get_or-take, take_all, take-take, length-take, take-append-le}
+use Rattle.std.proofs.lemmas.List.Elements.{All-nil, All-push, All-weaker}
+use Rattle.std.proofs.lemmas.List.Folds.{list_all-append}
 use Rattle.std.proofs.lemmas.List.Quantifiers.{position-Some}
-use Rattle.std.proofs.lemmas.Option.{slice_get-get_or, get_or_from_slice_get}
+use Rattle.std.proofs.lemmas.Option.{slice_get-get_or, get_or_from_slice_get, slice_get_within, same_Some}
+use Rattle.docket.specs.Words.{is_name}
 use Rattle.docket.specs.Contents.{number_in}
 use Rattle.docket.specs.Fields.{field}
-use Rattle.docket.specs.FlatRows.{texts_at, AreNumbersOf, StartsWith}
+use Rattle.docket.specs.FlatRows.{texts_at, cut, AreCuts, AreFlat, AreNumbersOf, AreShort, AreNames, AddsTexts, StartsWith}
+use Rattle.docket.specs.declared.store.name_key.TheConstants.{MAX_NAME}
 use Rattle.docket.proofs.FieldFacts.{field-get_or}
+use Rattle.docket.proofs.FlatRowsFacts.{AreCuts-none, AreCuts-push, cut-push}
+use Rattle.docket.proofs.NameFacts.{name_at}
 use Rattle.docket.proofs.NumberFacts.{same_bytes}
 
 -- the text that has a number
@@ -59,15 +66,120 @@ texts_at-push texts more numbers n text s h at =
     map_push (λ m. get_or more m []) numbers n ∙ ap (λ l. l ++ get_or more n [] ∷ []) (same_texts texts more numbers s h)
     ∙ ap (λ t. map (λ m. get_or texts m []) numbers ++ t ∷ []) (get_or_from_slice_get more n text [] at)
 
--- the numbers of texts that are names, one more
-pub numbers_step : (names texts : List (List ℕ)) (i : ℕ) (text : List ℕ) (items next : List (Option ℕ)) (found : Option ℕ) → i < length texts
-    → slice_get texts i ≡ Some text → items ≡ map (number_in names) (take i texts) → found ≡ number_in names text → next ≡ items ++ found ∷ []
-    → next ≡ map (number_in names) (take (i + 1) texts)
-numbers_step names texts i text items next found lt at was is more =
-    rw (more, was, is, take_more texts i [] lt, get_or_from_slice_get texts i text [] at) (sym (map_push (number_in names) (take i texts) text))
+-- no text leaves
+pub starts_same : (texts : List (List ℕ)) → StartsWith texts texts
+starts_same texts = take_all (length texts) texts (omega arith)
 
--- what is kept of the number of a text
-pub by_number : (names texts : List (List ℕ)) (kept : List (Option ℕ)) (n : ℕ) (text : List ℕ) (d : Option ℕ) → kept ≡ map (number_in names) texts
-    → slice_get texts n ≡ Some text → n < length texts → get_or kept n d ≡ number_in names text
-by_number names texts kept n text d are at lt =
-    rw (are, get_or-map (number_in names) texts n [] d lt, get_or_from_slice_get texts n text [] at) refl
+pub starts_length : (texts more : List (List ℕ)) → StartsWith texts more → length texts ≤ length more
+starts_length texts more s =
+    let size = ap length s in
+    let front = length-take (length texts) more in
+    omega arith
+
+pub starts_more : (texts more most : List (List ℕ)) → StartsWith texts more → StartsWith more most → StartsWith texts most
+starts_more texts more most s h =
+    sym (take-take (length texts) (length more) most (starts_length texts more s)) ∙ ap (λ (l : List (List ℕ)). take (length texts) l) h ∙ s
+
+-- a text joins where it is new
+pub starts_insert : (texts : List (List ℕ)) (text : List ℕ) (b : Bool) → StartsWith texts (if b then texts else texts ++ text ∷ [])
+starts_insert texts text true = starts_same texts
+starts_insert texts text false = take-append-le (length texts) texts (text ∷ []) (omega arith) ∙ starts_same texts
+
+pub short_insert : (texts : List (List ℕ)) (text : List ℕ) (b : Bool) → AreShort texts → length text ≤ MAX_NAME → AreShort (if b then texts else texts ++ text ∷ [])
+short_insert texts text true h few = h
+short_insert texts text false h few = record { fits = All-push (λ t. length t ≤ MAX_NAME) texts text h.fits few }
+
+-- the numbers stay those of texts
+pub numbers_kept : (texts more : List (List ℕ)) (numbers : List ℕ) → StartsWith texts more → AreNumbersOf texts numbers → AreNumbersOf more numbers
+numbers_kept texts more numbers s h =
+    let size = starts_length texts more s in
+    All-weaker (λ n. n < length texts) (λ n. n < length more) (λ n lt. omega arith) numbers h
+
+pub texts_kept : (texts more : List (List ℕ)) (numbers : List ℕ) → StartsWith texts more → AreNumbersOf texts numbers → texts_at more numbers ≡ texts_at texts numbers
+unfolding texts_at
+texts_kept texts more numbers s h = same_texts texts more numbers s h
+
+-- none joins
+pub adds_none : (texts : List (List ℕ)) (numbers : List ℕ) → AreNumbersOf texts numbers → AddsTexts texts numbers texts numbers []
+adds_none texts numbers h = record { kept = starts_same texts; within = h; joined = sym (append-nil (texts_at texts numbers)) }
+
+-- one text joins, and some after others
+pub adds_text : (texts : List (List ℕ)) (numbers : List ℕ) (more : List (List ℕ)) (n : ℕ) (text : List ℕ) → AreNumbersOf texts numbers → StartsWith texts more
+    → slice_get more n ≡ Some text → AddsTexts texts numbers more (numbers ++ n ∷ []) (text ∷ [])
+adds_text texts numbers more n text h s at = record {
+  kept = s;
+  within = All-push (λ m. m < length more) numbers n (numbers_kept texts more numbers s h) (slice_get_within more n text at);
+  joined = texts_at-push texts more numbers n text s h at;
+}
+
+pub adds_more : {texts : List (List ℕ)} {numbers : List ℕ} {more : List (List ℕ)} {all : List ℕ} {most : List (List ℕ)} {whole : List ℕ} (first second : List (List ℕ))
+    → AddsTexts texts numbers more all first → AddsTexts more all most whole second → AddsTexts texts numbers most whole (first ++ second)
+adds_more {texts} {numbers} {more} {all} {most} {whole} first second h i = record {
+  kept = starts_more texts more most h.kept i.kept;
+  within = i.within;
+  joined = i.joined ∙ ap (λ l. l ++ second) h.joined ∙ append_assoc (texts_at texts numbers) first second;
+}
+
+-- names stay, and one joins
+pub names_grown : (texts more : List (List ℕ)) (numbers : List ℕ) (names : List (List ℕ)) → StartsWith texts more → AreNames texts numbers names → AreNames more numbers names
+names_grown texts more numbers names s h = record {
+  within = numbers_kept texts more numbers s h.within;
+  texts_are = texts_kept texts more numbers s h.within ∙ h.texts_are;
+  named = h.named;
+}
+
+pub names_more : (texts : List (List ℕ)) (numbers : List ℕ) (names : List (List ℕ)) (n : ℕ) (name : List ℕ) → AreNames texts numbers names → slice_get texts n ≡ Some name
+    → is_name name ≡ true → AreNames texts (numbers ++ n ∷ []) (names ++ name ∷ [])
+names_more texts numbers names n name h at is = record {
+  within = All-push (λ m. m < length texts) numbers n h.within (slice_get_within texts n name at);
+  texts_are = texts_at-push texts texts numbers n name (starts_same texts) h.within at ∙ ap (λ l. l ++ name ∷ []) h.texts_are;
+  named = rw (list_all-append is_name names (name ∷ []), h.named, is) refl;
+}
+
+pub names_none : (texts : List (List ℕ)) → AreNames texts [] []
+unfolding texts_at
+names_none texts = record { within = All-nil (λ n. n < length texts); texts_are = refl; named = refl }
+
+-- the name in a place
+pub name_there : (texts : List (List ℕ)) (members : List ℕ) (k : ℕ) (name : List ℕ) → k < length members → AreNames texts members (texts_at texts members)
+    → slice_get texts (get_or members k 0) ≡ Some name → (slice_get (texts_at texts members) k ≡ Some name) × (is_name name ≡ true)
+name_there texts members k name lt h at =
+    let size = length-texts_at texts members in
+    let within : k < length (texts_at texts members) = omega arith in
+    let own = number_text texts members k within h.within in
+    let is : field (texts_at texts members) k ≡ name = same_Some (field (texts_at texts members) k) name (sym own ∙ at) in
+    let there = slice_get-get_or (texts_at texts members) k [] within ∙ ap Some (sym (field-get_or (texts_at texts members) k) ∙ is) in
+    (there, name_at (texts_at texts members) k name h.named there)
+
+-- no rows
+pub flat_none : (texts : List (List ℕ)) → AreFlat texts [] []
+unfolding texts_at
+flat_none texts = record { within = All-nil (λ n. n < length texts); cuts = AreCuts-none }
+
+-- the fields of one row more
+flat_ends : (texts : List (List ℕ)) (numbers : List ℕ) (more : List (List ℕ)) (all : List ℕ) (row : List (List ℕ)) → AddsTexts texts numbers more all row
+    → length (texts_at texts numbers ++ row) ≡ length all
+flat_ends texts numbers more all row h = ap length (sym h.joined) ∙ length-texts_at more all
+
+pub flat_push : (texts : List (List ℕ)) (numbers ends : List ℕ) (more : List (List ℕ)) (all : List ℕ) (row : List (List ℕ)) → AreFlat texts numbers ends
+    → AddsTexts texts numbers more all row → AreFlat more all (ends ++ length all ∷ [])
+flat_push texts numbers ends more all row h a = record {
+  within = a.within;
+  cuts = rw (a.joined, ← flat_ends texts numbers more all row a) (AreCuts-push ends (texts_at texts numbers) row h.cuts);
+}
+
+pub flat_rows_push : (texts : List (List ℕ)) (numbers ends : List ℕ) (more : List (List ℕ)) (all : List ℕ) (row : List (List ℕ)) → AreFlat texts numbers ends
+    → AddsTexts texts numbers more all row → cut 0 (ends ++ length all ∷ []) (texts_at more all) ≡ cut 0 ends (texts_at texts numbers) ++ row ∷ []
+flat_rows_push texts numbers ends more all row h a =
+    rw (a.joined, ← flat_ends texts numbers more all row a) (cut-push ends (texts_at texts numbers) row h.cuts)
+
+-- rows stay where texts join
+pub flat_kept : (texts more : List (List ℕ)) (numbers ends : List ℕ) → StartsWith texts more → AreFlat texts numbers ends → AreFlat more numbers ends
+flat_kept texts more numbers ends s h = record {
+  within = numbers_kept texts more numbers s h.within;
+  cuts = rw (texts_kept texts more numbers s h.within) h.cuts;
+}
+
+-- as many names as numbers
+pub names_length : (texts : List (List ℕ)) (numbers : List ℕ) (names : List (List ℕ)) → AreNames texts numbers names → length numbers ≡ length names
+names_length texts numbers names h = sym (length-texts_at texts numbers) ∙ ap length h.texts_are

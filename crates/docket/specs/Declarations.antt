@@ -7,6 +7,7 @@ use Rattle.docket.specs.Words.{capacity_of}
 use Rattle.docket.specs.Fields.{Fields, field, is_kind, is_row_of, withdrawal_kind}
 use Rattle.docket.specs.Contents.{names_of, programmes_of, residents_of, quotas_of, is_sheet_row, workers_in, who_of}
 use Rattle.docket.specs.Passes.{is_version_2}
+use Rattle.docket.specs.FlatRows.{AreNames}
 use Rattle.docket.specs.Whole.{AreWorkers}
 use Rattle.docket.specs.declared.store.declarations.Declarations.{Declarations}
 use Rattle.docket.specs.declared.kind.TheConstants.{PROGRAMME_LIST, CAPACITY, EVENT}
@@ -30,20 +31,20 @@ pub record AreByWorker (workers : Option ℕ) (who : List ℕ) (rows : List Fiel
   pub who_are : who ≡ who_if workers rows
   pub within : IfSome workers (λ n. AreWorkers n who)
 
--- nobody's list was handed in to the builder yet, and nobody was withdrawn; no event comes before the capacity; the rest is what the rows declare
-pub record IsDeclared (d : Declarations) (rows : List Fields) : Type 0 where
+-- nobody's list was handed in to the builder yet, and nobody was withdrawn; no event comes before the capacity; the rest is what the rows declare, names by the numbers of their texts
+pub record IsDeclared (d : Declarations) (texts : Fields) (rows : List Fields) : Type 0 where
   pub quotas : d.builder.quotas ≡ quotas_of rows
   pub programme_lists : d.builder.programme_lists ≡ map (λ name. None) (programmes_of rows)
   pub resident_lists : d.builder.resident_lists ≡ map (λ name. None) (residents_of rows)
-  pub programmes : d.programmes ≡ programmes_of rows
-  pub residents : d.residents ≡ residents_of rows
-  pub ranked : d.ranked ≡ names_of PROGRAMME_LIST rows
+  pub programmes : AreNames texts d.programmes (programmes_of rows)
+  pub residents : AreNames texts d.residents (residents_of rows)
+  pub ranked : AreNames texts d.ranked (names_of PROGRAMME_LIST rows)
   pub capacity : d.capacity ≡ capacity_in rows
   pub no_events : d.capacity ≡ None → list_any (is_kind EVENT) rows ≡ false
   pub by_worker : AreByWorker d.workers d.who.items rows
   pub sheet_rows : d.has_sheet_row ≡ list_any is_sheet_row rows
   pub version : d.is_version_2 ≡ is_version_2 rows
-  pub withdrawn_programmes : d.withdrawn_programmes ≡ names_withdrawn (codes "P") rows
-  pub withdrawn_residents : d.withdrawn_residents ≡ names_withdrawn (codes "R") rows
+  pub withdrawn_programmes : AreNames texts d.withdrawn_programmes (names_withdrawn (codes "P") rows)
+  pub withdrawn_residents : AreNames texts d.withdrawn_residents (names_withdrawn (codes "R") rows)
   pub no_programme_gone : d.builder.programmes_withdrawn ≡ map (λ name. false) (programmes_of rows)
   pub no_resident_gone : d.builder.residents_withdrawn ≡ map (λ name. false) (residents_of rows)

@@ -4,7 +4,7 @@ ghost use Rattle.match_model.specs.Instance.{IsProgramme, IsResident};
 ghost use Rattle.docket.specs.Texts as texts;
 ghost use Rattle.docket.specs.Whole.{IsWhole};
 
-use crate::store::name_list::NameList;
+use crate::store::names::Names;
 use exchange_core::{Capacity, Event};
 use match_model::{Assignment, Instance, ProgrammeNo, ResidentNo};
 use std::marker::Model;
@@ -48,8 +48,7 @@ impl Model for Journal {
 
 /// What a docket says.
 pub struct Docket {
-    pub(crate) programmes: NameList,
-    pub(crate) residents: NameList,
+    pub(crate) names: Names,
     pub(crate) instance: Instance,
     pub(crate) sheet: Option<Assignment>,
     pub(crate) journal: Option<Journal>,
@@ -61,17 +60,16 @@ impl Model for Docket {
 
     ghost Value = { Contents };
 
-    ghost view = { λ d. record { programmes = d.programmes; residents = d.residents; instance = d.instance; sheet = d.sheet; journal = d.journal } };
+    ghost view = { λ d. record { programmes = d.names.programmes; residents = d.names.residents; instance = d.instance; sheet = d.sheet; journal = d.journal } };
 
-    ghost invariant = { λ d. IsWhole (record { programmes = d.programmes; residents = d.residents; instance = d.instance; sheet = d.sheet; journal = d.journal }) };
+    ghost invariant = { λ d. IsWhole (record { programmes = d.names.programmes; residents = d.names.residents; instance = d.instance; sheet = d.sheet; journal = d.journal }) };
 }
 
 // As one call, so that whoever lets a docket go proves nothing of its parts.
 impl Drop for Docket {
     fn drop(self) {
         let Docket {
-            programmes: _,
-            residents: _,
+            names: _,
             instance: _,
             sheet: _,
             journal: _,
@@ -93,7 +91,7 @@ impl Docket {
         requires { IsProgramme self.now.instance programme }
         ensures { result.now ≡ texts.programme_name self.now programme }
     {
-        self.programmes.name(programme.0 as usize)
+        self.names.programme_name(programme.0 as usize)
     }
 
     /// The name of a resident of the docket's instance.
@@ -101,7 +99,7 @@ impl Docket {
         requires { IsResident self.now.instance resident }
         ensures { result.now ≡ texts.resident_name self.now resident }
     {
-        self.residents.name(resident.0 as usize)
+        self.names.resident_name(resident.0 as usize)
     }
 
     /// The sheet, if the docket has one.

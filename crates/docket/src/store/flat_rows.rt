@@ -1,11 +1,13 @@
 //! Rows, one after another, and where each of them ends.
-ghost use Rattle.std.specs.Prelude.{◌≡◌, ◌<◌, ◌≤◌, ◌++◌, ◌∷◌, [], Some, length, drop, slice_get, IfSome, IfNone, OnOk};
+ghost use Rattle.std.specs.Prelude.{◌≡◌, ◌<◌, ◌≤◌, ◌++◌, ◌∷◌, [], Some, length, drop, slice_get, IfSome, IfNone, IfOk, OnOk};
 ghost use Rattle.csv.specs.Records.{fields_of};
 ghost use Rattle.docket.specs.Fields as fields;
+ghost use Rattle.docket.specs.FlatRows.{AreNumbersOf, AreShort, AddsTexts, StartsWith};
 ghost use Rattle.docket.specs.Rows.{row_at};
 
+use crate::store::name_key::MAX_NAME;
 use crate::store::numbers::{Numbers, start_of};
-use crate::store::texts::NumberedTexts;
+use crate::store::texts::Texts;
 use csv::ByteRecord;
 use std::alloc::{AllocError, Global};
 use std::hash::RandomState;
@@ -14,27 +16,47 @@ use std::marker::Model;
 /// Rows in one long record of texts by number, and where each of them ends in it.
 #[derive(Drop)]
 pub(crate) struct FlatRows {
-    fields: NumberedTexts,
+    texts: Texts,
+    fields: Numbers,
     ends: Numbers,
 }
 
 impl Model for FlatRows {
-    ghost use Rattle.docket.specs.FlatRows.{NumberedRows, cut, AreCuts};
+    ghost use Rattle.docket.specs.FlatRows.{NumberedRows, cut, texts_at, AreFlat};
 
     ghost Value = { NumberedRows };
 
-    ghost view = { λ a. record { rows = cut 0 a.ends a.fields.items; texts = a.fields.texts } };
+    ghost view = { λ a. record { rows = cut 0 a.ends (texts_at a.texts a.fields); texts = a.texts } };
 
-    ghost invariant = { λ a. AreCuts a.ends a.fields.items };
+    ghost invariant = { λ a. AreFlat a.texts a.fields a.ends };
 }
 
-// Adds the fields of a row from field `from` on.
-fn append(fields: &mut NumberedTexts, row: &ByteRecord, from: usize) -> Result<(), AllocError>
-    ensures { OnOk result (fields.new.items ≡ fields.old.items ++ drop from (fields_of row.now)) }
+// Adds the number of a text.
+#[inline(always)]
+fn append_text(texts: &mut Texts, fields: &mut Numbers, text: &[u8]) -> Result<(), AllocError>
+    requires fits { length text.now ≤ MAX_NAME }
+    requires within { AreNumbersOf texts.old fields.old }
+    ensures { OnOk result (AddsTexts texts.old fields.old texts.new fields.new (text.now ∷ [])) }
+{
+    let number = texts.number(text)?;
+    fields.push(number)?;
+    Ok(())
+}
+
+// Adds the numbers of the fields of a row from field `from` on.
+fn append(
+    texts: &mut Texts,
+    fields: &mut Numbers,
+    row: &ByteRecord,
+    from: usize,
+) -> Result<(), AllocError>
+    requires short { AreShort (fields_of row.now) }
+    requires within { AreNumbersOf texts.old fields.old }
+    ensures { OnOk result (AddsTexts texts.old fields.old texts.new fields.new (drop from (fields_of row.now))) }
 {
     for i in from..row.len() {
         if let Some(text) = row.get(i) {
-            fields.push(text)?;
+            append_text(texts, fields, text)?;
         }
     }
     Ok(())
@@ -46,12 +68,13 @@ impl FlatRows {
         ensures { result.rows ≡ [] }
     {
         FlatRows {
-            fields: NumberedTexts::new(alloc, keys),
+            texts: Texts::new(alloc, keys),
+            fields: Numbers::new(alloc),
             ends: Numbers::new(alloc),
         }
     }
 
-    /// Takes every row away.
+    /// Takes every row away. The texts stay.
     pub(crate) fn clear(&mut self)
         ensures { self.new.rows ≡ [] }
     {
@@ -61,9 +84,11 @@ impl FlatRows {
 
     /// Adds the fields of a row from field `from` on, as a row. Where memory is wanting no row is kept.
     pub(crate) fn push(&mut self, row: &ByteRecord, from: usize) -> Result<(), AllocError>
-        ensures { OnOk result (self.new.rows ≡ self.old.rows ++ drop from (fields_of row.now) ∷ []) }
+        requires { AreShort (fields_of row.now) }
+        ensures rows { OnOk result (self.new.rows ≡ self.old.rows ++ drop from (fields_of row.now) ∷ []) }
+        ensures texts { OnOk result (StartsWith self.old.texts self.new.texts) }
     {
-        let Ok(()) = append(&mut self.fields, row, from) else {
+        let Ok(()) = append(&mut self.texts, &mut self.fields, row, from) else {
             self.fields.clear();
             self.ends.clear();
             return Err(AllocError);
@@ -76,27 +101,41 @@ impl FlatRows {
         Ok(())
     }
 
+    /// The number of a text, which joins the texts where it is new. The rows stay.
+    pub(crate) fn text_number(&mut self, text: &[u8]) -> Result<usize, AllocError>
+        requires { length text.now ≤ MAX_NAME }
+        ensures rows { self.new.rows ≡ self.old.rows }
+        ensures number { IfOk result (λ n. slice_get self.new.texts n ≡ Some text.now) }
+        ensures texts { StartsWith self.old.texts self.new.texts }
+    {
+        self.texts.number(text)
+    }
+
+    /// The different texts of the rows.
+    pub(crate) fn texts(&self) -> &Texts
+        ensures { result.now ≡ self.now.texts }
+    {
+        &self.texts
+    }
+
+    /// The different texts of the rows, which are let go.
+    pub(crate) fn into_texts(self) -> Texts
+        ensures { result ≡ self.texts }
+    {
+        let FlatRows {
+            texts,
+            fields: _,
+            ends: _,
+        } = self;
+        texts
+    }
+
     /// How many fields row `k` has.
     pub(crate) fn width(&self, k: usize) -> usize
         requires { k < length self.now.rows }
         ensures { result ≡ length (row_at self.now.rows k) }
     {
         self.ends.get(k) - start_of(&self.ends, k)
-    }
-
-    /// How many different texts there are.
-    pub(crate) fn different(&self) -> usize
-        ensures { result ≡ length self.now.texts }
-    {
-        self.fields.different()
-    }
-
-    /// The text of this number.
-    pub(crate) fn text(&self, number: usize) -> &[u8]
-        requires { number < length self.now.texts }
-        ensures { slice_get self.now.texts number ≡ Some result.now }
-    {
-        self.fields.text(number)
     }
 
     /// The number of the text of field `i` of row `k`; none past the end, where a field is empty.
@@ -109,7 +148,7 @@ impl FlatRows {
     {
         let start = start_of(&self.ends, k);
         if i < self.ends.get(k) - start {
-            Some(self.fields.number(start + i))
+            Some(self.fields.get(start + i))
         } else {
             None
         }
@@ -121,7 +160,7 @@ impl FlatRows {
         ensures { result.now ≡ fields.field (row_at self.now.rows k) i }
     {
         match self.number(k, i) {
-            Some(number) => self.text(number),
+            Some(number) => self.texts.text(number),
             None => &[],
         }
     }

@@ -1,90 +1,105 @@
-//! The members of one side by name, and by the number of each text of a docket.
-ghost use Rattle.std.specs.Prelude.{◌≡◌, ◌<◌, ◌≤◌, ◌^◌, length, map, IfOk, IfSome};
-ghost use Rattle.docket.specs.Fields.{field as field_of};
-ghost use Rattle.docket.specs.Contents.{number_in};
-ghost use Rattle.docket.specs.Rows.{row_at};
+//! Texts that have a place of their own among a docket's, as the members of one side.
+ghost use Rattle.std.specs.Prelude.{◌≡◌, ◌<◌, ◌++◌, ◌∷◌, [], not, if◌then◌else◌, is_some, nat_eq, length, position, slice_index_or, List, ℕ, IfOk, OnOk};
+ghost use Rattle.docket.specs.Tables.{AreFoundBy};
 
-use crate::kind::MAX_RECORDS;
-use crate::store::name_list::NameList;
-use crate::store::names::Names;
-use crate::store::rows::ReadRows;
 use std::alloc::{AllocError, Global};
 use std::marker::Model;
 
-/// The members of one side, and of each text by its number which of them it names, if it names one.
+/// Some of the texts of a docket, each once and by its number, in the order in which they were added: a member has its place
+/// there as its own number.
 #[derive(Drop)]
 pub(crate) struct Members {
-    names: Names,
+    texts: Vec<usize>,
+    // By text which member it is, if it is one. No text past the end is one.
     by_text: Vec<Option<u32>>,
 }
 
 impl Model for Members {
-    ghost use Rattle.docket.specs.Tables.{MemberNumbers};
+    ghost use Rattle.std.specs.Prelude.{List, ℕ};
+    ghost use Rattle.docket.specs.Tables.{AreFoundBy};
 
-    ghost Value = { MemberNumbers };
+    ghost Value = { List ℕ };
 
-    ghost view = { λ m. record { names = m.names; by_text = m.by_text.items } };
+    ghost view = { λ m. m.texts.items };
+
+    ghost invariant = { λ m. AreFoundBy m.by_text.items m.texts.items };
 }
 
-// By number of each text of the rows which name it is, if it is one.
-fn numbers_of(alloc: Global, names: &Names, rows: &ReadRows) -> Result<Vec<Option<u32>>, AllocError>
-    requires { length names.now ≤ MAX_RECORDS }
-    ensures { IfOk result (λ numbers. numbers.items ≡ map (number_in names.now) rows.now.texts) }
+// Makes room as far as a text, which no text gets a place by.
+fn reach(by_text: &mut Vec<Option<u32>>, text: usize) -> Result<(), AllocError>
+    ensures kept { (texts : List ℕ) → AreFoundBy by_text.old.items texts → AreFoundBy by_text.new.items texts }
+    ensures within { OnOk result (text < length by_text.new.items) }
 {
-    let mut numbers = Vec::new(alloc);
-    for text in 0..rows.different() {
-        numbers.push(number_of(names, rows.text(text)))?;
+    if text < by_text.len() {
+        return Ok(());
     }
-    Ok(numbers)
-}
-
-// The number of a name, if it is among the names.
-fn number_of(names: &Names, name: &[u8]) -> Option<u32>
-    requires { length names.now ≤ MAX_RECORDS }
-    ensures { result ≡ number_in names.now name.now }
-{
-    match names.number(name) {
-        Some(number) => Some(number as u32),
-        None => None,
-    }
+    let Some(len) = text.checked_add(1) else {
+        return Err(AllocError);
+    };
+    by_text.resize(len, None)?;
+    Ok(())
 }
 
 impl Members {
-    /// These names, for rows with these texts.
-    pub(crate) fn new(alloc: Global, names: Names, rows: &ReadRows) -> Result<Members, AllocError>
-        requires { length names ≤ MAX_RECORDS }
-        ensures names { IfOk result (λ members. members.names ≡ names) }
-        ensures by_text { IfOk result (λ members. members.by_text ≡ map (number_in names) rows.now.texts) }
+    /// Nobody yet.
+    pub(crate) fn new(alloc: Global) -> Members
+        ensures { result ≡ [] }
     {
-        let by_text = numbers_of(alloc, &names, rows)?;
-        Ok(Members { names, by_text })
-    }
-
-    /// How many members there are.
-    pub(crate) fn len(&self) -> usize
-        ensures { result ≡ length self.now.names }
-    {
-        self.names.len()
-    }
-
-    /// The number of the member whom field `i` of row `k` names, if it names one.
-    #[inline(always)]
-    pub(crate) fn named(&self, rows: &ReadRows, k: usize, i: usize) -> Option<u32>
-        requires row { k < length rows.now.rows }
-        requires few { length self.now.names ≤ MAX_RECORDS }
-        requires found { self.now.by_text ≡ map (number_in self.now.names) rows.now.texts }
-        ensures { result ≡ number_in self.now.names (field_of (row_at rows.now.rows k) i) }
-    {
-        match rows.number(k, i) {
-            Some(text) => self.by_text[text],
-            None => number_of(&self.names, rows.field(k, i)),
+        Members {
+            texts: Vec::new(alloc),
+            by_text: Vec::new(alloc),
         }
     }
 
-    /// The names by their numbers alone.
-    pub(crate) fn into_names(self, alloc: Global) -> Result<NameList, AllocError>
-        ensures { IfOk result (λ names. names ≡ self.names) }
+    /// How many there are.
+    pub(crate) fn len(&self) -> usize
+        ensures { result ≡ length self.now }
     {
-        self.names.into_list(alloc)
+        self.texts.len()
+    }
+
+    /// The text of a member.
+    pub(crate) fn text(&self, member: usize) -> usize
+        requires { member < length self.now }
+        ensures { result ≡ slice_index_or self.now member 0 }
+    {
+        self.texts[member]
+    }
+
+    /// Which member a text is, if it is one.
+    #[inline(always)]
+    pub(crate) fn member(&self, text: usize) -> Option<u32>
+        ensures { result ≡ position (nat_eq text) self.now }
+    {
+        match self.by_text.get(text) {
+            Some(member) => *member,
+            None => None,
+        }
+    }
+
+    /// Adds a text, and says whether it is new.
+    pub(crate) fn add(&mut self, text: usize) -> Result<bool, AllocError>
+        ensures fresh { IfOk result (λ fresh. fresh ≡ not (is_some (position (nat_eq text) self.old))) }
+        ensures added { IfOk result (λ fresh. self.new ≡ (if fresh then self.old ++ text ∷ [] else self.old)) }
+    {
+        if self.member(text).is_some() {
+            return Ok(false);
+        }
+        self.give_place(text)?;
+        Ok(true)
+    }
+
+    // Adds a text that isn't among them.
+    fn give_place(&mut self, text: usize) -> Result<(), AllocError>
+        requires { position (nat_eq text) self.old ≡ None }
+        ensures { OnOk result (self.new ≡ self.old ++ text ∷ []) }
+    {
+        let Ok(member) = u32::try_from(self.texts.len()) else {
+            return Err(AllocError);
+        };
+        reach(&mut self.by_text, text)?;
+        self.texts.push(text)?;
+        self.by_text[text] = Some(member);
+        Ok(())
     }
 }

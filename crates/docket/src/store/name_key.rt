@@ -13,6 +13,9 @@ use std::marker::Model;
 /// The most bytes of a name.
 pub(crate) const MAX_NAME: usize = 32;
 
+/// How many places a table of guesses has.
+pub(crate) const PLACES: usize = 65_536;
+
 /// A text of at most as many bytes as a name, with zeros after it: it is hashed by whole words, which is one for most
 /// names, and so compared.
 #[derive(Drop)]
@@ -46,6 +49,13 @@ impl NameKey {
         }
     }
 
+    /// The text.
+    pub(crate) fn text(&self) -> &[u8]
+        ensures { result.now ≡ self.now }
+    {
+        &self.bytes[..self.len as usize]
+    }
+
     /// One more key of the same text.
     pub(crate) fn copy(&self) -> NameKey
         ensures { result ≡ self.now }
@@ -56,11 +66,15 @@ impl NameKey {
         }
     }
 
-    /// The text.
-    pub(crate) fn text(&self) -> &[u8]
-        ensures { result.now ≡ self.now }
-    {
-        &self.bytes[..self.len as usize]
+    /// The place of the text in a table of guesses. Texts that share a place cost a guess that fails, and no more.
+    #[inline(always)]
+    pub(crate) fn place(&self) -> usize {
+        let first = first_word(&self.bytes);
+        let second = word_at(&self.bytes, 8).rotate_left(7);
+        let third = word_at(&self.bytes, 16).rotate_left(14);
+        let fourth = word_at(&self.bytes, 24).rotate_left(21);
+        let gist = first ^ second ^ third ^ fourth;
+        (gist.wrapping_mul(0x9E37_79B9_7F4A_7C15) >> 48) as usize
     }
 }
 

@@ -1,82 +1,81 @@
-//! Names, numbered from 0 in the order in which they were first seen.
-ghost use Rattle.std.specs.Prelude.{◌≡◌, ◌<◌, ◌++◌, ◌∷◌, [], not, if◌then◌else◌, length, IfOk, OnOk, OnErr, IfSome, true};
-ghost use Rattle.docket.specs.Words as words;
-ghost use Rattle.docket.specs.Contents.{number_in, is_declared};
+//! The names of a docket's members by their numbers.
+ghost use Rattle.std.specs.Prelude.{◌≡◌, ◌<◌, Some, length, slice_get};
+ghost use Rattle.docket.specs.FlatRows.{texts_at, AreNames};
 
-use crate::store::name_key::{MAX_NAME, NameKey};
-use crate::store::name_list::NameList;
-use indexmap::IndexSet;
-use std::alloc::{AllocError, Global};
-use std::hash::RandomState;
+use crate::store::members::Members;
+use crate::store::texts::Texts;
 use std::marker::Model;
+use std::str;
 
-/// Names, numbered from 0 in the order in which they were first seen.
+/// The names of the members of both sides by their numbers: where each stands among the different texts of the docket.
 pub(crate) struct Names {
-    seen: IndexSet<NameKey, RandomState>,
+    texts: Texts,
+    programmes: Members,
+    residents: Members,
 }
 
 impl Model for Names {
-    ghost use Rattle.std.specs.Prelude.{List, ℕ, true, ◌≡◌};
-    ghost use Rattle.std.specs.List.{list_all};
-    ghost use Rattle.docket.specs.Words as words;
+    ghost use Rattle.docket.specs.Tables.{NamesBySide};
+    ghost use Rattle.docket.specs.FlatRows.{texts_at, AreNames};
 
-    ghost Value = { List (List ℕ) };
+    ghost Value = { NamesBySide };
 
-    ghost view = { λ a. a.seen.keys };
+    ghost view = { λ a. record { programmes = texts_at a.texts a.programmes; residents = texts_at a.texts a.residents } };
 
-    ghost invariant = { λ a. list_all words.is_name a.seen.keys ≡ true };
+    ghost invariant = { λ a. AreNames a.texts a.programmes (texts_at a.texts a.programmes) × AreNames a.texts a.residents (texts_at a.texts a.residents) };
 }
 
 // As one call, so that whoever lets names go proves nothing of their parts.
 impl Drop for Names {
     fn drop(self) {
-        let Names { seen: _ } = self;
+        let Names {
+            texts: _,
+            programmes: _,
+            residents: _,
+        } = self;
+    }
+}
+
+// The name of a member of a side.
+fn name_of<'a>(texts: &'a Texts, members: &Members, number: usize) -> &'a str
+    requires names { AreNames texts.now members.now (texts_at texts.now members.now) }
+    requires member { number < length members.now }
+    ensures { slice_get (texts_at texts.now members.now) number ≡ Some result.now }
+{
+    match str::from_utf8(texts.text(members.text(number))) {
+        Ok(text) => text,
+        Err(_) => unreachable!("a name is ASCII"),
     }
 }
 
 impl Names {
-    /// No names yet. They are hashed by these keys.
-    pub(crate) fn new(alloc: Global, keys: RandomState) -> Names
-        ensures { result ≡ [] }
+    /// The names of these members, by their texts.
+    pub(crate) fn new(texts: Texts, programmes: Members, residents: Members) -> Names
+        requires programmes { AreNames texts programmes (texts_at texts programmes) }
+        requires residents { AreNames texts residents (texts_at texts residents) }
+        ensures programmes { result.programmes ≡ texts_at texts programmes }
+        ensures residents { result.residents ≡ texts_at texts residents }
     {
         Names {
-            seen: IndexSet::with_hasher(alloc, keys),
+            texts,
+            programmes,
+            residents,
         }
     }
 
-    /// How many names there are.
-    pub(crate) fn len(&self) -> usize
-        ensures { result ≡ length self.now }
+    /// The name of the programme of this number.
+    pub(crate) fn programme_name(&self, number: usize) -> &str
+        requires { number < length self.now.programmes }
+        ensures { slice_get self.now.programmes number ≡ Some result.now }
     {
-        self.seen.len()
+        name_of(&self.texts, &self.programmes, number)
     }
 
-    /// The number of a name, if it was seen.
-    pub(crate) fn number(&self, name: &[u8]) -> Option<usize>
-        ensures number { result ≡ number_in self.now name.now }
-        ensures within { IfSome result (λ i. i < length self.now) }
+    /// The name of the resident of this number.
+    pub(crate) fn resident_name(&self, number: usize) -> &str
+        requires { number < length self.now.residents }
+        ensures { slice_get self.now.residents number ≡ Some result.now }
     {
-        let seen = &self.seen;
-        if name.len() > MAX_NAME {
-            return None;
-        }
-        seen.get_index_of(&NameKey::new(name))
-    }
-
-    /// Adds a name, and says whether it is new.
-    pub(crate) fn add(&mut self, name: &[u8]) -> Result<bool, AllocError>
-        requires { words.is_name name.now ≡ true }
-        ensures fresh { IfOk result (λ fresh. fresh ≡ not (is_declared self.old name.now)) }
-        ensures names { OnOk result (self.new ≡ (if is_declared self.old name.now then self.old else self.old ++ name.now ∷ [])) }
-        ensures err { OnErr result (self.new ≡ self.old) }
-    {
-        Ok(self.seen.insert(NameKey::new(name))?)
-    }
-
-    /// The names by their numbers alone.
-    pub(crate) fn into_list(self, alloc: Global) -> Result<NameList, AllocError>
-        ensures { IfOk result (λ names. names ≡ self) }
-    {
-        NameList::of(alloc, self.seen.as_slice())
+        name_of(&self.texts, &self.residents, number)
     }
 }

@@ -56,6 +56,7 @@ impl Numbers {
     }
 
     /// Adds a number.
+    #[inline(always)]
     pub(crate) fn push(&mut self, number: usize) -> Result<(), AllocError>
         ensures { OnOk result (self.new ≡ self.old ++ number ∷ []) }
     {

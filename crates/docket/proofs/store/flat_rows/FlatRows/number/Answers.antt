@@ -1,34 +1,45 @@
-use Rattle.std.proofs.Common.{◌∙◌, ap, sym, arith}
+use Rattle.std.proofs.Common.{◌+◌, ap, arith}
+use Rattle.csv.specs.Records.{prev}
 use Rattle.docket.specs.FlatRows.{NumberedRows}
 use Rattle.docket.proofs.FlatRowsFacts.{row_bounds, row_texts}
+use Rattle.docket.proofs.TextFacts.{length-texts_at, number_text, number_within}
 use Rattle.docket.proofs.store.flat_rows.FlatRows.number.Goals as goal
 
 pub start_of-start-requires : goal.start_of-start-requires
-start_of-start-requires c = (row_bounds _ _ _ c.args.k (ap (λ (v : NumberedRows). v.rows) c.self.view_is) c.self.invariant c.requires).0
+start_of-start-requires c = (row_bounds _ _ _ c.args.k (ap (λ (v : NumberedRows). v.rows) c.self.view_is) c.self.invariant.cuts c.requires).0
 
 pub get-requires : goal.get-requires
-get-requires c = (row_bounds _ _ _ c.args.k (ap (λ (v : NumberedRows). v.rows) c.self.view_is) c.self.invariant c.requires).0
+get-requires c = (row_bounds _ _ _ c.args.k (ap (λ (v : NumberedRows). v.rows) c.self.view_is) c.self.invariant.cuts c.requires).0
 
 pub overflow_sub-get : goal.overflow_sub-get
 overflow_sub-get c =
-    let bounds = row_bounds _ _ _ c.args.k (ap (λ (v : NumberedRows). v.rows) c.self.view_is) c.self.invariant c.requires in
+    let bounds = row_bounds _ _ _ c.args.k (ap (λ (v : NumberedRows). v.rows) c.self.view_is) c.self.invariant.cuts c.requires in
     rw (c.start_of-start.ensures, c.get.ensures) bounds.1
 
-pub number-requires : goal.number-requires
-number-requires c =
-    let bounds = row_bounds _ _ _ c.args.k (ap (λ (v : NumberedRows). v.rows) c.self.view_is) c.self.invariant c.requires in
+pub get-requires-then-i-get : goal.get-requires-then-i-get
+get-requires-then-i-get c =
+    let bounds = row_bounds _ _ _ c.args.k (ap (λ (v : NumberedRows). v.rows) c.self.view_is) c.self.invariant.cuts c.requires in
     let small = rw (c.start_of-start.ensures, c.get.ensures) at c.if-i-get.true in
-    rw c.start_of-start.ensures (omega (arith, bounds, small))
+    let size = length-texts_at c.self.inside.texts c.self.inside.fields in
+    rw c.start_of-start.ensures (omega (arith, bounds, small, size))
+
+pub returns-then-i-get-clause-within : goal.returns-then-i-get-clause-within
+returns-then-i-get-clause-within c =
+    let bounds = row_bounds _ _ _ c.args.k (ap (λ (v : NumberedRows). v.rows) c.self.view_is) c.self.invariant.cuts c.requires in
+    let small = rw (c.start_of-start.ensures, c.get.ensures) at c.if-i-get.true in
+    rw (c.get-then-i-get.ensures, c.start_of-start.ensures, ← c.self.view_is)
+    (number_within c.self.inside.texts c.self.inside.fields (prev 0 c.self.inside.ends c.args.k + c.args.i) (omega (arith, bounds, small)) c.self.invariant.within)
 
 pub returns-then-i-get-clause-text : goal.returns-then-i-get-clause-text
 returns-then-i-get-clause-text c =
-    let texts = row_texts _ _ _ c.args.k c.args.i (ap (λ (v : NumberedRows). v.rows) c.self.view_is) c.self.invariant c.requires in
+    let bounds = row_bounds _ _ _ c.args.k (ap (λ (v : NumberedRows). v.rows) c.self.view_is) c.self.invariant.cuts c.requires in
+    let texts = row_texts _ _ _ c.args.k c.args.i (ap (λ (v : NumberedRows). v.rows) c.self.view_is) c.self.invariant.cuts c.requires in
     let small = rw (c.start_of-start.ensures, c.get.ensures) at c.if-i-get.true in
-    let same = rw c.start_of-start.ensures at c.number.ensures.text in
-    rw (texts.0 small, ← c.self.view_is) same
+    rw (texts.0 small, c.get-then-i-get.ensures, c.start_of-start.ensures, ← c.self.view_is)
+    (number_text c.self.inside.texts c.self.inside.fields (prev 0 c.self.inside.ends c.args.k + c.args.i) (omega (arith, bounds, small)) c.self.invariant.within)
 
 pub returns-else-i-get-clause-past : goal.returns-else-i-get-clause-past
 returns-else-i-get-clause-past c =
-    let texts = row_texts _ _ _ c.args.k c.args.i (ap (λ (v : NumberedRows). v.rows) c.self.view_is) c.self.invariant c.requires in
+    let texts = row_texts _ _ _ c.args.k c.args.i (ap (λ (v : NumberedRows). v.rows) c.self.view_is) c.self.invariant.cuts c.requires in
     let past = rw (c.start_of-start.ensures, c.get.ensures) at c.if-i-get.false in
     texts.1 past
