@@ -286,7 +286,7 @@ unfolding mutual_lists kept_lists
 kept_are_mutual mine theirs rows h = kept_from (length mine) 0 mine theirs rows h (omega arith)
 
 -- so it is with lists as they were given
-pub made_is : (mine theirs : List (Option (Vec ℕ))) (my_flags their_flags : List Bool) (rows : List (List ℕ)) → AreOwners (length mine) (length theirs) (lists_left theirs their_flags) rows →
+pub made_is : (mine theirs : List (Option (List ℕ))) (my_flags their_flags : List Bool) (rows : List (List ℕ)) → AreOwners (length mine) (length theirs) (lists_left theirs their_flags) rows →
     kept_lists (lists_left mine my_flags) rows ≡ mutual_lists (lists_left mine my_flags) (lists_left theirs their_flags)
 made_is mine theirs my_flags their_flags rows h =
     kept_are_mutual (lists_left mine my_flags) (lists_left theirs their_flags) rows

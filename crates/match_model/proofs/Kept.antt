@@ -7,6 +7,7 @@ use Rattle.std.proofs.lemmas.List.Sums.{get_or-le-sum_by}
 use Rattle.match_model.specs.Ranking.{is_listed, IsListed}
 use Rattle.match_model.specs.Instance.{IsWellFormed, is_withdrawn, list_at, list_of_programme, list_of_resident, pair_count}
 use Rattle.match_model.specs.Draft.{Draft, IsDraft, given_lists, programme_lists_left, resident_lists_left, instance_of, mutual_lists, has_no_repeats}
+use Rattle.match_model.specs.RankTable.{AreListedBack}
 use Rattle.match_model.specs.declared.limits.TheConstants.{MAX_RESIDENTS, MAX_QUOTA, MAX_PAIRS}
 use Rattle.match_model.proofs.Rankings.{is_listed-cons, is_listed_at, is_listed-filter, has_no_repeats-filter, HasNoRepeats-from_test, length-le_below, is_listed-true, is_listed_from}
 use Rattle.match_model.proofs.Mutual.{length-mutual_lists, get_or-mutual_lists}
@@ -41,6 +42,12 @@ and_comm false false = refl
 turned : (mine theirs : List (List ℕ)) (i x : ℕ) → IsListed (list_at (mutual_lists mine theirs) i) x → IsListed (list_at (mutual_lists theirs mine) x) i
 turned mine theirs i x h =
     is_listed-true _ i (listed_both theirs mine x i ∙ and_comm (is_listed (list_at theirs x) i) (is_listed (list_at mine i) x) ∙ sym (listed_both mine theirs i x) ∙ is_listed_from _ x h)
+
+-- whoever stands on a mutual list has its owner on its own
+pub listed_back : (mine theirs : List (List ℕ)) (p : ℕ) → AreListedBack (mutual_lists theirs mine) p (list_at (mutual_lists mine theirs) p)
+listed_back mine theirs p = record {
+  back = λ r e. listed_both theirs mine r p ∙ and_comm (is_listed (list_at theirs r) p) (is_listed (list_at mine p) r) ∙ sym (listed_both mine theirs p r) ∙ e;
+}
 
 -- tests that agree on the items of a list keep the same of them
 filter_listed : (p q : ℕ → Bool) (xs : List ℕ) → ((x : ℕ) → is_listed xs x ≡ true → p x ≡ q x) → filter p xs ≡ filter q xs

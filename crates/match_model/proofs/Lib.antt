@@ -1,5 +1,6 @@
 pub mod Rankings
 pub mod RankTables
+pub mod OfferRanks
 pub mod Drafts
 pub mod Remaining
 pub mod Mutual
@@ -13,3 +14,4 @@ pub mod Prefixes
 pub mod Counts
 pub mod Listed
 pub mod Gathered
+pub mod GivenLists

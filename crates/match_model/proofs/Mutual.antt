@@ -1,12 +1,11 @@
 -- Lemmas on the mutual parts of lists.
-use Rattle.std.proofs.Common.{◌≡◌, ℕ, ◌<◌, Bool, true, false, ltb, List, [], ◌∷◌, length, get_or, map, Option, unwrap_or, refl, sym, ap, ◌∙◌, arith, ◌&&◌, suc, zero, zero-add}
-use Rattle.std.specs.Global.{Vec}
+use Rattle.std.proofs.Common.{◌≡◌, ℕ, ◌<◌, Bool, true, false, ltb, List, [], ◌∷◌, length, get_or, map, Option, None, unwrap_or, refl, sym, ap, ◌∙◌, arith, ◌&&◌, suc, zero, zero-add}
 use Rattle.std.specs.List.{list_all, All, filter, enumerate_from}
 use Rattle.std.proofs.lemmas.List.{length-map, get_or-map}
 use Rattle.std.proofs.lemmas.List.FromFn.{length-enumerate_from, get_or-enumerate_from}
 use Rattle.match_model.specs.Ranking.{is_listed}
 use Rattle.match_model.specs.Instance.{list_at}
-use Rattle.match_model.specs.Draft.{items_of, given_lists, lists_left, has_no_repeats, AreLists, mutual_lists}
+use Rattle.match_model.specs.Draft.{given_lists, lists_left, has_no_repeats, AreLists, mutual_lists}
 use Rattle.match_model.proofs.Remaining.{length-remaining_lists, remaining_all}
 
 -- an item of a list whose items are below n
@@ -33,23 +32,21 @@ list_all_at n (x ∷ xs) (suc k) e h = list_all_at n xs k (rest (ltb x n) e) (om
         false≢true e = cc
 
 -- how many lists were given, and which
-pub length-given_lists : (lists : List (Option (Vec ℕ))) → length (given_lists (map items_of lists)) ≡ length lists
-length-given_lists lists = length-map (map items_of lists) (λ list. unwrap_or list []) ∙ length-map lists items_of
+pub length-given_lists : (lists : List (Option (List ℕ))) → length (given_lists lists) ≡ length lists
+length-given_lists lists = length-map lists (λ list. unwrap_or list [])
 
-pub given_at : (lists : List (Option (Vec ℕ))) (i : ℕ) (list : Option (Vec ℕ)) → i < length lists → list ≡ get_or lists i list → (d : List ℕ) → get_or (given_lists (map items_of lists)) i d ≡ unwrap_or (items_of list) []
-given_at [] i list h e d = absurd (omega arith)
-given_at (l ∷ ls) zero list h e d = ap (λ o. unwrap_or (items_of o) []) (sym e)
-given_at (l ∷ ls) (suc i) list h e d = given_at ls i list (omega arith) e d
+pub given_at : (lists : List (Option (List ℕ))) (i : ℕ) → i < length lists → list_at (given_lists lists) i ≡ unwrap_or (get_or lists i None) []
+given_at lists i h = get_or-map (λ (list : Option (List ℕ)). unwrap_or list []) lists i None [] h
 
 -- how many lists are left, and of whom
-pub length-lists_left : (lists : List (Option (Vec ℕ))) (flags : List Bool) → length (lists_left lists flags) ≡ length lists
-length-lists_left lists flags = length-remaining_lists (given_lists (map items_of lists)) flags ∙ length-given_lists lists
+pub length-lists_left : (lists : List (Option (List ℕ))) (flags : List Bool) → length (lists_left lists flags) ≡ length lists
+length-lists_left lists flags = length-remaining_lists (given_lists lists) flags ∙ length-given_lists lists
 
-pub left_below : (lists : List (Option (Vec ℕ))) (flags : List Bool) (n : ℕ) → AreLists (map items_of lists) n → All (λ list. list_all (λ x. ltb x n) list ≡ true) (lists_left lists flags)
-left_below lists flags n a = remaining_all (λ list. list_all (λ x. ltb x n) list ≡ true) (given_lists (map items_of lists)) flags refl a.items_below
+pub left_below : (lists : List (Option (List ℕ))) (flags : List Bool) (n : ℕ) → AreLists lists n → All (λ list. list_all (λ x. ltb x n) list ≡ true) (lists_left lists flags)
+left_below lists flags n a = remaining_all (λ list. list_all (λ x. ltb x n) list ≡ true) (given_lists lists) flags refl a.items_below
 
-pub left_distinct : (lists : List (Option (Vec ℕ))) (flags : List Bool) (n : ℕ) → AreLists (map items_of lists) n → All (λ list. has_no_repeats list ≡ true) (lists_left lists flags)
-left_distinct lists flags n a = remaining_all (λ list. has_no_repeats list ≡ true) (given_lists (map items_of lists)) flags refl a.no_repeats
+pub left_distinct : (lists : List (Option (List ℕ))) (flags : List Bool) (n : ℕ) → AreLists lists n → All (λ list. has_no_repeats list ≡ true) (lists_left lists flags)
+left_distinct lists flags n a = remaining_all (λ list. has_no_repeats list ≡ true) (given_lists lists) flags refl a.no_repeats
 
 -- one more of the mutual lists
 pub length-mutual_lists : (mine theirs : List (List ℕ)) → length (mutual_lists mine theirs) ≡ length mine

@@ -22,7 +22,7 @@ abbrev Entry : Type 0
 Entry = ℕ × ℕ
 
 -- a number that is listed has its place as its rank
-rank_listed : (list : List ℕ) (x : ℕ) → is_listed list x ≡ true → rank list x ≡ Some (place list x)
+pub rank_listed : (list : List ℕ) (x : ℕ) → is_listed list x ≡ true → rank list x ≡ Some (place list x)
 rank_listed list x e = ap (λ (b : Bool). if b then Some (place list x) else None) e
 
 pub rank_some : (list : List ℕ) (x p : ℕ) → Some p ≡ rank list x → (is_listed list x ≡ true) × (place list x ≡ p)

@@ -212,3 +212,7 @@ module _ (q : ℕ → Bool) (xs : List ℕ) (i d : ℕ) (within : i < length xs)
 
   pub filter_leaves : q (get_or xs i d) ≡ false → filter q (take (i + 1) xs) ≡ filter q (take i xs)
   filter_leaves h = filter_more ∙ ap (λ b. filter q (take i xs) ++ cond b (get_or xs i d ∷ []) []) h ∙ append-nil (filter q (take i xs))
+
+-- an item of a list without repeats has its place as its rank
+pub rank_at_place : (xs : List ℕ) (x i : ℕ) → HasNoRepeats xs → i < length xs → get_or xs i 0 ≡ x → Some i ≡ rank xs x
+rank_at_place xs x i distinct h at = rank_found xs x i h at (λ k l e. distinct k i 0 l h (e ∙ sym at))

@@ -1,7 +1,6 @@
 -- What a builder was handed, the instance that it makes, and the first fault of each call.
 use Rattle.std.specs.Prelude.{◌≡◌, ℕ, ◌<◌, ◌≤◌, nat_lt, nat_le, not, ◌&&◌, ◌⊎◌, if◌then◌else◌, Bool, true, false, Option, Some, None, Result, Ok, Err, List, [], ◌∷◌, ◌++◌, length, map, unwrap_or, slice_index_or, slice_set, is_some}
-use Rattle.std.specs.List.{filter, list_all, All, enumerate_from}
-use Rattle.std.specs.Global.{Vec}
+use Rattle.std.specs.List.{filter, list_all, All, enumerate_from, slice_range}
 use Rattle.std.specs.Option.{option_or}
 use Rattle.match_model.specs.Ranking.{is_listed}
 use Rattle.match_model.specs.Instance.{Instance, list_at, is_withdrawn, pair_count}
@@ -74,27 +73,32 @@ with_programme_withdrawn d p = record d { programmes_withdrawn = slice_set d.pro
 abbrev pub with_resident_withdrawn : Draft → ℕ → Draft
 with_resident_withdrawn d r = record d { residents_withdrawn = slice_set d.residents_withdrawn r true }
 
--- the list in a place that may have one
-abbrev pub items_of : Option (Vec ℕ) → Option (List ℕ)
-items_of None = None
-items_of (Some v) = Some v.items
+-- the list that stands among the items from up to where the span says, if there is a span
+abbrev pub list_in : List ℕ → Option (ℕ × ℕ) → Option (List ℕ)
+list_in items None = None
+list_in items (Some span) = Some (slice_range items span.0 span.1)
+
+-- the span, if there is one, doesn't end before it starts, nor past n
+abbrev pub IsSpan : ℕ → Option (ℕ × ℕ) → Type 0
+IsSpan n None = Unit {0}
+IsSpan n (Some span) = (span.0 ≤ span.1) × (span.1 ≤ n)
 
 -- the draft of these parts
-abbrev pub draft_with : List ℕ → List (Option (Vec ℕ)) → List (Option (Vec ℕ)) → List Bool → List Bool → Draft
+abbrev pub draft_with : List ℕ → List (Option (List ℕ)) → List (Option (List ℕ)) → List Bool → List Bool → Draft
 draft_with quotas programmes residents programmes_gone residents_gone = record {
   quotas = quotas;
-  programme_lists = map items_of programmes;
-  resident_lists = map items_of residents;
+  programme_lists = programmes;
+  resident_lists = residents;
   programmes_withdrawn = programmes_gone;
   residents_withdrawn = residents_gone;
 }
 
--- the lists in these places, without those whose owners are withdrawn
-abbrev pub lists_left : List (Option (Vec ℕ)) → List Bool → List (List ℕ)
-lists_left lists flags = remaining_lists (given_lists (map items_of lists)) flags
+-- the lists that were given, without those whose owners are withdrawn
+abbrev pub lists_left : List (Option (List ℕ)) → List Bool → List (List ℕ)
+lists_left lists flags = remaining_lists (given_lists lists) flags
 
--- the mutual parts of the lists in these places, of mine as of theirs without those whose owners are withdrawn
-abbrev pub mutual_left : List (Option (Vec ℕ)) → List Bool → List (Option (Vec ℕ)) → List Bool → List (List ℕ)
+-- the mutual parts of the lists that were given, of mine as of theirs without those whose owners are withdrawn
+abbrev pub mutual_left : List (Option (List ℕ)) → List Bool → List (Option (List ℕ)) → List Bool → List (List ℕ)
 mutual_left mine my_flags theirs their_flags = mutual_lists (lists_left mine my_flags) (lists_left theirs their_flags)
 
 -- whether no item stands in the list twice

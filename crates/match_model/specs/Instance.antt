@@ -1,5 +1,5 @@
 -- The instance of a match: quotas, rankings of acceptable members only, and who is withdrawn.
-use Rattle.std.specs.Prelude.{◌≡◌, ℕ, ◌<◌, ◌≤◌, ◌↔◌, if◌then◌else◌, Bool, true, false, Option, Some, None, List, [], length, slice_index, slice_index_or}
+use Rattle.std.specs.Prelude.{◌≡◌, ℕ, ◌<◌, ◌≤◌, ◌↔◌, if◌then◌else◌, Bool, true, false, Option, Some, None, List, [], length, slice_get, slice_index, slice_index_or}
 use Rattle.std.specs.List.{sum_by}
 use Rattle.match_model.specs.Ranking.{place, is_listed, IsListed, HasNoRepeats}
 use Rattle.match_model.specs.declared.limits.TheConstants.{MAX_PROGRAMMES, MAX_RESIDENTS, MAX_PAIRS, MAX_QUOTA}
@@ -62,6 +62,15 @@ pair_count inst = sum_by (λ (xs : List ℕ). length xs) inst.programme_lists
 -- the place from 0 of x in the list, if it is listed
 abbrev pub rank : List ℕ → ℕ → Option ℕ
 rank xs x = if is_listed xs x then Some (place xs x) else None
+
+-- the resident, with p's place from 0 in that resident's list, if there is one
+abbrev pub offer_to : Instance → ℕ → Option ℕ → Option (ℕ × ℕ)
+offer_to inst p None = None
+offer_to inst p (Some r) = Some (r, place (list_of_resident inst r) p)
+
+-- the resident at this place from 0 of p's list, if it is so long, with p's place in that resident's list
+abbrev pub offer_at : Instance → ℕ → ℕ → Option (ℕ × ℕ)
+offer_at inst p k = offer_to inst p (slice_get (list_of_programme inst p) k)
 
 -- rankings without repeats, one for each member, in which p lists r exactly where r lists p, within the limits;
 -- a flag for each member, and whoever is withdrawn ranks nobody

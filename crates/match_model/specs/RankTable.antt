@@ -1,9 +1,9 @@
 -- Tables of ranks, sorted by number.
-use Rattle.std.specs.Prelude.{◌≡◌, ℕ, ◌==◌, true, Some, List, map}
+use Rattle.std.specs.Prelude.{◌≡◌, ℕ, ◌<◌, ◌==◌, true, Some, List, length, map}
 use Rattle.std.specs.List.{All, AllZip, filter, list_any}
 use Rattle.std.specs.List.Sorted.{IsNonDecreasingBy}
 use Rattle.match_model.specs.Ranking.{place, is_listed}
-use Rattle.match_model.specs.Instance.{rank}
+use Rattle.match_model.specs.Instance.{rank, list_at}
 
 -- the numbers of a row that stand in the list, with their places there
 abbrev pub ranked : List ℕ → List ℕ → List (ℕ × ℕ)
@@ -18,3 +18,16 @@ pub record IsRankTable (list : List ℕ) (table : List (ℕ × ℕ)) : Type 0 wh
 -- each table is that of the list in its place
 pub record AreRankTables (lists : List (List ℕ)) (tables : List (List (ℕ × ℕ))) : Type 0 where
   pub each : AllZip IsRankTable lists tables
+
+-- p's place in the list of each of these
+abbrev pub ranks_of : List (List ℕ) → ℕ → List ℕ → List ℕ
+ranks_of theirs p list = map (λ r. place (list_at theirs r) p) list
+
+-- whoever stands in p's list has p in its own
+pub record AreListedBack (theirs : List (List ℕ)) (p : ℕ) (list : List ℕ) : Type 0 where
+  pub back : (r : ℕ) → is_listed list r ≡ true → is_listed (list_at theirs r) p ≡ true
+
+-- for each place of each list p's place in the list of who stands there
+pub record AreOfferRanks (lists theirs ranks : List (List ℕ)) : Type 0 where
+  pub one_row_each : length ranks ≡ length lists
+  pub row : (p : ℕ) → p < length lists → list_at ranks p ≡ ranks_of theirs p (list_at lists p)

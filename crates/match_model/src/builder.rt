@@ -3,9 +3,11 @@ ghost use Rattle.std.specs.Prelude.{◌≡◌, ℕ, ◌⊎◌, ◌<◌, ◌≤�
 ghost use Rattle.match_model.specs.Instance.{IsInstance, pair_count};
 
 use crate::fault::ModelFault;
+use crate::given::GivenLists;
 use crate::instance::Instance;
 use crate::limits::{MAX_PAIRS, MAX_PROGRAMMES, MAX_QUOTA, MAX_RESIDENTS};
 use crate::member::{ProgrammeNo, ResidentNo};
+use crate::offer_ranks::offer_ranks;
 use crate::{mutual_parts, ranking};
 use std::alloc::Global;
 use std::marker::Model;
@@ -15,8 +17,8 @@ use std::marker::Model;
 pub struct InstanceBuilder {
     alloc: Global,
     quotas: Vec<u32>,
-    programme_lists: Vec<Option<Vec<u32>>>,
-    resident_lists: Vec<Option<Vec<u32>>>,
+    programme_lists: GivenLists,
+    resident_lists: GivenLists,
     programmes_withdrawn: Vec<bool>,
     residents_withdrawn: Vec<bool>,
     places: Vec<usize>,
@@ -27,10 +29,10 @@ impl Model for InstanceBuilder {
 
     ghost Value = { Draft };
 
-    ghost view = { λ b. draft_with b.quotas.items b.programme_lists.items b.resident_lists.items b.programmes_withdrawn.items b.residents_withdrawn.items };
+    ghost view = { λ b. draft_with b.quotas.items b.programme_lists b.resident_lists b.programmes_withdrawn.items b.residents_withdrawn.items };
 
     ghost invariant = { λ b. IsDraft
-        (draft_with b.quotas.items b.programme_lists.items b.resident_lists.items b.programmes_withdrawn.items b.residents_withdrawn.items) };
+        (draft_with b.quotas.items b.programme_lists b.resident_lists b.programmes_withdrawn.items b.residents_withdrawn.items) };
 }
 
 /// Why `finish` refused, with the builder as it was.
@@ -53,8 +55,8 @@ impl InstanceBuilder {
         InstanceBuilder {
             alloc,
             quotas: Vec::new(alloc),
-            programme_lists: Vec::new(alloc),
-            resident_lists: Vec::new(alloc),
+            programme_lists: GivenLists::new(alloc),
+            resident_lists: GivenLists::new(alloc),
             programmes_withdrawn: Vec::new(alloc),
             residents_withdrawn: Vec::new(alloc),
             places: Vec::new(alloc),
@@ -81,7 +83,7 @@ impl InstanceBuilder {
             self.programmes_withdrawn.truncate(number);
             return Err(ModelFault::Memory);
         };
-        let Ok(()) = self.programme_lists.push(None) else {
+        let Ok(()) = self.programme_lists.add_member() else {
             self.programmes_withdrawn.truncate(number);
             self.quotas.truncate(number);
             return Err(ModelFault::Memory);
@@ -100,9 +102,9 @@ impl InstanceBuilder {
         if number >= MAX_RESIDENTS {
             return Err(ModelFault::TooManyResidents);
         }
-        self.resident_lists.push(None)?;
-        let Ok(()) = self.residents_withdrawn.push(false) else {
-            self.resident_lists.truncate(number);
+        self.residents_withdrawn.push(false)?;
+        let Ok(()) = self.resident_lists.add_member() else {
+            self.residents_withdrawn.truncate(number);
             return Err(ModelFault::Memory);
         };
         Ok(ResidentNo(number as u32))
@@ -121,10 +123,10 @@ impl InstanceBuilder {
         ensures err { OnErr result (self.new ≡ self.old) }
     {
         let owner = programme.0 as usize;
-        ranking::test_owner(&self.programme_lists, owner)?;
-        let items = ranking::numbers_of_residents(self.alloc, residents)?;
-        ranking::test_items(&mut self.places, self.resident_lists.len(), &items)?;
-        self.programme_lists[owner] = Some(items);
+        self.programme_lists.test_owner(owner)?;
+        let others = self.resident_lists.len();
+        self.programme_lists
+            .give_residents(owner, residents, others, &mut self.places)?;
         Ok(())
     }
 
@@ -140,10 +142,10 @@ impl InstanceBuilder {
         ensures err { OnErr result (self.new ≡ self.old) }
     {
         let owner = resident.0 as usize;
-        ranking::test_owner(&self.resident_lists, owner)?;
-        let items = ranking::numbers_of_programmes(self.alloc, programmes)?;
-        ranking::test_items(&mut self.places, self.quotas.len(), &items)?;
-        self.resident_lists[owner] = Some(items);
+        self.resident_lists.test_owner(owner)?;
+        let others = self.quotas.len();
+        self.resident_lists
+            .give_programmes(owner, programmes, others, &mut self.places)?;
         Ok(())
     }
 
@@ -206,6 +208,7 @@ impl InstanceBuilder {
             &self.residents_withdrawn,
             &programmes,
         )?;
+        let offer_ranks = offer_ranks(self.alloc, &programmes, &resident_ranks)?;
         let pairs = programmes.item_count() as u32;
         Ok(Instance {
             quotas: Vec::from_slice(self.alloc, &self.quotas)?,
@@ -213,6 +216,7 @@ impl InstanceBuilder {
             resident_lists: residents.into_programmes(self.alloc)?,
             programme_ranks,
             resident_ranks,
+            offer_ranks,
             pairs,
             programmes_withdrawn: Vec::from_slice(self.alloc, &self.programmes_withdrawn)?,
             residents_withdrawn: Vec::from_slice(self.alloc, &self.residents_withdrawn)?,

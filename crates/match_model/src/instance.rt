@@ -1,6 +1,6 @@
 //! An instance: quotas, mutual rankings and ranks, and who is withdrawn.
-ghost use Rattle.std.specs.Prelude.{◌≡◌, ◌<◌, ◌≤◌, length, slice_get};
-ghost use Rattle.match_model.specs.Instance.{IsInstance, IsProgramme, IsResident, pair_count, is_withdrawn, quota as quota_of, list_of_programme as ranking_of_programme, list_of_resident as ranking_of_resident, rank};
+ghost use Rattle.std.specs.Prelude.{◌≡◌, ◌<◌, ◌≤◌, length, slice_get, Some, IfSome};
+ghost use Rattle.match_model.specs.Instance.{IsInstance, IsProgramme, IsResident, pair_count, is_withdrawn, quota as quota_of, list_of_programme as ranking_of_programme, list_of_resident as ranking_of_resident, offer_at as offer_of, rank};
 
 use crate::limits::MAX_PAIRS;
 use crate::member::{ProgrammeNo, ResidentNo};
@@ -16,6 +16,7 @@ pub struct Instance {
     pub(crate) resident_lists: Rows<ProgrammeNo>,
     pub(crate) programme_ranks: Rows<(u32, u32)>,
     pub(crate) resident_ranks: Rows<(u32, u32)>,
+    pub(crate) offer_ranks: Rows<u32>,
     pub(crate) pairs: u32,
     pub(crate) programmes_withdrawn: Vec<bool>,
     pub(crate) residents_withdrawn: Vec<bool>,
@@ -23,7 +24,7 @@ pub struct Instance {
 
 impl Model for Instance {
     ghost use Rattle.match_model.specs.Instance.{Instance as Rankings, IsWellFormed, instance_with};
-    ghost use Rattle.match_model.specs.RankTable.{AreRankTables};
+    ghost use Rattle.match_model.specs.RankTable.{AreRankTables, AreOfferRanks};
 
     ghost Value = { Rankings };
 
@@ -33,6 +34,7 @@ impl Model for Instance {
       rankings : IsWellFormed (instance_with i.quotas.items i.programme_lists.rows i.resident_lists.rows i.programmes_withdrawn.items i.residents_withdrawn.items) i.pairs;
       programme_ranks : AreRankTables i.programme_lists.rows i.programme_ranks.rows;
       resident_ranks : AreRankTables i.resident_lists.rows i.resident_ranks.rows;
+      offer_ranks : AreOfferRanks i.programme_lists.rows i.resident_lists.rows i.offer_ranks.rows;
     } };
 }
 
@@ -45,6 +47,7 @@ impl Drop for Instance {
             resident_lists: _,
             programme_ranks: _,
             resident_ranks: _,
+            offer_ranks: _,
             pairs: _,
             programmes_withdrawn: _,
             residents_withdrawn: _,
@@ -54,6 +57,7 @@ impl Drop for Instance {
 
 impl Instance {
     /// How many programmes there are, at most 2,000.
+    #[inline]
     pub fn programmes(&self) -> u32
         ensures count { result ≡ length self.now.quotas }
         ensures instance { IsInstance self.now }
@@ -62,6 +66,7 @@ impl Instance {
     }
 
     /// How many residents there are, at most 20,000.
+    #[inline]
     pub fn residents(&self) -> u32
         ensures count { result ≡ length self.now.resident_lists }
         ensures instance { IsInstance self.now }
@@ -78,6 +83,7 @@ impl Instance {
     }
 
     /// How many residents a programme may have, at most 10,000. The programme is a member.
+    #[inline]
     pub fn quota(&self, programme: ProgrammeNo) -> u32
         requires { IsProgramme self.now programme }
         ensures { result ≡ quota_of self.now programme }
@@ -102,6 +108,7 @@ impl Instance {
     }
 
     /// Whom a programme ranks, best first, of those who rank it. The programme is a member.
+    #[inline]
     pub fn list_of_programme(&self, programme: ProgrammeNo) -> &[ResidentNo]
         requires { IsProgramme self.now programme }
         ensures list { result.now ≡ ranking_of_programme self.now programme }
@@ -111,6 +118,7 @@ impl Instance {
     }
 
     /// The resident at this place from 0 of a programme's list, if it is so long. The programme is a member.
+    #[inline]
     pub fn listed_at(&self, programme: ProgrammeNo, place: u32) -> Option<ResidentNo>
         requires { IsProgramme self.now programme }
         ensures { result ≡ slice_get (ranking_of_programme self.now programme) place }
@@ -119,7 +127,24 @@ impl Instance {
         list.get(place as usize).copied()
     }
 
+    /// The resident at this place from 0 of a programme's list, if it is so long, and the programme's place from 0 in
+    /// that resident's list. The programme is a member.
+    #[inline]
+    pub fn offer_at(&self, programme: ProgrammeNo, place: u32) -> Option<(ResidentNo, u32)>
+        requires { IsProgramme self.now programme }
+        ensures offer { result ≡ offer_of self.now programme place }
+        ensures ranked { IfSome result (λ offer. rank (ranking_of_resident self.now offer.0) programme ≡ Some offer.1) }
+    {
+        let list = self.programme_lists.row(programme.0 as usize);
+        let ranks = self.offer_ranks.row(programme.0 as usize);
+        match list.get(place as usize) {
+            Some(resident) => Some((*resident, ranks[place as usize])),
+            None => None,
+        }
+    }
+
     /// Whom a resident ranks, best first, of those that rank it. The resident is a member.
+    #[inline]
     pub fn list_of_resident(&self, resident: ResidentNo) -> &[ProgrammeNo]
         requires { IsResident self.now resident }
         ensures list { result.now ≡ ranking_of_resident self.now resident }
@@ -129,6 +154,7 @@ impl Instance {
     }
 
     /// The place from 0 of a resident in a programme's list, if the pair is acceptable. The programme is a member.
+    #[inline]
     pub fn rank_at_programme(&self, programme: ProgrammeNo, resident: ResidentNo) -> Option<u32>
         requires { IsProgramme self.now programme }
         ensures { result ≡ rank (ranking_of_programme self.now programme) resident }
@@ -138,11 +164,30 @@ impl Instance {
     }
 
     /// The place from 0 of a programme in a resident's list, if the pair is acceptable. The resident is a member.
+    #[inline]
     pub fn rank_at_resident(&self, resident: ResidentNo, programme: ProgrammeNo) -> Option<u32>
         requires { IsResident self.now resident }
         ensures { result ≡ rank (ranking_of_resident self.now resident) programme }
     {
         let table = self.resident_ranks.row(resident.0 as usize);
         rank_in(table, programme.0)
+    }
+
+    /// What `rank_at_resident` gives, by a guess of it: the list is looked into there first. The resident is a member.
+    #[inline]
+    pub fn rank_by_guess(
+        &self,
+        resident: ResidentNo,
+        programme: ProgrammeNo,
+        guess: u32,
+    ) -> Option<u32>
+        requires { IsResident self.now resident }
+        ensures { result ≡ rank (ranking_of_resident self.now resident) programme }
+    {
+        let list = self.resident_lists.row(resident.0 as usize);
+        match list.get(guess as usize) {
+            Some(listed) if *listed == programme => Some(guess),
+            _ => self.rank_at_resident(resident, programme),
+        }
     }
 }

@@ -10,10 +10,12 @@
 mod assignment;
 mod builder;
 mod fault;
+mod given;
 mod instance;
 mod limits;
 mod member;
 mod mutual_parts;
+mod offer_ranks;
 mod owners;
 mod places;
 mod rank_table;

@@ -2,13 +2,14 @@
 ghost use Rattle.std.specs.Prelude.{◌≡◌, ℕ, ◌<◌, ◌^◌, nat_lt, List, [], length, map, true, false, ◌++◌, Some, OnOk, IfOk, IfErr};
 ghost use Rattle.std.specs.List.{All, list_all, filter, sum_by};
 ghost use Rattle.match_model.specs.Ranking.{is_listed};
-ghost use Rattle.match_model.specs.Draft.{items_of, lists_left, mutual_left, mutual_lists, has_no_repeats, AreLists, are_over, IsGatherFault};
+ghost use Rattle.match_model.specs.Draft.{lists_left, mutual_left, mutual_lists, has_no_repeats, AreLists, are_over, IsGatherFault};
 ghost use Rattle.match_model.specs.Owners.{AreRows, kept_lists};
 ghost use Rattle.match_model.specs.Places.{ArePlaces};
 ghost use Rattle.match_model.specs.RankTable.{AreRankTables};
 ghost use Rattle.match_model.specs.declared.fault.ModelFault.TheVariants.{Memory};
 
 use crate::fault::ModelFault;
+use crate::given::GivenLists;
 use crate::limits::MAX_PAIRS;
 use crate::owners::{owners, owners_of_rows};
 use crate::places::{note_places, stands_in};
@@ -51,7 +52,7 @@ fn is_over(most: Option<usize>, count: usize) -> bool
 fn all_kept(
     alloc: Global,
     most: Option<usize>,
-    lists: &[Option<Vec<u32>>],
+    lists: &GivenLists,
     withdrawn: &[bool],
     rows: &Rows<u32>,
     places: &mut [usize],
@@ -82,14 +83,14 @@ fn all_kept(
 fn kept_with_ranks(
     alloc: Global,
     most: Option<usize>,
-    lists: &[Option<Vec<u32>>],
+    lists: &GivenLists,
     withdrawn: &[bool],
     others: usize,
     rows: &Rows<u32>,
 ) -> Result<(Rows<u32>, Rows<(u32, u32)>), ModelFault>
     requires few { others < 2 ^ 32 }
     requires flags { length withdrawn.now ≡ length lists.now }
-    requires lists { AreLists (map items_of lists.now) others }
+    requires lists { AreLists lists.now others }
     requires rows { AreRows (length lists.now) others rows.now.rows }
     ensures lists { IfOk result (λ made. made.0 ≡ record { rows = kept_lists (lists_left lists.now withdrawn.now) rows.now.rows; begun = [] }) }
     ensures within { OnOk result (are_over most (sum_by length (kept_lists (lists_left lists.now withdrawn.now) rows.now.rows)) ≡ false) }
@@ -106,16 +107,16 @@ fn kept_with_ranks(
 /// refused where they have more items than there may be pairs.
 pub(crate) fn mutual(
     alloc: Global,
-    mine: &[Option<Vec<u32>>],
+    mine: &GivenLists,
     mine_withdrawn: &[bool],
-    theirs: &[Option<Vec<u32>>],
+    theirs: &GivenLists,
     theirs_withdrawn: &[bool],
 ) -> Result<(Rows<u32>, Rows<(u32, u32)>), ModelFault>
     requires few { length theirs.now < 2 ^ 32 }
     requires flags { length mine_withdrawn.now ≡ length mine.now }
     requires other_flags { length theirs_withdrawn.now ≡ length theirs.now }
-    requires lists { AreLists (map items_of mine.now) (length theirs.now) }
-    requires others { AreLists (map items_of theirs.now) (length mine.now) }
+    requires lists { AreLists mine.now (length theirs.now) }
+    requires others { AreLists theirs.now (length mine.now) }
     ensures lists { IfOk result (λ made. made.0 ≡ record { rows = mutual_left mine.now mine_withdrawn.now theirs.now theirs_withdrawn.now; begun = [] }) }
     ensures within { OnOk result (are_over (Some MAX_PAIRS) (sum_by length (mutual_left mine.now mine_withdrawn.now theirs.now theirs_withdrawn.now)) ≡ false) }
     ensures ranks { IfOk result (λ made. AreRankTables made.0.rows made.1.rows) }
@@ -136,13 +137,13 @@ pub(crate) fn mutual(
 /// lists of the other side, which are few and have whoever the member lists in turn.
 pub(crate) fn mutual_in_turn(
     alloc: Global,
-    mine: &[Option<Vec<u32>>],
+    mine: &GivenLists,
     mine_withdrawn: &[bool],
     theirs: &Rows<u32>,
 ) -> Result<(Rows<u32>, Rows<(u32, u32)>), ModelFault>
     requires few { length theirs.now.rows < 2 ^ 32 }
     requires flags { length mine_withdrawn.now ≡ length mine.now }
-    requires lists { AreLists (map items_of mine.now) (length theirs.now.rows) }
+    requires lists { AreLists mine.now (length theirs.now.rows) }
     requires below { All (λ list. list_all (λ x. nat_lt x (length mine.now)) list ≡ true) theirs.now.rows }
     requires distinct { All (λ list. has_no_repeats list ≡ true) theirs.now.rows }
     ensures lists { IfOk result (λ made. made.0 ≡ record { rows = mutual_lists (lists_left mine.now mine_withdrawn.now) theirs.now.rows; begun = [] }) }

@@ -6,6 +6,7 @@ ghost use Rattle.match_model.specs.Instance.{list_at};
 ghost use Rattle.match_model.specs.Draft.{lists_left, has_no_repeats};
 ghost use Rattle.match_model.specs.Owners.{AreOwners, AreCounts, AreStepped};
 
+use crate::given::GivenLists;
 use crate::ranking::remaining;
 use crate::rows::Rows;
 use std::alloc::{AllocError, Global};
@@ -14,7 +15,7 @@ use std::alloc::{AllocError, Global};
 fn row_lengths(
     alloc: Global,
     count: usize,
-    lists: &[Option<Vec<u32>>],
+    lists: &GivenLists,
     withdrawn: &[bool],
 ) -> Result<Vec<usize>, AllocError>
     requires few { length lists.now < 2 ^ 32 }
@@ -63,7 +64,7 @@ fn enter(rows: &mut Rows<u32>, counts: &mut [usize], owner: u32, items: &[u32])
 pub(crate) fn owners(
     alloc: Global,
     count: usize,
-    lists: &[Option<Vec<u32>>],
+    lists: &GivenLists,
     withdrawn: &[bool],
 ) -> Result<Rows<u32>, AllocError>
     requires few { length lists.now < 2 ^ 32 }

@@ -40,17 +40,3 @@ pub(crate) fn note_places(places: &mut [usize], list: &[u32])
         places[*number as usize] = place;
     }
 }
-
-/// Whether no item stands in the list twice. Notes places as it goes.
-pub(crate) fn are_distinct(places: &mut [usize], list: &[u32]) -> bool
-    requires { list_all (λ x. nat_lt x (length places.old)) list.now ≡ true }
-    ensures { result ≡ has_no_repeats list.now }
-{
-    for (place, number) in list.iter().enumerate() {
-        if stands_in(places, &list[..place], *number) {
-            return false;
-        }
-        places[*number as usize] = place;
-    }
-    true
-}

@@ -1,26 +1,15 @@
 //! Tests on lists as they are handed in, and what is left of them.
-ghost use Rattle.std.specs.Prelude.{◌≡◌, ℕ, ◌<◌, ◌≤◌, nat_lt, length, map, unwrap_or, [], vec_len, OnOk, IfOk};
+ghost use Rattle.std.specs.Prelude.{◌≡◌, ◌<◌, ◌≤◌, nat_lt, length, false, Some, vec_len, OnOk, IfOk};
 ghost use Rattle.std.specs.List.{list_all};
-ghost use Rattle.std.specs.Global.{Vec};
-ghost use Rattle.match_model.specs.Draft.{items_of, lists_left, owner_fault, items_fault, withdrawal_fault, AnswersFirst, AnswersOrWantsMemory};
+ghost use Rattle.match_model.specs.Draft.{lists_left, items_fault, withdrawal_fault, has_no_repeats, AnswersOrWantsMemory};
 ghost use Rattle.match_model.specs.Fault.{AnswersExactly};
 ghost use Rattle.match_model.specs.Instance.{list_at};
 
 use crate::fault::ModelFault;
+use crate::given::GivenLists;
 use crate::member::{ProgrammeNo, ResidentNo};
-use crate::places::are_distinct;
+use crate::places::stands_in;
 use std::alloc::{AllocError, Global};
-
-/// Whether this owner was added and has no list yet.
-pub(crate) fn test_owner(lists: &[Option<Vec<u32>>], owner: usize) -> Result<(), ModelFault>
-    ensures { AnswersFirst (owner_fault (map items_of lists.now) owner) result }
-{
-    match lists.get(owner) {
-        None => Err(ModelFault::NoSuchMember),
-        Some(None) => Ok(()),
-        Some(Some(_)) => Err(ModelFault::ListGivenTwice),
-    }
-}
 
 /// Whether this member was added and isn't withdrawn yet.
 pub(crate) fn test_withdrawal(withdrawn: &[bool], member: usize) -> Result<(), ModelFault>
@@ -41,14 +30,39 @@ pub(crate) fn test_items(
 ) -> Result<(), ModelFault>
     ensures { AnswersOrWantsMemory (items_fault others items.now) result }
 {
-    if !are_below(items, others) {
-        return Err(ModelFault::NoSuchMember);
-    }
     make_room(places, others)?;
-    if !are_distinct(places, items) {
-        return Err(ModelFault::ListedTwice);
+    match first_fault(places, others, items) {
+        Some(fault) => Err(fault),
+        None => Ok(()),
     }
-    Ok(())
+}
+
+/// The first fault of a list's items, found in one pass. Notes places as it goes.
+fn first_fault(places: &mut [usize], others: usize, items: &[u32]) -> Option<ModelFault>
+    requires { others ≤ length places.old }
+    ensures { result ≡ items_fault others items.now }
+{
+    for (place, number) in items.iter().enumerate() {
+        if *number as usize >= others {
+            return Some(ModelFault::NoSuchMember);
+        }
+        if stands_in(places, &items[..place], *number) {
+            return Some(fault_of_repeat(others, items));
+        }
+        places[*number as usize] = place;
+    }
+    None
+}
+
+/// The first fault of a list in which an item stands twice.
+fn fault_of_repeat(others: usize, items: &[u32]) -> ModelFault
+    requires { has_no_repeats items.now ≡ false }
+    ensures { Some result ≡ items_fault others items.now }
+{
+    if are_below(items, others) {
+        return ModelFault::ListedTwice;
+    }
+    ModelFault::NoSuchMember
 }
 
 /// Makes a table of places at least so long.
@@ -68,40 +82,8 @@ fn are_below(items: &[u32], others: usize) -> bool
     items.iter().all(|x| (*x as usize) < others)
 }
 
-/// The numbers of the residents.
-pub(crate) fn numbers_of_residents(
-    alloc: Global,
-    residents: &[ResidentNo],
-) -> Result<Vec<u32>, AllocError>
-    ensures { IfOk result (λ v. v.items ≡ residents.now) }
-{
-    let mut numbers = Vec::with_capacity(alloc, residents.len())?;
-    for resident in residents {
-        numbers.push(resident.0)?;
-    }
-    Ok(numbers)
-}
-
-/// The numbers of the programmes.
-pub(crate) fn numbers_of_programmes(
-    alloc: Global,
-    programmes: &[ProgrammeNo],
-) -> Result<Vec<u32>, AllocError>
-    ensures { IfOk result (λ v. v.items ≡ programmes.now) }
-{
-    let mut numbers = Vec::with_capacity(alloc, programmes.len())?;
-    for programme in programmes {
-        numbers.push(programme.0)?;
-    }
-    Ok(numbers)
-}
-
 /// A member's list, which is empty where the member is withdrawn.
-pub(crate) fn remaining<'a>(
-    lists: &'a [Option<Vec<u32>>],
-    withdrawn: &[bool],
-    owner: usize,
-) -> &'a [u32]
+pub(crate) fn remaining<'a>(lists: &'a GivenLists, withdrawn: &[bool], owner: usize) -> &'a [u32]
     requires one_flag_each { length withdrawn.now ≡ length lists.now }
     requires member { owner < length lists.now }
     ensures { result.now ≡ list_at (lists_left lists.now withdrawn.now) owner }
@@ -109,17 +91,7 @@ pub(crate) fn remaining<'a>(
     if withdrawn[owner] {
         return &[];
     }
-    given(&lists[owner])
-}
-
-/// The items of a place that may have a list.
-fn given(list: &Option<Vec<u32>>) -> &[u32]
-    ensures { result.now ≡ unwrap_or (items_of list.now) [] }
-{
-    match list {
-        Some(items) => items.as_slice(),
-        None => &[],
-    }
+    lists.items(owner)
 }
 
 /// The residents of these numbers.

@@ -47,6 +47,7 @@ impl<T: Copy> Rows<T> {
     }
 
     /// One item more in the row that is begun.
+    #[inline]
     pub(crate) fn push(&mut self, item: T) -> Result<(), AllocError>
         ensures { OnOk result (self.new ≡ record self.old { begun = self.old.begun ++ item ∷ [] }) }
     {
@@ -55,6 +56,7 @@ impl<T: Copy> Rows<T> {
     }
 
     /// Ends the row that is begun.
+    #[inline]
     pub(crate) fn end_row(&mut self) -> Result<(), AllocError>
         ensures { OnOk result (self.new ≡ record { rows = self.old.rows ++ self.old.begun ∷ []; begun = [] }) }
     {
@@ -86,6 +88,7 @@ impl<T: Copy> Rows<T> {
     }
 
     /// A row that is ended.
+    #[inline]
     pub(crate) fn row(&self, place: usize) -> &[T]
         requires { place < length self.now.rows }
         ensures { result.now ≡ slice_index_or self.now.rows place [] }
@@ -96,6 +99,7 @@ impl<T: Copy> Rows<T> {
 }
 
 /// Where a row starts, by where the rows end.
+#[inline]
 fn start_of(ends: &[usize], place: usize) -> usize
     requires { place < length ends.now }
     ensures { result ≡ slice_index_or (0 ∷ ends.now) place 0 }
@@ -107,6 +111,7 @@ fn start_of(ends: &[usize], place: usize) -> usize
 }
 
 /// The items from `start` up to `end`.
+#[inline]
 fn part<T>(items: &[T], start: usize, end: usize) -> &[T]
     requires order { start ≤ end }
     requires within { end ≤ length items.now }

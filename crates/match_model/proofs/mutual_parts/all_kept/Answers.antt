@@ -15,12 +15,12 @@ note_places-requires-clause-below c =
     let n : ℕ = length c.args.places.now in
     subst (λ (m : ℕ). list_all (λ x. ltb x m) c.row-row.result.now ≡ true) (sym c.loop-owner.auto.places)
     (subst (λ (xs : List ℕ). list_all (λ x. ltb x n) xs ≡ true) (sym c.row-row.ensures)
-    (row_below c.args.rows.now.rows (length c.args.lists.now) n i c.requires.rows c.loop-owner-test.true))
+    (row_below c.args.rows.now.rows (length c.args.lists.now) n i c.requires.rows (omega (arith, c.loop-owner-test.true, c.len-owner-end.ensures))))
 
 pub note_places-requires-clause-distinct : goal.note_places-requires-clause-distinct
 note_places-requires-clause-distinct c =
     subst (λ (xs : List ℕ). has_no_repeats xs ≡ true) (sym c.row-row.ensures)
-    (row_distinct c.args.rows.now.rows (length c.args.lists.now) (length c.args.places.now) c.loop-owner.owner c.requires.rows c.loop-owner-test.true)
+    (row_distinct c.args.rows.now.rows (length c.args.lists.now) (length c.args.places.now) c.loop-owner.owner c.requires.rows (omega (arith, c.loop-owner-test.true, c.len-owner-end.ensures)))
 
 pub keep-requires-clause-below : goal.keep-requires-clause-below
 keep-requires-clause-below c =

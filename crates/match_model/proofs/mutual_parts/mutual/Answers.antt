@@ -1,32 +1,47 @@
-use Rattle.std.proofs.Common.{◌≡◌, ℕ, List, [], length, subst}
-use Rattle.std.specs.List.{sum_by}
+use Rattle.std.proofs.Common.{◌≡◌, ℕ, List, [], ltb, true, length, sym, subst}
+use Rattle.std.specs.List.{All, list_all, sum_by}
 use Rattle.std.specs.Prelude.{Some, false, OnOk, IfOk, IfErr}
-use Rattle.match_model.specs.Draft.{lists_left, are_over, IsGatherFault}
+use Rattle.match_model.specs.Draft.{lists_left, are_over, IsGatherFault, AreLists}
+use Rattle.match_model.specs.Owners.{AreOwners, AreRows}
 use Rattle.match_model.specs.declared.limits.TheConstants.{MAX_PAIRS}
 use Rattle.match_model.proofs.Mutual.{left_below, left_distinct}
 use Rattle.match_model.proofs.Entered.{AreRows-owners, made_is}
 use Rattle.match_model.proofs.mutual_parts.mutual.Goals as goal
 
 pub owners-requires-clause-below : goal.owners-requires-clause-below
-owners-requires-clause-below c = left_below c.args.theirs.now c.args.theirs_withdrawn.now (length c.args.mine.now) c.requires.others
+owners-requires-clause-below c =
+    subst (λ (n : ℕ). All (λ list. list_all (λ x. ltb x n) list ≡ true) (lists_left c.args.theirs.now c.args.theirs_withdrawn.now)) (sym c.len.ensures)
+    (left_below c.args.theirs.now c.args.theirs_withdrawn.now (length c.args.mine.now) c.requires.others)
 
 pub owners-requires-clause-distinct : goal.owners-requires-clause-distinct
 owners-requires-clause-distinct c = left_distinct c.args.theirs.now c.args.theirs_withdrawn.now (length c.args.mine.now) c.requires.others
 
+pub kept_with_ranks-requires-clause-lists : goal.kept_with_ranks-requires-clause-lists
+kept_with_ranks-requires-clause-lists c = subst (AreLists c.args.mine.now) (sym c.len-2.ensures) c.requires.lists
+
 pub kept_with_ranks-requires-clause-rows : goal.kept_with_ranks-requires-clause-rows
-kept_with_ranks-requires-clause-rows c = AreRows-owners (length c.args.mine.now) (length c.args.theirs.now) (lists_left c.args.theirs.now c.args.theirs_withdrawn.now) c.in_ok-rows.rows.rows c.in_ok-rows.ensures
+kept_with_ranks-requires-clause-rows c =
+    let left : List (List ℕ) = lists_left c.args.theirs.now c.args.theirs_withdrawn.now in
+    let owned : AreOwners (length c.args.mine.now) (length c.args.theirs.now) left c.in_ok-rows.rows.rows = subst (λ (n : ℕ). AreOwners n (length c.args.theirs.now) left c.in_ok-rows.rows.rows) c.len.ensures c.in_ok-rows.ensures in
+    subst (λ (n : ℕ). AreRows (length c.args.mine.now) n c.in_ok-rows.rows.rows) (sym c.len-2.ensures) (AreRows-owners (length c.args.mine.now) (length c.args.theirs.now) left c.in_ok-rows.rows.rows owned)
 
 pub returns-clause-lists : goal.returns-clause-lists
 returns-clause-lists c =
-    let made = made_is c.args.mine.now c.args.theirs.now c.args.mine_withdrawn.now c.args.theirs_withdrawn.now c.in_ok-rows.rows.rows c.in_ok-rows.ensures in
+    let left : List (List ℕ) = lists_left c.args.theirs.now c.args.theirs_withdrawn.now in
+    let owned : AreOwners (length c.args.mine.now) (length c.args.theirs.now) left c.in_ok-rows.rows.rows = subst (λ (n : ℕ). AreOwners n (length c.args.theirs.now) left c.in_ok-rows.rows.rows) c.len.ensures c.in_ok-rows.ensures in
+    let made = made_is c.args.mine.now c.args.theirs.now c.args.mine_withdrawn.now c.args.theirs_withdrawn.now c.in_ok-rows.rows.rows owned in
     subst (λ (lists : List (List ℕ)). IfOk c.kept_with_ranks.result (λ made. made.0 ≡ record { rows = lists; begun = [] })) made c.kept_with_ranks.ensures.lists
 
 pub returns-clause-within : goal.returns-clause-within
 returns-clause-within c =
-    let made = made_is c.args.mine.now c.args.theirs.now c.args.mine_withdrawn.now c.args.theirs_withdrawn.now c.in_ok-rows.rows.rows c.in_ok-rows.ensures in
+    let left : List (List ℕ) = lists_left c.args.theirs.now c.args.theirs_withdrawn.now in
+    let owned : AreOwners (length c.args.mine.now) (length c.args.theirs.now) left c.in_ok-rows.rows.rows = subst (λ (n : ℕ). AreOwners n (length c.args.theirs.now) left c.in_ok-rows.rows.rows) c.len.ensures c.in_ok-rows.ensures in
+    let made = made_is c.args.mine.now c.args.theirs.now c.args.mine_withdrawn.now c.args.theirs_withdrawn.now c.in_ok-rows.rows.rows owned in
     subst (λ (lists : List (List ℕ)). OnOk c.kept_with_ranks.result (are_over (Some MAX_PAIRS) (sum_by length lists) ≡ false)) made c.kept_with_ranks.ensures.within
 
 pub returns-clause-cause : goal.returns-clause-cause
 returns-clause-cause c =
-    let made = made_is c.args.mine.now c.args.theirs.now c.args.mine_withdrawn.now c.args.theirs_withdrawn.now c.in_ok-rows.rows.rows c.in_ok-rows.ensures in
+    let left : List (List ℕ) = lists_left c.args.theirs.now c.args.theirs_withdrawn.now in
+    let owned : AreOwners (length c.args.mine.now) (length c.args.theirs.now) left c.in_ok-rows.rows.rows = subst (λ (n : ℕ). AreOwners n (length c.args.theirs.now) left c.in_ok-rows.rows.rows) c.len.ensures c.in_ok-rows.ensures in
+    let made = made_is c.args.mine.now c.args.theirs.now c.args.mine_withdrawn.now c.args.theirs_withdrawn.now c.in_ok-rows.rows.rows owned in
     subst (λ (lists : List (List ℕ)). IfErr c.kept_with_ranks.result (IsGatherFault (Some MAX_PAIRS) (sum_by length lists))) made c.kept_with_ranks.ensures.cause

@@ -14,15 +14,15 @@ enter-requires-clause-room c = λ x e.
     let n : ℕ = length c.args.lists.now in
     let all : List (List ℕ) = lists_left c.args.lists.now c.args.withdrawn.now in
     let listed : is_listed (list_at all i) x ≡ true = ap (λ (xs : List ℕ). is_listed xs x) (sym c.remaining.ensures) ∙ e in
-    let within : x < c.args.count = is_listed_below c.args.count (list_at all i) x (c.requires.below i [] (omega (arith, length-lists_left c.args.lists.now c.args.withdrawn.now, c.loop-owner-test.true))) listed in
+    let within : x < c.args.count = is_listed_below c.args.count (list_at all i) x (c.requires.below i [] (omega (arith, length-lists_left c.args.lists.now c.args.withdrawn.now, c.loop-owner-test.true, c.len-owner-end.ensures))) listed in
     let number = c.loop-owner.invariant.counted.number x within in
     let many = c.loop-owner.invariant.room x within in
     let here = ap (λ (ns : List ℕ). get_or ns x 0) c.deref_mut.ensures.value in
-    let room = owners_room i n all x c.loop-owner-test.true listed in
+    let room = owners_room i n all x (omega (arith, c.loop-owner-test.true, c.len-owner-end.ensures)) listed in
     omega (arith, number, many, here, room)
 
 pub enter-requires-clause-few : goal.enter-requires-clause-few
-enter-requires-clause-few c = counts_few c.args.count c.loop-owner.owner (lists_left c.args.lists.now c.args.withdrawn.now) c.loop-owner.counts.items c.deref_mut.result.now c.deref_mut.ensures.value c.loop-owner.invariant.counted (omega (arith, c.loop-owner-test.true, c.requires.few))
+enter-requires-clause-few c = counts_few c.args.count c.loop-owner.owner (lists_left c.args.lists.now c.args.withdrawn.now) c.loop-owner.counts.items c.deref_mut.result.now c.deref_mut.ensures.value c.loop-owner.invariant.counted (omega (arith, c.loop-owner-test.true, c.len-owner-end.ensures, c.requires.few))
 
 pub loop-owner-init : goal.loop-owner-init
 loop-owner-init c =
@@ -44,7 +44,7 @@ loop-owner-preserved c =
     (subst (λ (ns : List ℕ). AreStepped [] (λ (x : ℕ) (row : List ℕ). set row (get_or ns x 0) i) c.remaining.result.now c.loop-owner.rows.rows c.enter.new.rows.rows) c.deref_mut.ensures.value c.enter.ensures.entered) in
     let many : length c.enter.new.counts ≡ c.loop-owner.counts.len = c.enter.ensures.counted.one_each ∙ c.deref_mut.ensures.len in
     subst (AreBegun c.args.count n (i + 1) all c.enter.new.rows.rows) (sym (with_items_is c.loop-owner.counts c.enter.new.counts many))
-    (AreBegun-more c.args.count n i all c.loop-owner.rows.rows c.enter.new.rows.rows counts c.enter.new.counts c.loop-owner-test.true c.loop-owner.invariant entered counted)
+    (AreBegun-more c.args.count n i all c.loop-owner.rows.rows c.enter.new.rows.rows counts c.enter.new.counts (omega (arith, c.loop-owner-test.true, c.len-owner-end.ensures)) c.loop-owner.invariant entered counted)
 
 pub returns : goal.returns
 returns c =

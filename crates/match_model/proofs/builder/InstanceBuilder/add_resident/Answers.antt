@@ -1,9 +1,7 @@
 use Rattle.std.proofs.Common.{arith}
-use Rattle.std.proofs.lemmas.List.{map_push, length-map}
 use Rattle.match_model.proofs.Drafts.{IsDraft-with_resident}
-use Rattle.match_model.specs.Draft.{items_of}
 use Rattle.match_model.proofs.builder.InstanceBuilder.add_resident.Goals as goal
 
 pub invariant_of-self-in-Ok : goal.invariant_of-self-in-Ok
 invariant_of-self-in-Ok c =
-    rw (c.in_ok-push.ensures.items, c.in-Ok.ensures.items, map_push) (IsDraft-with_resident _ c.self.invariant (omega (arith, length-map c.self.inside.resident_lists.items items_of, c.if-number-ge-MAX_RESIDENTS.false, c.len-number.ensures)))
+    rw (c.in_ok-push.ensures.items, c.in-Ok.ensures.added) (IsDraft-with_resident _ c.self.invariant (omega (arith, c.if-number-ge-MAX_RESIDENTS.false, c.len-number.ensures)))

@@ -1,0 +1,156 @@
+//! The lists of one side as they are handed in, one after another in one vector.
+ghost use Rattle.std.specs.Prelude.{◌≡◌, ◌+◌, ◌<◌, ◌≤◌, ◌∷◌, ◌++◌, [], length, None, Some, OnOk, OnErr, slice_index_or, slice_set, unwrap_or, vec_len, vec_capacity};
+ghost use Rattle.match_model.specs.Draft.{owner_fault, items_fault, AnswersFirst, AnswersOrWantsMemory};
+
+use crate::fault::ModelFault;
+use crate::member::{ProgrammeNo, ResidentNo};
+use crate::ranking::test_items;
+use std::alloc::{AllocError, Global};
+use std::marker::Model;
+
+/// The items of all lists, and for each member from where up to where its list stands among them, if it has one.
+#[derive(Debug, Drop)]
+pub(crate) struct GivenLists {
+    items: Vec<u32>,
+    spans: Vec<Option<(usize, usize)>>,
+}
+
+impl Model for GivenLists {
+    ghost use Rattle.std.specs.Prelude.{List, Option, ℕ, map, length};
+    ghost use Rattle.std.specs.List.{All};
+    ghost use Rattle.match_model.specs.Draft.{list_in, IsSpan};
+
+    ghost Value = { List (Option (List ℕ)) };
+
+    ghost view = { λ g. map (list_in g.items.items) g.spans.items };
+
+    ghost invariant = { λ g. All (IsSpan (length g.items.items)) g.spans.items };
+}
+
+impl GivenLists {
+    /// No members yet.
+    pub(crate) fn new(alloc: Global) -> GivenLists
+        ensures { result ≡ [] }
+    {
+        GivenLists {
+            items: Vec::new(alloc),
+            spans: Vec::new(alloc),
+        }
+    }
+
+    /// How many members there are.
+    pub(crate) fn len(&self) -> usize
+        ensures { result ≡ length self.now }
+    {
+        self.spans.len()
+    }
+
+    /// One member more, which has no list yet.
+    pub(crate) fn add_member(&mut self) -> Result<(), AllocError>
+        ensures added { OnOk result (self.new ≡ self.old ++ None ∷ []) }
+        ensures err { OnErr result (self.new ≡ self.old) }
+    {
+        self.spans.push(None)?;
+        Ok(())
+    }
+
+    /// Whether this owner was added and has no list yet.
+    pub(crate) fn test_owner(&self, owner: usize) -> Result<(), ModelFault>
+        ensures { AnswersFirst (owner_fault self.now owner) result }
+    {
+        match self.spans.get(owner) {
+            None => Err(ModelFault::NoSuchMember),
+            Some(None) => Ok(()),
+            Some(Some(_)) => Err(ModelFault::ListGivenTwice),
+        }
+    }
+
+    /// The items of a member's list, none where it has no list.
+    pub(crate) fn items(&self, owner: usize) -> &[u32]
+        requires { owner < length self.now }
+        ensures { result.now ≡ unwrap_or (slice_index_or self.now owner None) [] }
+    {
+        match self.spans[owner] {
+            Some((start, end)) => &self.items[start..end],
+            None => &[],
+        }
+    }
+
+    /// Gives a member the list of these residents, each of whom is below `others` and stands in it once.
+    pub(crate) fn give_residents(
+        &mut self,
+        owner: usize,
+        residents: &[ResidentNo],
+        others: usize,
+        places: &mut Vec<usize>,
+    ) -> Result<(), ModelFault>
+        requires { owner < length self.old }
+        ensures given { OnOk result (self.new ≡ slice_set self.old owner (Some residents.now)) }
+        ensures first_fault { AnswersOrWantsMemory (items_fault others residents.now) result }
+        ensures err { OnErr result (self.new ≡ self.old) }
+    {
+        let start = self.items.len();
+        push_residents(&mut self.items, residents)?;
+        match test_items(places, others, &self.items[start..]) {
+            Ok(()) => {
+                self.spans[owner] = Some((start, self.items.len()));
+                Ok(())
+            }
+            Err(fault) => {
+                self.items.truncate(start);
+                Err(fault)
+            }
+        }
+    }
+
+    /// Gives a member the list of these programmes, as `give_residents` does of residents.
+    pub(crate) fn give_programmes(
+        &mut self,
+        owner: usize,
+        programmes: &[ProgrammeNo],
+        others: usize,
+        places: &mut Vec<usize>,
+    ) -> Result<(), ModelFault>
+        requires { owner < length self.old }
+        ensures given { OnOk result (self.new ≡ slice_set self.old owner (Some programmes.now)) }
+        ensures first_fault { AnswersOrWantsMemory (items_fault others programmes.now) result }
+        ensures err { OnErr result (self.new ≡ self.old) }
+    {
+        let start = self.items.len();
+        push_programmes(&mut self.items, programmes)?;
+        match test_items(places, others, &self.items[start..]) {
+            Ok(()) => {
+                self.spans[owner] = Some((start, self.items.len()));
+                Ok(())
+            }
+            Err(fault) => {
+                self.items.truncate(start);
+                Err(fault)
+            }
+        }
+    }
+}
+
+/// Puts the numbers of these residents at the end of the items.
+fn push_residents(items: &mut Vec<u32>, residents: &[ResidentNo]) -> Result<(), AllocError>
+    ensures pushed { OnOk result (items.new.items ≡ items.old.items ++ residents.now) }
+    ensures err { OnErr result (items.new.items ≡ items.old.items) }
+{
+    items.reserve(residents.len())?;
+    for resident in residents {
+        items.push_reserved(resident.0);
+    }
+    Ok(())
+}
+
+/// Puts the numbers of these programmes at the end of the items.
+fn push_programmes(items: &mut Vec<u32>, programmes: &[ProgrammeNo]) -> Result<(), AllocError>
+    ensures pushed { OnOk result (items.new.items ≡ items.old.items ++ programmes.now) }
+    ensures err { OnErr result (items.new.items ≡ items.old.items) }
+{
+    items.reserve(programmes.len())?;
+    for programme in programmes {
+        items.push_reserved(programme.0);
+    }
+    Ok(())
+}
