@@ -86,6 +86,7 @@ impl<T: Copy> Rows<T> {
     }
 
     /// A row that is ended.
+    #[inline(always)]
     pub(crate) fn row(&self, place: usize) -> &[T]
         requires { place < length self.now.rows }
         ensures { result.now ≡ slice_index_or self.now.rows place [] }
@@ -96,6 +97,7 @@ impl<T: Copy> Rows<T> {
 }
 
 /// Where a row starts, by where the rows end.
+#[inline(always)]
 fn start_of(ends: &[usize], place: usize) -> usize
     requires { place < length ends.now }
     ensures { result ≡ slice_index_or (0 ∷ ends.now) place 0 }
@@ -107,6 +109,7 @@ fn start_of(ends: &[usize], place: usize) -> usize
 }
 
 /// The items from `start` up to `end`.
+#[inline(always)]
 fn part<T>(items: &[T], start: usize, end: usize) -> &[T]
     requires order { start ≤ end }
     requires within { end ≤ length items.now }
