@@ -92,6 +92,7 @@ impl<M: Copy, R: Wait + Copy> PutEnd<M> for RuledPut<M, R> {
 
     ghost may_go = { λ _. Unit {0} };
 
+    #[inline(always)]
     fn put(&mut self, m: M) -> PutReply<M>
         ensures { MatchPut result
             (self.new ≡ record self.old { puts = self.old.puts ++ m ∷ [] })
@@ -115,6 +116,7 @@ impl<M: Copy, R: Wait + Copy> TakeEnd<M> for RuledTake<M, R> {
 
     ghost may_go = { λ _. Unit {0} };
 
+    #[inline(always)]
     fn take(&mut self) -> TakeReply<M>
         ensures { MatchTake result
             (λ m. self.new ≡ record self.old { taken = self.old.taken ++ m ∷ [] })

@@ -57,7 +57,7 @@ impl Drop for Instance {
 
 impl Instance {
     /// How many programmes there are, at most 2,000.
-    #[inline]
+    #[inline(always)]
     pub fn programmes(&self) -> u32
         ensures count { result ≡ length self.now.quotas }
         ensures instance { IsInstance self.now }
@@ -66,7 +66,7 @@ impl Instance {
     }
 
     /// How many residents there are, at most 20,000.
-    #[inline]
+    #[inline(always)]
     pub fn residents(&self) -> u32
         ensures count { result ≡ length self.now.resident_lists }
         ensures instance { IsInstance self.now }
@@ -83,7 +83,7 @@ impl Instance {
     }
 
     /// How many residents a programme may have, at most 10,000. The programme is a member.
-    #[inline]
+    #[inline(always)]
     pub fn quota(&self, programme: ProgrammeNo) -> u32
         requires { IsProgramme self.now programme }
         ensures { result ≡ quota_of self.now programme }
@@ -108,7 +108,7 @@ impl Instance {
     }
 
     /// Whom a programme ranks, best first, of those who rank it. The programme is a member.
-    #[inline]
+    #[inline(always)]
     pub fn list_of_programme(&self, programme: ProgrammeNo) -> &[ResidentNo]
         requires { IsProgramme self.now programme }
         ensures list { result.now ≡ ranking_of_programme self.now programme }
@@ -118,7 +118,7 @@ impl Instance {
     }
 
     /// The resident at this place from 0 of a programme's list, if it is so long. The programme is a member.
-    #[inline]
+    #[inline(always)]
     pub fn listed_at(&self, programme: ProgrammeNo, place: u32) -> Option<ResidentNo>
         requires { IsProgramme self.now programme }
         ensures { result ≡ slice_get (ranking_of_programme self.now programme) place }
@@ -144,7 +144,7 @@ impl Instance {
     }
 
     /// Whom a resident ranks, best first, of those that rank it. The resident is a member.
-    #[inline]
+    #[inline(always)]
     pub fn list_of_resident(&self, resident: ResidentNo) -> &[ProgrammeNo]
         requires { IsResident self.now resident }
         ensures list { result.now ≡ ranking_of_resident self.now resident }
@@ -154,7 +154,7 @@ impl Instance {
     }
 
     /// The place from 0 of a resident in a programme's list, if the pair is acceptable. The programme is a member.
-    #[inline]
+    #[inline(always)]
     pub fn rank_at_programme(&self, programme: ProgrammeNo, resident: ResidentNo) -> Option<u32>
         requires { IsProgramme self.now programme }
         ensures { result ≡ rank (ranking_of_programme self.now programme) resident }
@@ -164,7 +164,7 @@ impl Instance {
     }
 
     /// The place from 0 of a programme in a resident's list, if the pair is acceptable. The resident is a member.
-    #[inline]
+    #[inline(always)]
     pub fn rank_at_resident(&self, resident: ResidentNo, programme: ProgrammeNo) -> Option<u32>
         requires { IsResident self.now resident }
         ensures { result ≡ rank (ranking_of_resident self.now resident) programme }

@@ -12,7 +12,7 @@ use crate::rows::Rows;
 use std::alloc::{AllocError, Global};
 
 /// The place of a number in the list whose table this is, if it stands there.
-#[inline]
+#[inline(always)]
 pub(crate) fn rank_in(table: &[(u32, u32)], number: u32) -> Option<u32>
     ensures { (list : List ℕ) → IsRankTable list table.now → result ≡ rank list number }
 {

@@ -88,7 +88,7 @@ impl<T: Copy> Rows<T> {
     }
 
     /// A row that is ended.
-    #[inline]
+    #[inline(always)]
     pub(crate) fn row(&self, place: usize) -> &[T]
         requires { place < length self.now.rows }
         ensures { result.now ≡ slice_index_or self.now.rows place [] }
@@ -99,7 +99,7 @@ impl<T: Copy> Rows<T> {
 }
 
 /// Where a row starts, by where the rows end.
-#[inline]
+#[inline(always)]
 fn start_of(ends: &[usize], place: usize) -> usize
     requires { place < length ends.now }
     ensures { result ≡ slice_index_or (0 ∷ ends.now) place 0 }
@@ -111,7 +111,7 @@ fn start_of(ends: &[usize], place: usize) -> usize
 }
 
 /// The items from `start` up to `end`.
-#[inline]
+#[inline(always)]
 fn part<T>(items: &[T], start: usize, end: usize) -> &[T]
     requires order { start ≤ end }
     requires within { end ≤ length items.now }

@@ -2,7 +2,6 @@
 //! and the desks in hands and those that may have work under a third.
 #![tactic(auto)]
 
-mod both;
 mod compare;
 mod desks;
 mod done;

@@ -94,7 +94,6 @@ pub(crate) fn outcome_of<J: ExchangeIdentity, M: Mailboxes, G: Gate>(
     entered: Vec<u64>,
 ) -> Result<Outcome<J, M>, RunFault>
     requires instance { inst.now ≡ J.inst }
-    requires parts { J.parts ≡ 8 }
     requires uncounted { entered.items ≡ replicate J.workers 0 }
     ensures closed { IfOk result (λ outcome. (outcome.ending ≡ Ending.Closed) ↔ IsClosed outcome.ledger.journal) }
     ensures stopped { IfOk result (λ outcome. outcome.ending ≡ Ending.Stopped → G.MAY_STOP ≡ true) }
@@ -109,26 +108,21 @@ pub(crate) fn outcome_of<J: ExchangeIdentity, M: Mailboxes, G: Gate>(
         ledger,
         entered,
     };
-    join_all::<J, M>(&mut outcome.ledger, tallies)?;
+    join_all(tallies)?;
     count::<J, M>(&outcome.ledger, &mut outcome.entered);
     Ok(outcome)
 }
 
 // Joins the tallies to one that has every part, which counts the whole journal.
-fn join_all<J: ExchangeIdentity, M: Mailboxes>(
-    ledger: &mut Ledger<J, M::OfferPut, M::AnswerPut>,
-    tallies: Vec<Tally<J>>,
-) -> Result<(), RunFault>
-    requires { J.parts ≡ 8 }
-    ensures same { ledger.new ≡ ledger.old }
-    ensures fault { IfErr result (λ fault. fault ≡ Thread) }
+fn join_all<J: ExchangeIdentity>(tallies: Vec<Tally<J>>) -> Result<(), RunFault>
+    ensures { IfErr result (λ fault. fault ≡ Thread) }
 {
     let mut tallies = tallies.into_iter();
     let Some(mut whole) = tallies.next() else {
         return Err(RunFault::Thread);
     };
     for tally in tallies {
-        ledger.join(&mut whole, tally);
+        whole.join(tally);
     }
     if whole.parts() != PARTS {
         return Err(RunFault::Thread);

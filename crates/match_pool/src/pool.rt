@@ -116,5 +116,5 @@ fn run_named<
         workers as u32,
     )?;
     let tallies = drive(rt, alloc, inst, &shared, gate, tallies)?;
-    reserve.finish(rt, inst, shared, tallies)
+    reserve.finish(inst, shared, tallies)
 }

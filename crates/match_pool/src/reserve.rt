@@ -7,8 +7,7 @@ ghost use Rattle.match_pool.specs.Compare.{AreLogs, AreByResident, AreByProgramm
 ghost use Rattle.match_pool.specs.Done.{IsRunOf, IsSettledRun, AreCounted, IsFault};
 ghost use Rattle.match_pool.specs.declared.fault.RunFault.TheVariants.{Memory};
 
-use crate::both::do_both;
-use crate::compare::{Comparison, Logs};
+use crate::compare::{Logs, compared};
 use crate::desks::{BoundProgramme, BoundResident};
 use crate::done::{Done, Ending};
 use crate::fault::RunFault;
@@ -22,7 +21,6 @@ use match_model::{Assignment, Instance};
 use offer_ledger::{ExchangeIdentity, Tally};
 use std::alloc::Global;
 use std::sync::Mutex;
-use std::thread::Threads;
 
 /// Room for the comparison and for the result, so that nothing more is asked of memory after the joins.
 pub(crate) struct Reserve<M: Mailboxes> {
@@ -70,25 +68,15 @@ impl<M: Mailboxes> Reserve<M> {
     }
 }
 
-impl<M: Mailboxes + Send + Sync> Reserve<M> {
+impl<M: Mailboxes> Reserve<M> {
     /// What a run gives whose workers are joined, with these tallies by worker.
-    pub(crate) fn finish<J, G, R>(
+    pub(crate) fn finish<J: ExchangeIdentity, G: Gate>(
         self,
-        rt: &R,
         inst: &Instance,
         shared: SharedState<'_, J, M, G>,
         tallies: Vec<Tally<J>>,
     ) -> Result<Done<M>, RunFault>
-    where
-        J: ExchangeIdentity + Send + Sync,
-        M::OfferPut: Send,
-        M::OfferTake: Send,
-        M::AnswerPut: Send,
-        M::AnswerTake: Send,
-        G: Gate,
-        R: Threads,
         requires instance { inst.now ≡ J.inst }
-        requires parts { J.parts ≡ 8 }
         requires uncounted { self.entered.items ≡ replicate J.workers 0 }
         requires room { length self.assignment ≡ length inst.now.resident_lists }
         ensures run { IfOk result (λ done. IsRunOf done M.OfferPut.puts M.OfferTake.taken M.AnswerPut.puts M.AnswerTake.taken inst.now J.cap) }
@@ -104,13 +92,12 @@ impl<M: Mailboxes + Send + Sync> Reserve<M> {
             assignment,
             entered,
         } = self;
-        let workers = tallies.len();
         let (resident_seats, programme_seats, ledger, scheduler) = shared.into_parts();
         let outcome = outcome_of(inst, ledger, &scheduler, tallies, entered)?;
         let journal = outcome.ledger.journal();
         let room = (residents, programmes);
         let seats = (resident_seats, programme_seats);
-        match agents_of(rt, workers, inst, journal, room, seats) {
+        match agents_of(inst, journal, room, seats) {
             Ok((residents, programmes)) => {
                 Ok(outcome.done(inst, assignment, residents, programmes))
             }
@@ -125,11 +112,8 @@ type Agents<M> = (
     Vec<ProgrammeAgent<<M as Mailboxes>::AnswerTake>>,
 );
 
-// The agents, out of their locks, where every log is the journal's: the takes and the hears are compared side by side. An
-// error is a desk whose log differs.
-fn agents_of<J, M, R>(
-    rt: &R,
-    workers: usize,
+// The agents, out of their locks, where every log is the journal's. An error is a desk whose log differs.
+fn agents_of<J: ExchangeIdentity, M: Mailboxes>(
     inst: &Instance,
     journal: &[Event],
     room: (
@@ -141,32 +125,12 @@ fn agents_of<J, M, R>(
         Vec<Mutex<BoundProgramme<J, M>>>,
     ),
 ) -> Result<Agents<M>, Desk>
-where
-    J: ExchangeIdentity + Send + Sync,
-    M: Mailboxes + Send + Sync,
-    M::OfferPut: Send,
-    M::OfferTake: Send,
-    M::AnswerPut: Send,
-    M::AnswerTake: Send,
-    R: Threads,
     ensures takes { IfOk result (λ agents. AreLogs taken_of agents.0.items (length inst.now.resident_lists) (λ r. takes r journal.now)) }
     ensures taken { IfOk result (λ agents. AreByResident M.OfferTake.taken agents.0.items) }
     ensures hears { IfOk result (λ agents. AreLogs heard_of agents.1.items (length inst.now.quotas) (λ p. hears p journal.now)) }
     ensures heard { IfOk result (λ agents. AreByProgramme M.AnswerTake.taken agents.1.items) }
 {
-    let takes = Comparison {
-        logs: room.0,
-        seats: seats.0,
-        journal,
-        count: inst.residents(),
-    };
-    let hears = Comparison {
-        logs: room.1,
-        seats: seats.1,
-        journal,
-        count: inst.programmes(),
-    };
-    let (residents, programmes) = do_both(rt, workers, takes, hears);
-    let residents = residents?;
-    Ok((residents, programmes?))
+    let residents = compared(room.0, seats.0, journal, inst.residents())?;
+    let programmes = compared(room.1, seats.1, journal, inst.programmes())?;
+    Ok((residents, programmes))
 }

@@ -158,8 +158,7 @@ fn counts_apart<J: ExchangeIdentity, P: PutEnd<OfferNote>, Q: PutEnd<AnswerNote>
     tally: &mut Tally<J>,
     other: Tally<J>,
 ) -> bool
-    requires instance { inst.now ≡ J.inst }
-    requires parts { J.parts ≡ 8 }
+    requires { inst.now ≡ J.inst }
 {
     let mut other = other;
     let all = nine_events();
@@ -169,7 +168,7 @@ fn counts_apart<J: ExchangeIdentity, P: PutEnd<OfferNote>, Q: PutEnd<AnswerNote>
         && answers_each(ledger, inst, &mut other, rest, Ok(()))
         && tally.entered() == 5
         && other.entered() == 4;
-    ledger.join(tally, other);
+    tally.join(other);
     are_right
         && shows(ledger, tally, &all)
         && ledger.who() == [0, 0, 0, 0, 0, 1, 1, 1, 1].as_slice()
