@@ -16,3 +16,4 @@ pub mod Whole
 pub mod RowText
 pub mod Texts
 pub mod NameKeys
+pub mod Context
