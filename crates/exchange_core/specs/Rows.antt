@@ -9,9 +9,23 @@ use Rattle.exchange_core.specs.Left.{ResidentLeft, ProgrammeLeft}
 use Rattle.exchange_core.specs.Notes.{waiting_in, span, IsRing}
 use Rattle.exchange_core.specs.Seats.{due_of}
 
--- a resident's seat: an offer's note is the number of its programme
+-- the programme of an offer's note, which has its rank below
+abbrev pub programme_of : ℕ → ℕ
+programme_of note = note / 2048
+
+-- the rank of an offer's note
+abbrev pub rank_of : ℕ → ℕ
+rank_of note = note % 2048
+
+-- the rank of the offer held, after one more answer to the offer taken
+abbrev pub rank_after : ℕ → ℕ → AnswerKind → ℕ
+rank_after held taken Hold = taken
+rank_after held taken Decline = held
+rank_after held taken Release = held
+
+-- a resident's seat
 abbrev pub shown_resident : List ℕ → ResidentSeat → ResidentLeft
-shown_resident notes seat = record { waiting = waiting_in notes seat.part; due = due_of seat.first_due seat.second_due; held = seat.held; room = seat.part.room }
+shown_resident notes seat = record { waiting = map programme_of (waiting_in notes seat.part); due = due_of seat.first_due seat.second_due; held = seat.held; room = seat.part.room }
 
 -- where its part starts, and how many places it has
 abbrev pub resident_span : ResidentSeat → ℕ × ℕ

@@ -30,6 +30,7 @@ impl Part {
     }
 
     /// The place of this note, counted from the one in front.
+    #[inline(always)]
     fn place(self, number: u32) -> usize
         requires ring { IsRing self }
         requires number { number < self.room }
@@ -45,6 +46,7 @@ impl Part {
     }
 
     /// The note in front.
+    #[inline(always)]
     pub(crate) fn first(self, notes: &Vec<u32>) -> Option<u32>
         requires ring { IsRing self }
         requires within { self.start + self.room ≤ length notes.now.items }
@@ -57,6 +59,7 @@ impl Part {
     }
 
     /// One note more, at the end of those that wait.
+    #[inline(always)]
     pub(crate) fn push(self, notes: &mut Vec<u32>, note: u32) -> Part
         requires ring { IsRing self }
         requires within { self.start + self.room ≤ length notes.old.items }
@@ -73,6 +76,7 @@ impl Part {
     }
 
     /// Without the note in front, if one waits.
+    #[inline(always)]
     pub(crate) fn pop(self) -> Part
         requires { IsRing self }
         ensures { result ≡ popped self }

@@ -77,6 +77,7 @@ impl ProgrammeRow {
     }
 
     /// Whether as many answers wait as ever can.
+    #[inline(always)]
     pub(crate) fn is_full(&self, programme: ProgrammeNo) -> bool
         requires { programme < length self.now }
         ensures { result ≡ not (nat_lt (length (seat_of_programme self.now programme).waiting) (seat_of_programme self.now programme).room) }
@@ -86,6 +87,7 @@ impl ProgrammeRow {
     }
 
     /// Whether answers wait.
+    #[inline(always)]
     pub(crate) fn has_waiting(&self, programme: ProgrammeNo) -> bool
         requires { programme < length self.now }
         ensures { result ≡ has_answers (seat_of_programme self.now programme) }
@@ -94,6 +96,7 @@ impl ProgrammeRow {
     }
 
     /// The answer in front, with its resident.
+    #[inline(always)]
     pub(crate) fn first_waiting(&self, programme: ProgrammeNo) -> Option<(ResidentNo, AnswerKind)>
         requires { programme < length self.now }
         ensures { result ≡ slice_get (seat_of_programme self.now programme).waiting 0 }
@@ -106,6 +109,7 @@ impl ProgrammeRow {
     }
 
     /// How many offers were made.
+    #[inline(always)]
     pub(crate) fn offered(&self, programme: ProgrammeNo) -> u32
         requires { programme < length self.now }
         ensures { result ≡ (seat_of_programme self.now programme).offered }
@@ -114,6 +118,7 @@ impl ProgrammeRow {
     }
 
     /// Whether a programme has a free place.
+    #[inline(always)]
     pub(crate) fn has_place(&self, programme: ProgrammeNo) -> bool
         requires { programme < length self.now }
         ensures { result ≡ nat_lt (seat_of_programme self.now programme).out (seat_of_programme self.now programme).places }
@@ -123,6 +128,7 @@ impl ProgrammeRow {
     }
 
     /// Whether a programme has a free place and somebody left to offer it to.
+    #[inline(always)]
     pub(crate) fn has_wish(&self, programme: ProgrammeNo) -> bool
         requires { programme < length self.now }
         ensures { result ≡ has_wish (seat_of_programme self.now programme) }
@@ -132,6 +138,7 @@ impl ProgrammeRow {
     }
 
     /// One offer more is made, and is out.
+    #[inline(always)]
     pub(crate) fn offer(&mut self, programme: ProgrammeNo)
         requires member { programme < length self.old }
         requires offered { (seat_of_programme self.old programme).offered + 1 < 2 ^ 32 }
@@ -144,6 +151,7 @@ impl ProgrammeRow {
     }
 
     /// An answer comes in.
+    #[inline(always)]
     pub(crate) fn receive(&mut self, programme: ProgrammeNo, resident: ResidentNo, kind: AnswerKind)
         requires member { programme < length self.old }
         requires number { resident < 2 ^ 30 }
@@ -156,6 +164,7 @@ impl ProgrammeRow {
     }
 
     /// The answer in front, which is this one, is heard; a rejection frees its place.
+    #[inline(always)]
     pub(crate) fn hear(&mut self, programme: ProgrammeNo, resident: ResidentNo, kind: AnswerKind)
         requires { programme < length self.old }
         ensures { self.new ≡ slice_set self.old programme (heard_answer (seat_of_programme self.old programme) (resident, kind)) }
@@ -167,6 +176,7 @@ impl ProgrammeRow {
 }
 
 /// How many offers are out after one more, where there is a free place.
+#[inline(always)]
 fn one_more(out: u32, places: u32) -> u32
     requires { out < places }
     ensures { result ≡ out + 1 }
@@ -175,6 +185,7 @@ fn one_more(out: u32, places: u32) -> u32
 }
 
 /// How many offers are out after this answer: a rejection frees its place.
+#[inline(always)]
 fn out_after(out: u32, _resident: ResidentNo, kind: AnswerKind) -> u32
     ensures { result ≡ out - (if is_rejection (_resident, kind) then 1 else 0) }
 {
@@ -185,6 +196,7 @@ fn out_after(out: u32, _resident: ResidentNo, kind: AnswerKind) -> u32
 }
 
 /// The note of an answer.
+#[inline(always)]
 fn note_of(resident: ResidentNo, kind: AnswerKind) -> u32
     requires { resident < 2 ^ 30 }
     ensures { result ≡ note_of (resident, kind) }
@@ -198,6 +210,7 @@ fn note_of(resident: ResidentNo, kind: AnswerKind) -> u32
 }
 
 /// The answer of a note.
+#[inline(always)]
 fn answer_of(note: u32) -> (ResidentNo, AnswerKind)
     ensures { result ≡ answer_of note }
 {

@@ -66,6 +66,7 @@ impl ProgrammeDesks {
     }
 
     /// Whether as many answers wait as ever can.
+    #[inline(always)]
     pub(crate) fn is_full(&self, programme: ProgrammeNo) -> bool
         requires { programme < length self.now }
         ensures { result ≡ not (nat_lt (length (seat_of_programme self.now programme).waiting) (seat_of_programme self.now programme).room) }
@@ -74,6 +75,7 @@ impl ProgrammeDesks {
     }
 
     /// Whether answers wait.
+    #[inline(always)]
     pub(crate) fn has_waiting(&self, programme: ProgrammeNo) -> bool
         requires { programme < length self.now }
         ensures { result ≡ has_answers (seat_of_programme self.now programme) }
@@ -82,6 +84,7 @@ impl ProgrammeDesks {
     }
 
     /// The answer in front, with its resident.
+    #[inline(always)]
     pub(crate) fn first_waiting(&self, programme: ProgrammeNo) -> Option<(ResidentNo, AnswerKind)>
         requires { programme < length self.now }
         ensures { result ≡ slice_get (seat_of_programme self.now programme).waiting 0 }
@@ -90,6 +93,7 @@ impl ProgrammeDesks {
     }
 
     /// How many offers were made.
+    #[inline(always)]
     pub(crate) fn offered(&self, programme: ProgrammeNo) -> u32
         requires { programme < length self.now }
         ensures { result ≡ (seat_of_programme self.now programme).offered }
@@ -98,6 +102,7 @@ impl ProgrammeDesks {
     }
 
     /// Whether a programme has a free place.
+    #[inline(always)]
     pub(crate) fn has_place(&self, programme: ProgrammeNo) -> bool
         requires { programme < length self.now }
         ensures { result ≡ nat_lt (seat_of_programme self.now programme).out (seat_of_programme self.now programme).places }
@@ -106,6 +111,7 @@ impl ProgrammeDesks {
     }
 
     /// Whether a programme has a free place and somebody left to offer it to.
+    #[inline(always)]
     pub(crate) fn has_wish(&self, programme: ProgrammeNo) -> bool
         requires { programme < length self.now }
         ensures { result ≡ has_wish (seat_of_programme self.now programme) }
@@ -114,6 +120,7 @@ impl ProgrammeDesks {
     }
 
     /// One offer more is made, and is out.
+    #[inline(always)]
     pub(crate) fn offer(&mut self, programme: ProgrammeNo)
         requires member { programme < length self.old }
         requires offered { (seat_of_programme self.old programme).offered + 1 < 2 ^ 32 }
@@ -128,6 +135,7 @@ impl ProgrammeDesks {
     }
 
     /// An answer comes in.
+    #[inline(always)]
     pub(crate) fn receive(&mut self, programme: ProgrammeNo, resident: ResidentNo, kind: AnswerKind)
         requires member { programme < length self.old }
         requires number { resident < 2 ^ 30 }
@@ -141,6 +149,7 @@ impl ProgrammeDesks {
     }
 
     /// The answer in front, which is this one, is heard; a rejection frees its place.
+    #[inline(always)]
     pub(crate) fn hear(&mut self, programme: ProgrammeNo, resident: ResidentNo, kind: AnswerKind)
         requires { programme < length self.old }
         ensures { self.new ≡ slice_set self.old programme (heard_answer (seat_of_programme self.old programme) (resident, kind)) }

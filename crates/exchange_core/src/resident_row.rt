@@ -1,8 +1,9 @@
 //! What the core keeps of each resident's desk, with one row of notes for all their mailboxes.
-ghost use Rattle.std.specs.Prelude.{◌≡◌, ◌<◌, [], length, map, slice_get, slice_set, IfOk, not, nat_lt, drop, None};
+ghost use Rattle.std.specs.Prelude.{◌≡◌, ◌<◌, ◌%◌, ◌^◌, [], length, map, slice_get, slice_set, IfOk, not, nat_lt, drop, None};
 ghost use Rattle.std.specs.Option.{option_to_list};
 ghost use Rattle.exchange_core.specs.Pending.{has_offers};
 ghost use Rattle.exchange_core.specs.Calls.{held_after, release_of as released};
+ghost use Rattle.exchange_core.specs.Rows.{programme_of, rank_of, rank_after};
 ghost use Rattle.exchange_core.specs.Seats.{called_for, due_of, seat_of_resident, sent_offer, took_offer, gave_answer, opened_residents};
 
 use crate::event::{AnswerKind, Capacity};
@@ -12,16 +13,18 @@ use std::alloc::{AllocError, Global};
 use std::marker::Model;
 
 /// At a resident's desk: the part of the row where its offers wait, the answers that are due, of which an offer calls
-/// for two at most, and the programme held.
+/// for two at most, and the programme held; and the ranks that came with the offer taken and with the one held.
 #[derive(Clone, Copy)]
 pub(crate) struct ResidentSeat {
     part: Part,
     first_due: Option<(ProgrammeNo, AnswerKind)>,
     second_due: Option<(ProgrammeNo, AnswerKind)>,
     held: Option<ProgrammeNo>,
+    taken_rank: u32,
+    held_rank: u32,
 }
 
-/// A seat for each resident, and the programmes of all offers that wait.
+/// A seat for each resident, and the programmes and ranks of all offers that wait.
 #[derive(Drop)]
 pub(crate) struct ResidentRow {
     seats: Vec<ResidentSeat>,
@@ -64,6 +67,8 @@ impl ResidentRow {
                 first_due: None,
                 second_due: None,
                 held: None,
+                taken_rank: 0,
+                held_rank: 0,
             })?;
             total += room as usize;
         }
@@ -74,6 +79,7 @@ impl ResidentRow {
     }
 
     /// Whether as many offers wait as ever can.
+    #[inline(always)]
     pub(crate) fn is_full(&self, resident: ResidentNo) -> bool
         requires { resident < length self.now }
         ensures { result ≡ not (nat_lt (length (seat_of_resident self.now resident).waiting) (seat_of_resident self.now resident).room) }
@@ -83,6 +89,7 @@ impl ResidentRow {
     }
 
     /// Whether offers wait.
+    #[inline(always)]
     pub(crate) fn has_waiting(&self, resident: ResidentNo) -> bool
         requires { resident < length self.now }
         ensures { result ≡ has_offers (seat_of_resident self.now resident) }
@@ -91,18 +98,20 @@ impl ResidentRow {
     }
 
     /// The programme of the offer in front.
+    #[inline(always)]
     pub(crate) fn first_waiting(&self, resident: ResidentNo) -> Option<ProgrammeNo>
         requires { resident < length self.now }
         ensures { result ≡ slice_get (seat_of_resident self.now resident).waiting 0 }
     {
         let part = self.seats[resident.0 as usize].part;
         match part.first(&self.notes) {
-            Some(note) => Some(ProgrammeNo(note)),
+            Some(note) => Some(programme_of(note)),
             None => None,
         }
     }
 
     /// The first answer due.
+    #[inline(always)]
     pub(crate) fn first_due(&self, resident: ResidentNo) -> Option<(ProgrammeNo, AnswerKind)>
         requires { resident < length self.now }
         ensures { result ≡ slice_get (seat_of_resident self.now resident).due 0 }
@@ -111,6 +120,7 @@ impl ResidentRow {
     }
 
     /// The programme of the last hold that was given.
+    #[inline(always)]
     pub(crate) fn held(&self, resident: ResidentNo) -> Option<ProgrammeNo>
         requires { resident < length self.now }
         ensures { result ≡ (seat_of_resident self.now resident).held }
@@ -118,19 +128,41 @@ impl ResidentRow {
         self.seats[resident.0 as usize].held
     }
 
-    /// An offer comes in.
-    pub(crate) fn receive(&mut self, resident: ResidentNo, programme: ProgrammeNo)
+    /// The ranks that came with the offer in front and with the one held. What they say is a guess.
+    #[inline(always)]
+    pub(crate) fn ranks(&self, resident: ResidentNo) -> (u32, u32)
+        requires { resident < length self.now }
+    {
+        let part = self.seats[resident.0 as usize].part;
+        let held = self.seats[resident.0 as usize].held_rank;
+        match part.first(&self.notes) {
+            Some(note) => (rank_of(note), held),
+            None => (0, held),
+        }
+    }
+
+    /// An offer comes in, with its programme's rank.
+    #[inline(always)]
+    pub(crate) fn receive(&mut self, resident: ResidentNo, programme: ProgrammeNo, rank: u32)
         requires member { resident < length self.old }
+        requires number { programme < 2 ^ 20 }
         requires room { length (seat_of_resident self.old resident).waiting < (seat_of_resident self.old resident).room }
         ensures { self.new ≡ slice_set self.old resident (sent_offer (seat_of_resident self.old resident) programme) }
     {
         let part = self.seats[resident.0 as usize].part;
-        let part = part.push(&mut self.notes, programme.0);
+        let part = part.push(&mut self.notes, note_of_offer(programme, rank));
         self.seats[resident.0 as usize].part = part;
     }
 
-    /// The offer in front, which is this programme's, is taken, and calls for its answers.
-    pub(crate) fn take(&mut self, resident: ResidentNo, programme: ProgrammeNo, better: bool)
+    /// The offer in front, which is this programme's and came with this rank, is taken, and calls for its answers.
+    #[inline(always)]
+    pub(crate) fn take(
+        &mut self,
+        resident: ResidentNo,
+        programme: ProgrammeNo,
+        rank: u32,
+        better: bool,
+    )
         requires member { resident < length self.old }
         requires due { (seat_of_resident self.old resident).due ≡ [] }
         ensures { self.new ≡ slice_set self.old resident (took_offer (seat_of_resident self.old resident) better programme) }
@@ -140,9 +172,11 @@ impl ResidentRow {
         seat.part = seat.part.pop();
         seat.first_due = due.0;
         seat.second_due = due.1;
+        seat.taken_rank = rank;
     }
 
     /// The first answer due, which is this one, is given.
+    #[inline(always)]
     pub(crate) fn answer(&mut self, resident: ResidentNo, programme: ProgrammeNo, kind: AnswerKind)
         requires { resident < length self.old }
         ensures { self.new ≡ slice_set self.old resident (gave_answer (seat_of_resident self.old resident) (programme, kind)) }
@@ -151,10 +185,52 @@ impl ResidentRow {
         seat.first_due = due_next(seat.first_due, seat.second_due);
         seat.second_due = None;
         seat.held = held_after(seat.held, programme, kind);
+        seat.held_rank = rank_after(seat.held_rank, seat.taken_rank, kind);
+    }
+}
+
+/// A note has its programme so many times, and its rank below that.
+const RANKS: u32 = 2_048;
+
+/// The note of an offer.
+#[inline(always)]
+fn note_of_offer(programme: ProgrammeNo, rank: u32) -> u32
+    requires { programme < 2 ^ 20 }
+    ensures programme { programme_of result ≡ programme }
+    ensures rank { rank_of result ≡ rank % 2048 }
+{
+    programme.0 * RANKS + rank % RANKS
+}
+
+/// The programme of an offer's note.
+#[inline(always)]
+fn programme_of(note: u32) -> ProgrammeNo
+    ensures { result ≡ programme_of note }
+{
+    ProgrammeNo(note / RANKS)
+}
+
+/// The rank of an offer's note.
+#[inline(always)]
+fn rank_of(note: u32) -> u32
+    ensures { result ≡ rank_of note }
+{
+    note % RANKS
+}
+
+/// The rank of the offer that is held after one more answer.
+#[inline(always)]
+fn rank_after(held: u32, taken: u32, kind: AnswerKind) -> u32
+    ensures { result ≡ rank_after held taken kind }
+{
+    match kind {
+        AnswerKind::Hold => taken,
+        AnswerKind::Decline | AnswerKind::Release => held,
     }
 }
 
 /// What an offer calls for: where it is better a hold and then a release of the one held, else a decline.
+#[inline(always)]
 fn called_for(
     better: bool,
     held: Option<ProgrammeNo>,
@@ -172,6 +248,7 @@ fn called_for(
 }
 
 /// The programme that is held after one more answer.
+#[inline(always)]
 fn held_after(
     held: Option<ProgrammeNo>,
     programme: ProgrammeNo,
@@ -187,6 +264,7 @@ fn held_after(
 
 /// What is due first after the first of these.
 #[tactic(auto, using(crate::proofs::Seats::due_after_first))]
+#[inline(always)]
 fn due_next(
     first: Option<(ProgrammeNo, AnswerKind)>,
     second: Option<(ProgrammeNo, AnswerKind)>,
@@ -200,6 +278,7 @@ fn due_next(
 }
 
 /// The release of a programme, if there is one.
+#[inline(always)]
 fn release_of(held: Option<ProgrammeNo>) -> Option<(ProgrammeNo, AnswerKind)>
     ensures { option_to_list result ≡ released held }
 {

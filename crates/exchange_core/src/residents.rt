@@ -1,5 +1,5 @@
 //! What the core keeps of the residents' desks.
-ghost use Rattle.std.specs.Prelude.{◌≡◌, ◌<◌, [], true, length, slice_get, slice_set, IfOk, not, nat_lt};
+ghost use Rattle.std.specs.Prelude.{◌≡◌, ◌<◌, ◌^◌, [], true, length, slice_get, slice_set, IfOk, not, nat_lt};
 ghost use Rattle.std.specs.List.{All};
 ghost use Rattle.exchange_core.specs.Seats.{seat_of_resident, sent_offer, took_offer, gave_answer, opened_residents};
 ghost use Rattle.exchange_core.specs.Pending.{has_offers, IsQuiet};
@@ -61,6 +61,7 @@ impl ResidentDesks {
     }
 
     /// Whether as many offers wait as ever can.
+    #[inline(always)]
     pub(crate) fn is_full(&self, resident: ResidentNo) -> bool
         requires { resident < length self.now }
         ensures { result ≡ not (nat_lt (length (seat_of_resident self.now resident).waiting) (seat_of_resident self.now resident).room) }
@@ -69,6 +70,7 @@ impl ResidentDesks {
     }
 
     /// Whether offers wait.
+    #[inline(always)]
     pub(crate) fn has_waiting(&self, resident: ResidentNo) -> bool
         requires { resident < length self.now }
         ensures { result ≡ has_offers (seat_of_resident self.now resident) }
@@ -77,6 +79,7 @@ impl ResidentDesks {
     }
 
     /// The programme of the offer in front.
+    #[inline(always)]
     pub(crate) fn first_waiting(&self, resident: ResidentNo) -> Option<ProgrammeNo>
         requires { resident < length self.now }
         ensures { result ≡ slice_get (seat_of_resident self.now resident).waiting 0 }
@@ -85,6 +88,7 @@ impl ResidentDesks {
     }
 
     /// The first answer due.
+    #[inline(always)]
     pub(crate) fn first_due(&self, resident: ResidentNo) -> Option<(ProgrammeNo, AnswerKind)>
         requires { resident < length self.now }
         ensures { result ≡ slice_get (seat_of_resident self.now resident).due 0 }
@@ -93,6 +97,7 @@ impl ResidentDesks {
     }
 
     /// The programme of the last hold that was given.
+    #[inline(always)]
     pub(crate) fn held(&self, resident: ResidentNo) -> Option<ProgrammeNo>
         requires { resident < length self.now }
         ensures { result ≡ (seat_of_resident self.now resident).held }
@@ -100,26 +105,43 @@ impl ResidentDesks {
         self.row.held(resident)
     }
 
-    /// An offer comes in.
-    pub(crate) fn receive(&mut self, resident: ResidentNo, programme: ProgrammeNo)
+    /// The ranks that came with the offer in front and with the one held. What they say is a guess.
+    #[inline(always)]
+    pub(crate) fn ranks(&self, resident: ResidentNo) -> (u32, u32)
+        requires { resident < length self.now }
+    {
+        self.row.ranks(resident)
+    }
+
+    /// An offer comes in, with its programme's rank.
+    #[inline(always)]
+    pub(crate) fn receive(&mut self, resident: ResidentNo, programme: ProgrammeNo, rank: u32)
         requires member { resident < length self.old }
+        requires number { programme < 2 ^ 20 }
         requires room { length (seat_of_resident self.old resident).waiting < (seat_of_resident self.old resident).room }
         ensures { self.new ≡ slice_set self.old resident (sent_offer (seat_of_resident self.old resident) programme) }
     {
         if !self.row.has_waiting(resident) {
             self.with_offers += 1;
         }
-        self.row.receive(resident, programme);
+        self.row.receive(resident, programme, rank);
     }
 
-    /// The offer in front, which is this programme's, is taken, and calls for its answers.
-    pub(crate) fn take(&mut self, resident: ResidentNo, programme: ProgrammeNo, better: bool)
+    /// The offer in front, which is this programme's and came with this rank, is taken, and calls for its answers.
+    #[inline(always)]
+    pub(crate) fn take(
+        &mut self,
+        resident: ResidentNo,
+        programme: ProgrammeNo,
+        rank: u32,
+        better: bool,
+    )
         requires member { resident < length self.old }
         requires due { (seat_of_resident self.old resident).due ≡ [] }
         ensures { self.new ≡ slice_set self.old resident (took_offer (seat_of_resident self.old resident) better programme) }
     {
         let waited = self.row.has_waiting(resident);
-        self.row.take(resident, programme, better);
+        self.row.take(resident, programme, rank, better);
         if waited && !self.row.has_waiting(resident) {
             self.with_offers -= 1;
         }
@@ -127,6 +149,7 @@ impl ResidentDesks {
     }
 
     /// The first answer due, which is this one, is given.
+    #[inline(always)]
     pub(crate) fn answer(&mut self, resident: ResidentNo, programme: ProgrammeNo, kind: AnswerKind)
         requires { resident < length self.old }
         ensures { self.new ≡ slice_set self.old resident (gave_answer (seat_of_resident self.old resident) (programme, kind)) }

@@ -110,6 +110,39 @@ fn keeps_the_mutual_parts(rt: HostRuntime) -> Result<(), Fail> {
     Ok(())
 }
 
+// Whom a programme lists at this place, with its own place in that resident's list.
+fn offer(instance: &Instance, programme: ProgrammeNo, place: u32) -> Option<(u32, u32)> {
+    if programme.0 >= instance.programmes() {
+        return None;
+    }
+    match instance.offer_at(programme, place) {
+        Some((resident, rank)) => Some((resident.0, rank)),
+        None => None,
+    }
+}
+
+#[test]
+fn tells_an_offer_with_its_rank(rt: HostRuntime) -> Result<(), Fail> {
+    let mut builder = two_and_three(rt.alloc())?;
+    builder.programme_list(A, &[Z, X])?;
+    builder.programme_list(B, &[X])?;
+    builder.resident_list(X, &[B, A])?;
+    builder.resident_list(Z, &[A])?;
+    let instance = builder.finish().map_err(|refused| refused.fault)?;
+    for (programme, place, resident_and_rank) in [
+        (A, 0, Some((Z.0, 0))),
+        (A, 1, Some((X.0, 1))),
+        (A, 2, None),
+        (B, 0, Some((X.0, 0))),
+    ] {
+        assert!(rt; offer(&instance, programme, place) == resident_and_rank);
+    }
+    for guess in 0..3 {
+        assert!(rt; X.0 < instance.residents() && instance.rank_by_guess(X, A, guess) == Some(1));
+    }
+    Ok(())
+}
+
 #[test]
 fn refuses_a_withdrawal_in_order(rt: HostRuntime) -> Result<(), Fail> {
     let mut nobody = InstanceBuilder::new(rt.alloc());

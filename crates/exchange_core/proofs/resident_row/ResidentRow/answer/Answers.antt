@@ -24,7 +24,7 @@ returns c =
     let notes : List ℕ = c.self.inside.notes.items in
     let seats : List ResidentSeat = c.self.inside.seats.items in
     let seat : ResidentSeat = c.index_mut-seat.result.now in
-    let new : ResidentSeat = record { part = seat.part; first_due = c.due_next-seat.result; second_due = None; held = c.held_after-seat.result } in
+    let new : ResidentSeat = record { part = seat.part; first_due = c.due_next-seat.result; second_due = None; held = c.held_after-seat.result; taken_rank = seat.taken_rank; held_rank = c.rank_after-seat.result } in
     changed (shown_resident notes) seats c.args.self.now c.resident.inside.0 c.args.resident seat new (λ (s : ResidentLeft). gave_answer s (c.args.programme, c.args.kind)) (opened_resident 0)
     c.self.view_is c.resident.view_is c.requires c.index_mut-seat.ensures.value
     (same_resident_left (shown_resident notes new) (gave_answer (shown_resident notes seat) (c.args.programme, c.args.kind)) refl c.due_next-seat.ensures c.held_after-seat.ensures refl)

@@ -6,7 +6,7 @@ use Rattle.exchange_core.specs.declared.part.Part.{Part}
 use Rattle.exchange_core.specs.declared.resident_row.ResidentSeat.{ResidentSeat}
 use Rattle.exchange_core.specs.Left.{ResidentLeft, room_within}
 use Rattle.exchange_core.specs.Notes.{IsRing, AreLaid, waiting_in, span}
-use Rattle.exchange_core.specs.Rows.{shown_resident, resident_span}
+use Rattle.exchange_core.specs.Rows.{shown_resident, resident_span, programme_of}
 use Rattle.exchange_core.specs.Seats.{opened_resident}
 use Rattle.exchange_core.proofs.Notes.{ring_opened, laid_more}
 use Rattle.exchange_core.proofs.Rows.{all_more}
@@ -18,7 +18,7 @@ use Rattle.std.specs.Prelude.{slice_index_or}
 pub loop-r-preserved : goal.loop-r-preserved
 loop-r-preserved c =
     let old : List ResidentSeat = c.loop-r.seats.items in
-    let seat : ResidentSeat = record { part = c.open.result; first_due = None; second_due = None; held = None } in
+    let seat : ResidentSeat = record { part = c.open.result; first_due = None; second_due = None; held = None; taken_rank = 0; held_rank = 0 } in
     let made : ℕ → ResidentLeft = λ r. opened_resident (room_within c.args.cap (length (list_of_resident c.args.inst.now r))) in
     let room : c.room-room.result ≡ room_within c.args.cap (length (list_of_resident c.args.inst.now c.loop-r.r)) =
     c.room-room.ensures ∙ ap (λ (xs : List ℕ). room_within c.args.cap (length xs)) c.list_of_resident.ensures.list in
@@ -26,7 +26,7 @@ loop-r-preserved c =
       opened = λ notes. ap (λ (xs : List ResidentSeat). map (shown_resident notes) xs) c.in_ok-push.ensures.items ∙ map_push (shown_resident notes) old seat
           ∙ ap (λ (xs : List ResidentLeft). xs ++ shown_resident notes seat ∷ []) (c.loop-r.invariant.opened notes)
           ∙ ap (λ (s : ResidentLeft). map made (range_with_len 0 c.loop-r.r) ++ s ∷ [])
-          (same_resident_left (shown_resident notes seat) (made c.loop-r.r) (ap (λ (p : Part). waiting_in notes p) c.open.ensures) refl refl (ap (λ (p : Part). p.room) c.open.ensures ∙ room))
+          (same_resident_left (shown_resident notes seat) (made c.loop-r.r) (ap (λ (p : Part). map programme_of (waiting_in notes p)) c.open.ensures) refl refl (ap (λ (p : Part). p.room) c.open.ensures ∙ room))
           ∙ sym (map-range_with_len_more made 0 c.loop-r.r c.loop-r.r (zero-add c.loop-r.r));
       laid = subst (λ (spans : List (ℕ × ℕ)). AreLaid spans (c.loop-r.total + c.room-room.result))
           (sym (ap (λ (xs : List ResidentSeat). map resident_span xs) c.in_ok-push.ensures.items ∙ map_push resident_span old seat ∙ ap (λ (p : Part). map resident_span old ++ span p ∷ []) c.open.ensures))

@@ -1,13 +1,14 @@
-use Rattle.std.proofs.Common.{◌∙◌, ℕ, List, length, sym, ap, refl, subst}
+use Rattle.std.proofs.Common.{◌∙◌, ℕ, List, map, length, sym, ap, refl, subst}
 use Rattle.exchange_core.specs.declared.part.Part.{Part}
 use Rattle.exchange_core.specs.declared.resident_row.ResidentSeat.{ResidentSeat}
 use Rattle.exchange_core.specs.Left.{ResidentLeft}
 use Rattle.exchange_core.specs.Notes.{IsRing, waiting_in, span}
-use Rattle.exchange_core.specs.Rows.{shown_resident}
+use Rattle.exchange_core.specs.Rows.{shown_resident, programme_of}
 use Rattle.exchange_core.specs.Seats.{opened_resident, took_offer}
 use Rattle.exchange_core.proofs.Notes.{ring_popped, span_popped, waiting_popped}
 use Rattle.exchange_core.proofs.Rows.{index_within, ring_at, laid_set, rings_set, changed}
 use Rattle.exchange_core.proofs.Steps.{same_resident_left}
+use Rattle.std.proofs.lemmas.List.{drop-map}
 use Rattle.exchange_core.proofs.resident_row.ResidentRow.take.Goals as goal
 
 pub invariant_of-self : goal.invariant_of-self
@@ -28,11 +29,11 @@ returns c =
     let notes : List ℕ = c.self.inside.notes.items in
     let seats : List ResidentSeat = c.self.inside.seats.items in
     let seat : ResidentSeat = c.index_mut-seat.result.now in
-    let new : ResidentSeat = record { part = c.pop-seat.result; first_due = c.called_for-due.result.0; second_due = c.called_for-due.result.1; held = seat.held } in
+    let new : ResidentSeat = record { part = c.pop-seat.result; first_due = c.called_for-due.result.0; second_due = c.called_for-due.result.1; held = seat.held; taken_rank = c.args.rank; held_rank = seat.held_rank } in
     let h = index_within (shown_resident notes) seats c.args.self.now c.resident.inside.0 c.args.resident c.self.view_is c.resident.view_is c.requires.member in
     let ring = ring_at part shown_resident seats c.resident.inside.0 seat h c.index_mut-seat.ensures.value c.self.invariant.rings in
     changed (shown_resident notes) seats c.args.self.now c.resident.inside.0 c.args.resident seat new (λ (s : ResidentLeft). took_offer s c.args.better c.args.programme) (opened_resident 0)
     c.self.view_is c.resident.view_is c.requires.member c.index_mut-seat.ensures.value
     (same_resident_left (shown_resident notes new) (took_offer (shown_resident notes seat) c.args.better c.args.programme)
-    (ap (λ (p : Part). waiting_in notes p) c.pop-seat.ensures ∙ waiting_popped notes seat.part ring) c.called_for-due.ensures refl
+    (ap (λ (p : Part). map programme_of (waiting_in notes p)) c.pop-seat.ensures ∙ ap (λ (xs : List ℕ). map programme_of xs) (waiting_popped notes seat.part ring) ∙ sym (drop-map programme_of 1 (waiting_in notes seat.part))) c.called_for-due.ensures refl
     (ap (λ (p : Part). (span p).1) c.pop-seat.ensures ∙ ap (λ (s : ℕ × ℕ). s.1) (span_popped seat.part)))
