@@ -57,6 +57,7 @@ impl<J: ExchangeIdentity, M: Mailboxes> Exchange<J, M> {
 
 impl<J: ExchangeIdentity, M: Mailboxes> Exchange<J, M> {
     // Whether offers wait at a resident: put, and by the journal not taken yet.
+    #[inline(always)]
     fn offers_wait(&self, inst: &Instance, resident: ResidentNo) -> bool
         requires { inst.now ≡ J.inst }
     {
@@ -64,6 +65,7 @@ impl<J: ExchangeIdentity, M: Mailboxes> Exchange<J, M> {
     }
 
     // Whether answers wait at a programme: put, and by the journal not heard yet.
+    #[inline(always)]
     fn answers_wait(&self, inst: &Instance, programme: ProgrammeNo) -> bool
         requires { inst.now ≡ J.inst }
     {
@@ -143,6 +145,7 @@ impl<J: ExchangeIdentity, M: Mailboxes> Exchange<J, M> {
 
     // What became of a put, whose receiver is woken where its mailbox was empty. Its sender waits for room in this
     // mailbox where the put was refused as full, and for none where it is entered.
+    #[inline(always)]
     fn put_entry(
         &mut self,
         made: Result<(), EntryRefused>,
@@ -158,14 +161,22 @@ impl<J: ExchangeIdentity, M: Mailboxes> Exchange<J, M> {
                     woken: if was_empty { Some(receiver) } else { None },
                 }
             }
-            Err(EntryRefused::Step(Refused::MailboxFull)) => {
+            Err(refused) => self.put_refused(refused, receiver, sender),
+        }
+    }
+
+    // What became of a put that was refused.
+    #[cold]
+    fn put_refused(&mut self, refused: EntryRefused, receiver: u32, sender: u32) -> Entry {
+        match refused {
+            EntryRefused::Step(Refused::MailboxFull) => {
                 self.wait_queues.join(receiver, sender);
                 Entry::Later
             }
-            Err(EntryRefused::PutRefused(PutRefusal::Full)) => Entry::Missed,
-            Err(EntryRefused::Spoiled) => Entry::Ended,
-            Err(EntryRefused::PutRefused(PutRefusal::Gone)) => Entry::Gone,
-            Err(EntryRefused::Step(_)) => Entry::Refused,
+            EntryRefused::PutRefused(PutRefusal::Full) => Entry::Missed,
+            EntryRefused::Spoiled => Entry::Ended,
+            EntryRefused::PutRefused(PutRefusal::Gone) => Entry::Gone,
+            EntryRefused::Step(_) => Entry::Refused,
         }
     }
 
@@ -211,6 +222,7 @@ impl<J: ExchangeIdentity, M: Mailboxes> Exchange<J, M> {
     }
 
     // What became of a receipt, which makes room in its mailbox.
+    #[inline(always)]
     fn receipt_entry(&mut self, made: Result<(), EntryRefused>, receiver: u32) -> Entry {
         match made {
             Ok(()) => Entry::Made {
@@ -254,6 +266,7 @@ pub(crate) enum Found {
 }
 
 /// The number of a programme's desk: residents' desks come first.
+#[inline(always)]
 pub(crate) fn desk_of_programme(inst: &Instance, programme: ProgrammeNo) -> u32 {
     inst.residents().saturating_add(programme.0)
 }

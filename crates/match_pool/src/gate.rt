@@ -20,6 +20,9 @@ pub trait Gate {
     /// Whether `pass` may answer `Stop`.
     const MAY_STOP: bool;
 
+    /// Whether `entered` may hold its worker. Then whatever the entry gave work to is listed for the others before.
+    const ENTERED_MAY_HOLD: bool = true;
+
     /// Called between a receipt and its entry, with only this desk's lock held.
     fn pass(&self, worker: usize, desk: Desk) -> Go
         ensures { result ≡ Go.Stop → MAY_STOP ≡ true };
@@ -36,6 +39,8 @@ impl Gate for OpenGate {
     ghost MAY_STOP = { false };
 
     const MAY_STOP: bool = false;
+
+    const ENTERED_MAY_HOLD: bool = false;
 
     fn pass(&self, _worker: usize, _desk: Desk) -> Go {
         Go::On

@@ -21,6 +21,7 @@ const PAUSES: u32 = 4;
 const NAPS: u32 = 20;
 
 // Tries a lock some times.
+#[inline(always)]
 fn try_soon<T>(lock: &Mutex<T>) -> Option<MutexGuard<'_, T>> {
     for _ in 0..TRIES {
         if let Some(guard) = lock.try_lock() {
@@ -35,6 +36,7 @@ fn try_soon<T>(lock: &Mutex<T>) -> Option<MutexGuard<'_, T>> {
 
 // The value under a lock that each worker wants for each event. Where another has it a worker steps back for a while, so
 // that the other works on alone: a lock that changes hands for each event makes both slower than one.
+#[inline(always)]
 fn lock_soon<'a, T, R: Wait>(rt: &R, lock: &'a Mutex<T>, room: &NapRoom) -> MutexGuard<'a, T> {
     match try_soon(lock) {
         Some(guard) => guard,
@@ -43,6 +45,7 @@ fn lock_soon<'a, T, R: Wait>(rt: &R, lock: &'a Mutex<T>, room: &NapRoom) -> Mute
 }
 
 // The value under a lock that another worker has: tried after each of some naps, and then waited for.
+#[cold]
 fn lock_later<'a, T, R: Wait>(rt: &R, lock: &'a Mutex<T>, room: &NapRoom) -> MutexGuard<'a, T> {
     let mut naps = Naps::for_lock();
     for _ in 0..NAPS {
@@ -125,11 +128,13 @@ impl<'a, J: ExchangeIdentity, M: Mailboxes, G: Gate> SharedState<'a, J, M, G> {
     }
 
     /// The ledger and those who wait for room, under their lock.
+    #[inline(always)]
     pub(crate) fn lock_exchange<R: Wait>(&self, rt: &R) -> MutexGuard<'_, Exchange<J, M>> {
         lock_soon(rt, &self.exchange, &self.for_lock)
     }
 
     /// The desks in hands and the list, under their lock.
+    #[inline(always)]
     pub(crate) fn lock_scheduler<R: Wait>(&self, rt: &R) -> MutexGuard<'_, Scheduler<'a, G>> {
         lock_soon(rt, &self.scheduler, &self.for_lock)
     }
@@ -141,6 +146,7 @@ impl<'a, J: ExchangeIdentity, M: Mailboxes, G: Gate> SharedState<'a, J, M, G> {
     }
 
     /// Whether the run ends.
+    #[inline(always)]
     pub(crate) fn is_ending(&self) -> bool {
         self.for_lock.is_over()
     }

@@ -49,10 +49,15 @@ impl WaitQueues {
     }
 
     /// A desk waits no more, if it does.
+    #[inline(always)]
     pub(crate) fn leave(&mut self, desk: u32) {
-        if self.count == 0 {
-            return;
+        if self.count > 0 {
+            self.leave_queue(desk);
         }
+    }
+
+    #[cold]
+    fn leave_queue(&mut self, desk: u32) {
         let Some(mailbox) = linked(&self.mailbox, desk) else {
             return;
         };
@@ -71,10 +76,16 @@ impl WaitQueues {
     }
 
     /// The desk that has waited longest for room in a mailbox is called, and waits no more.
+    #[inline(always)]
     pub(crate) fn call_first(&mut self, mailbox: u32) -> Option<u32> {
         if self.count == 0 {
             return None;
         }
+        self.call_waiting(mailbox)
+    }
+
+    #[cold]
+    fn call_waiting(&mut self, mailbox: u32) -> Option<u32> {
         let desk = linked(&self.first, mailbox)?;
         self.leave(desk);
         if let Some(called) = self.called.get_mut(desk as usize) {
@@ -93,6 +104,7 @@ impl WaitQueues {
     }
 }
 
+#[inline(always)]
 fn linked(row: &[Option<u32>], at: u32) -> Option<u32> {
     match row.get(at as usize) {
         Some(to) => *to,
@@ -100,6 +112,7 @@ fn linked(row: &[Option<u32>], at: u32) -> Option<u32> {
     }
 }
 
+#[inline(always)]
 fn link(row: &mut [Option<u32>], at: u32, to: Option<u32>) {
     if let Some(place) = row.get_mut(at as usize) {
         *place = to;

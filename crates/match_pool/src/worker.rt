@@ -275,6 +275,7 @@ impl<'a, 'f, J: ExchangeIdentity, M: Mailboxes, G: Gate, R: Wait> Worker<'a, 'f,
     }
 
     // Lets the gate see a receipt, and ends the run on its word.
+    #[inline(always)]
     fn pass(&mut self, desk: Desk) {
         if let Go::Stop = self.gate.pass(self.number, desk) {
             self.shared.stop(self.rt);
@@ -282,6 +283,7 @@ impl<'a, 'f, J: ExchangeIdentity, M: Mailboxes, G: Gate, R: Wait> Worker<'a, 'f,
     }
 
     // What a put leaves at the desk of its sender.
+    #[inline(always)]
     fn after_put(&mut self, entry: Entry, sender: Desk, receiver: Desk) -> Step {
         match entry {
             Entry::Made { more, woken } => self.made(more, woken),
@@ -299,6 +301,7 @@ impl<'a, 'f, J: ExchangeIdentity, M: Mailboxes, G: Gate, R: Wait> Worker<'a, 'f,
     }
 
     // What a receipt leaves at its desk.
+    #[inline(always)]
     fn after_receipt(&mut self, entry: Entry, receipt: Event) -> Step {
         match entry {
             Entry::Made { more, woken } => self.made(more, woken),
@@ -335,6 +338,7 @@ impl<'a, 'f, J: ExchangeIdentity, M: Mailboxes, G: Gate, R: Wait> Worker<'a, 'f,
     }
 
     // A mailbox had nothing, or no room, against the journal: the desk is come back to, while there is patience.
+    #[cold]
     fn miss(&mut self, desk: Desk) -> Step {
         self.missed = self.missed.saturating_add(1);
         if self.missed >= M::PATIENCE {
@@ -347,16 +351,18 @@ impl<'a, 'f, J: ExchangeIdentity, M: Mailboxes, G: Gate, R: Wait> Worker<'a, 'f,
         Step::Leave { again: true }
     }
 
-    // An event was entered: the gate is told, and the desk that it woke is noted.
+    // An event was entered: the desk that it woke is noted, and the gate is told. What was woken is listed before, where the
+    // gate may hold this worker.
+    #[inline(always)]
     fn made(&mut self, more: bool, woken: Option<u32>) -> Step {
-        self.gate.entered(self.number);
         self.missed = 0;
         if let Some(desk) = woken {
             self.woken.push(desk);
-            if self.woken.is_full() {
+            if G::ENTERED_MAY_HOLD || self.woken.is_full() {
                 self.list_woken();
             }
         }
+        self.gate.entered(self.number);
         Step::Stay { more }
     }
 

@@ -5,7 +5,7 @@ use crate::pool::{Told, ran, ran_on};
 use exchange_core::{Capacity, Desk, Event};
 use match_model::{Instance, ModelFault};
 use match_pool::Ending;
-use samples::gates::{Hold, HoldsEntered, Rested, Stalls, StopsFrom};
+use samples::gates::{Hold, HoldsEntered, HoldsVisit, Rested, Stalls, StopsFrom};
 use std::alloc::Global;
 use std::sync::Wait;
 use std::test::Fail;
@@ -245,6 +245,32 @@ fn an_entry_is_told_with_the_ledger_free(rt: HostRuntime) -> Result<(), Fail> {
         }
     }
     Ok(())
+}
+
+// A programme that offers to ten residents in one visit.
+const ONE_FOR_TEN: Members = (
+    &[(10, &[0, 1, 2, 3, 4, 5, 6, 7, 8, 9])],
+    &[&[0], &[0], &[0], &[0], &[0], &[0], &[0], &[0], &[0], &[0]],
+);
+
+// Whether another worker went on with what an offer gave work to, while its worker was held once it had entered it.
+fn goes_on_beside<R: Threads + Wait + Sync + Send + Copy>(
+    rt: R,
+    alloc: Global,
+    cap: Capacity,
+) -> bool {
+    let gate = HoldsVisit::new();
+    let told = ran(rt, alloc, ONE_FOR_TEN, cap, 2, &gate);
+    gate.has_held() && told.is_ok_and(|told| told.ending == Ending::Closed)
+}
+
+#[test]
+fn what_an_entry_woke_is_listed_before_its_worker_is_held(rt: HostRuntime) {
+    for _ in 0..TRIES {
+        for cap in CAPACITIES {
+            assert!(rt; goes_on_beside(rt, rt.alloc(), cap), "{cap:?}");
+        }
+    }
 }
 
 // Two programmes that offer to one resident, who prefers the second.

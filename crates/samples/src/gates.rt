@@ -585,6 +585,70 @@ impl Gate for HoldsEntered {
     }
 }
 
+/// A gate that holds the worker that has entered the first event until others have entered two, or for long don't, and a
+/// while longer; and again once it has entered its next one, until another has entered one more.
+#[derive(Drop)]
+pub struct HoldsVisit {
+    has_begun: AtomicBool,
+    worker: AtomicU64,
+    held: AtomicBool,
+    counts: Counts,
+}
+
+impl HoldsVisit {
+    /// Nothing is seen yet.
+    pub fn new() -> HoldsVisit {
+        HoldsVisit {
+            has_begun: AtomicBool::new(false),
+            worker: AtomicU64::new(0),
+            held: AtomicBool::new(false),
+            counts: Counts::none(),
+        }
+    }
+
+    /// Whether the worker was held at its second event, and another has entered one meanwhile.
+    pub fn has_held(&self) -> bool {
+        self.held.load(Ordering::SeqCst)
+    }
+
+    // Waits until others than this worker have entered so many events. Whether they have.
+    fn wait_for_others(&self, worker: usize, count: u64) -> bool {
+        for _ in 0..TURNS {
+            if self.counts.of_all().saturating_sub(self.counts.of(worker)) >= count {
+                return true;
+            }
+            thread::yield_now();
+        }
+        false
+    }
+}
+
+impl Gate for HoldsVisit {
+    ghost MAY_STOP = { false };
+
+    const MAY_STOP: bool = false;
+
+    fn pass(&self, _worker: usize, _desk: Desk) -> Go {
+        Go::On
+    }
+
+    fn entered(&self, worker: usize) {
+        self.counts.add(worker);
+        if !self.has_begun.swap(true, Ordering::SeqCst) {
+            self.worker.store(worker as u64, Ordering::SeqCst);
+            self.wait_for_others(worker, 2);
+            for _ in 0..10 {
+                linger();
+            }
+        } else if self.worker.load(Ordering::SeqCst) == worker as u64
+            && self.counts.of(worker) == 2
+            && self.wait_for_others(worker, 3)
+        {
+            self.held.store(true, Ordering::SeqCst);
+        }
+    }
+}
+
 /// A gate that holds the first pass until for long nobody has entered anything more, and the second until another worker has
 /// entered an event.
 #[derive(Drop)]
