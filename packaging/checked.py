@@ -7,28 +7,15 @@ from __future__ import annotations
 import hashlib
 import json
 import os
-import subprocess
 import sys
 from typing import Any, Dict, List, Optional
+
+sys.dont_write_bytecode = True
+from tree import said_by, state_of  # noqa: E402
 
 PROGRAMS = {"residency": "residency_cli", "residency-why": "residency_why"}
 # A note names one, so a note that an earlier form of this file left is none.
 FORM = 1
-
-
-def said_by(top: str, *words: str) -> str:
-    """What a command says, or no text where it fails or is missing."""
-    try:
-        ran = subprocess.run(words, cwd=top, capture_output=True, text=True, stdin=subprocess.DEVNULL, check=False)
-    except OSError:
-        return ""
-    return ran.stdout.strip() if ran.returncode == 0 else ""
-
-
-def state_of(top: str) -> Dict[str, str]:
-    """The commit and its tree that are checked out, and what isn't committed of the files that lie there."""
-    return {"commit": said_by(top, "git", "rev-parse", "HEAD"), "tree": said_by(top, "git", "rev-parse", "HEAD^{tree}"),
-            "changed": said_by(top, "git", "status", "--porcelain")}
 
 
 def built(top: str, crate: str) -> str:

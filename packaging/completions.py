@@ -18,7 +18,7 @@ def parts_of(program: Program) -> List[Tuple[str, Help]]:
 
 def takes_files(program: Program, command: str) -> bool:
     """Whether words that are no options may be files."""
-    return bool(command) and any(argument.takes_file() for argument in program.commands[command].arguments)
+    return any(argument.takes_file() for argument in dict(parts_of(program))[command].arguments)
 
 
 def bash(program: Program) -> str:
@@ -74,7 +74,7 @@ def zsh(program: Program) -> str:
         return [f"{indent}_arguments -C \\", *(f"{indent}    {part} \\" for part in parts[:-1]), f"{indent}    {parts[-1]}"]
 
     if not program.top.commands:
-        return "\n".join([*lines, *arguments(program.top, "", ["'*:word:_files'"])]) + "\n"
+        return "\n".join([*lines, *arguments(program.top, "", ["'*:file:_files'"] if takes_files(program, "") else ["'*: : '"])]) + "\n"
     lines += arguments(program.top, "", ["'1:command:->command'", "'*::word:->words'"])
     lines += ["case $state in", "command)", "    local -a commands=("]
     lines += [f"        '{entry.names[0]}:{in_brackets(entry.text)}'" for entry in program.top.commands]

@@ -42,7 +42,7 @@ class Entry:
 class Help:
     """What --help says of a program or of one of its commands."""
 
-    usage: str = ""
+    usages: List[str] = field(default_factory=list)
     prose: List[List[str]] = field(default_factory=list)
     commands: List[Entry] = field(default_factory=list)
     arguments: List[Entry] = field(default_factory=list)
@@ -102,6 +102,17 @@ def entries_of(lines: Sequence[str], are_options: bool) -> List[Tuple[int, Entry
     return entries
 
 
+def usages_of(lines: Sequence[str]) -> List[str]:
+    """Each way to call it: a line that doesn't begin with the program's name goes on with the one before."""
+    name, found = lines[0].split()[0], []
+    for line in lines:
+        if line.split()[0] == name:
+            found.append(line)
+        else:
+            found[-1] += " " + line
+    return found
+
+
 def read_help(text: str) -> Help:
     """The help's parts. ValueError where a line fits none."""
     made = Help()
@@ -109,7 +120,7 @@ def read_help(text: str) -> Help:
         head = block[0]
         kind = HEADINGS.get(head[:-1].lower(), "") if head.endswith(":") else ""
         if head.lower().startswith("usage:"):
-            made.usage = " ".join(it.strip() for it in [head[len("usage:"):], *block[1:]]).strip()
+            made.usages = usages_of([head[len("usage:"):].strip(), *(it.strip() for it in block[1:])])
         elif kind:
             entries = entries_of(block[1:], kind == "options")
             least = min(indent for indent, _ in entries)
@@ -121,7 +132,7 @@ def read_help(text: str) -> Help:
                     (made.commands if is_command else getattr(made, kind)).append(entry)
         else:
             made.prose.append(block)
-    if not made.usage or not made.options:
+    if not made.usages or not made.options:
         raise ValueError("a help without a usage or without options")
     return made
 

@@ -9,6 +9,7 @@ import time
 from typing import TYPE_CHECKING, List, Optional
 
 import roots
+import tree
 
 if TYPE_CHECKING:
     from typing import Protocol
@@ -35,14 +36,9 @@ def unpackers(root: roots.Root) -> str:
     return some_tools(root, ["tar", "gzip"], "/unpack")
 
 
-def tracked(*folders: str) -> List[str]:
-    ran = subprocess.run(["git", "-C", TOP, "ls-files", "--", *folders], capture_output=True, text=True, check=True)
-    return [path for path in ran.stdout.splitlines() if os.path.isfile(f"{TOP}/{path}")]
-
-
 def copy_of(*folders: str, to: str) -> None:
-    """Copies the files that git knows, as they lie here."""
-    for path in tracked(*folders):
+    """Copies the files of the repository, as they lie here."""
+    for path in tree.listed(TOP, *folders):
         os.makedirs(os.path.dirname(f"{to}/{path}"), exist_ok=True)
         shutil.copy2(f"{TOP}/{path}", f"{to}/{path}")
 
@@ -185,6 +181,7 @@ def seconds_of(words: List[str]) -> float:
 def cost(trial: Trial) -> None:
     """What a start through ./residency takes over the program itself, at the best of many turns."""
     program = f"{TOP}/crates/residency_cli/out/residency_cli"
+    os.environ.pop("RESIDENCY_BIN", None)
     turns = [(seconds_of([f"{TOP}/residency", "--version"]), seconds_of([program, "--version"])) for _ in range(41)]
     over = min(turn[0] for turn in turns) - min(turn[1] for turn in turns)
     trial.tell(over <= MOST_COST, f"a start through ./residency costs {over * 1000:.1f} ms over the program")

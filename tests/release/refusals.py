@@ -18,14 +18,12 @@ PART = "gate: 5 passed, 0 failed"
 
 
 class Scratch:
-    """A clone of its own with what lies here committed, and the programs that are built here."""
+    """A repository of its own with what lies here committed, and the programs that are built here."""
 
     def __init__(self, trial: Trial, folder: str) -> None:
         self.trial, self.folder = trial, folder
-        self.run("git", "clone", "--quiet", "--no-hardlinks", TOP, folder, at=TOP)
-        for path in self.run("git", "ls-files")[1].splitlines():
-            os.remove(f"{folder}/{path}")
         launchers.copy_of(".", to=folder)
+        self.run("git", "init", "--quiet")
         self.commit()
         for crate in ("residency_cli", "residency_why"):
             os.makedirs(f"{folder}/crates/{crate}/out")
