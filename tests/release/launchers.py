@@ -90,12 +90,12 @@ def without_toolchain(trial: Trial, root: roots.Root, release: str) -> None:
 STAND_IN = """#!/bin/bash
 # Stands in for what proves and builds: it notes its program, may touch a source meanwhile, and may fail.
 cd "$(dirname "$0")/.."
-echo "$1" >> built
+echo "$1" ${GLIBC_TUNABLES:+tuned} >> built
 [ ! -e fails ] || exit 1
 [ ! -e meanwhile ] || touch "$(cat meanwhile)"
 sleep 0.05
 mkdir -p "crates/$1/out"
-printf '#!/bin/sh\\necho "$@"\\n' > "crates/$1/out/$1"
+printf '#!/bin/sh\\necho "$@" ${GLIBC_TUNABLES:+tuned}\\n' > "crates/$1/out/$1"
 chmod +x "crates/$1/out/$1"
 """
 
@@ -109,7 +109,8 @@ class Clone:
         self.write("tools/build", STAND_IN)
         self.write("bin/rt", "#!/bin/sh\n")
         self.known = {**os.environ, "PATH": f"{folder}/bin:{os.environ['PATH']}"}
-        self.known.pop("RESIDENCY_BIN", None)
+        for name in ("RESIDENCY_BIN", "GLIBC_TUNABLES"):
+            self.known.pop(name, None)
 
     def write(self, path: str, text: str) -> None:
         os.makedirs(os.path.dirname(f"{self.folder}/{path}"), exist_ok=True)
@@ -119,7 +120,8 @@ class Clone:
 
     def start(self, launcher: str = "./residency", status: int = 0) -> None:
         ran = subprocess.run([launcher, "word"], cwd=self.folder, env=self.known, capture_output=True, text=True, check=False)
-        self.trial.same((ran.returncode, ran.stdout), (status, "" if status else "word\n"), f"{launcher} of a counted clone ({ran.stderr})")
+        says = "" if status else "word tuned\n" if launcher == "./residency" else "word\n"
+        self.trial.same((ran.returncode, ran.stdout), (status, says), f"{launcher} of a counted clone ({ran.stderr})")
 
     def builds(self) -> int:
         try:
@@ -170,6 +172,8 @@ def freshness(trial: Trial, folder: str) -> None:
     clone.start(status=1)
     clone.start(status=1)
     trial.same(clone.builds() - before, 2, "builds that fail")
+    with open(f"{folder}/built") as file:
+        trial.tell("tuned" not in file.read(), "the tunables of a match reach a build")
 
 
 def seconds_of(words: List[str]) -> float:
