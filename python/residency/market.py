@@ -1,0 +1,273 @@
+"""A market in the caller's own names: programmes with quotas and lists, residents with lists, and who is withdrawn."""
+from __future__ import annotations
+
+from typing import Dict, Iterable, List, Mapping, Optional, Sequence, Tuple, Union
+
+from . import calls
+from .docket import Docket, read_docket, write_docket
+from .errors import KeyFault, MarketFault
+from .names import Member, Names
+from .near import MOST_NEAR, NearNames
+from .passes import MOST_PAIRS, MOST_PLACES, MOST_PROGRAMMES, MOST_RESIDENTS
+from .program import DEFAULT_TIMEOUT
+from .results import Audit, Match, Replay, Why
+from .tables import Cell, Read, read_long, read_wide
+from .text import shown
+
+Places = Union[Match, Mapping[str, Optional[str]]]
+
+
+class Market:
+    """Programmes with quotas and lists, residents with lists, and who is withdrawn.
+
+    `quotas`, `programme_lists`, `resident_lists`, `withdrawn_programmes` and `withdrawn_residents` are in the caller's
+    names, which may be any text, in the caller's order; `names` says who is who in the docket. A programme without a list
+    ranks nobody. MarketFault tells everything that is wrong at once: a name that nobody has, a name listed twice, a number
+    of places that isn't from 0 to 10,000, and more members or pairs than are matched at once.
+
+    >>> market = Market.from_dictionaries({"Zoë Weiß": ["Köln", "Łódź"], "Ana": ["Köln"]},
+    ...                                   {"Köln": ["Ana", "Zoë Weiß"], "Łódź": ["Zoë Weiß"]}, {"Köln": 1, "Łódź": 2})
+    >>> print(market.docket().decode(), end="")
+    Q,koln,1
+    Q,lodz,2
+    P,koln,ana,zoe-weiss
+    P,lodz,zoe-weiss
+    R,zoe-weiss,koln,lodz
+    R,ana,koln
+    >>> match = market.match(journal=True)
+    >>> match.places
+    {'Zoë Weiß': 'Łódź', 'Ana': 'Köln'}
+    >>> market.audit(match).stable, market.replay(match).good
+    (True, True)
+    """
+
+    def __init__(self, quotas: Mapping[str, int], programme_lists: Mapping[str, Sequence[str]],
+                 resident_lists: Mapping[str, Sequence[str]], withdrawn_programmes: Iterable[str] = (),
+                 withdrawn_residents: Iterable[str] = (), names: Optional[Names] = None) -> None:
+        self.quotas: Dict[str, int] = dict(quotas)
+        faults = _Faults(self.quotas, resident_lists)
+        faults.quotas(self.quotas)
+        self.programme_lists = faults.lists("programme", programme_lists, "resident")
+        self.resident_lists = faults.lists("resident", resident_lists, "programme")
+        self.withdrawn_programmes = faults.withdrawn("programme", withdrawn_programmes)
+        self.withdrawn_residents = faults.withdrawn("resident", withdrawn_residents)
+        if not faults.told:
+            faults.limits(self)
+        if faults.told:
+            raise MarketFault(faults.told)
+        self.names: Names = Names.of(self.quotas, self.resident_lists) if names is None else names
+        self._docket = self._in_docket_names()
+
+    def _in_docket_names(self) -> Docket:
+        made = {side: {name: self._made(side, name) for name in names}
+                for side, names in (("P", self.quotas), ("R", self.resident_lists))}
+        programmes, residents = made["P"], made["R"]
+        return Docket({programmes[name]: quota for name, quota in self.quotas.items()},
+                      {programmes[name]: tuple(map(residents.__getitem__, listed)) for name, listed in self.programme_lists.items()},
+                      {residents[name]: tuple(map(programmes.__getitem__, listed)) for name, listed in self.resident_lists.items()},
+                      frozenset(map(programmes.__getitem__, self.withdrawn_programmes)),
+                      frozenset(map(residents.__getitem__, self.withdrawn_residents)))
+
+    def _made(self, side: str, name: str) -> str:
+        try:
+            return self.names.docket_name(side, name)
+        except KeyError:
+            raise KeyFault(0, f"the key has no {'programme' if side == 'P' else 'resident'} {shown(name)}") from None
+
+    @classmethod
+    def from_dictionaries(cls, resident_prefs: Mapping[str, Sequence[str]], programme_prefs: Mapping[str, Sequence[str]],
+                          capacities: Mapping[str, int], withdrawn_programmes: Iterable[str] = (),
+                          withdrawn_residents: Iterable[str] = ()) -> Market:
+        """From the dictionaries that Python's `matching` takes: residents' lists, programmes' lists, places by programme."""
+        return cls(capacities, programme_prefs, resident_prefs, withdrawn_programmes, withdrawn_residents)
+
+    @classmethod
+    def from_tables(cls, programmes: Iterable[Sequence[Cell]], residents: Iterable[Sequence[Cell]],
+                    programme_ids: bool = False, resident_ids: bool = False) -> Market:
+        """From wide rows without headings: programme, places, residents best first; resident, programmes best first.
+
+        Empty cells count for nothing, and a row of such cells is none. With IDs the second cell of each row of that table
+        is the member's ID. Then lists may name a member by its name, where one alone has it, by its ID, or by
+        `name (ID)`, and two of one name are called `name (ID)`.
+
+        >>> market = Market.from_tables([("North", 1, "7", "Kim (8)")], [("Kim", 7, "North"), ("Kim", 8, "North")],
+        ...                             resident_ids=True)
+        >>> market.programme_lists
+        {'North': ('Kim (7)', 'Kim (8)')}
+        """
+        return cls._of(read_wide(programmes, residents, programme_ids, resident_ids))
+
+    @classmethod
+    def from_ranks(cls, places: Iterable[Sequence[Cell]], programme_ranks: Iterable[Sequence[Cell]],
+                   resident_ranks: Iterable[Sequence[Cell]],
+                   residents: Iterable[Union[Cell, Sequence[Cell]]] = ()) -> Market:
+        """From long rows without headings: (programme, places); (programme, rank, resident); (resident, rank, programme).
+
+        The ranks of a list are whole numbers, each once, the least of them the best. `residents` has every resident, each
+        a name or a pair of a name and an ID; without it the residents are those who rank somebody.
+
+        >>> Market.from_ranks([("North", 1)], [("North", 2, "Kim"), ("North", 1, "Lee")], [("Kim", 1, "North")],
+        ...                   ["Kim", "Lee"]).programme_lists
+        {'North': ('Lee', 'Kim')}
+        """
+        return cls._of(read_long(places, programme_ranks, resident_ranks, residents))
+
+    @classmethod
+    def _of(cls, read: Read) -> Market:
+        return cls(read.quotas, read.programme_lists, read.resident_lists, names=read.names)
+
+    @classmethod
+    def from_docket(cls, data: bytes, names: Optional[Names] = None) -> Market:
+        """From a docket's bytes and, where there is one, its key; a sheet or a journal in the docket isn't used.
+
+        DocketFault for the docket's first fault; KeyFault where the key lacks a member. Without a key the docket's names
+        are the caller's.
+        """
+        docket = read_docket(data)
+        if names is None:
+            names = Names([Member("P", name, name) for name in docket.quotas] +
+                          [Member("R", name, name) for name in docket.resident_lists])
+        for side, members in (("P", docket.quotas), ("R", docket.resident_lists)):
+            known = {member.docket_name for member in names.members(side)}
+            lacking = next((name for name in members if name not in known), None)
+            if lacking is not None:
+                raise KeyFault(0, f"the key has no {'programme' if side == 'P' else 'resident'} {lacking} of the docket")
+        programme = {name: names.name("P", name) for name in docket.quotas}
+        resident = {name: names.name("R", name) for name in docket.resident_lists}
+        return cls({programme[name]: quota for name, quota in docket.quotas.items()},
+                   {programme[name]: tuple(map(resident.__getitem__, listed)) for name, listed in docket.programme_lists.items()},
+                   {resident[name]: tuple(map(programme.__getitem__, listed)) for name, listed in docket.resident_lists.items()},
+                   [programme[name] for name in docket.quotas if name in docket.withdrawn_programmes],
+                   [resident[name] for name in docket.resident_lists if name in docket.withdrawn_residents], names)
+
+    def docket(self) -> bytes:
+        """The docket's bytes, in the docket's names: quotas, lists and withdrawals; the same market gives the same bytes."""
+        return write_docket(self._docket)
+
+    def in_docket_names(self) -> Docket:
+        """What the docket says, in its names."""
+        return self._docket
+
+    def withdraw(self, programmes: Iterable[str] = (), residents: Iterable[str] = ()) -> Market:
+        """This market with these members withdrawn besides; MarketFault for a name that no member has."""
+        return Market(self.quotas, self.programme_lists, self.resident_lists, (*self.withdrawn_programmes, *programmes),
+                      (*self.withdrawn_residents, *residents), self.names)
+
+    def match(self, workers: int = 2, capacity: Optional[int] = None, journal: Union[bool, str] = False,
+              timeout: float = DEFAULT_TIMEOUT) -> Match:
+        """The match by the built program, with 1 to 8 workers and mailboxes of 1 to 1,024 places, or full ones for None.
+
+        `journal` is False, True or `"by worker"`. Raises ProgramMissing, ProgramTimeout, ProgramFailed or UnknownStatus
+        where the program gave no answer.
+        """
+        return calls.match(self, workers, capacity, journal, timeout)
+
+    def read_match(self, sheet: bytes, journal: bytes = b"") -> Match:
+        """A match of this market from a sheet's bytes, as `Match.sheet` has them.
+
+        DocketFault where they are no sheet of this market; its records are counted from the docket's first.
+        """
+        return calls.read_match(self, sheet, journal)
+
+    def audit(self, places: Places, timeout: float = DEFAULT_TIMEOUT) -> Audit:
+        """Whether these places are stable, and every cause why not.
+
+        `places` is a match or a dictionary with every resident's programme or None; MarketFault for one that lacks a
+        resident or has a name that no member has. Raises as `match`.
+        """
+        return calls.audit(self, places, timeout)
+
+    def replay(self, journal: Union[Match, bytes], places: Optional[Places] = None,
+               timeout: float = DEFAULT_TIMEOUT) -> Replay:
+        """Whether a journal is a good exchange that gives its sheet: a match's own journal and sheet, or these.
+
+        DocketFault, `no journal in the docket`, for a match without one. Raises as `match`.
+        """
+        return calls.replay(self, journal, places, timeout)
+
+    def why(self, places: Places, resident: str, programme: Optional[str] = None,
+            timeout: float = DEFAULT_TIMEOUT) -> Tuple[Why, ...]:
+        """Why a resident isn't with a programme or, where none is named, with each of its list as written, best first.
+
+        MarketFault for a name that no member has. Raises as `match`.
+        """
+        return calls.why(self, places, resident, programme, timeout)
+
+
+class _Faults:
+    """What is wrong with a market's dictionaries, in the caller's names."""
+
+    def __init__(self, quotas: Mapping[str, int], resident_lists: Mapping[str, Sequence[str]]) -> None:
+        self.told: List[str] = []
+        self._known: Dict[str, Mapping[str, object]] = {"programme": quotas, "resident": resident_lists}
+        self._near: Dict[str, NearNames] = {}
+
+    def quotas(self, quotas: Mapping[str, int]) -> None:
+        for who in ("programme", "resident"):
+            self.told += [f"a {who} is called {_shown(name)}, which is no name" for name in self._known[who] if not _is_text(name)]
+        for name, quota in quotas.items():
+            if isinstance(quota, bool) or not isinstance(quota, int) or not 0 <= quota <= MOST_PLACES:
+                self.told.append(f"programme {_shown(name)}: {_shown(quota)} is no number of places from 0 to {MOST_PLACES}")
+
+    def unknown(self, who: str, name: object) -> str:
+        """What is wrong with a name that no member of a side has."""
+        if who not in self._near:
+            self._near[who] = NearNames((name for name in self._known[who] if isinstance(name, str)), MOST_NEAR)
+        near = self._near[who].near(name) if isinstance(name, str) else None
+        return f"no {who} is named {_shown(name)}" + (f"; is it {shown(near)}?" if near else "")
+
+    def lists(self, who: str, lists: Mapping[str, Sequence[str]], other: str) -> Dict[str, Tuple[str, ...]]:
+        read = {}
+        for owner, listed in lists.items():
+            if owner not in self._known[who]:
+                self.told.append(f"a list of {_shown(owner)}: {self.unknown(who, owner)}")
+            if isinstance(listed, (str, bytes)) or not isinstance(listed, Iterable):
+                self.told.append(f"{who} {_shown(owner)}: {_shown(listed)} is no list")
+                continue
+            read[owner] = tuple(listed)
+            self._choices(who, owner, read[owner], other)
+        return read
+
+    def _choices(self, who: str, owner: object, listed: Tuple[str, ...], other: str) -> None:
+        seen = set()
+        for place, name in enumerate(listed, 1):
+            if not isinstance(name, str) or name not in self._known[other]:
+                self.told.append(f"{who} {_shown(owner)}, choice {place}: {self.unknown(other, name)}")
+            elif name in seen:
+                self.told.append(f"{who} {_shown(owner)}, choice {place}: {_shown(name)} is listed twice")
+            seen.add(name if isinstance(name, str) else repr(name))
+
+    def withdrawn(self, who: str, names: Iterable[str]) -> Tuple[str, ...]:
+        if isinstance(names, (str, bytes)):
+            self.told.append(f"{_shown(names)} is no list of the withdrawn {who}s")
+            return ()
+        gone = tuple(dict.fromkeys(names))
+        self.told += [f"withdrawn: {self.unknown(who, name)}" for name in gone if name not in self._known[who]]
+        return gone
+
+    def limits(self, market: Market) -> None:
+        if len(market.quotas) > MOST_PROGRAMMES:
+            self.told.append(f"{len(market.quotas)} programmes, of at most {MOST_PROGRAMMES}")
+        if len(market.resident_lists) > MOST_RESIDENTS:
+            self.told.append(f"{len(market.resident_lists)} residents, of at most {MOST_RESIDENTS}")
+        gone, left = set(market.withdrawn_residents), set(market.withdrawn_programmes)
+        ranked = {name: set(listed) for name, listed in market.resident_lists.items() if name not in gone}
+        pairs = sum(programme in ranked.get(name, ()) for programme, listed in market.programme_lists.items()
+                    if programme not in left for name in listed)
+        if pairs > MOST_PAIRS:
+            self.told.append(f"{pairs} acceptable pairs, of at most {MOST_PAIRS}")
+
+
+def _is_text(name: object) -> bool:
+    """Whether a member may be called that: a text that isn't empty and that UTF-8 can write."""
+    if not isinstance(name, str) or not name:
+        return False
+    try:
+        name.encode("utf-8")
+    except UnicodeEncodeError:
+        return False
+    return True
+
+
+def _shown(name: object) -> str:
+    return shown(name) if isinstance(name, str) and name else shown(repr(name))

@@ -1,0 +1,130 @@
+"""The rows of a table's text: what parts its cells, found from the whole file, and cells that are broken."""
+import re
+import unicodedata
+from dataclasses import dataclass
+from typing import Callable, Dict, Iterable, List, Optional, Tuple
+
+from ..text import BadQuotes, rows, tidy
+from .faults import Faults, OfficeError, shown
+from .text import LINE_END
+
+DELIMITERS = {",": "commas", ";": "semicolons", "\t": "tabs", "|": "bars"}
+WORDS = {"comma": ",", "semicolon": ";", "tab": "\t", "bar": "|", "\\t": "\t"}
+MOST_LETTERS_OF_A_CELL = 500
+QUOTED = re.compile(r'"[^"]*(?:""[^"]*)*"')
+# Letters that nobody sees: marks of direction, spaces of no width, soft hyphens.
+UNSEEN = {code: None for code in (0xAD, 0x200B, 0x200E, 0x200F, 0x2060, 0xFEFF, *range(0x202A, 0x202F), *range(0x2066, 0x206A))}
+
+# Whether cells are a heading row.
+IsHeading = Callable[[List[str]], bool]
+
+
+@dataclass
+class Rows:
+    """Rows that aren't blank, of tidy cells, each with its number in a spreadsheet, which counts from 1 and leaves out a
+    line `sep=`; `declared` where there is such a line."""
+
+    rows: List[Tuple[int, List[str]]]
+    delimiter: str
+    declared: bool
+
+    def title(self) -> str:
+        return DELIMITERS.get(self.delimiter, f"parted by {shown(self.delimiter)}") + (" by its line sep=" if self.declared else "")
+
+
+def known_delimiter(word: str) -> str:
+    """The delimiter that a word of the command line names: comma, semicolon, tab, bar, or one letter."""
+    one = WORDS.get(word, word)
+    if len(one) != 1 or one in '"\r\n \0' or ord(one) > 127 or one.isalnum():
+        raise OfficeError(f"{shown(word)} parts no cells; comma, semicolon, tab and bar do", 2)
+    return one
+
+
+def name_of(cell: str) -> str:
+    """A cell's text in one form: composed letters, single spaces, nothing that nobody sees."""
+    return " ".join(cell.split()) if cell.isascii() else tidy(cell.translate(UNSEEN))
+
+
+def sep_line(text: str) -> Tuple[Optional[str], str]:
+    """What a first line `sep=;` names, and the text after it."""
+    found = re.match(r'"?sep=([^"\r\n])"?[,;\t]*(\r\n|\r|\n|\Z)', text, re.IGNORECASE)
+    return (found.group(1), text[found.end():]) if found else (None, text)
+
+
+def found_delimiter(text: str, is_heading: IsHeading) -> str:
+    """What parts the cells: that under which the first row is a heading and most rows have several cells, or else that
+    which most lines have."""
+    bare = QUOTED.sub("x", text)
+    lines = [line for line in LINE_END.split(bare) if line.strip()]
+    first = next((line for line in LINE_END.split(text) if line.strip()), "")
+    counts = {mark: sum(mark in line for line in lines) for mark in DELIMITERS}
+    most = max(counts, key=lambda mark: (counts[mark], bare.count(mark)))
+    for mark in sorted(DELIMITERS, key=lambda mark: -counts[mark]):
+        heads = [name_of(cell.strip('"')) for cell in first.split(mark)]
+        if len(heads) > 1 and 2 * counts[mark] >= counts[most] and is_heading(heads):
+            return mark
+    return most
+
+
+def numbered(text: str, delimiter: str) -> Iterable[Tuple[int, List[str]]]:
+    """The rows that aren't blank with their numbers; without a quote in the whole text they are its lines."""
+    if '"' in text:
+        return rows(text, delimiter)
+    return ((number, line.split(delimiter)) for number, line in enumerate(LINE_END.split(text), 1) if line)
+
+
+def rows_of(text: str, table: str, delimiter: Optional[str], is_heading: IsHeading, faults: Faults) -> Rows:
+    """The rows of this text. Quotes that aren't closed, lines within names, and cells that are no names are faults."""
+    declared, rest = sep_line(text)
+    chosen = delimiter or declared or found_delimiter(rest, is_heading)
+    cells = Cells(table, chosen, faults)
+    try:
+        kept = [(number, [cells.name(number, cell, text) for cell, text in enumerate(row, 1)]) for number, row in numbered(rest, chosen)]
+    except BadQuotes as fault:
+        faults.tell("file", table, fault.row, fault.cell, f"{fault.text}: it may swallow the rows below")
+        kept = []
+    return Rows([one for one in kept if any(one[1])], chosen, declared is not None)
+
+
+def other_mark(row: List[str], delimiter: str) -> Optional[str]:
+    """What a row of one cell is parted by, where that is another sign than the table's; one comma may stand in a name."""
+    if len(row) != 1:
+        return None
+    marks = [mark for mark in DELIMITERS if mark != delimiter and row[0].count(mark) > (mark == ",")]
+    return DELIMITERS[max(marks, key=row[0].count)] if marks else None
+
+
+class Cells:
+    """Makes names of cells, each different text once, and tells those that can't be one."""
+
+    def __init__(self, table: str, delimiter: str, faults: Faults) -> None:
+        self.table, self.delimiter, self.faults = table, delimiter, faults
+        self.good: Dict[str, str] = {}
+
+    def name(self, number: int, cell: int, text: str) -> str:
+        known = self.good.get(text)
+        if known is not None:
+            return known
+        name = name_of(text)
+        cause = self.cause(number, text) if len(text) > MOST_LETTERS_OF_A_CELL or not text.isprintable() or "\ufffd" in text else None
+        if cause is None:
+            self.good[text] = name
+        else:
+            self.faults.tell("row", self.table, number, cell, cause)
+        return name
+
+    def cause(self, number: int, text: str) -> Optional[str]:
+        """Why a text is no name, or none. A heading may have line ends, as `Rank` over `1`."""
+        inside = text.strip()
+        begin = shown(LINE_END.split(inside)[0], 40)
+        if len(text) > MOST_LETTERS_OF_A_CELL and not inside.isdecimal():
+            return f"{begin} is too long for a name; is a quote left open?"
+        if LINE_END.search(inside) and (number > 1 or self.delimiter in inside):
+            return f"the cell goes on over a line's end after {begin}; is a quote left open?"
+        if "\t" in inside:
+            return f"{shown(text)} has a tab in it"
+        if "\ufffd" in text:
+            return f"{shown(text)}: a letter was lost when the table was saved"
+        if any(unicodedata.category(c) in ("Cc", "Cs", "Co", "Cn") and c not in "\r\n" for c in inside):
+            return f"{shown(text)} has a character that is no letter"
+        return None

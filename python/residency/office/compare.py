@@ -1,0 +1,103 @@
+"""What changed between two matches, by name: who moved, who came and went, and which programmes filled otherwise."""
+from dataclasses import dataclass
+from typing import Dict, List, Mapping, Optional, Sequence, Tuple, TypeVar
+
+from .faults import shown
+from .outcome import Outcome, Programme, Resident, Standing, alphabetical, ordinal
+from .rosters import table_bytes
+
+One = TypeVar("One", Resident, Programme)
+ORDER = ("moved", "now matched", "no longer matched", "withdrawn", "stands otherwise", "new", "gone")
+
+
+@dataclass(frozen=True)
+class Change:
+    """One member who differs: `what` is one of ORDER, `before` and `now` how the member stood."""
+
+    side: str
+    name: str
+    id: str
+    what: str
+    before: str
+    now: str
+
+    def line(self) -> str:
+        return f"{shown(self.name, 200)}: {self.what}; {shown(self.before, 300)} -> {shown(self.now, 300)}"
+
+
+def keyed(members: Mapping[str, One], others: Mapping[str, One]) -> Dict[str, One]:
+    """Members by what they are known by in both matches: their IDs where all have one, else their names."""
+    by_id = all(one.id for one in (*members.values(), *others.values()))
+    return {one.id if by_id else name: one for name, one in members.items()}
+
+
+def stood(one: Optional[Resident]) -> str:
+    if one is None:
+        return "not there"
+    if one.standing is Standing.MATCHED:
+        return f"{one.programme} ({ordinal(one.choice or 0)} of {one.ranked:,})"
+    return one.standing.value if one.standing is Standing.WITHDRAWN else f"unmatched ({one.standing.value})"
+
+
+def filled(one: Optional[Programme]) -> str:
+    if one is None:
+        return "not there"
+    return "withdrawn" if one.withdrawn else f"{one.filled:,} of {one.places:,} filled"
+
+
+def of_resident(before: Optional[Resident], now: Optional[Resident], same: Mapping[str, str]) -> str:
+    """What became of a resident, or nothing; `same` names each programme now by its name before."""
+    if before is None or now is None:
+        return "new" if before is None else "gone"
+    if now.standing is Standing.MATCHED and before.standing is Standing.MATCHED:
+        return "" if same.get(before.programme or "") == now.programme else "moved"
+    if now.standing is before.standing:
+        return ""
+    if now.standing is Standing.WITHDRAWN:
+        return "withdrawn"
+    if Standing.MATCHED in (before.standing, now.standing):
+        return "now matched" if now.standing is Standing.MATCHED else "no longer matched"
+    return "stands otherwise"
+
+
+def of_programme(before: Optional[Programme], now: Optional[Programme]) -> str:
+    if before is None or now is None:
+        return "new" if before is None else "gone"
+    if now.withdrawn and not before.withdrawn:
+        return "withdrawn"
+    return "" if filled(before) == filled(now) else "filled otherwise"
+
+
+def changes(before: Outcome, now: Outcome) -> List[Change]:
+    """Every member who stands otherwise now, residents first, each kind of change by name."""
+    found: List[Change] = []
+    old, new = keyed(before.programmes, now.programmes), keyed(now.programmes, before.programmes)
+    same = {old[key].name: new[key].name for key in old if key in new}
+    for key in dict.fromkeys([*old, *new]):
+        what = of_programme(old.get(key), new.get(key))
+        if what:
+            one = new.get(key) or old[key]
+            found.append(Change("programme", one.name, one.id, what, filled(old.get(key)), filled(new.get(key))))
+    people, now_people = keyed(before.residents, now.residents), keyed(now.residents, before.residents)
+    for key in dict.fromkeys([*people, *now_people]):
+        what = of_resident(people.get(key), now_people.get(key), same)
+        if what:
+            one = now_people.get(key) or people[key]
+            found.append(Change("resident", one.name, one.id, what, stood(people.get(key)), stood(now_people.get(key))))
+    order = {what: place for place, what in enumerate(ORDER)}
+    return sorted(found, key=lambda one: (one.side == "programme", order.get(one.what, 0), alphabetical(one.name), one.id))
+
+
+def summary(before: Outcome, now: Outcome, found: Sequence[Change]) -> str:
+    """One line of counts."""
+    counts: Dict[str, int] = {}
+    for one in found:
+        if one.side == "resident":
+            counts[one.what] = counts.get(one.what, 0) + 1
+    told = ", ".join(f"{counts[what]:,} {what}" for what in ORDER if what in counts) or "nobody stands otherwise"
+    return f"residents: {len(before.residents):,} before, {len(now.residents):,} now; {told}"
+
+
+def changes_table(found: Sequence[Change]) -> bytes:
+    rows: List[Tuple[object, ...]] = [(one.side, one.name, one.id, one.what, one.before, one.now) for one in found]
+    return table_bytes(("Side", "Name", "ID", "Change", "Before", "Now"), rows)

@@ -1,0 +1,198 @@
+"""Which column of a table is what, by its heading: wide tables have a column for each rank, long ones a row."""
+import re
+import unicodedata
+from dataclasses import dataclass, field
+from typing import Dict, List, Optional, Sequence, Tuple
+
+from .faults import Faults, OfficeError, shown
+
+# What each column may be headed, without accents, capitals and points.
+WORDS: Dict[str, Tuple[str, ...]] = {
+    "programme": ("programme", "program", "programme name", "program name", "hospital", "department", "institution", "post"),
+    "resident": ("applicant", "resident", "candidate", "applicant name", "resident name", "candidate name", "doctor",
+                  "student", "trainee"),
+    "name": ("name", "full name"),
+    "places": ("places", "place", "quota", "capacity", "positions", "seats", "slots", "vacancies", "number of places"),
+    "rank": ("rank", "choice", "preference", "priority", "order"),
+    "id": ("id", "applicant id", "resident id", "candidate id", "programme id", "program id", "code", "programme code",
+           "program code", "applicant number"),
+}
+# What the report calls a column that is missing.
+TITLES = {"programme": "Programme", "resident": "Applicant", "places": "Places", "rank": "Rank", "id": "ID"}
+ROLES = ("programme", "resident", "places", "rank", "id")
+ORDINALS = {word: number for number, word in enumerate(
+    ("first", "second", "third", "fourth", "fifth", "sixth", "seventh", "eighth", "ninth", "tenth"), 1)}
+NUMBERED = re.compile(r"(?P<before>.*?)\s*(?:no|#)?\s*0*(?P<number>[0-9]{1,5})(?:st|nd|rd|th)?\s*(?P<after>.*)")
+OTHER = {"programme": "resident", "resident": "programme"}
+
+
+def plain(heading: str) -> str:
+    """A heading without accents, capitals, points and doubled spaces."""
+    folded = unicodedata.normalize("NFKD", heading.casefold())
+    kept = "".join(" " if c in "._:-()/" else c for c in folded if not unicodedata.combining(c))
+    return " ".join(kept.split())
+
+
+class Words:
+    """The words that columns may be headed by: the known ones, and those that the command line adds."""
+
+    def __init__(self, added: Sequence[str] = (), ignored: Sequence[str] = ()) -> None:
+        self.roles = {word: role for role, words in WORDS.items() for word in words}
+        self.ignored = {plain(word) for word in ignored}
+        for one in added:
+            role, _, word = one.partition("=")
+            if role not in ROLES or not plain(word):
+                raise OfficeError(f"--heading {shown(one)}: it is ROLE=WORD, where ROLE is one of {', '.join(ROLES)}", 2)
+            self.roles[plain(word)] = role
+
+    def role(self, heading: str) -> Optional[str]:
+        return self.roles.get(plain(heading))
+
+    def rank(self, heading: str, items: str) -> Optional[int]:
+        """The rank that a heading of a wide table numbers: `Rank 2`, `2nd choice`, `Programme 2`, `Second` or `2`."""
+        folded = plain(heading)
+        words = folded.split()
+        if words and words[0] in ORDINALS and (len(words) == 1 or self.counts(" ".join(words[1:]), items)):
+            return ORDINALS[words[0]]
+        found = NUMBERED.fullmatch(folded)
+        if found is None or int(found["number"]) == 0:
+            return None
+        around = " ".join((found["before"] + " " + found["after"]).split())
+        return int(found["number"]) if not around or self.counts(around, items) else None
+
+    def counts(self, word: str, items: str) -> bool:
+        return self.roles.get(word) in ("rank", items)
+
+    def is_heading(self, cells: List[str]) -> bool:
+        """Whether two cells or more are headings that either table may have."""
+        known = sum(bool(cell) and (self.role(cell) is not None or plain(cell) in self.ignored
+                                    or any(self.rank(cell, items) for items in OTHER)) for cell in cells)
+        return known >= 2 and any(self.role(cell) in ("programme", "resident", "name", "id") for cell in cells)
+
+
+@dataclass
+class Columns:
+    """Which cells of a row are what, counted from 0. A wide table has `ranks`, a long one `rank` and `item`."""
+
+    owner: int
+    places: Optional[int] = None
+    ident: Optional[int] = None
+    ranks: List[Tuple[int, int]] = field(default_factory=list)
+    rank: Optional[int] = None
+    item: Optional[int] = None
+    known: Tuple[int, ...] = ()
+
+    @property
+    def width(self) -> int:
+        return len(self.known)
+
+    @property
+    def is_long(self) -> bool:
+        return self.item is not None
+
+
+class Reader:
+    """Reads one heading row; `owners` says whose table it is, `programme` or `resident`."""
+
+    def __init__(self, table: str, owners: str, row: int, heading: List[str], words: Words, faults: Faults) -> None:
+        self.table, self.owners, self.row, self.heading = table, owners, row, heading
+        self.words, self.faults = words, faults
+        self.items = OTHER[owners]
+        self.at: Dict[str, int] = {}
+        self.ranks: Dict[int, int] = {}
+        self.unknown: List[int] = []
+        self.told = False
+
+    def tell(self, cell: int, cause: str) -> None:
+        self.told = True
+        self.faults.tell("heading", self.table, self.row, cell, cause)
+
+    def absent(self, cause: str) -> None:
+        """Tells a column that isn't there, at the first cell where it could be."""
+        free = next((cell for cell, heading in enumerate(self.heading) if not heading), len(self.heading))
+        self.tell(free + 1, cause)
+
+    def columns(self) -> Optional[Columns]:
+        """The columns, or None where the heading is at fault, which is told."""
+        for cell, heading in enumerate(self.heading):
+            if heading:
+                self.sort(cell, heading)
+        if not self.at and all(heading.isdecimal() for heading in map(self.heading.__getitem__, self.ranks.values())):
+            begin = ", ".join(shown(cell, 30) for cell in self.heading[:4])
+            self.tell(1, f"a heading row is wanted, with {self.wanted()}; the first row is {begin}")
+            return None
+        if self.looks_exchanged():
+            self.tell(1, f"this is headed as a table of {self.items}s; are the two tables exchanged?")
+            return None
+        self.missing()
+        return None if self.told else self.made()
+
+    def wanted(self) -> str:
+        places = "Places, " if self.owners == "programme" else ""
+        return f"{TITLES[self.owners]}, {places}Rank 1, Rank 2, .. or {TITLES[self.owners]}, {places}Rank, {TITLES[self.items]}"
+
+    def sort(self, cell: int, heading: str) -> None:
+        """Notes what one column is."""
+        role = self.words.role(heading)
+        if role == "name":
+            role = self.owners
+        if role in (None, "rank", self.items):
+            number = self.words.rank(heading, self.items)
+            if number is not None:
+                return self.once(self.ranks, number, cell)
+        if role is not None:
+            self.once(self.at, role, cell)
+        elif plain(heading) not in self.words.ignored:
+            self.unknown.append(cell)
+
+    def once(self, at: Dict, what: object, cell: int) -> None:
+        if what in at:
+            self.tell(cell + 1, f"two columns are headed {shown(self.heading[cell])}: cells {at[what] + 1} and {cell + 1}")
+        at.setdefault(what, cell)
+
+    def looks_exchanged(self) -> bool:
+        """Whether the owner's column is missing and the other side's is there as in a table of that side."""
+        return self.owners not in self.at and self.items in self.at and (bool(self.ranks) or "places" in self.at)
+
+    def missing(self) -> None:
+        """Tells each column that is wanted and isn't there, then each heading that is none."""
+        for role in (self.owners,) + (("places",) if self.owners == "programme" else ()):
+            if role not in self.at:
+                others = ", ".join(WORDS[role][1:4])
+                self.absent(f"no column is headed {TITLES[role]} (or {others}, or as --heading says)")
+        if self.owners == "resident" and "places" in self.at:
+            self.tell(self.at["places"] + 1, "a table of residents has no column of places")
+        self.missing_ranks()
+        wanted = (self.owners,) + (("places",) if self.owners == "programme" else ()) + ("rank",)
+        absent = [role for role in wanted if role not in self.at]
+        for cell in self.unknown:
+            heading = shown(self.heading[cell])
+            self.tell(cell + 1, f"{heading} is no heading of this table; mend it, say what it is (--heading "
+                      f"'{absent[0] if absent else 'id'}={heading}'), or leave the column out (--ignore '{heading}')")
+
+    def missing_ranks(self) -> None:
+        rank, item = self.at.get("rank"), self.at.get(self.items)
+        last = max(self.ranks, default=0)
+        gap = next((number for number in range(1, last) if number not in self.ranks), None)
+        if rank is not None and self.ranks:
+            self.tell(rank + 1, "a column headed Rank beside numbered ones: a table is long or wide, not both")
+        elif rank is not None and item is None:
+            self.absent(f"no column is headed {TITLES[self.items]}, where cell {rank + 1} is headed {shown(self.heading[rank])}")
+        elif item is not None and rank is None:
+            self.absent(f"no column is headed Rank, where cell {item + 1} is headed {shown(self.heading[item])}")
+        elif rank is None and not self.ranks:
+            self.absent("no column is headed Rank 1 (or Choice 1, 1st choice, First, 1)")
+        elif gap is not None:
+            self.absent(f"no column is headed Rank {gap}, where cell {self.ranks[last] + 1} is headed "
+                      f"{shown(self.heading[self.ranks[last]])}")
+
+    def made(self) -> Columns:
+        at = self.at
+        known = tuple(cell for cell, heading in enumerate(self.heading) if heading)
+        return Columns(at[self.owners], at.get("places"), at.get("id"), sorted(self.ranks.items()), at.get("rank"),
+                       at.get(self.items) if "rank" in at else None, known)
+
+
+def columns_of(table: str, owners: str, row: int, heading: List[str], words: Words, faults: Faults) -> Optional[Columns]:
+    """Which column is what, by the heading in this row; None where that is at fault."""
+    return Reader(table, owners, row, heading, words, faults).columns()

@@ -1,0 +1,128 @@
+"""How a match went, in the office's own names: who is where, at which ranks of the lists as written, and why not."""
+import unicodedata
+from collections import Counter
+from dataclasses import dataclass
+from enum import Enum
+from typing import Dict, Iterable, List, Mapping, Optional, Sequence, Tuple
+
+from ..market import Market
+from ..names import PROGRAMME, RESIDENT
+
+PLAIN = str.maketrans({"ß": "ss", "æ": "ae", "œ": "oe", "ø": "o", "ł": "l", "đ": "d", "ð": "d", "þ": "th", "ı": "i"})
+
+
+class Standing(Enum):
+    """How a resident stands after a match; the value is the word in tables."""
+
+    MATCHED = "matched"
+    RANKED_NOBODY = "ranked nobody"
+    NOT_RANKED_BACK = "ranked back by nobody"
+    LOST_OUT = "lost out"
+    WITHDRAWN = "withdrawn"
+
+
+UNMATCHED = (Standing.LOST_OUT, Standing.NOT_RANKED_BACK, Standing.RANKED_NOBODY)
+
+
+@dataclass(frozen=True)
+class Resident:
+    """A resident's outcome. `choice` is the programme's rank on the resident's list as written, `rank` the resident's on
+    the programme's, both from 1; `ranked` is how many the resident's list has."""
+
+    name: str
+    id: str
+    docket_name: str
+    standing: Standing
+    programme: Optional[str]
+    choice: Optional[int]
+    rank: Optional[int]
+    ranked: int
+
+
+@dataclass(frozen=True)
+class Programme:
+    """A programme's outcome: its residents in the order of its list, and the rank of the last on its list as written."""
+
+    name: str
+    id: str
+    docket_name: str
+    places: int
+    residents: Tuple[str, ...]
+    last_rank: Optional[int]
+    ranked: int
+    withdrawn: bool
+
+    @property
+    def filled(self) -> int:
+        return len(self.residents)
+
+    @property
+    def unfilled(self) -> int:
+        """How many places stay empty; a programme that is withdrawn has none to give."""
+        return 0 if self.withdrawn else max(0, self.places - self.filled)
+
+
+@dataclass(frozen=True)
+class Outcome:
+    """A whole match's outcome, members in the order of the tables."""
+
+    residents: Dict[str, Resident]
+    programmes: Dict[str, Programme]
+
+    def standing(self, standing: Standing) -> List[Resident]:
+        return [one for one in self.residents.values() if one.standing is standing]
+
+    def choices(self) -> List[int]:
+        """How many residents got their first choice, their second, and so on."""
+        counts = Counter(one.choice for one in self.residents.values() if one.choice is not None)
+        return [counts[choice] for choice in range(1, max(counts, default=0) + 1)]
+
+    def unfilled(self) -> List[Programme]:
+        return [one for one in self.programmes.values() if one.unfilled]
+
+    def places(self) -> int:
+        return sum(one.places for one in self.programmes.values() if not one.withdrawn)
+
+
+def ordinal(number: int) -> str:
+    ending = "th" if number % 100 in (11, 12, 13) else {1: "st", 2: "nd", 3: "rd"}.get(number % 10, "th")
+    return f"{number:,}{ending}"
+
+
+def alphabetical(name: str) -> Tuple[str, str]:
+    """What names are sorted by: their letters without accents and capitals, then as they are."""
+    plain = unicodedata.normalize("NFKD", name.casefold().translate(PLAIN))
+    return "".join(c for c in plain if not unicodedata.combining(c)), name
+
+
+def outcome_of(market: Market, places: Mapping[str, Optional[str]]) -> Outcome:
+    """The outcome of these places, in the market's names."""
+    gone = set(market.withdrawn_residents)
+    gone_programmes = set(market.withdrawn_programmes)
+    ranks = {programme: {resident: rank for rank, resident in enumerate(listed, 1)}
+             for programme, listed in market.programme_lists.items()}
+    residents = {}
+    members: Dict[str, List[Tuple[int, str]]] = {programme: [] for programme in market.quotas}
+    for name, listed in market.resident_lists.items():
+        programme = places.get(name)
+        back = [one for one in listed if one not in gone_programmes and name in ranks.get(one, {})]
+        choice = rank = None
+        if programme is not None:
+            choice, rank = list(listed).index(programme) + 1, ranks[programme][name]
+            members[programme].append((rank, name))
+        standing = (Standing.WITHDRAWN if name in gone else Standing.MATCHED if programme is not None
+                    else Standing.RANKED_NOBODY if not listed else Standing.LOST_OUT if back else Standing.NOT_RANKED_BACK)
+        made = market.names.docket_name(RESIDENT, name)
+        residents[name] = Resident(name, market.names.id(RESIDENT, made), made, standing, programme, choice, rank, len(listed))
+    programmes = {}
+    for name, quota in market.quotas.items():
+        taken = sorted(members[name])
+        made = market.names.docket_name(PROGRAMME, name)
+        programmes[name] = Programme(name, market.names.id(PROGRAMME, made), made, quota, tuple(one for _, one in taken),
+                                     taken[-1][0] if taken else None, len(market.programme_lists.get(name, ())), name in gone_programmes)
+    return Outcome(residents, programmes)
+
+
+def by_name(members: Iterable, order: str = "name") -> Sequence:
+    """Members in the order that is asked for: by name, or as the table has them."""
+    return sorted(members, key=lambda one: alphabetical(one.name)) if order == "name" else list(members)

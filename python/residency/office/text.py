@@ -1,0 +1,90 @@
+"""The text of a saved table: its bytes, the character set that they are in, and what is broken in it."""
+import codecs
+import re
+from dataclasses import dataclass
+from typing import Optional
+
+from ..text import decode
+from .faults import Faults, OfficeError, shown
+
+MOST_BYTES = 256 << 20
+# What people call a character set.
+TITLES = {"utf-8": "UTF-8", "utf-8-sig": "UTF-8", "utf-16": "UTF-16", "utf-16-le": "UTF-16", "utf-16-be": "UTF-16",
+          "utf-32": "UTF-32", "cp1252": "Windows-1252", "iso8859-1": "ISO-8859-1", "latin-1": "ISO-8859-1", "ascii": "ASCII"}
+OF_UTF8 = re.compile(rb"[\xc2-\xdf][\x80-\xbf]|[\xe0-\xef][\x80-\xbf]{2}|[\xf0-\xf4][\x80-\xbf]{3}")
+LINE_END = re.compile(r"\r\n|\r|\n")
+
+
+@dataclass
+class Text:
+    """A file's text, and the character set that it was read in."""
+
+    text: str
+    encoding: str
+
+    def title(self) -> str:
+        return title_of(self.encoding)
+
+
+def title_of(encoding: str) -> str:
+    return TITLES.get(encoding.lower().replace("_", "-"), encoding)
+
+
+def bytes_of(path: str) -> bytes:
+    """A file's bytes. OfficeError where it can't be read, or is larger than any table."""
+    try:
+        with open(path, "rb") as file:
+            data = file.read(MOST_BYTES + 1)
+    except OSError as error:
+        raise OfficeError(f"{shown(path)} can't be read: {(error.strerror or str(error)).lower()}") from None
+    except ValueError:
+        raise OfficeError(f"{shown(path)} can't be read: it is no path") from None
+    if len(data) > MOST_BYTES:
+        raise OfficeError(f"{shown(path)} has more than {MOST_BYTES >> 20} MB, which is no table")
+    return data
+
+
+def known_encoding(name: str) -> str:
+    """The name by which Python knows a character set. OfficeError for one that it doesn't know, or that is none."""
+    try:
+        "Kim".encode(name)
+        return codecs.lookup(name).name
+    except (LookupError, ValueError, TypeError):
+        raise OfficeError(f"no character set is named {shown(name)}; utf-8, windows-1252, iso-8859-2 and utf-16 are some",
+                          2) from None
+
+
+def decoded(data: bytes, table: str, encoding: Optional[str], faults: Faults) -> Text:
+    """These bytes as text, in the character set that is named or else found. What is no letter in it is a fault."""
+    try:
+        text, found = decode(data, encoding)
+        # Where most letters with accents are whole in UTF-8, it is a file of UTF-8 with a few broken bytes; in another
+        # set each of these letters would be two or three odd ones.
+        if encoding is None and found in ("cp1252", "latin-1") and is_mostly_utf8(data):
+            data.decode("utf-8")
+    except UnicodeDecodeError as error:
+        tell_broken(data, error, table, faults)
+        return Text("", error.encoding)
+    except UnicodeError as error:
+        faults.tell("file", table, 1, 1, f"this is no text in {title_of(encoding or 'utf-8')}: {shown(str(error))}")
+        return Text("", encoding or "utf-8")
+    return Text(text[1:] if text.startswith("\ufeff") else text, found)
+
+
+def is_mostly_utf8(data: bytes) -> bool:
+    whole = len(OF_UTF8.findall(data))
+    return whole > sum(byte > 127 for byte in OF_UTF8.sub(b"", data))
+
+
+def tell_broken(data: bytes, error: UnicodeDecodeError, table: str, faults: Faults) -> None:
+    """Tells where bytes are no letter, by the row and cell that they stand in."""
+    title = title_of(error.encoding)
+    before = error.object[:error.start].decode(error.encoding, "replace")
+    lines = LINE_END.split(before)
+    cell = 1 + max(lines[-1].count(mark) for mark in ",;\t")
+    if error.end >= len(error.object) and title.startswith("UTF"):
+        cause = f"the file ends in the middle of a letter of {title}: it was cut short"
+    else:
+        cause = (f"the byte {error.object[error.start:error.start + 1].hex()} is no letter in {title}; "
+                 "save the table as UTF-8, or name its character set by --encoding")
+    faults.tell("file", table, len(lines), cell, cause)

@@ -1,0 +1,320 @@
+"""The page: its parts, its order, its names, its colours; and by a browser, where there is one, how it fits on screens and paper."""
+import html
+import html.parser
+import re
+import shutil
+import subprocess
+from pathlib import Path
+from typing import Dict, List, Optional
+from urllib.parse import quote
+
+import derived
+import planted
+import support
+from residency.office.outcome import alphabetical
+from support import PROGRAMMES, RESIDENTS, SAMPLES, TOP, OfficeTest, office
+from test_folder import sample, sha256
+
+EMPTY = {"meta", "link", "img", "br", "hr", "input"}
+
+
+class Node:
+    """An element of the page."""
+
+    def __init__(self, tag: str, attributes: Dict[str, Optional[str]], parent: Optional["Node"]) -> None:
+        self.tag, self.attributes, self.parent = tag, attributes, parent
+        self.children: List[object] = []
+
+    def all(self, *tags: str) -> List["Node"]:
+        found = []
+        for child in self.children:
+            if isinstance(child, Node):
+                found += [child] if not tags or child.tag in tags else []
+                found += child.all(*tags)
+        return found
+
+    def text(self) -> str:
+        return " ".join("".join(child.text() if isinstance(child, Node) else child for child in self.children).split())
+
+
+class Tree(html.parser.HTMLParser):
+    """Reads a page strictly: each element is closed in its turn."""
+
+    def __init__(self, text: str) -> None:
+        super().__init__(convert_charrefs=True)
+        self.root = self.at = Node("", {}, None)
+        self.feed(text)
+        self.close()
+        assert self.at is self.root, f"{self.at.tag} isn't closed"
+
+    def handle_starttag(self, tag, attrs) -> None:
+        node = Node(tag, dict(attrs), self.at)
+        self.at.children.append(node)
+        if tag not in EMPTY:
+            self.at = node
+
+    def handle_endtag(self, tag) -> None:
+        assert self.at.tag == tag, f"{tag} closes {self.at.tag}"
+        self.at = self.at.parent
+
+    def handle_data(self, data) -> None:
+        self.at.children.append(data)
+
+
+def luminance(colour: str) -> float:
+    parts = [int(colour[place:place + 2], 16) / 255 for place in (1, 3, 5)]
+    lines = [part / 12.92 if part <= 0.03928 else ((part + 0.055) / 1.055) ** 2.4 for part in parts]
+    return 0.2126 * lines[0] + 0.7152 * lines[1] + 0.0722 * lines[2]
+
+
+def contrast(one: str, other: str) -> float:
+    high, low = sorted((luminance(one), luminance(other)), reverse=True)
+    return (high + 0.05) / (low + 0.05)
+
+
+class PageTest(OfficeTest):
+    def page(self, out: Path) -> Node:
+        self.source = (out / "page.html").read_text(encoding="utf-8")
+        return Tree(self.source).root
+
+    def section(self, root: Node, name: str) -> Node:
+        return next(one for one in root.all("section") if one.attributes.get("aria-labelledby") == name)
+
+    def rows(self, root: Node, name: str) -> List[List[str]]:
+        table = self.section(root, name).all("table")[0]
+        return [[cell.text() for cell in row.all("th", "td")] for row in table.all("tbody")[0].all("tr")]
+
+
+class Sample(PageTest):
+    """The page of the sample tables, by what is derived from these."""
+
+    def setUp(self) -> None:
+        super().setUp()
+        self.out = self.folder / "match"
+        self.assertEqual(office("run", SAMPLES / "programmes.csv", SAMPLES / "residents.csv", "--out", self.out, "--date", "2026-03-20").status, 0)
+        self.root = self.page(self.out)
+        self.wanted = derived.match(derived.tables(sample("programmes.csv"), sample("residents.csv")))
+
+    def test_it_is_one_page_without_a_script(self) -> None:
+        self.assertTrue(self.source.startswith("<!doctype html>\n"))
+        self.assertEqual(self.root.all("html")[0].attributes["lang"], "en")
+        self.assertEqual(self.root.all("script", "link", "iframe", "object", "img"), [])
+        for node in self.root.all():
+            self.assertFalse(any(name.startswith("on") or name == "src" for name in node.attributes), node.attributes)
+            self.assertTrue(node.attributes.get("href", "#").startswith("#"))
+        style = self.root.all("style")[0].text()
+        self.assertNotIn("url(", style)
+        self.assertNotIn("@import", style)
+        metas = [node.attributes for node in self.root.all("meta")]
+        self.assertIn({"name": "viewport", "content": "width=device-width, initial-scale=1"}, metas)
+        self.assertIn({"charset": "utf-8"}, metas)
+
+    def test_headings_and_links_are_in_order(self) -> None:
+        levels = [int(node.tag[1]) for node in self.root.all("h1", "h2", "h3", "h4", "h5", "h6")]
+        self.assertEqual(levels[0], 1)
+        self.assertEqual(levels.count(1), 1)
+        self.assertTrue(all(now - before <= 1 for before, now in zip(levels, levels[1:])), levels)
+        ids = [node.attributes["id"] for node in self.root.all() if "id" in node.attributes]
+        self.assertEqual(len(ids), len(set(ids)))
+        self.assertEqual([node.attributes["href"][1:] for node in self.root.all("nav")[0].all("a")], ids)
+        self.assertEqual(ids, ["unfilled", "figures", "choices", "unmatched", "withdrawn", "matched", "programmes", "made"])
+
+    def test_tables_have_heads_captions_and_scopes(self) -> None:
+        tables = self.root.all("table")
+        self.assertEqual(len(tables), 5)
+        for table in tables:
+            self.assertEqual([node.tag for node in table.children if isinstance(node, Node)], ["caption", "thead", "tbody"])
+            self.assertTrue(table.all("caption")[0].text())
+            heads = table.all("thead")[0].all("th", "td")
+            self.assertTrue(heads and all(node.tag == "th" and node.attributes.get("scope") == "col" and node.text() for node in heads))
+            for row in table.all("tbody")[0].all("tr"):
+                cells = row.all("th", "td")
+                self.assertEqual([node.attributes.get("scope") for node in cells], ["row"] + [None] * (len(heads) - 1))
+                self.assertEqual([node.tag for node in cells], ["th"] + ["td"] * (len(heads) - 1))
+
+    def test_contrast(self) -> None:
+        style = self.root.all("style")[0].text()
+        colours = dict(re.findall(r"--([a-z-]+): (#[0-9a-f]{6});", style))
+        texts = set(re.findall(r"[^-]color: var\(--([a-z-]+)\)", style))
+        self.assertEqual(texts, {"text", "soft", "short", "bar"})
+        # Text stands on the page or on the band of every other row.
+        for text in texts:
+            for ground in ("page", "band"):
+                self.assertGreaterEqual(contrast(colours[text], colours[ground]), 4.5, (text, ground))
+        for bar in ("bar", "bar-left"):
+            for ground in ("page", "band"):
+                self.assertGreaterEqual(contrast(colours[bar], colours[ground]), 3, (bar, ground))
+        self.assertEqual(set(re.findall(r"(?<![\w-])(?:color|background): ([^v][^;]*)", style)), set())
+        self.assertEqual(set(re.findall(r"#[0-9a-f]{3,8}\b", re.sub(r":root \{[^}]*\}", "", style))), set())
+
+    def test_print_style(self) -> None:
+        style = self.root.all("style")[0].text()
+        page = re.search(r"@page \{.*?\} \}", style).group()
+        self.assertIn("counter(page)", page)
+        self.assertIn("counter(pages)", page)
+        self.assertIn(f'content: "The match, 2026-03-20, docket {sha256(self.out / "docket.csv")[:16]}"', page)
+        paper = style[style.index("@media print"):]
+        self.assertIn("thead { display: table-header-group; }", paper)
+        self.assertIn("break-inside: avoid", paper)
+
+    def test_day_and_digests(self) -> None:
+        head = self.root.all("header")[0]
+        self.assertEqual(head.text(), "The match 20 March 2026. 40 residents, 10 programmes.")
+        self.assertEqual(head.all("time")[0].attributes["datetime"], "2026-03-20")
+        self.assertEqual(self.rows(self.root, "made"), [[name, sha256(self.out / name)] for name in ("docket.csv", "key.csv", "sheet.csv")])
+
+    def test_unfilled_places_first(self) -> None:
+        self.assertEqual(self.root.all("section")[0].attributes["aria-labelledby"], "unfilled")
+        wanted = [(one, places, len(self.wanted.members(one))) for one, places in self.wanted.places.items()]
+        self.assertEqual(self.rows(self.root, "unfilled"),
+                         [[one, str(places), str(filled), str(places - filled)] for one, places, filled in sorted(wanted) if places > filled])
+
+    def test_figures_and_choices(self) -> None:
+        matched = [one for one, where in self.wanted.match.items() if where]
+        boxes = self.section(self.root, "figures").all("div")
+        lost = sum(not where and self.wanted.ranked_back(one) for one, where in self.wanted.match.items())
+        self.assertEqual([box.text() for box in boxes], [f"residents matched{len(matched)}", f"lost out{lost}",
+                                                         f"ranked back by nobody{11 - lost}", "ranked nobody0"])
+        counts = [sum(self.wanted.choice(one) == choice for one in matched) for choice in (1, 2, 3, 4)]
+        wanted = [[f"{nth} choice", str(count), f"{100 * count / 40:.0f}%"] for nth, count in zip(("1st", "2nd", "3rd", "4th"), counts)]
+        self.assertEqual(self.rows(self.root, "choices"), wanted + [["Unmatched", "11", f"{100 * 11 / 40:.0f}%"]])
+        widths = [float(re.search(r"width:([0-9.]+)%", node.attributes["style"]).group(1)) for node in self.section(self.root, "choices").all("span")]
+        for width, count in zip(widths, counts + [11]):
+            self.assertAlmostEqual(width / widths[0], count / counts[0], places=2)
+
+    def test_matched_residents_by_the_alphabet(self) -> None:
+        rows = self.rows(self.root, "matched")
+        self.assertEqual({row[0]: row[1] for row in rows}, {one: where for one, where in self.wanted.match.items() if where})
+        self.assertEqual([row[0] for row in rows[:6]], ["Amara Okafor", "Ángela García", "Björn Östlund", "Chloé Brontë", "Dmitri Ivanov", "Élodie Bélanger"])
+        for resident, _, choice in rows:
+            number = self.wanted.choice(resident)
+            self.assertEqual(choice, f"{ {1: '1st', 2: '2nd', 3: '3rd'}.get(number, f'{number}th') } of {len(self.wanted.resident_lists[resident])}")
+
+    def test_programmes(self) -> None:
+        rows = {row[0]: row[1:] for row in self.rows(self.root, "programmes")}
+        self.assertEqual(list(rows), sorted(rows, key=alphabetical))
+        for one, places in self.wanted.places.items():
+            members = self.wanted.members(one)
+            last = self.wanted.rank(members[-1])
+            self.assertEqual(rows[one][:3], [str(places), str(len(members)), str(places - len(members))])
+            self.assertRegex(rows[one][3], f"^{last}(st|nd|rd|th) of {len(self.wanted.programme_lists[one])}$")
+
+
+class Other(PageTest):
+    def test_kinds_of_unmatched_and_withdrawn(self) -> None:
+        self.run_tables(out="first")
+        office("withdraw", self.folder / "first", "Zoë Brontë", "East Ward", "--out", self.folder / "out")
+        root = self.page(self.folder / "out")
+        names = lambda name: [(part.text()) for part in self.section(root, name).all("h3", "li")]  # noqa: E731
+        # Without East and Zoë: South takes Ana, North Kim and Jürgen; Omar ranks East, which is gone, and South.
+        self.assertEqual(names("unmatched"), ["Lost out: 1", "Omar Haddad", "Ranked back by nobody: 1", "Fatima Kovács", "Ranked nobody: 1", "Rosa Rossi"])
+        self.assertEqual(names("withdrawn"), ["Residents: 1", "Zoë Brontë", "Programmes: 1", "East Ward"])
+        self.assertIn(["East Ward (withdrawn)", "1", "0", "0", "– of 4"], self.rows(root, "programmes"))
+        self.assertEqual([row[0] for row in self.rows(root, "unfilled")], ["West Infirmary"])
+        self.assertIn("3 of 6 places", self.section(root, "unfilled").text())
+
+    def test_names_are_text(self) -> None:
+        bad = "<script>alert(1)</script>"
+        out = self.run_tables(PROGRAMMES.replace("North Clinic", f"North {bad} & \"Co").replace('"Co', "'Co"), RESIDENTS.replace(
+            "North Clinic", f"North {bad} & 'Co"), "out", "--title", f'T "{bad}" \\ }} é')
+        root = self.page(out)
+        self.assertEqual(root.all("script"), [])
+        self.assertIn(f"North {bad} & 'Co", [row[0] for row in self.rows(root, "programmes")])
+        self.assertEqual(root.all("h1")[0].text(), f'T "{bad}" \\ }} é')
+        foot = re.search(r'@bottom-left \{ content: "([^"]*)"', root.all("style")[0].text()).group(1)
+        self.assertTrue(foot.startswith("T scriptalert(1)/script é, 2026-03-20, docket "), foot)
+
+    def test_the_order_of_the_table(self) -> None:
+        out = self.run_tables(PROGRAMMES, RESIDENTS, "out", "--order", "table")
+        self.assertEqual([row[0] for row in self.rows(self.page(out), "programmes")], ["North Clinic", "South Hospital", "East Ward", "West Infirmary"])
+
+    def test_everything_filled_and_nobody(self) -> None:
+        out = self.run_tables("Programme,Places,1\nNorth,1,Kim\nSouth,0,\n", "Applicant,1\nKim,North\n")
+        self.assertIn("Every place is filled.", self.section(self.page(out), "unfilled").text())
+        out = self.run_tables("Programme,Places,1\nNorth,0,Kim\n", "Applicant,1\nKim,\n", "none")
+        self.assertEqual(self.rows(self.page(out), "choices"), [["Unmatched", "1", "100%"]])
+
+    def test_many_choices_share_a_bar(self) -> None:
+        programmes = "Programme,Places,1\n" + "".join(f"P{number:02},1,R{number:02}\n" for number in range(1, 15))
+        residents = "Applicant," + ",".join(map(str, range(1, 15))) + "\n" + "".join(
+            f"R{number:02}," + ",".join(f"P{one:02}" for one in [*range(15 - number, 15 - number), *(x for x in range(1, 15) if x != number)][:number - 1]
+                                        + [number]) + "\n" for number in range(1, 15))
+        rows = self.rows(self.page(self.run_tables(programmes, residents)), "choices")
+        self.assertEqual(rows[9:], [["10th choice", "1", "7%"], ["11th or later", "4", "29%"], ["Unmatched", "0", "0%"]])
+
+
+# A page around the page, since a browser's window is at least 500 pixels wide.
+MEASURE = """<!doctype html><title>m</title><body style="margin:0"><iframe id="f" style="border:0" width="%d" height="900" srcdoc="%s"></iframe>
+<script>addEventListener('load', () => {
+  const view = document.getElementById('f').contentWindow, page = view.document, all = [...page.querySelectorAll('body *')];
+  const smallest = all.filter(n => [...n.childNodes].some(c => c.nodeType == 3 && c.data.trim()))
+    .reduce((least, n) => Math.min(least, parseFloat(view.getComputedStyle(n).fontSize)), 99);
+  const beyond = all.filter(n => n.getBoundingClientRect().right > view.innerWidth + 0.5).length;
+  document.documentElement.dataset.measured = [view.innerWidth, page.documentElement.scrollWidth, smallest, beyond].join(' ');
+});</script>"""
+
+
+class Browser(PageTest):
+    """The page as Chromium shows it."""
+
+    def setUp(self) -> None:
+        super().setUp()
+        self.program = next(filter(None, map(shutil.which, ("chromium", "chromium-browser", "google-chrome"))), None)
+        if self.program is None:
+            self.skipTest("there is no Chromium here")
+
+    def browse(self, path: Path, *words: str) -> str:
+        line = [self.program, "--headless", "--no-sandbox", "--disable-gpu", "--hide-scrollbars", "--force-device-scale-factor=1",
+                f"--user-data-dir={self.folder / 'browser'}", *words, f"file://{quote(str(path))}"]
+        done = subprocess.run(line, capture_output=True, timeout=120)
+        self.assertEqual(done.returncode, 0, done.stderr)
+        return done.stdout.decode("utf-8")
+
+    def long_names(self) -> Path:
+        """A run of the planted tests' tables, in which a programme and a resident have long names."""
+        pair = planted.wide()
+        programmes, residents = (text.decode().replace("Klinik Köln", "Universitätsklinikum Köln-Lindenthal, Abteilung für Kinderheilkunde")
+                                 .replace("Priya Silva", "Priyadarshini-Annapurneshwari Venkatanarasimharajuvaripeta Silva")
+                                 for text in pair.bytes())
+        return self.run_tables(programmes.replace("Köln-Lindenthal,", "Köln-Lindenthal"), residents.replace("Köln-Lindenthal,", "Köln-Lindenthal"))
+
+    def test_it_fits_on_three_screens(self) -> None:
+        out = self.long_names()
+        text = html.escape((out / "page.html").read_text(encoding="utf-8"))
+        measured = self.folder / "measured.html"
+        for width, least in ((390, 12), (820, 13), (1280, 13)):
+            measured.write_text(MEASURE % (width, text), encoding="utf-8")
+            dom = self.browse(measured, "--window-size=1400,1000", "--dump-dom")
+            inner, scroll, smallest, beyond = map(float, re.search(r'data-measured="([^"]*)"', dom).group(1).split())
+            self.assertEqual((inner, scroll, beyond), (width, width, 0))
+            self.assertGreaterEqual(smallest, least)
+
+    def test_it_prints_with_numbers_and_repeated_heads(self) -> None:
+        out = self.long_names()
+        self.browse(out / "page.html", "--no-pdf-header-footer", f"--print-to-pdf={self.folder / 'page.pdf'}")
+        data = (self.folder / "page.pdf").read_bytes()
+        pages = len(re.findall(rb"/Type\s*/Page\b", data))
+        self.assertTrue(5 <= pages <= 13, pages)
+        if shutil.which("pdftotext") is None:
+            self.skipTest(f"{pages} sheets; there is no pdftotext here to read them")
+        text = subprocess.run(["pdftotext", "-layout", str(self.folder / "page.pdf"), "-"], capture_output=True, check=True).stdout.decode()
+        sheets = text.split("\f")[:-1]
+        self.assertEqual(len(sheets), pages)
+        for number, sheet in enumerate(sheets, 1):
+            self.assertRegex(sheet.strip().splitlines()[-1], rf"^The match, 2026-03-20, docket [0-9a-f]{{16}}\s+{number} of {pages}$")
+            if re.search(r"\b(1st|2nd|3rd|4th|5th) of 5\b", sheet):
+                self.assertRegex(sheet, r"Resident\s+Programme\s+Choice")
+
+    def test_pictures(self) -> None:
+        out = self.folder / "match"
+        office("run", SAMPLES / "programmes.csv", SAMPLES / "residents.csv", "--out", out, "--date", "2026-03-20")
+        for name, size in (("report.png", "900,1160"), ("report-telephone.png", "390,844")):
+            picture = self.folder / name
+            self.browse(out / "page.html", f"--window-size={size}", f"--screenshot={picture}")
+            data = picture.read_bytes()
+            width, height = (int.from_bytes(data[place:place + 4], "big") for place in (16, 20))
+            self.assertEqual(f"{width},{height}", size)
+            if support.PICTURES:
+                shutil.copy(picture, TOP / "docs" / name)
+            self.assertTrue((TOP / "docs" / name).is_file(), "tests/office/run --pictures makes it")
+

@@ -1,0 +1,285 @@
+"""Tables in every form that an office saves them in give the docket that the plain ones give; and how they are read is told."""
+from typing import List
+
+import planted
+from residency.office import command
+from residency.office.headings import Words
+from support import PROGRAMMES, RESIDENTS, OfficeTest, office
+
+# The docket of the small tables, written by hand.
+DOCKET = """\
+Q,north-clinic,2
+Q,south-hospital,1
+Q,east-ward,1
+Q,west-infirmary,3
+P,north-clinic,ana-silva,kim-lee,zoe-bronte,jurgen-gross
+P,south-hospital,kim-lee,ana-silva,omar-haddad
+P,east-ward,zoe-bronte,omar-haddad,ana-silva,kim-lee
+P,west-infirmary,kim-lee
+R,ana-silva,south-hospital,north-clinic
+R,kim-lee,north-clinic,south-hospital,west-infirmary
+R,zoe-bronte,east-ward,north-clinic
+R,jurgen-gross,north-clinic
+R,omar-haddad,east-ward,south-hospital
+R,fatima-kovacs,west-infirmary,east-ward
+R,rosa-rossi
+"""
+
+
+def rows_of(docket: bytes) -> List[str]:
+    """A docket's rows; a programme's empty list may be written or not."""
+    return [line for line in docket.decode("ascii").splitlines() if not (line.startswith("P,") and line.count(",") == 1)]
+
+
+class Tables(OfficeTest):
+    def docket(self, programmes=PROGRAMMES, residents=RESIDENTS, *words: str) -> List[str]:
+        """The docket of two tables."""
+        given = command.parser().parse_args(["check", *self.tables(programmes, residents), *words])
+        _, market = command.read_tables(*given.files, command.options_of(given))
+        return rows_of(market.docket())
+
+    def same(self, *tables) -> None:
+        self.assertEqual(self.docket(*tables), DOCKET.splitlines())
+
+    def faults(self, programmes=PROGRAMMES, residents=RESIDENTS, *words: str) -> List[str]:
+        said = office("check", *self.tables(programmes, residents), *words)
+        self.assertEqual((said.status, said.err), (3, ""))
+        return said.out.splitlines()[2:]
+
+
+class Forms(Tables):
+    def test_delimiters_character_sets_and_line_ends(self) -> None:
+        for mark, title in ((",", "commas"), (";", "semicolons"), ("\t", "tabs"), ("|", "bars")):
+            for encoding, called in (("utf-8", "UTF-8"), ("utf-8-sig", "UTF-8"), ("utf-16", "UTF-16"), ("utf-16-le", "UTF-16"),
+                                     ("utf-16-be", "UTF-16"), ("utf-32", "UTF-32"), ("cp1252", "Windows-1252")):
+                for end in ("\n", "\r\n", "\r"):
+                    texts = [text.replace(",", mark).replace("\n", end).replace("á", "a").encode(encoding)
+                             for text in (PROGRAMMES, RESIDENTS)]
+                    self.assertEqual(self.docket(*texts), DOCKET.splitlines(), (mark, encoding, end))
+            said = office("check", *self.tables(*(text.replace(",", mark) for text in (PROGRAMMES, RESIDENTS))))
+            self.assertIn(f"residents.csv, UTF-8, {title}, a row for each resident; 7 residents", said.out)
+
+    def test_the_character_set_is_told(self) -> None:
+        for encoding, called in (("utf-8-sig", "UTF-8"), ("utf-16", "UTF-16"), ("cp1252", "Windows-1252")):
+            said = office("check", *self.tables(PROGRAMMES.encode(encoding), RESIDENTS.encode(encoding)))
+            self.assertEqual(said.status, 0)
+            self.assertIn(f"programmes.csv, {called}, commas, a row for each programme; 4 programmes, 7 places", said.out)
+
+    def test_a_set_and_a_delimiter_may_be_named(self) -> None:
+        tables = [text.replace("Kovács", "Wójcik Łoś").replace("Zoë Brontë", "Zofia Brońta").replace(",", "~")
+                  .replace("ü", "u").replace("ß", "ss") for text in (PROGRAMMES, RESIDENTS)]
+        wanted = [row.replace("kovacs", "wojcik-los").replace("zoe-bronte", "zofia-bronta") for row in DOCKET.splitlines()]
+        self.assertEqual(self.docket(*(text.encode("cp1250") for text in tables), "--encoding", "cp1250", "--delimiter", "~"), wanted)
+        apart = [tables[0].replace("~", ";").encode("utf-8"), tables[1].encode("iso-8859-2")]
+        self.assertEqual(self.docket(*apart, "--encoding", "residents=latin2", "--delimiter", "residents=~"), wanted)
+        # Without its name the set is taken for Windows-1252, and names differ.
+        self.assertIn("no resident is named Zofia Brońta", self.faults(*apart, "--delimiter", "residents=~")[0])
+
+    def test_long_tables(self) -> None:
+        programmes, residents = ["Programme\tRank\tApplicant\tPlaces"], ["applicant,rank,programme"]
+        for line in PROGRAMMES.splitlines()[1:]:
+            name, places, *listed = line.rstrip(",").split(",")
+            programmes += [f"{name}\t{rank}\t{one}\t{places if rank == 1 else ''}" for rank, one in enumerate(listed, 1)]
+        for line in RESIDENTS.splitlines()[1:]:
+            name, *listed = line.rstrip(",").split(",")
+            residents += [f"{name},{rank},{one}" for rank, one in enumerate(listed, 1)] or [f"{name},,"]
+        self.same("\n".join(programmes), "\n".join(residents))
+        # Rows in another order say the same of each list; members come in the order of their first rows.
+        self.assertEqual(sorted(self.docket("\n".join([programmes[0]] + programmes[:0:-1]), "\n".join([residents[0]] + residents[:0:-1]))),
+                         sorted(DOCKET.splitlines()))
+        # A long table and a wide one go together.
+        self.same("\n".join(programmes), RESIDENTS)
+        said = office("check", *self.tables("\n".join(programmes), "\n".join(residents)))
+        self.assertIn("programmes.csv, UTF-8, tabs, a row for each rank; 4 programmes, 7 places", said.out)
+
+    def test_a_line_sep_is_what_it_is(self) -> None:
+        for first in ("sep=;\r\n", '"sep=;"\r\n', "SEP=;\n"):
+            self.same(first + PROGRAMMES.replace(",", ";"), RESIDENTS)
+        faults = self.faults(PROGRAMMES, "sep=;\n" + RESIDENTS.replace(",", ";").replace("East Ward", "East World"))
+        self.assertIn("residents, row 4, cell 2 (B4): no programme is named East World", faults[0])
+
+    def test_names_with_the_other_tables_marks(self) -> None:
+        wanted = [row.replace("kovacs", "kovacs-fatima").replace("fatima-kovacs-fatima", "kovacs-fatima") for row in DOCKET.splitlines()]
+        residents = RESIDENTS.replace(",", ";").replace("Fatima Kovács", "Kovács, Fatima")
+        self.assertEqual(self.docket(PROGRAMMES, residents), wanted)
+        self.assertEqual(self.docket(PROGRAMMES, RESIDENTS.replace("Fatima Kovács", '"Kovács, Fatima"')), wanted)
+
+    def test_quotes_spaces_and_unseen_letters(self) -> None:
+        self.same(PROGRAMMES.replace("Zoë Brontë", '"Zoe\u0308   Bronte\u0308\u200b"'), RESIDENTS.replace("Zoë Brontë", "\u00a0Zoë\u00a0Brontë\ufeff "))
+        self.same(PROGRAMMES.replace("North Clinic", '"North Clinic"'), RESIDENTS)
+        self.same("\n\n" + PROGRAMMES + ",,,\n\n", RESIDENTS.replace("\n", "\n\n"))
+
+    def test_leading_zeros_and_points_of_places(self) -> None:
+        for places in ("0000000000003", "3.0", " 3 ", "003.000"):
+            self.same(PROGRAMMES.replace("West Infirmary,3", f"West Infirmary,{places}"), RESIDENTS)
+
+    def test_other_headings(self) -> None:
+        self.same(PROGRAMMES.replace("Programme,Places", "HOSPITAL,Number of places"), RESIDENTS)
+        self.same(PROGRAMMES.replace("Rank 1,Rank 2", "1st choice,Choice 2"), RESIDENTS.replace("Applicant,Rank 1,Rank 2,Rank 3", "Name,First,2,Programme 3"))
+        words = ("--heading", "rank=Rang", "--heading", "places=Plätze", "--heading", "resident=Bewerber*in", "--ignore", "E-Mail")
+        residents = "\n".join(f"{line},{'E-Mail' if not number else 'x@example.org'}" for number, line in
+                              enumerate(RESIDENTS.replace("Rank", "Rang").replace("Applicant", "Bewerber*in").splitlines()))
+        self.assertEqual(self.docket(PROGRAMMES.replace("Rank", "Rang").replace("Places", "Plätze"), residents, *words), DOCKET.splitlines())
+
+    def test_ranks_stand_in_the_order_of_their_numbers(self) -> None:
+        turned = "\n".join(",".join([line.split(",")[0], *line.split(",")[:0:-1]]) for line in RESIDENTS.splitlines())
+        self.assertEqual(turned.splitlines()[0], "Applicant,Rank 3,Rank 2,Rank 1")
+        self.same(PROGRAMMES, turned)
+
+    def test_a_rank_that_is_left_out_is_noted(self) -> None:
+        said = office("check", *self.tables(PROGRAMMES.replace("South Hospital,1,Kim Lee,Ana", "South Hospital,1,Kim Lee,,Ana")
+                                            .replace("Silva,Omar Haddad,", "Silva,Omar Haddad"), RESIDENTS))
+        self.assertEqual(said.status, 0)
+        self.assertIn("note: programmes: 1 lists leave out a rank, and what follows moves up; the first is that of South Hospital in row 3", said.out)
+        residents = "Applicant,Rank,Programme\nAna,1,North\nAna,3,South\n"
+        programmes = "Programme,Places,Rank 1\nNorth,1,Ana\nSouth,1,Ana\n"
+        self.assertIn("Ana has no rank 2", self.faults(programmes, residents)[0])
+        self.assertEqual(self.docket(programmes, residents, "--allow-gaps")[-1], "R,ana,north,south")
+
+
+class Ids(Tables):
+    """Two people of one name."""
+
+    PROGRAMMES = "Programme,Places,1,2\nNorth,1,A17,A18\nSouth,1,Ana Silva (A18),Kim Lee\n"
+    RESIDENTS = "ID,Applicant,1,2\nA17,Ana Silva,North,South\nA18,Ana Silva,South,North\nA19,Kim Lee,South,\n"
+
+    def test_wide(self) -> None:
+        wanted = ["Q,north,1", "Q,south,1", "P,north,A17,A18", "P,south,A18,A19", "R,A17,north,south", "R,A18,south,north", "R,A19,south"]
+        self.assertEqual(self.docket(self.PROGRAMMES, self.RESIDENTS), wanted)
+        long = "Applicant,ID,Rank,Programme\nAna Silva,A17,1,North\nAna Silva,A18,1,South\nAna Silva,A17,2,South\nAna Silva,A18,2,North\nKim Lee,A19,1,South\n"
+        self.assertEqual(self.docket(self.PROGRAMMES, long), wanted)
+
+    def test_an_id_that_is_no_name_of_a_docket(self) -> None:
+        docket = self.docket(self.PROGRAMMES.replace("A17", "Nº 17"), self.RESIDENTS.replace("A17", "Nº 17"))
+        names = [row.split(",")[1] for row in docket if row.startswith("R,")]
+        self.assertEqual(len(set(names)), 3)
+        self.assertTrue(all(name.startswith(("ana-silva", "kim-lee")) for name in names), names)
+
+    def test_programmes_of_one_name(self) -> None:
+        programmes = "Programme,Code,Places,1\nSurgery,P1,1,Kim\nSurgery,P2,2,Kim\n"
+        self.assertEqual(self.docket(programmes, "Applicant,1,2\nKim,P2,Surgery (P1)\n"), ["Q,P1,1", "Q,P2,2", "P,P1,kim", "P,P2,kim", "R,kim,P2,P1"])
+        self.assertIn("2 programmes may be meant by Surgery; write the ID, one of P1, P2", self.faults(programmes, "Applicant,1\nKim,Surgery\n")[0])
+
+    def test_without_ids(self) -> None:
+        residents = "Applicant,1\nAna Silva,North\nAna Silva,South\n"
+        faults = self.faults("Programme,Places,1\nNorth,1,Ana Silva\nSouth,1,\n", residents)
+        self.assertEqual(faults[0], "residents, row 3, cell 1 (A3): Ana Silva has a row before, row 2; if these are two, a column headed ID tells them apart")
+
+
+class Near(Tables):
+    """A name that nobody has is told with the one that is meant, and never with one that isn't."""
+
+    def hint(self, known: List[str], wrong: str) -> str:
+        residents = "Applicant;1\n" + "".join(f"{name};North\n" for name in known)
+        line = self.faults(f"Programme;Places;1\nNorth;1;{wrong}\n", residents)[0]
+        begin = f"programmes, row 2, cell 3 (C2): no resident is named {wrong}"
+        self.assertTrue(line.startswith(begin), line)
+        return line[len(begin):]
+
+    def test_likely_ones(self) -> None:
+        for known, wrong in (("Zoë O'Connor", "Zoe O'Connor"), ("Zoë O'Connor", "ZOË O'CONNOR"), ("Zoë O'Connor", "Zoë O’Connor"),
+                             ("Ana Silva", "Silva, Ana"), ("Kwame Mensah", "Kwame Mensa"), ("Kwame Mensah", "Kwame Mesnah"),
+                             ("Łukasz Kowalska", "Łukasz Kowlaska"), ("Mary-Ann de la Cruz", "Mary Ann de la Cruz"),
+                             ("Μαρία Παπαδοπούλου", "Μαρια Παπαδοπουλου"), ("Анна Каренина", "Анна Карелина")):
+            self.assertEqual(self.hint([known, "Rosa Rossi"], wrong), f"; is it {known}?")
+
+    def test_unlikely_ones(self) -> None:
+        for known, wrong in ((["Kovács, Fatima", "Kovács, Anna"], "Kovács, Kwame"), (["Hanna Abel"], "Ana Abel"), (["Omar Abel"], "Tomáš Abel"),
+                             (["Kim Lee"], "Kim Leung"), (["王小明"], "王大明"), (["Programme 1"], "Programme 2"), (["A1042"], "A1043"),
+                             (["Anna Berg", "Anne Berg"], "Annx Berg"), (["Rosa Rossi"], "Completely Another")):
+            self.assertEqual(self.hint(known, wrong), "", (known, wrong))
+
+
+class Reports(Tables):
+    def test_every_fault_at_once(self) -> None:
+        programmes = PROGRAMMES.replace("North Clinic,2", "North Clinic,two").replace("South Hospital,1,Kim Lee", "South Hospital,1,Kim Leigh")
+        residents = RESIDENTS.replace("Groß,North Clinic", "Groß,Nroth Clinic").replace("Omar Haddad,East Ward,South Hospital", "Omar Haddad,East Ward,East Ward")
+        self.assertEqual(self.faults(programmes, residents), [
+            "programmes, row 2, cell 2 (B2): two is no number of places",
+            "programmes, row 3, cell 3 (C3): no resident is named Kim Leigh",
+            "residents, row 5, cell 2 (B5): no programme is named Nroth Clinic; is it North Clinic?",
+            "residents, row 6, cell 3 (C6): East Ward is listed twice by Omar Haddad, as in cell 2",
+            "4 faults in the tables"])
+
+    def test_many_faults_are_told_in_20_lines_and_counted(self) -> None:
+        pair = planted.wide()
+        for number in range(1, 401):
+            pair.residents[number][1:3] = [f"Nowhere {number}", pair.residents[number][4]]
+        pair.programmes[5][1] = "x"
+        tables = pair.bytes()
+        lines = self.faults(*tables)
+        self.assertLessEqual(len(lines) + 2, 20)
+        self.assertEqual(lines[0], "programmes, row 6, cell 2 (B6): x is no number of places")
+        self.assertEqual(lines[-1], "801 faults in the tables")
+        more = [line for line in lines if line.startswith("and ")]
+        self.assertEqual(len(more), 2)
+        told = len(lines) - 1 - len(more)
+        self.assertEqual(sum(int(line.split()[1].replace(",", "")) for line in more) + told, 801)
+        every = self.faults(*tables, "--all")
+        self.assertEqual(len(every), 802)
+        self.assertEqual(len(set(every)), 802)
+
+    def test_one_cause_in_many_cells_is_one_line(self) -> None:
+        pair = planted.wide()
+        pair.programmes[2][0] = "Belvue"
+        cells = sum(row.count("Bellevue Surgery") for row in pair.residents)
+        lines = self.faults(*pair.bytes())
+        self.assertEqual(len(lines), 2)
+        self.assertIn(f"(also in D5, F7, C10 and {cells - 4} more cells)", lines[0])
+
+    def test_no_raw_bytes_reach_the_terminal(self) -> None:
+        for text in (self.faults(PROGRAMMES.replace("Kim Lee", "Kim\x1b[31m Lee\x07"), RESIDENTS),
+                     self.faults(PROGRAMMES.replace("Kim Lee", "\u202eKim \u2066Leee"), RESIDENTS)):
+            self.assertTrue(all(line.isprintable() for line in text), text)
+
+    def test_wrong_words_on_the_command_line(self) -> None:
+        files = self.tables()
+        for words, cause in ((["--encoding", "klingon"], "no character set is named klingon"), (["--encoding", "base64"], "no character set"),
+                             (["--delimiter", "ab"], "ab parts no cells"), (["--delimiter", '"'], "parts no cells"),
+                             (["--heading", "places"], "it is ROLE=WORD"), (["--heading", "beds=Beds"], "it is ROLE=WORD")):
+            said = office("check", *files, *words)
+            self.assertEqual((said.status, said.out), (2, ""), said)
+            self.assertTrue(said.err.startswith("office: ") and cause in said.err, said.err)
+        self.assertEqual(office("check", *files, files[0]).status, 2)
+
+    def test_files_that_cant_be_read(self) -> None:
+        files = self.tables()
+        for path, cause in ((str(self.folder / "nowhere.csv"), "no such file"), (str(self.folder), "is a directory"), ("a\0b", "no path")):
+            for words in (["check", path, files[1]], ["check", files[0], path], ["check", path], ["lint", path],
+                          ["run", path, files[1], "--out", str(self.folder / "out")]):
+                said = office(*words)
+                self.assertEqual((said.status, said.out), (1, ""), said)
+                self.assertTrue(said.err.startswith("office: ") and cause in said.err.lower(), said.err)
+        self.assertEqual(self.left(), [])
+        self.assertIn("more than 256 MB", office("check", "/dev/zero", files[1]).err)
+
+
+class Limits(Tables):
+    def test_too_many_members(self) -> None:
+        programmes = "Programme,Places,1\n" + "".join(f"P {number},1,\n" for number in range(2001))
+        residents = "Applicant,1\n" + "".join(f"R {number},\n" for number in range(20001))
+        self.assertEqual(self.faults(programmes, "Applicant,1\nKim,\n")[0], "programmes, row 2002, cell 1 (A2002): more than 2,000 programmes")
+        self.assertEqual(self.faults("Programme,Places,1\nNorth,1,\n", residents)[0], "residents, row 20002, cell 1 (A20002): more than 20,000 residents")
+
+    def test_too_many_pairs(self) -> None:
+        programmes = ["Programme,Places," + ",".join(map(str, range(1, 2002)))] + [
+            f"P{number},1," + ",".join(f"R{one}" for one in range(2001)) for number in range(100)]
+        residents = ["Applicant," + ",".join(map(str, range(1, 101)))] + [
+            f"R{number}," + ",".join(f"P{one}" for one in range(100)) for number in range(2001)]
+        self.assertEqual(self.faults("\n".join(programmes), "\n".join(residents))[0], "programmes: 200,100 pairs rank one another, more than 200,000")
+        residents[-1] = "R2000,P0"
+        self.assertEqual(self.faults("\n".join(programmes), "\n".join(residents))[0], "programmes: 200,001 pairs rank one another, more than 200,000")
+
+
+class Headings(Tables):
+    def test_both_tables_need_their_headings(self) -> None:
+        self.assertIn("a heading row is wanted, with Applicant, Rank 1, Rank 2, .. or Applicant, Rank, Programme",
+                      self.faults(PROGRAMMES, RESIDENTS.split("\n", 1)[1])[0])
+        self.assertIn("a heading row is wanted, with Programme, Places, Rank 1, Rank 2, ..", self.faults(PROGRAMMES.split("\n", 1)[1], RESIDENTS)[0])
+
+    def test_what_heads_a_rank(self) -> None:
+        words = Words(["rank=Wunsch"])
+        for heading, rank in (("Rank 1", 1), ("rank2", 2), ("Choice #3", 3), ("4", 4), ("5th choice", 5), ("2nd", 2), ("Second choice", 2),
+                              ("Tenth", 10), ("Programme 7", 7), ("Wunsch 12", 12), ("Rank 01", 1), ("Rank_3", 3), ("Rank (4)", 4),
+                              ("Rank", None), ("Rank 0", None), ("Email 2", None), ("Rank 1 2", None), ("First name", None), ("", None)):
+            self.assertEqual(words.rank(heading, "programme"), rank, heading)
