@@ -18,8 +18,15 @@ PROGRAMS = {"residency": "residency_cli", "residency-why": "residency_why"}
 FORM = 1
 
 
-def built(top: str, crate: str) -> str:
-    return f"{top}/crates/{crate}/out/{crate}"
+def built(top: str, name: str) -> str:
+    """Where a program is when it is built here."""
+    return f"{top}/crates/{PROGRAMS[name]}/out/{PROGRAMS[name]}"
+
+
+def tried(top: str, name: str) -> str:
+    """Where the program is that a trial is made of: what RESIDENCY_BIN tells, or what is built here."""
+    told = os.environ.get("RESIDENCY_BIN", "")
+    return f"{told}/{name}" if told else built(top, name)
 
 
 def sum_of(path: str) -> str:
@@ -32,7 +39,7 @@ def sum_of(path: str) -> str:
 
 
 def sums_of(top: str) -> Dict[str, str]:
-    return {name: sum_of(built(top, crate)) for name, crate in PROGRAMS.items()}
+    return {name: sum_of(built(top, name)) for name in PROGRAMS}
 
 
 def toolchain(top: str) -> str:

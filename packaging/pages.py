@@ -39,6 +39,13 @@ def within(text: str, folder: str, names: "set[str]") -> str:
     return LINK.sub(plain, text)
 
 
+def adapted(path: str, data: bytes, names: "set[str]") -> bytes:
+    """A file as the release has it, of whose paths these are: a page's programs are installed, and its links lead there."""
+    if not path.endswith(".md"):
+        return data
+    return installed(within(data.decode(), os.path.dirname(path), names)).encode()
+
+
 def release_pages(top: str) -> Dict[str, bytes]:
     """The pages by their paths, README.md first, and the pictures that they show."""
     def read(path: str) -> bytes:
@@ -59,5 +66,4 @@ def release_pages(top: str) -> Dict[str, bytes]:
             else:
                 pictures[path] = read(path)
     names = {*texts, *pictures, "CHANGELOG.md", "VERDICT"}
-    pages = {path: installed(within(text, os.path.dirname(path), names)).encode() for path, text in texts.items()}
-    return {**pages, **pictures}
+    return {**{path: adapted(path, text.encode(), names) for path, text in texts.items()}, **pictures}

@@ -8,6 +8,7 @@ import subprocess
 import time
 from typing import TYPE_CHECKING, List, Optional
 
+import checked
 import roots
 import tree
 
@@ -182,10 +183,13 @@ def seconds_of(words: List[str]) -> float:
     return time.perf_counter() - start
 
 
-def cost(trial: Trial) -> None:
+def cost(trial: Trial, folder: str) -> None:
     """What a start through ./residency takes over the program itself, at the best of many turns."""
-    program = f"{TOP}/crates/residency_cli/out/residency_cli"
+    copy_of("residency", "tools", "crates.txt", "crates", to=folder)
+    program = checked.built(folder, "residency")
+    os.makedirs(os.path.dirname(program))
+    shutil.copy(checked.tried(TOP, "residency"), program)
     os.environ.pop("RESIDENCY_BIN", None)
-    turns = [(seconds_of([f"{TOP}/residency", "--version"]), seconds_of([program, "--version"])) for _ in range(41)]
+    turns = [(seconds_of([f"{folder}/residency", "--version"]), seconds_of([program, "--version"])) for _ in range(41)]
     over = min(turn[0] for turn in turns) - min(turn[1] for turn in turns)
     trial.tell(over <= MOST_COST, f"a start through ./residency costs {over * 1000:.1f} ms over the program")

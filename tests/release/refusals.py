@@ -8,6 +8,7 @@ import subprocess
 import tarfile
 from typing import TYPE_CHECKING, List, Tuple
 
+import checked
 import launchers
 
 if TYPE_CHECKING:
@@ -25,9 +26,9 @@ class Scratch:
         launchers.copy_of(".", to=folder)
         self.run("git", "init", "--quiet")
         self.commit()
-        for crate in ("residency_cli", "residency_why"):
-            os.makedirs(f"{folder}/crates/{crate}/out")
-            shutil.copy(f"{TOP}/crates/{crate}/out/{crate}", f"{folder}/crates/{crate}/out/{crate}")
+        for name in checked.PROGRAMS:
+            os.makedirs(os.path.dirname(checked.built(folder, name)))
+            shutil.copy(checked.tried(TOP, name), checked.built(folder, name))
 
     def run(self, *words: str, at: str = "") -> Tuple[int, str, str]:
         ran = subprocess.run(words, cwd=at or self.folder, capture_output=True, text=True, check=False)
@@ -108,10 +109,10 @@ def try_all(trial: Trial, folder: str) -> None:
     scratch.commit()
     trial.tell("changed meanwhile" in scratch.run("packaging/checked.py", "end")[1], "a commit while ./check runs")
     scratch.check()
-    for crate, name in (("residency_cli", "residency"), ("residency_why", "residency-why")):
-        path = f"{scratch.folder}/crates/{crate}/out/{crate}"
+    for name in checked.PROGRAMS:
+        path = checked.built(scratch.folder, name)
         kept = bytes_of(path)
-        scratch.append(f"crates/{crate}/out/{crate}", "x")
+        scratch.append(os.path.relpath(path, scratch.folder), "x")
         scratch.refuses(f"{name} isn't the program that ./check built", f"of another {name}")
         os.remove(path)
         scratch.refuses(f"{name} isn't built", f"without {name}")
