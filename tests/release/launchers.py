@@ -51,7 +51,7 @@ def without_toolchain(trial: Trial, root: roots.Root, release: str) -> None:
         return
     at = f"{root.home}/work/clone"
     clone = root.path(at)
-    copy_of("residency", "why", "office", "tools", "docs/help", "crates.txt", "crates", "examples", to=clone)
+    copy_of("residency", "why", "office", "python", "tools", "docs/help", "crates.txt", "crates", "examples", to=clone)
     docket = "< examples/two-by-two.csv"
     starts = ["./residency match " + docket, "./why x " + docket, "./office run examples/office/programmes.csv examples/office/residents.csv --out new"]
 
@@ -64,8 +64,14 @@ def without_toolchain(trial: Trial, root: roots.Root, release: str) -> None:
         refused(line, b"the toolchain (rt) that builds it is missing; a release has it")
         refused(line, b"RESIDENCY_BIN is /nowhere", RESIDENCY_BIN="/nowhere")
     refused(starts[0], b"RESIDENCY_BIN is ", RESIDENCY_BIN=at)
-    with open(f"{TOP}/docs/help/help.txt", "rb") as file:
-        trial.same(root.run("./residency --help", at)[:2], (0, file.read()), "./residency --help of a clone with no program")
+    for path in sorted(os.listdir(f"{TOP}/docs/help")):
+        *said, last = path[:-len(".txt")].split("-")
+        name = "why" if said[:1] == ["why"] else "residency"
+        line = " ".join([*(it for it in said if it != "why"), f"--{last}"])
+        unbuilt, installed = root.run(f"./{name} {line}", at), root.run(f"{'residency-why' if name == 'why' else name} {line}", at)
+        trial.tell(unbuilt[0] == 0 and unbuilt == installed, f"./{name} {line} before the build: {unbuilt!r} is not {installed!r}")
+    if os.path.isdir(f"{clone}/python"):
+        trial.same(root.run("./office lint examples/two-by-two.csv", at)[:2], (0, b"no fault\n"), "./office lint with no program")
     trial.same(root.run("./residency --version", at)[1], b"residency " + root.run("tools/version", at)[1], "./residency --version of it")
     programs = f"{root.home}/.local/bin"
     for told in (programs, f"{programs}/residency"):
@@ -82,6 +88,7 @@ def without_toolchain(trial: Trial, root: roots.Root, release: str) -> None:
     shutil.copy(root.path(f"{release}/bin/residency"), program)
     find = some_tools(root, ["find"], "/find")
     trial.same(root.run(starts[0], at, first=find)[:2], (0, SHEET), "./residency that is built")
+    refused(starts[0], b"RESIDENCY_BIN is /nowhere", RESIDENCY_BIN="/nowhere")
     os.utime(program, (1, 1))
     status, out, err = root.run(starts[0], at, first=find)
     trial.tell((status, out) == (1, b"") and b"is older than crates" in err and err.count(b"\n") == 1, f"./residency that is old: {err!r}")
