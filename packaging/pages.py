@@ -9,8 +9,8 @@ BEGIN, END = "<!-- for users -->", "<!-- for all others -->"
 # Pages that users' pages name, and that are for whoever works on the programs.
 NOT_FOR_USERS = ("docs/DECISIONS", "docs/decisions", "docs/architecture", "docs/house")
 LINK = re.compile(r"(!?)\[([^\]]*)\]\(([^)#\s]*)(#[^)]*)?\)")
-LAUNCHERS = {"./residency": "residency", "./why": "residency-why", "./office": "office"}
-LAUNCHER = re.compile(r"\./(?:residency|why|office)\b(?![/-])")
+INSTALLED = {"./residency": "residency", "./why": "residency-why", "./office": "office", "./python": "~/.local/lib/residency/python"}
+OF_CLONE = re.compile(r"\./(?:residency|why|office|python)\b(?![/-])")
 
 
 def users_part(text: str) -> str:
@@ -22,8 +22,8 @@ def users_part(text: str) -> str:
 
 
 def installed(text: str) -> str:
-    """A page's text with the programs as they are called once they are installed."""
-    return LAUNCHER.sub(lambda found: LAUNCHERS[found[0]], text)
+    """A page's text with the programs as they are called once they are installed, and the package where it is then."""
+    return OF_CLONE.sub(lambda found: INSTALLED[found[0]], text)
 
 
 def targets_of(text: str, folder: str) -> List[str]:

@@ -22,8 +22,10 @@ def _field(name: str) -> str:
 
 
 def _version() -> str:
-    """The version of the programs, which stands in the clone alone."""
+    """The version of the programs: where it stands in a clone, or what a release wrote beside this file."""
     source = TOP.parent / "crates" / "version" / "src" / "lib.rt"
+    if not source.exists():
+        return (TOP / "VERSION").read_text(encoding="ascii").strip()
     found = re.search(r'VERSION: &str = "(.*)"', source.read_text(encoding="utf-8"))
     if found is None:
         raise ValueError(f"{source} has no version")
