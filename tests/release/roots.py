@@ -97,7 +97,7 @@ class Root:
         environment = {"HOME": self.home, "PATH": path, "LC_ALL": "C", **known}
         # `env` comes from outside, since the words before it have to be found there.
         ran = subprocess.run(["env", "-i", f"PATH={os.environ['PATH']}", *self.words_within(environment, words)], input=stdin,
-                             capture_output=True, timeout=120, check=False)
+                             capture_output=True, timeout=600, check=False)
         return ran.returncode, ran.stdout, ran.stderr
 
     def words_within(self, environment: "dict[str, str]", words: List[str]) -> List[str]:
