@@ -28,7 +28,8 @@ class Entry:
         braces = re.fullmatch(r"\{(.*)\}", self.value)
         if braces:
             return braces[1].split(",")
-        words = [it for it in self.value.strip("<>").split("|") if re.fullmatch(r"[a-z][a-z0-9-]*", it)] if "|" in self.value else []
+        several = self.value.strip("<>").split("|") if "|" in self.value else []
+        words = [it for it in several if re.fullmatch(r"[a-z][a-z0-9-]*", it)]
         span = RANGE.search(self.text)
         if span and int(span[2]) - int(span[1]) < 20:
             words += [str(it) for it in range(int(span[1]), int(span[2]) + 1)]
@@ -140,7 +141,8 @@ def read_help(text: str) -> Help:
 def help_text(call: Sequence[str], words: Sequence[str]) -> str:
     """What the program says to these words and --help, in lines as long as they come."""
     known = {**os.environ, "COLUMNS": "1000", "LC_ALL": "C.UTF-8", "NO_COLOR": "1"}
-    ran = subprocess.run([*call, *words, "--help"], capture_output=True, text=True, env=known, stdin=subprocess.DEVNULL, check=False)
+    ran = subprocess.run([*call, *words, "--help"], stdin=subprocess.DEVNULL, capture_output=True, text=True, env=known,
+                         check=False)
     if ran.returncode or not ran.stdout:
         raise ValueError(f"{' '.join([*call, *words])} --help ends with status {ran.returncode}: {ran.stderr.strip()}")
     return ran.stdout

@@ -9,7 +9,8 @@ BEGIN, END = "<!-- for users -->", "<!-- for all others -->"
 # Pages that users' pages name, and that are for whoever works on the programs.
 NOT_FOR_USERS = ("docs/DECISIONS", "docs/decisions", "docs/architecture", "docs/house")
 LINK = re.compile(r"(!?)\[([^\]]*)\]\(([^)#\s]*)(#[^)]*)?\)")
-INSTALLED = {"./residency": "residency", "./why": "residency-why", "./office": "office", "./python": "~/.local/lib/residency/python"}
+INSTALLED = {"./residency": "residency", "./why": "residency-why", "./office": "office",
+             "./python": "~/.local/lib/residency/python"}
 OF_CLONE = re.compile(r"\./(?:residency|why|office|python)\b(?![/-])")
 
 

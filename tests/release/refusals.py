@@ -36,7 +36,8 @@ class Scratch:
 
     def commit(self) -> None:
         self.run("git", "add", "--all")
-        self.run("git", "-c", "user.name=test", "-c", "user.email=test@example.org", "commit", "--quiet", "--allow-empty", "-m", "A trial")
+        who = ["-c", "user.name=test", "-c", "user.email=test@example.org"]
+        self.run("git", *who, "commit", "--quiet", "--allow-empty", "-m", "A trial")
 
     def append(self, path: str, text: str) -> None:
         with open(f"{self.folder}/{path}", "a") as file:
@@ -77,7 +78,7 @@ def makes(trial: Trial, scratch: Scratch) -> None:
         member = next(it for it in tar.getnames() if it.endswith("/VERDICT"))
         text = tar.extractfile(member).read().decode()  # type: ignore[union-attr]
     commit = scratch.run("git", "rev-parse", "HEAD")[1].strip()
-    toolchain = scratch.run("rt", "version")[1].strip() if shutil.which("rt") else scratch.run("/opt/rattle/bin/rt", "version")[1].strip()
+    toolchain = scratch.run(shutil.which("rt") or "/opt/rattle/bin/rt", "version")[1].strip()
     for wanted in (commit, toolchain, PART, "What is trusted:"):
         trial.tell(bool(wanted) and wanted in text, f"VERDICT without {wanted!r}")
     trial.tell("NO VERDICT" not in text, "VERDICT of a release")
