@@ -7,32 +7,26 @@ from __future__ import annotations
 import hashlib
 import json
 import os
-import subprocess
 import sys
 from typing import Any, Dict, List, Optional
+
+sys.dont_write_bytecode = True
+from tree import said_by, state_of  # noqa: E402
 
 PROGRAMS = {"residency": "residency_cli", "residency-why": "residency_why"}
 # A note names one, so a note that an earlier form of this file left is none.
 FORM = 1
 
 
-def said_by(top: str, *words: str) -> str:
-    """What a command says, or no text where it fails or is missing."""
-    try:
-        ran = subprocess.run(words, cwd=top, capture_output=True, text=True, stdin=subprocess.DEVNULL, check=False)
-    except OSError:
-        return ""
-    return ran.stdout.strip() if ran.returncode == 0 else ""
+def built(top: str, name: str) -> str:
+    """Where a program is when it is built here."""
+    return f"{top}/crates/{PROGRAMS[name]}/out/{PROGRAMS[name]}"
 
 
-def state_of(top: str) -> Dict[str, str]:
-    """The commit and its tree that are checked out, and what isn't committed of the files that lie there."""
-    return {"commit": said_by(top, "git", "rev-parse", "HEAD"), "tree": said_by(top, "git", "rev-parse", "HEAD^{tree}"),
-            "changed": said_by(top, "git", "status", "--porcelain")}
-
-
-def built(top: str, crate: str) -> str:
-    return f"{top}/crates/{crate}/out/{crate}"
+def tried(top: str, name: str) -> str:
+    """Where the program is that a trial is made of: what RESIDENCY_BIN tells, or what is built here."""
+    told = os.environ.get("RESIDENCY_BIN", "")
+    return f"{told}/{name}" if told else built(top, name)
 
 
 def sum_of(path: str) -> str:
@@ -45,7 +39,7 @@ def sum_of(path: str) -> str:
 
 
 def sums_of(top: str) -> Dict[str, str]:
-    return {name: sum_of(built(top, crate)) for name, crate in PROGRAMS.items()}
+    return {name: sum_of(built(top, name)) for name in PROGRAMS}
 
 
 def toolchain(top: str) -> str:

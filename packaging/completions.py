@@ -18,7 +18,7 @@ def parts_of(program: Program) -> List[Tuple[str, Help]]:
 
 def takes_files(program: Program, command: str) -> bool:
     """Whether words that are no options may be files."""
-    return bool(command) and any(argument.takes_file() for argument in program.commands[command].arguments)
+    return any(argument.takes_file() for argument in dict(parts_of(program))[command].arguments)
 
 
 def bash(program: Program) -> str:
@@ -65,6 +65,11 @@ def zsh_option(option: Entry) -> str:
     return f"{names}'[{in_brackets(option.text)}]{value}'"
 
 
+def zsh_rest(program: Program, command: str) -> str:
+    """What words that are no options may be."""
+    return "'*:file:_files'" if takes_files(program, command) else "'*: : '"
+
+
 def zsh(program: Program) -> str:
     lines = [f"#compdef {program.name}", f"# Completions of {program.name} for zsh, made from its --help.", "",
              "local curcontext=$curcontext state line", "typeset -A opt_args"]
@@ -74,13 +79,13 @@ def zsh(program: Program) -> str:
         return [f"{indent}_arguments -C \\", *(f"{indent}    {part} \\" for part in parts[:-1]), f"{indent}    {parts[-1]}"]
 
     if not program.top.commands:
-        return "\n".join([*lines, *arguments(program.top, "", ["'*:word:_files'"])]) + "\n"
+        return "\n".join([*lines, *arguments(program.top, "", [zsh_rest(program, "")])]) + "\n"
     lines += arguments(program.top, "", ["'1:command:->command'", "'*::word:->words'"])
     lines += ["case $state in", "command)", "    local -a commands=("]
     lines += [f"        '{entry.names[0]}:{in_brackets(entry.text)}'" for entry in program.top.commands]
     lines += ["    )", "    _describe command commands", "    ;;", "words)", "    case $line[1] in"]
     for command, help_ in program.commands.items():
-        lines += [f"    {command})", *arguments(help_, "        ", ["'*:file:_files'"] if takes_files(program, command) else ["'*: : '"]), "        ;;"]
+        lines += [f"    {command})", *arguments(help_, "        ", [zsh_rest(program, command)]), "        ;;"]
     if "help" in words_of(program.top):
         lines += [f"    help) compadd {' '.join(program.commands)} ;;"]
     return "\n".join([*lines, "    esac", "    ;;", "esac"]) + "\n"

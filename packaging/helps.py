@@ -28,7 +28,8 @@ class Entry:
         braces = re.fullmatch(r"\{(.*)\}", self.value)
         if braces:
             return braces[1].split(",")
-        words = [it for it in self.value.strip("<>").split("|") if re.fullmatch(r"[a-z][a-z0-9-]*", it)] if "|" in self.value else []
+        several = self.value.strip("<>").split("|") if "|" in self.value else []
+        words = [it for it in several if re.fullmatch(r"[a-z][a-z0-9-]*", it)]
         span = RANGE.search(self.text)
         if span and int(span[2]) - int(span[1]) < 20:
             words += [str(it) for it in range(int(span[1]), int(span[2]) + 1)]
@@ -42,7 +43,7 @@ class Entry:
 class Help:
     """What --help says of a program or of one of its commands."""
 
-    usage: str = ""
+    usages: List[str] = field(default_factory=list)
     prose: List[List[str]] = field(default_factory=list)
     commands: List[Entry] = field(default_factory=list)
     arguments: List[Entry] = field(default_factory=list)
@@ -102,6 +103,17 @@ def entries_of(lines: Sequence[str], are_options: bool) -> List[Tuple[int, Entry
     return entries
 
 
+def usages_of(lines: Sequence[str]) -> List[str]:
+    """Each way to call it: a line that doesn't begin with the program's name goes on with the one before."""
+    name, found = lines[0].split()[0], []
+    for line in lines:
+        if line.split()[0] == name:
+            found.append(line)
+        else:
+            found[-1] += " " + line
+    return found
+
+
 def read_help(text: str) -> Help:
     """The help's parts. ValueError where a line fits none."""
     made = Help()
@@ -109,7 +121,7 @@ def read_help(text: str) -> Help:
         head = block[0]
         kind = HEADINGS.get(head[:-1].lower(), "") if head.endswith(":") else ""
         if head.lower().startswith("usage:"):
-            made.usage = " ".join(it.strip() for it in [head[len("usage:"):], *block[1:]]).strip()
+            made.usages = usages_of([head[len("usage:"):].strip(), *(it.strip() for it in block[1:])])
         elif kind:
             entries = entries_of(block[1:], kind == "options")
             least = min(indent for indent, _ in entries)
@@ -121,7 +133,7 @@ def read_help(text: str) -> Help:
                     (made.commands if is_command else getattr(made, kind)).append(entry)
         else:
             made.prose.append(block)
-    if not made.usage or not made.options:
+    if not made.usages or not made.options:
         raise ValueError("a help without a usage or without options")
     return made
 
@@ -129,7 +141,8 @@ def read_help(text: str) -> Help:
 def help_text(call: Sequence[str], words: Sequence[str]) -> str:
     """What the program says to these words and --help, in lines as long as they come."""
     known = {**os.environ, "COLUMNS": "1000", "LC_ALL": "C.UTF-8", "NO_COLOR": "1"}
-    ran = subprocess.run([*call, *words, "--help"], capture_output=True, text=True, env=known, stdin=subprocess.DEVNULL, check=False)
+    ran = subprocess.run([*call, *words, "--help"], stdin=subprocess.DEVNULL, capture_output=True, text=True, env=known,
+                         check=False)
     if ran.returncode or not ran.stdout:
         raise ValueError(f"{' '.join([*call, *words])} --help ends with status {ran.returncode}: {ran.stderr.strip()}")
     return ran.stdout

@@ -93,9 +93,8 @@ def manual_page(program: Program, version: str, date: str, others: Sequence[str]
     name, top = program.name, program.top
     lines = [f".\\\" Made from what {name} --help says.", f'.TH {name.upper()} 1 "{date}" "residency {version}" "Residency"',
              ".SH NAME", *filled(f"{name} - {sentence(top.about())}"), ".SH SYNOPSIS"]
-    lines += filled(top.usage)
-    for help_ in program.commands.values():
-        lines += [".br", *filled(help_.usage)]
+    for place, usage in enumerate(usage for help_ in [top, *program.commands.values()] for usage in help_.usages):
+        lines += ([".br"] if place else []) + filled(usage)
     lines += [".SH DESCRIPTION", *filled(top.about()), *body(top, top.prose[1:], ".SH")]
     if program.commands:
         lines.append(".SH COMMANDS")

@@ -9,8 +9,9 @@ BEGIN, END = "<!-- for users -->", "<!-- for all others -->"
 # Pages that users' pages name, and that are for whoever works on the programs.
 NOT_FOR_USERS = ("docs/DECISIONS", "docs/decisions", "docs/architecture", "docs/house")
 LINK = re.compile(r"(!?)\[([^\]]*)\]\(([^)#\s]*)(#[^)]*)?\)")
-LAUNCHERS = {"./residency": "residency", "./why": "residency-why", "./office": "office"}
-LAUNCHER = re.compile(r"\./(?:residency|why|office)\b(?![/-])")
+INSTALLED = {"./residency": "residency", "./why": "residency-why", "./office": "office",
+             "./python": "~/.local/lib/residency/python"}
+OF_CLONE = re.compile(r"\./(?:residency|why|office|python)\b(?![/-])")
 
 
 def users_part(text: str) -> str:
@@ -22,8 +23,8 @@ def users_part(text: str) -> str:
 
 
 def installed(text: str) -> str:
-    """A page's text with the programs as they are called once they are installed."""
-    return LAUNCHER.sub(lambda found: LAUNCHERS[found[0]], text)
+    """A page's text with the programs as they are called once they are installed, and the package where it is then."""
+    return OF_CLONE.sub(lambda found: INSTALLED[found[0]], text)
 
 
 def targets_of(text: str, folder: str) -> List[str]:
@@ -37,6 +38,13 @@ def within(text: str, folder: str, names: "set[str]") -> str:
         is_there = not found[3] or "://" in found[3] or os.path.normpath(os.path.join(folder, found[3])) in names
         return found[0] if is_there else found[2]
     return LINK.sub(plain, text)
+
+
+def adapted(path: str, data: bytes, names: "set[str]") -> bytes:
+    """A file as the release has it, of whose paths these are: a page's programs are installed, and its links lead there."""
+    if not path.endswith(".md"):
+        return data
+    return installed(within(data.decode(), os.path.dirname(path), names)).encode()
 
 
 def release_pages(top: str) -> Dict[str, bytes]:
@@ -59,5 +67,4 @@ def release_pages(top: str) -> Dict[str, bytes]:
             else:
                 pictures[path] = read(path)
     names = {*texts, *pictures, "CHANGELOG.md", "VERDICT"}
-    pages = {path: installed(within(text, os.path.dirname(path), names)).encode() for path, text in texts.items()}
-    return {**pages, **pictures}
+    return {**{path: adapted(path, text.encode(), names) for path, text in texts.items()}, **pictures}

@@ -21,12 +21,23 @@ def _field(name: str) -> str:
     return found.group(1)
 
 
+def _version() -> str:
+    """The version of the programs: where it stands in a clone, or what a release wrote beside this file."""
+    source = TOP.parent / "crates" / "version" / "src" / "lib.rt"
+    if not source.exists():
+        return (TOP / "VERSION").read_text(encoding="ascii").strip()
+    found = re.search(r'VERSION: &str = "(.*)"', source.read_text(encoding="utf-8"))
+    if found is None:
+        raise ValueError(f"{source} has no version")
+    return found.group(1)
+
+
 def _named() -> str:
-    return f"{_field('name')}-{_field('version')}"
+    return f"{_field('name')}-{_version()}"
 
 
 def _metadata() -> str:
-    return (f"Metadata-Version: 2.1\nName: {_field('name')}\nVersion: {_field('version')}\nSummary: {_field('description')}\n"
+    return (f"Metadata-Version: 2.1\nName: {_field('name')}\nVersion: {_version()}\nSummary: {_field('description')}\n"
             f"Requires-Python: {_field('requires-python')}\n")
 
 

@@ -8,7 +8,9 @@ import subprocess
 import time
 from typing import TYPE_CHECKING, List, Optional
 
+import checked
 import roots
+import tree
 
 if TYPE_CHECKING:
     from typing import Protocol
@@ -20,6 +22,8 @@ if TYPE_CHECKING:
 
 TOP = os.path.dirname(os.path.dirname(os.path.dirname(os.path.abspath(__file__))))
 SHEET = b"M,x,a\nM,y,b\nF,a,1,1\nF,b,1,1\n"
+MATCH = "./residency match < examples/two-by-two.csv"
+RUN = "./office run examples/office/programmes.csv examples/office/residents.csv --out new"
 # The most that a start through ./residency may cost over the program itself, in seconds.
 MOST_COST = 0.020
 
@@ -35,71 +39,98 @@ def unpackers(root: roots.Root) -> str:
     return some_tools(root, ["tar", "gzip"], "/unpack")
 
 
-def tracked(*folders: str) -> List[str]:
-    ran = subprocess.run(["git", "-C", TOP, "ls-files", "--", *folders], capture_output=True, text=True, check=True)
-    return [path for path in ran.stdout.splitlines() if os.path.isfile(f"{TOP}/{path}")]
-
-
 def copy_of(*folders: str, to: str) -> None:
-    """Copies the files that git knows, as they lie here."""
-    for path in tracked(*folders):
+    """Copies the files of the repository, as they lie here."""
+    for path in tree.listed(TOP, *folders):
         os.makedirs(os.path.dirname(f"{to}/{path}"), exist_ok=True)
         shutil.copy2(f"{TOP}/{path}", f"{to}/{path}")
 
 
+class Bare:
+    """A clone in a root that has no toolchain."""
+
+    def __init__(self, trial: Trial, root: roots.Root, release: str) -> None:
+        self.trial, self.root, self.release, self.at = trial, root, release, f"{root.home}/work/clone"
+        self.folder = root.path(self.at)
+        parts = ["residency", "why", "office", "python", "tools", "docs/help", "crates.txt", "crates", "examples"]
+        copy_of(*parts, to=self.folder)
+
+    def refused(self, line: str, wanted: bytes, **known: str) -> None:
+        """One line on standard error that says this, and status 1."""
+        status, out, err = self.root.run(line, self.at, **known)
+        self.trial.tell((status, out) == (1, b"") and err.count(b"\n") == 1 and err.startswith(b"residency: ") and wanted in err,
+                        f"{line} {known} ends with {status}, {out!r}, {err!r}")
+
+    def runs(self, what: str, **known: str) -> None:
+        """./residency and ./why run what is installed."""
+        found = self.root.run(MATCH, self.at, **known)[:2]
+        self.trial.same(found, (0, SHEET), f"./residency {what}")
+        found = self.root.run("./why --help", self.at, **known)[:2]
+        self.trial.same(found, self.root.run("residency-why --help", self.at)[:2], f"./why {what}")
+
+
 def without_toolchain(trial: Trial, root: roots.Root, release: str) -> None:
-    """One line and status 1 where there is no program; else the one that RESIDENCY_BIN tells, or an unpacked one beside the clone."""
+    """One line and status 1 where there is no program; else the one that RESIDENCY_BIN tells, or a release beside the clone."""
     if not root.words:
         trial.leave_out("launchers without a toolchain")
         return
-    at = f"{root.home}/work/clone"
-    clone = root.path(at)
-    copy_of("residency", "why", "office", "tools", "docs/help", "crates.txt", "crates", "examples", to=clone)
-    docket = "< examples/two-by-two.csv"
-    starts = ["./residency match " + docket, "./why x " + docket, "./office run examples/office/programmes.csv examples/office/residents.csv --out new"]
+    bare = Bare(trial, root, release)
+    for line in (MATCH, "./why x < examples/two-by-two.csv", RUN):
+        bare.refused(line, b"the toolchain (rt) that builds it is missing; a release has it")
+        bare.refused(line, b"RESIDENCY_BIN is /nowhere", RESIDENCY_BIN="/nowhere")
+    bare.refused(MATCH, b"RESIDENCY_BIN is ", RESIDENCY_BIN=bare.at)
+    unbuilt(bare)
+    for told in (f"{root.home}/.local/bin", f"{root.home}/.local/bin/residency"):
+        bare.runs(f"with RESIDENCY_BIN={told}", RESIDENCY_BIN=told)
+    beside = f"{os.path.dirname(bare.folder)}/{os.path.basename(release)}"
+    shutil.copytree(root.path(release), beside)
+    bare.runs("beside a release")
+    line = "cd .. && ln -s clone/residency link && ./link match < clone/examples/two-by-two.csv"
+    trial.same(root.run(line, bare.at)[:2], (0, SHEET), "a link to ./residency")
+    shutil.rmtree(beside)
+    built(bare)
+    shutil.rmtree(os.path.dirname(bare.folder))
 
-    def refused(line: str, wanted: bytes, **known: str) -> None:
-        status, out, err = root.run(line, at, **known)
-        trial.tell((status, out) == (1, b"") and err.count(b"\n") == 1 and err.startswith(b"residency: ") and wanted in err,
-                   f"{line} {known} ends with {status}, {out!r}, {err!r}")
 
-    for line in starts:
-        refused(line, b"the toolchain (rt) that builds it is missing; a release has it")
-        refused(line, b"RESIDENCY_BIN is /nowhere", RESIDENCY_BIN="/nowhere")
-    refused(starts[0], b"RESIDENCY_BIN is ", RESIDENCY_BIN=at)
-    with open(f"{TOP}/docs/help/help.txt", "rb") as file:
-        trial.same(root.run("./residency --help", at)[:2], (0, file.read()), "./residency --help of a clone with no program")
-    trial.same(root.run("./residency --version", at)[1], b"residency " + root.run("tools/version", at)[1], "./residency --version of it")
-    programs = f"{root.home}/.local/bin"
-    for told in (programs, f"{programs}/residency"):
-        trial.same(root.run(starts[0], at, RESIDENCY_BIN=told)[:2], (0, SHEET), f"./residency with RESIDENCY_BIN={told}")
-        trial.same(root.run("./why --help", at, RESIDENCY_BIN=told)[:2], root.run("residency-why --help", at)[:2], f"./why with RESIDENCY_BIN={told}")
-    shutil.copytree(root.path(release), f"{clone}/../{os.path.basename(release)}")
-    trial.same(root.run(starts[0], at)[:2], (0, SHEET), "./residency beside a release")
-    trial.same(root.run("./why --help", at)[:2], root.run("residency-why --help", at)[:2], "./why beside a release")
-    trial.same(root.run(f"cd .. && ln -s clone/residency link && ./link match < clone/{docket[2:]}", at)[:2], (0, SHEET), "a link to ./residency")
-    shutil.rmtree(f"{clone}/../{os.path.basename(release)}")
-    # A program that was built and is older than a source, and one that isn't.
-    program = f"{clone}/crates/residency_cli/out/residency_cli"
+def unbuilt(bare: Bare) -> None:
+    """What a clone says of its programs before they are built is what they say; the office's lint needs no program."""
+    root, at = bare.root, bare.at
+    for path in sorted(os.listdir(f"{TOP}/docs/help")):
+        *said, last = path[:-len(".txt")].split("-")
+        launcher, program = ("./why", "residency-why") if said[:1] == ["why"] else ("./residency", "residency")
+        line = " ".join([*(it for it in said if it != "why"), f"--{last}"])
+        before, after = root.run(f"{launcher} {line}", at), root.run(f"{program} {line}", at)
+        bare.trial.tell(before[0] == 0 and before == after, f"{launcher} {line} before the build: {before!r} is not {after!r}")
+    for launcher, program in (("./residency", "residency"), ("./why", "residency-why")):
+        before, after = root.run(f"{launcher} --version", at), root.run(f"{program} --version", at)
+        bare.trial.tell(before[0] == 0 and before == after, f"{launcher} --version before the build: {before!r} is not {after!r}")
+    if os.path.isdir(f"{bare.folder}/python"):
+        found = root.run("./office lint examples/two-by-two.csv", at)[:2]
+        bare.trial.same(found, (0, b"no fault\n"), "./office lint with no program")
+
+
+def built(bare: Bare) -> None:
+    """A program that is built is run, unless RESIDENCY_BIN tells another or a source is newer."""
+    program = checked.built(bare.folder, "residency")
     os.makedirs(os.path.dirname(program))
-    shutil.copy(root.path(f"{release}/bin/residency"), program)
-    find = some_tools(root, ["find"], "/find")
-    trial.same(root.run(starts[0], at, first=find)[:2], (0, SHEET), "./residency that is built")
+    shutil.copy(bare.root.path(f"{bare.release}/bin/residency"), program)
+    # A program that was built was built on a machine with find.
+    find = some_tools(bare.root, ["find"], "/find")
+    bare.trial.same(bare.root.run(MATCH, bare.at, first=find)[:2], (0, SHEET), "./residency that is built")
+    bare.refused(MATCH, b"RESIDENCY_BIN is /nowhere", RESIDENCY_BIN="/nowhere")
     os.utime(program, (1, 1))
-    status, out, err = root.run(starts[0], at, first=find)
-    trial.tell((status, out) == (1, b"") and b"is older than crates" in err and err.count(b"\n") == 1, f"./residency that is old: {err!r}")
-    shutil.rmtree(os.path.dirname(clone))
+    bare.refused(MATCH, b"is older than crates", first=find)
 
 
 STAND_IN = """#!/bin/bash
 # Stands in for what proves and builds: it notes its program, may touch a source meanwhile, and may fail.
 cd "$(dirname "$0")/.."
-echo "$1" >> built
+echo "$1" ${GLIBC_TUNABLES:+tuned} >> built
 [ ! -e fails ] || exit 1
 [ ! -e meanwhile ] || touch "$(cat meanwhile)"
 sleep 0.05
 mkdir -p "crates/$1/out"
-printf '#!/bin/sh\\necho "$@"\\n' > "crates/$1/out/$1"
+printf '#!/bin/sh\\necho "$@" ${GLIBC_TUNABLES:+tuned}\\n' > "crates/$1/out/$1"
 chmod +x "crates/$1/out/$1"
 """
 
@@ -113,7 +144,8 @@ class Clone:
         self.write("tools/build", STAND_IN)
         self.write("bin/rt", "#!/bin/sh\n")
         self.known = {**os.environ, "PATH": f"{folder}/bin:{os.environ['PATH']}"}
-        self.known.pop("RESIDENCY_BIN", None)
+        for name in ("RESIDENCY_BIN", "GLIBC_TUNABLES"):
+            self.known.pop(name, None)
 
     def write(self, path: str, text: str) -> None:
         os.makedirs(os.path.dirname(f"{self.folder}/{path}"), exist_ok=True)
@@ -123,7 +155,8 @@ class Clone:
 
     def start(self, launcher: str = "./residency", status: int = 0) -> None:
         ran = subprocess.run([launcher, "word"], cwd=self.folder, env=self.known, capture_output=True, text=True, check=False)
-        self.trial.same((ran.returncode, ran.stdout), (status, "" if status else "word\n"), f"{launcher} of a counted clone ({ran.stderr})")
+        says = "" if status else "word tuned\n" if launcher == "./residency" else "word\n"
+        self.trial.same((ran.returncode, ran.stdout), (status, says), f"{launcher} of a counted clone ({ran.stderr})")
 
     def builds(self) -> int:
         try:
@@ -150,8 +183,8 @@ def freshness(trial: Trial, folder: str) -> None:
     clone.after(None, 1, "nothing was built")
     clone.after(None, 0, "nothing")
     specs = os.path.relpath(glob.glob(f"{folder}/crates/docket/specs/*.antt")[0], folder)
-    for path in ("crates/match_model/src/lib.rt", specs, "crates.txt", "crates/residency_cli/src/main.rt", "crates/version/src/lib.rt",
-                 "crates/docket/src/new.rt"):
+    for path in ("crates/match_model/src/lib.rt", specs, "crates.txt", "crates/residency_cli/src/main.rt",
+                 "crates/version/src/lib.rt", "crates/docket/src/new.rt"):
         clone.after(path, 1, f"{path} changed")
     proof = os.path.relpath(glob.glob(f"{folder}/crates/match_model/proofs/*.antt")[0], folder)
     for path in (proof, "crates/residency_why/src/main.rt", "crates/samples/src/lib.rt", "crates/docket/src/new.rt~"):
@@ -174,6 +207,8 @@ def freshness(trial: Trial, folder: str) -> None:
     clone.start(status=1)
     clone.start(status=1)
     trial.same(clone.builds() - before, 2, "builds that fail")
+    with open(f"{folder}/built") as file:
+        trial.tell("tuned" not in file.read(), "the tunables of a match reach a build")
 
 
 def seconds_of(words: List[str]) -> float:
@@ -182,9 +217,13 @@ def seconds_of(words: List[str]) -> float:
     return time.perf_counter() - start
 
 
-def cost(trial: Trial) -> None:
+def cost(trial: Trial, folder: str) -> None:
     """What a start through ./residency takes over the program itself, at the best of many turns."""
-    program = f"{TOP}/crates/residency_cli/out/residency_cli"
-    turns = [(seconds_of([f"{TOP}/residency", "--version"]), seconds_of([program, "--version"])) for _ in range(41)]
+    copy_of("residency", "tools", "crates.txt", "crates", to=folder)
+    program = checked.built(folder, "residency")
+    os.makedirs(os.path.dirname(program))
+    shutil.copy(checked.tried(TOP, "residency"), program)
+    os.environ.pop("RESIDENCY_BIN", None)
+    turns = [(seconds_of([f"{folder}/residency", "--version"]), seconds_of([program, "--version"])) for _ in range(41)]
     over = min(turn[0] for turn in turns) - min(turn[1] for turn in turns)
     trial.tell(over <= MOST_COST, f"a start through ./residency costs {over * 1000:.1f} ms over the program")

@@ -8,6 +8,7 @@ import subprocess
 import tarfile
 from typing import TYPE_CHECKING, List, Tuple
 
+import checked
 import launchers
 
 if TYPE_CHECKING:
@@ -18,18 +19,16 @@ PART = "gate: 5 passed, 0 failed"
 
 
 class Scratch:
-    """A clone of its own with what lies here committed, and the programs that are built here."""
+    """A repository of its own with what lies here committed, and the programs that are built here."""
 
     def __init__(self, trial: Trial, folder: str) -> None:
         self.trial, self.folder = trial, folder
-        self.run("git", "clone", "--quiet", "--no-hardlinks", TOP, folder, at=TOP)
-        for path in self.run("git", "ls-files")[1].splitlines():
-            os.remove(f"{folder}/{path}")
         launchers.copy_of(".", to=folder)
+        self.run("git", "init", "--quiet")
         self.commit()
-        for crate in ("residency_cli", "residency_why"):
-            os.makedirs(f"{folder}/crates/{crate}/out")
-            shutil.copy(f"{TOP}/crates/{crate}/out/{crate}", f"{folder}/crates/{crate}/out/{crate}")
+        for name in checked.PROGRAMS:
+            os.makedirs(os.path.dirname(checked.built(folder, name)))
+            shutil.copy(checked.tried(TOP, name), checked.built(folder, name))
 
     def run(self, *words: str, at: str = "") -> Tuple[int, str, str]:
         ran = subprocess.run(words, cwd=at or self.folder, capture_output=True, text=True, check=False)
@@ -37,7 +36,8 @@ class Scratch:
 
     def commit(self) -> None:
         self.run("git", "add", "--all")
-        self.run("git", "-c", "user.name=test", "-c", "user.email=test@example.org", "commit", "--quiet", "--allow-empty", "-m", "A trial")
+        who = ["-c", "user.name=test", "-c", "user.email=test@example.org"]
+        self.run("git", *who, "commit", "--quiet", "--allow-empty", "-m", "A trial")
 
     def append(self, path: str, text: str) -> None:
         with open(f"{self.folder}/{path}", "a") as file:
@@ -78,7 +78,7 @@ def makes(trial: Trial, scratch: Scratch) -> None:
         member = next(it for it in tar.getnames() if it.endswith("/VERDICT"))
         text = tar.extractfile(member).read().decode()  # type: ignore[union-attr]
     commit = scratch.run("git", "rev-parse", "HEAD")[1].strip()
-    toolchain = scratch.run("rt", "version")[1].strip() if shutil.which("rt") else scratch.run("/opt/rattle/bin/rt", "version")[1].strip()
+    toolchain = scratch.run(shutil.which("rt") or "/opt/rattle/bin/rt", "version")[1].strip()
     for wanted in (commit, toolchain, PART, "What is trusted:"):
         trial.tell(bool(wanted) and wanted in text, f"VERDICT without {wanted!r}")
     trial.tell("NO VERDICT" not in text, "VERDICT of a release")
@@ -110,10 +110,10 @@ def try_all(trial: Trial, folder: str) -> None:
     scratch.commit()
     trial.tell("changed meanwhile" in scratch.run("packaging/checked.py", "end")[1], "a commit while ./check runs")
     scratch.check()
-    for crate, name in (("residency_cli", "residency"), ("residency_why", "residency-why")):
-        path = f"{scratch.folder}/crates/{crate}/out/{crate}"
+    for name in checked.PROGRAMS:
+        path = checked.built(scratch.folder, name)
         kept = bytes_of(path)
-        scratch.append(f"crates/{crate}/out/{crate}", "x")
+        scratch.append(os.path.relpath(path, scratch.folder), "x")
         scratch.refuses(f"{name} isn't the program that ./check built", f"of another {name}")
         os.remove(path)
         scratch.refuses(f"{name} isn't built", f"without {name}")

@@ -10,13 +10,13 @@ import sys
 from typing import Iterable, List, Optional, Tuple
 
 # Those of coreutils that README's commands, install.sh and the launchers may take, and then all others.
-COREUTILS = """[ arch b2sum base32 base64 basename basenc cat chgrp chmod chown cksum comm cp csplit cut date dd df dir dircolors dirname
-du echo env expand expr factor false fmt fold groups head hostid id install join link ln logname ls md5sum mkdir mkfifo mknod mktemp mv
-nice nl nohup nproc numfmt od paste pathchk pr printenv printf ptx pwd readlink realpath rm rmdir seq sha1sum sha224sum sha256sum
-sha384sum sha512sum shred shuf sleep sort split stat stdbuf stty sum sync tac tail tee test timeout touch tr true truncate tsort tty
-uname unexpand uniq unlink users vdir wc who whoami yes""".split()
-LEFT_OUT = shutil.ignore_patterns("site-packages", "test", "tests", "idlelib", "tkinter", "turtledemo", "ensurepip", "lib2to3", "__pycache__",
-                                  "config-*", "*.a", "_test*", "_tkinter*")
+COREUTILS = """[ arch b2sum base32 base64 basename basenc cat chgrp chmod chown cksum comm cp csplit cut date dd df dir
+dircolors dirname du echo env expand expr factor false fmt fold groups head hostid id install join link ln logname ls md5sum
+mkdir mkfifo mknod mktemp mv nice nl nohup nproc numfmt od paste pathchk pr printenv printf ptx pwd readlink realpath rm rmdir
+seq sha1sum sha224sum sha256sum sha384sum sha512sum shred shuf sleep sort split stat stdbuf stty sum sync tac tail tee test
+timeout touch tr true truncate tsort tty uname unexpand uniq unlink users vdir wc who whoami yes""".split()
+LEFT_OUT = shutil.ignore_patterns("site-packages", "test", "tests", "idlelib", "tkinter", "turtledemo", "ensurepip", "lib2to3",
+                                  "__pycache__", "config-*", "*.a", "_test*", "_tkinter*")
 LIBRARY = re.compile(r"(?:=> )?(/\S+) \(0x")
 
 
@@ -93,11 +93,12 @@ class Root:
         """The status and both outputs of a line of bash in a folder of the root; `first` comes first on the path."""
         bin_folder = "/usr/bin" if self.words else f"{self.root}/usr/bin"
         path = ":".join(it for it in (first, f"{self.home}/.local/bin", bin_folder) if it)
-        words = [*(self.words or []), "/bin/bash" if self.words else f"{self.root}/usr/bin/bash", "-c", f"cd '{folder}' && {command}"]
+        bash = "/bin/bash" if self.words else f"{self.root}/usr/bin/bash"
+        words = [*(self.words or []), bash, "-c", f"cd '{folder}' && {command}"]
         environment = {"HOME": self.home, "PATH": path, "LC_ALL": "C", **known}
         # `env` comes from outside, since the words before it have to be found there.
         ran = subprocess.run(["env", "-i", f"PATH={os.environ['PATH']}", *self.words_within(environment, words)], input=stdin,
-                             capture_output=True, timeout=120, check=False)
+                             capture_output=True, timeout=600, check=False)
         return ran.returncode, ran.stdout, ran.stderr
 
     def words_within(self, environment: "dict[str, str]", words: List[str]) -> List[str]:

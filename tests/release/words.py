@@ -65,7 +65,8 @@ def page_text(roff: str) -> str:
 def bash_offers(path: str, name: str, words: Sequence[str]) -> Set[str]:
     """What bash completes these words by, the last of which is being written."""
     line = " ".join(f"'{word}'" for word in [name, *words])
-    script = f". '{path}'; COMP_WORDS=({line}); COMP_CWORD={len(words)}; _{name.replace('-', '_')}; printf '%s\\n' \"${{COMPREPLY[@]}}\""
+    function = "_" + name.replace("-", "_")
+    script = f". '{path}'; COMP_WORDS=({line}); COMP_CWORD={len(words)}; {function}; printf '%s\\n' \"${{COMPREPLY[@]}}\""
     return set(said(["bash", "--norc", "-c", script]).split())
 
 
@@ -80,7 +81,12 @@ def zsh_offers(path: str, name: str, words: Sequence[str]) -> Set[str]:
     state = f"state=words; line=({command})" if command else "state=command"
     script = f"""
         asked=0
-        _arguments() {{ asked=$((asked + 1)); [[ $asked = {1 if not command else 2} ]] && print -rl -- "${{@:#-C}}"; {state}; return 0 }}
+        _arguments() {{
+            asked=$((asked + 1))
+            [[ $asked = {2 if command else 1} ]] && print -rl -- "${{@:#-C}}"
+            {state}
+            return 0
+        }}
         _describe() {{ [[ -n '{command}' ]] || print -rl -- "${{commands[@]}}" }}
         compadd() {{ [[ -z '{command}' ]] || print -rl -- "$@" }}
         complete_it() {{ . '{path}' }}
