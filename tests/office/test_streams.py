@@ -5,7 +5,7 @@ import subprocess
 import sys
 
 import planted
-from residency.office import command
+from residency.office import line
 from residency.program import find_program
 from support import OFFICE, PROGRAMMES, RESIDENTS, SAMPLES, TOP, OfficeTest, office, spawn
 
@@ -127,7 +127,7 @@ class Words(OfficeTest):
     def test_examples_of_the_help_are_command_lines(self) -> None:
         for name in COMMANDS:
             example = next(line for line in office(name, "--help").out.splitlines() if line.startswith("example: office "))
-            given = command.parser().parse_args(shlex.split(example)[2:])
+            given = line.parser().parse_args(shlex.split(example)[2:])
             self.assertEqual(given.command, name)
 
     def test_wrong_words(self) -> None:

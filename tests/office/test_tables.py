@@ -2,7 +2,7 @@
 from typing import List
 
 import planted
-from residency.office import command
+from residency.office import command, line
 from residency.office.headings import Words
 from support import PROGRAMMES, RESIDENTS, OfficeTest, office
 
@@ -34,7 +34,7 @@ def rows_of(docket: bytes) -> List[str]:
 class Tables(OfficeTest):
     def docket(self, programmes=PROGRAMMES, residents=RESIDENTS, *words: str) -> List[str]:
         """The docket of two tables."""
-        given = command.parser().parse_args(["check", *self.tables(programmes, residents), *words])
+        given = line.parser().parse_args(["check", *self.tables(programmes, residents), *words])
         _, market = command.read_tables(*given.files, command.options_of(given))
         return rows_of(market.docket())
 
@@ -77,11 +77,11 @@ class Forms(Tables):
 
     def test_long_tables(self) -> None:
         programmes, residents = ["Programme\tRank\tApplicant\tPlaces"], ["applicant,rank,programme"]
-        for line in PROGRAMMES.splitlines()[1:]:
-            name, places, *listed = line.rstrip(",").split(",")
+        for row in PROGRAMMES.splitlines()[1:]:
+            name, places, *listed = row.rstrip(",").split(",")
             programmes += [f"{name}\t{rank}\t{one}\t{places if rank == 1 else ''}" for rank, one in enumerate(listed, 1)]
-        for line in RESIDENTS.splitlines()[1:]:
-            name, *listed = line.rstrip(",").split(",")
+        for row in RESIDENTS.splitlines()[1:]:
+            name, *listed = row.rstrip(",").split(",")
             residents += [f"{name},{rank},{one}" for rank, one in enumerate(listed, 1)] or [f"{name},,"]
         self.same("\n".join(programmes), "\n".join(residents))
         # Rows in another order say the same of each list; members come in the order of their first rows.
