@@ -2,10 +2,11 @@
 import random
 import subprocess
 import unittest
+from unittest import mock
 
 import made
 from residency import Docket, DocketFault, Journal, find_program, lint, read_docket, write_docket
-from residency.docket import first_fault, sheet_rows
+from residency.docket import MOST_RECORDS, first_fault, sheet_rows
 from residency.records import records, shown
 
 SMALL = b"Q,a,1\nP,a,x\nR,x,a\n"
@@ -132,7 +133,12 @@ class Limits(unittest.TestCase):
             self.agree(data, line)
 
     def test_records(self):
-        self.agree(b"U,x\n" * 2_000_001, "record 2000001: more than 2000000 records")
+        # Two million records take the reader ten seconds, so the limit is a small one here.
+        self.assertEqual(MOST_RECORDS, 2_000_000)
+        with mock.patch("residency.passes.MOST_RECORDS", 3):
+            self.assertEqual([fault.line for fault in lint(SMALL + b"Z\nQ,b,x\n")], ["record 4: more than 2000000 records"])
+            self.assertEqual([fault.line for fault in lint(b"Z\n" + SMALL)][:2], ["record 1: unknown kind of row", "record 4: more than 2000000 records"])
+            self.assertIsNone(first_fault(SMALL))
 
 
 class Lint(unittest.TestCase):
