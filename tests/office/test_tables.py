@@ -104,6 +104,13 @@ class Forms(Tables):
         self.assertEqual(self.docket(PROGRAMMES, residents), wanted)
         self.assertEqual(self.docket(PROGRAMMES, RESIDENTS.replace("Fatima Kovács", '"Kovács, Fatima"')), wanted)
 
+    def test_the_heading_says_what_parts_the_cells(self) -> None:
+        residents = "Applicant;Rank 1\nKovács, Fatima;North\nSilva, Ana\nLee, Kim\n"
+        self.assertEqual(self.docket("Programme,Places,1\nNorth,1,\n", residents)[1:], ["R,kovacs-fatima,north", "R,silva-ana", "R,lee-kim"])
+        # Where no heading is known, most lines do.
+        faults = self.faults(PROGRAMMES, RESIDENTS.replace("Applicant,Rank 1,Rank 2,Rank 3", "Applicant"))
+        self.assertEqual(faults[0], "residents, row 1, cell 2 (B1): no column is headed Rank 1 (or Choice 1, 1st choice, First, 1)")
+
     def test_quotes_spaces_and_unseen_letters(self) -> None:
         self.same(PROGRAMMES.replace("Zoë Brontë", '"Zoe\u0308   Bronte\u0308\u200b"'), RESIDENTS.replace("Zoë Brontë", "\u00a0Zoë\u00a0Brontë\ufeff "))
         self.same(PROGRAMMES.replace("North Clinic", '"North Clinic"'), RESIDENTS)
@@ -130,7 +137,7 @@ class Forms(Tables):
         said = office("check", *self.tables(PROGRAMMES.replace("South Hospital,1,Kim Lee,Ana", "South Hospital,1,Kim Lee,,Ana")
                                             .replace("Silva,Omar Haddad,", "Silva,Omar Haddad"), RESIDENTS))
         self.assertEqual(said.status, 0)
-        self.assertIn("note: programmes: 1 lists leave out a rank, and what follows moves up; the first is that of South Hospital in row 3", said.out)
+        self.assertIn("note: programmes: 1 times a list leaves out a rank, and what follows moves up; the first is that of South Hospital in row 3", said.out)
         residents = "Applicant,Rank,Programme\nAna,1,North\nAna,3,South\n"
         programmes = "Programme,Places,Rank 1\nNorth,1,Ana\nSouth,1,Ana\n"
         self.assertIn("Ana has no rank 2", self.faults(programmes, residents)[0])

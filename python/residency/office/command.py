@@ -69,8 +69,8 @@ def as_text(word: str) -> str:
 
 
 def options_of(given: argparse.Namespace) -> Options:
-    return Options(Words([as_text(one) for one in given.heading], [as_text(one) for one in given.ignore]), by_table(given.encoding, known_encoding), by_table(given.delimiter, known_delimiter),
-                   given.allow_gaps)
+    words = Words([as_text(one) for one in given.heading], [as_text(one) for one in given.ignore])
+    return Options(words, by_table(given.encoding, known_encoding), by_table(given.delimiter, known_delimiter), given.allow_gaps)
 
 
 def by_table(given: Sequence[str], known: Callable[[str], str]) -> Dict[str, str]:
@@ -176,9 +176,9 @@ def run(given: argparse.Namespace) -> int:
         complain("nothing was written")
         return 3
     result = running.matched(market, wishes.timeout)
+    read = [{"file": shown(os.path.basename(table.path)), "sha256": table.sha256, "read": table.how()} for table in tables]
     with folder.new_folder(given.out) as draft:
-        running.fill(draft, result, wishes, {"tables": [{"file": os.path.basename(table.path), "sha256": table.sha256, "read": table.how()}
-                                                        for table in tables]})
+        running.fill(draft, result, wishes, {"tables": read})
     for line in describe(tables, market) + told(given.out, result):
         say(line)
     return 0
@@ -187,7 +187,8 @@ def run(given: argparse.Namespace) -> int:
 def told(out: str, result: running.Matched) -> List[str]:
     """What a run says when it is done."""
     outcome = result.outcome
-    counts = [f"{len(outcome.standing(one)):,} {one.value}" for one in UNMATCHED + (Standing.WITHDRAWN,) if outcome.standing(one)]
+    kinds = {one.value: len(outcome.standing(one)) for one in (*UNMATCHED, Standing.WITHDRAWN)}
+    counts = [f"{count:,} {kind}" for kind, count in kinds.items() if count]
     matched = len(outcome.standing(Standing.MATCHED))
     left = sum(one.unfilled for one in outcome.programmes.values())
     return [f"{matched:,} of {len(outcome.residents):,} residents matched" + "".join(f", {count}" for count in counts)
@@ -200,11 +201,12 @@ def withdraw(given: argparse.Namespace) -> int:
     before = Run(given.folder)
     out = given.out or folder.free_name(given.folder)
     folder.refuse(out)
-    market = running.withdrawn(before, *([as_text(name) for name in names] for names in (given.programme, given.resident, given.names)))
+    named = ([as_text(name) for name in names] for names in (given.programme, given.resident, given.names))
+    market = running.withdrawn(before, *named)
     result = running.matched(market, given.timeout)
     found = compare.changes(before.outcome, result.outcome)
     with folder.new_folder(out) as draft:
-        running.write_changes(draft, found)
+        draft.write(folder.CHANGES, compare.changes_table(found))
         running.fill(draft, result, wishes_of(given, before.title()), {"from": before.digests()})
     for line in [one.line() for one in found] + told(out, result):
         say(line)
