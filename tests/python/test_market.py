@@ -129,6 +129,7 @@ class Building(unittest.TestCase):
     def test_withdrawing(self):
         one = market().withdraw(residents=["Zoë Weiß"])
         self.assertEqual(one.docket(), b"V,2\n" + market().docket() + b"W,R,zoe-weiss\n")
+        self.assertEqual(repr(one), "<Market of 2 programmes and 3 residents, 1 withdrawn>")
         self.assertEqual(one.withdraw(["=Köln"]).withdraw(residents=["Zoë Weiß"]).docket(), b"V,2\n" + market().docket() + b"W,P,koln\nW,R,zoe-weiss\n")
         with self.assertRaisesRegex(MarketFault, "withdrawn: no resident is named Zoe; "):
             Market.from_dictionaries({"Zoé": []}, {}, {}).withdraw(residents=["Zoe"])
