@@ -319,6 +319,9 @@ cat "$ROWS"
         whys = one.why(MATCHED, "Zoë Weiß")
         self.assertEqual([(each.resident, each.programme, each.choice) for each in whys],
                          [("Zoë Weiß", "Łódź, East", 1), ("Zoë Weiß", "=Köln", 2)])
+        # Of a programme that isn't on the list there is a sentence alone, which names it as the caller does.
+        text = one.why(MATCHED, "王芳", "Łódź, East")[0].text
+        self.assertEqual(("Łódź, East" in text, "lodz" in text), (True, False), text)
         if not whys[0].answer:
             self.assertEqual([each.text for each in whys], ["Łódź, East has a place for you: you are matched there.",
                              "=Köln is 2nd on your list of those that ranked you too; you have the 1st, Łódź, East."])
