@@ -84,6 +84,9 @@ class WhoIsWho(unittest.TestCase):
             with self.assertRaises(KeyFault) as caught:
                 Names(members)
             self.assertEqual(caught.exception.row, row)
+        with self.assertRaises(KeyFault) as caught:
+            Names([Member("R", "a", "\x1b[2J"), Member("R", "b", "\x1b[2J")])
+        self.assertEqual(str(caught.exception), "row 2, cell 3: two residents are called \\x1b[2J, and no IDs tell them apart")
 
 
 class Key(unittest.TestCase):

@@ -1,5 +1,6 @@
 """Finding and running the programs: what is missing, too slow or odd is an exception of its own, never an empty result."""
 import os
+import pickle
 import shutil
 import subprocess
 import sys
@@ -9,7 +10,8 @@ import unittest
 from pathlib import Path
 from unittest import mock
 
-from residency import DocketFault, Market, ProgramError, ProgramFailed, ProgramMissing, ProgramTimeout, UnknownStatus, find_program
+from residency import (DocketFault, KeyFault, Market, MarketFault, ProgramError, ProgramFailed, ProgramMissing, ProgramTimeout,
+                       UnknownStatus, find_program)
 from residency import program as finding
 from residency.program import run_program
 
@@ -92,6 +94,15 @@ class Finding(Folders):
         place = self.put("residency-1.0.0-x86_64-linux/bin/residency")
         for path in ("residency", "python/residency", "lib/python/residency"):
             self.assertEqual(self.found_by(place.parent.parent / path), str(place))
+
+
+class Exceptions(unittest.TestCase):
+    def test_they_can_be_sent_to_another_process(self):
+        for one in (DocketFault(3, "unknown name", 4, "kim", "cell 4: kim"), MarketFault(["a", "b"]), KeyFault(1, "a", 2),
+                    ProgramMissing("a"),
+                    ProgramTimeout("a", 0.5), ProgramFailed(1, "a"), UnknownStatus(-9, "a")):
+            again = pickle.loads(pickle.dumps(one))
+            self.assertEqual((type(again), str(again), vars(again)), (type(one), str(one), vars(one)))
 
 
 class Running(Folders):
