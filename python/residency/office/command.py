@@ -167,7 +167,10 @@ def template_of(path: Optional[str]) -> Optional[str]:
 
 
 def run(given: argparse.Namespace) -> int:
-    wishes = wishes_of(given, " ".join(as_text(given.title).split()) or running.TITLE)
+    title = " ".join(as_text(given.title).split()) or running.TITLE
+    if not title.isprintable():
+        raise OfficeError(f"the title {shown(title)} has a character that is no letter", 2)
+    wishes = wishes_of(given, title)
     folder.refuse(given.out)
     try:
         tables, market = read_tables(given.programmes, given.residents, options_of(given))

@@ -2,7 +2,7 @@
 import argparse
 import textwrap
 from datetime import date
-from typing import Any, NoReturn, Sequence
+from typing import Any, NoReturn
 
 from ..program import DEFAULT_TIMEOUT
 from .faults import OfficeError, shown
@@ -10,6 +10,14 @@ from .letters import FIELDS
 from .running import TITLE
 from .telling import say
 
+EXAMPLES = {
+    "check": "office check programmes.csv residents.csv",
+    "lint": "office lint docket.csv",
+    "run": "office run programmes.csv residents.csv --out match-2026",
+    "withdraw": "office withdraw match-2026 'Greta Weiß' --out match-2026-b",
+    "compare": "office compare match-2025 match-2026",
+    "letters": "office letters match-2026 --template letter.txt --out letters-2026",
+}
 # What argparse adds commands to; its type has no public name.
 Commands = Any
 
@@ -38,8 +46,9 @@ def wrapped(*paragraphs: str) -> str:
 
 
 def parser() -> argparse.ArgumentParser:
-    """The whole command line, from which man pages and completions may be made, too."""
-    top = Parser(prog="office", description=wrapped(ABOUT), epilog=wrapped(STATUSES),
+    """The whole command line."""
+    examples = "\n".join(f"  {example}" for example in EXAMPLES.values())
+    top = Parser(prog="office", description=wrapped(ABOUT), epilog=f"examples:\n{examples}\n\n{wrapped(STATUSES)}",
                  formatter_class=argparse.RawDescriptionHelpFormatter)
     commands = top.add_subparsers(dest="command", metavar="COMMAND", required=True)
     for add in (add_check, add_lint, add_run, add_withdraw, add_compare, add_letters):
@@ -47,10 +56,11 @@ def parser() -> argparse.ArgumentParser:
     return top
 
 
-def add_command(commands: Commands, name: str, about: Sequence[str], example: str) -> argparse.ArgumentParser:
+def add_command(commands: Commands, name: str, *about: str) -> argparse.ArgumentParser:
     """A command; the first paragraph about it is its line in the list of all."""
-    one = commands.add_parser(name, help=about[0][0].lower() + about[0][1:].rstrip("."), description=wrapped(*about),
-                              epilog=f"example: {example}\n\n{wrapped(STATUSES)}", formatter_class=argparse.RawDescriptionHelpFormatter)
+    one: argparse.ArgumentParser = commands.add_parser(
+        name, help=about[0][0].lower() + about[0][1:].rstrip("."), description=wrapped(*about),
+        epilog=f"example: {EXAMPLES[name]}\n\n{wrapped(STATUSES)}", formatter_class=argparse.RawDescriptionHelpFormatter)
     return one
 
 
@@ -94,27 +104,24 @@ def seconds(text: str) -> float:
 
 
 def add_check(commands: Commands) -> None:
-    one = add_command(commands, "check", ("Tells every fault of two tables, or of a docket, at once.", "It writes nothing.", TABLES),
-                  "office check programmes.csv residents.csv")
+    one = add_command(commands, "check", "Tells every fault of two tables, or of a docket, at once.", "It writes nothing.", TABLES)
     one.add_argument("files", nargs="+", metavar="FILE", help="PROGRAMMES and RESIDENTS, or one docket")
     add_tables(one)
 
 
 def add_lint(commands: Commands) -> None:
-    one = add_command(commands, "lint", ("Tells every fault of a docket, with its record, its cell and what stands there.",
-                                     "The first line begins with what the program says of the same docket."),
-                  "office lint docket.csv")
+    one = add_command(commands, "lint", "Tells every fault of a docket, with its record, its cell and what stands there.",
+                      "The first line begins with what the program says of the same docket.")
     one.add_argument("docket", metavar="DOCKET", help="the docket's file, or - for standard input")
     one.add_argument("--all", action="store_true", help="tell every fault, however many there are")
 
 
 def add_run(commands: Commands) -> None:
-    one = add_command(commands, "run", (
-        "Matches two tables into a new folder.",
+    one = add_command(
+        commands, "run", "Matches two tables into a new folder.",
         "The folder has the docket, the key from its names to the real ones, the sheet, the journal, audit and replay, a page, "
         "a letter for each resident, a roster for each programme, the unfilled places and a row for each resident for a "
-        "database. It appears complete or not at all.", TABLES),
-        "office run programmes.csv residents.csv --out match-2026")
+        "database. It appears complete or not at all.", TABLES)
     one.add_argument("programmes", metavar="PROGRAMMES", help="the table of programmes")
     one.add_argument("residents", metavar="RESIDENTS", help="the table of residents")
     one.add_argument("--out", required=True, metavar="FOLDER", help="the folder to make, which isn't there yet")
@@ -124,10 +131,9 @@ def add_run(commands: Commands) -> None:
 
 
 def add_withdraw(commands: Commands) -> None:
-    one = add_command(commands, "withdraw", (
-        "Matches a folder's docket again with members withdrawn, into a new folder, and tells what changed.",
-        "A name is the one of the tables, the ID, or the docket's name."),
-        "office withdraw match-2026 'Greta Weiß' --out match-2026-b")
+    one = add_command(
+        commands, "withdraw", "Matches a folder's docket again with members withdrawn, into a new folder, and tells what changed.",
+        "A name is the one of the tables, the ID, or the docket's name.")
     one.add_argument("folder", metavar="FOLDER", help="a folder that run or withdraw made")
     one.add_argument("names", nargs="*", metavar="NAME", help="who withdraws")
     one.add_argument("--programme", action="append", default=[], metavar="NAME", help="a programme that withdraws")
@@ -137,20 +143,18 @@ def add_withdraw(commands: Commands) -> None:
 
 
 def add_compare(commands: Commands) -> None:
-    one = add_command(commands, "compare", (
-        "Tells who stands otherwise in the second of two folders: two runs, or two years.",
-        "Members are known by their IDs where all have one, else by their names."),
-        "office compare match-2025 match-2026")
+    one = add_command(
+        commands, "compare", "Tells who stands otherwise in the second of two folders: two runs, or two years.",
+        "Members are known by their IDs where all have one, else by their names.")
     one.add_argument("before", metavar="BEFORE", help="the folder of before")
     one.add_argument("now", metavar="NOW", help="the folder of now")
     one.add_argument("--out", metavar="FILE", help="a CSV file to write the changes to, which isn't there yet")
 
 
 def add_letters(commands: Commands) -> None:
-    one = add_command(commands, "letters", (
-        "Writes the letters of a folder again, into a new folder, from a template of your own.",
-        f"In it ${', $'.join(FIELDS)} stand for what they say, and $$ for the sign."),
-        "office letters match-2026 --template letter.txt --out letters-2026")
+    one = add_command(
+        commands, "letters", "Writes the letters of a folder again, into a new folder, from a template of your own.",
+        f"In it ${', $'.join(FIELDS)} stand for what they say, and $$ for the sign.")
     one.add_argument("folder", metavar="FOLDER", help="a folder that run or withdraw made")
     one.add_argument("--out", required=True, metavar="FOLDER", help="the folder to make, which isn't there yet")
     one.add_argument("--template", metavar="FILE", help="the text of the letters (the one of run)")
