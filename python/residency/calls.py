@@ -186,9 +186,8 @@ def _why_by_sentence(market: Market, data: bytes, resident: str, programme: str,
     if status != 0 or not sentence:
         raise UnknownStatus(status, "an answer without a sentence")
     sentence = _OWN.sub(lambda own: f"{own.group(1)}{market.names.name('P', own.group(2))}.", sentence)
-    for before in ("you and ", ""):
-        if sentence.startswith(f"{before}{made} "):
-            sentence = before + programme + sentence[len(before) + len(made):]
-            break
+    before = "you and " if sentence.startswith(f"you and {made} ") else ""
+    if sentence.startswith((f"{before}{made} ", f"{before}{made}:")):
+        sentence = before + programme + sentence[len(before) + len(made):]
     listed = market.resident_lists[resident]
     return Why(resident, programme, sentence, listed.index(programme) + 1 if programme in listed else None)

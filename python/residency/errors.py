@@ -42,7 +42,7 @@ class MarketFault(ResidencyError, ValueError):
     """
 
     def __init__(self, faults: Sequence[str]) -> None:
-        super().__init__(*faults)
+        super().__init__(tuple(faults))
         self.faults: Tuple[str, ...] = tuple(faults)
 
     def __str__(self) -> str:

@@ -17,6 +17,12 @@ from .text import shown
 Places = Union[Match, Mapping[str, Optional[str]]]
 
 
+def _renamed(lists: Mapping[str, Sequence[str]], owners: Mapping[str, str],
+             others: Mapping[str, str]) -> Dict[str, Tuple[str, ...]]:
+    """The lists with other names for their owners and for those whom they list."""
+    return {owners[owner]: tuple(others[name] for name in listed) for owner, listed in lists.items()}
+
+
 class Market:
     """Programmes with quotas and lists, residents with lists, and who is withdrawn.
 
@@ -63,8 +69,7 @@ class Market:
                 for side, names in (("P", self.quotas), ("R", self.resident_lists))}
         programmes, residents = made["P"], made["R"]
         return Docket({programmes[name]: quota for name, quota in self.quotas.items()},
-                      {programmes[name]: tuple(map(residents.__getitem__, listed)) for name, listed in self.programme_lists.items()},
-                      {residents[name]: tuple(map(programmes.__getitem__, listed)) for name, listed in self.resident_lists.items()},
+                      _renamed(self.programme_lists, programmes, residents), _renamed(self.resident_lists, residents, programmes),
                       frozenset(map(programmes.__getitem__, self.withdrawn_programmes)),
                       frozenset(map(residents.__getitem__, self.withdrawn_residents)))
 
@@ -135,10 +140,14 @@ class Market:
         programme = {name: names.name("P", name) for name in docket.quotas}
         resident = {name: names.name("R", name) for name in docket.resident_lists}
         return cls({programme[name]: quota for name, quota in docket.quotas.items()},
-                   {programme[name]: tuple(map(resident.__getitem__, listed)) for name, listed in docket.programme_lists.items()},
-                   {resident[name]: tuple(map(programme.__getitem__, listed)) for name, listed in docket.resident_lists.items()},
+                   _renamed(docket.programme_lists, programme, resident), _renamed(docket.resident_lists, resident, programme),
                    [programme[name] for name in docket.quotas if name in docket.withdrawn_programmes],
                    [resident[name] for name in docket.resident_lists if name in docket.withdrawn_residents], names)
+
+    def __repr__(self) -> str:
+        gone = len(self.withdrawn_programmes) + len(self.withdrawn_residents)
+        return (f"<Market of {len(self.quotas)} programmes and {len(self.resident_lists)} residents"
+                + (f", {gone} withdrawn>" if gone else ">"))
 
     def docket(self) -> bytes:
         """The docket's bytes, in the docket's names: quotas, lists and withdrawals; the same market gives the same bytes."""
@@ -204,7 +213,8 @@ class _Faults:
 
     def quotas(self, quotas: Mapping[str, int]) -> None:
         for who in ("programme", "resident"):
-            self.told += [f"a {who} is called {_shown(name)}, which is no name" for name in self._known[who] if not _is_text(name)]
+            self.told += [f"a {who} is called {_shown(name)}, which is no name" for name in self._known[who]
+                          if not _is_text(name)]
         for name, quota in quotas.items():
             if isinstance(quota, bool) or not isinstance(quota, int) or not 0 <= quota <= MOST_PLACES:
                 self.told.append(f"programme {_shown(name)}: {_shown(quota)} is no number of places from 0 to {MOST_PLACES}")

@@ -9,6 +9,7 @@ import unicodedata
 from typing import Dict, Iterable, Iterator, List, NamedTuple, Optional, Sequence, Tuple, Union
 
 from .errors import KeyFault
+from .text import shown
 
 PROGRAMME = "P"
 RESIDENT = "R"
@@ -124,7 +125,7 @@ class Names:
         for number, member in numbered:
             counts[member.side, member.name] = counts.get((member.side, member.name), 0) + 1
             if self._members[member.side].setdefault(member.docket_name, member) is not member:
-                raise KeyFault(number, f"{member.docket_name} has a row before", 2)
+                raise KeyFault(number, f"{shown(member.docket_name)} has a row before", 2)
         for number, member in numbered:
             self._call(number, member, member.name if counts[member.side, member.name] == 1 else member.label)
 
@@ -132,7 +133,7 @@ class Names:
         """Notes what a member is called: its name, or its label where others have its name."""
         if self._docket_names[member.side].setdefault(called, member.docket_name) != member.docket_name:
             who = "programmes" if member.side == PROGRAMME else "residents"
-            raise KeyFault(number, f"two {who} are called {called}, and no IDs tell them apart", 3)
+            raise KeyFault(number, f"two {who} are called {shown(called)}, and no IDs tell them apart", 3)
         self._names[member.side][member.docket_name] = called
 
     @classmethod

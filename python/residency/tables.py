@@ -209,7 +209,8 @@ def read_long(places: Iterable[Sequence[Cell]], programme_ranks: Iterable[Sequen
         for name in dict.fromkeys(row[0] for row in choices if row[0]):
             tables.sides["R"].add(name)
     ranks = [tables.texts("programme ranks", number, cells) + [""] * 3 for number, cells in enumerate(programme_ranks, 1)]
-    return tables.read(_by_rank(tables, "programme ranks", "P", "R", ranks), _by_rank(tables, "resident ranks", "R", "P", choices))
+    return tables.read(_by_rank(tables, "programme ranks", "P", "R", ranks),
+                       _by_rank(tables, "resident ranks", "R", "P", choices))
 
 
 def _by_rank(tables: Tables, table: str, side: str, other: str, rows: Sequence[Sequence[str]]) -> Dict[int, List[int]]:

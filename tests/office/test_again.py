@@ -90,7 +90,7 @@ class Withdraw(Again):
         residents = "ID,Applicant,1,2\n17,Ana Silva,South,Kim Lee Clinic\n18,Ana Silva,South,Kim Lee Clinic\n"
         out = self.run_tables(programmes, residents, "ids")
         self.refused(3, "2 members may be meant by Ana Silva", "withdraw", out, "Ana Silva")
-        for name in ("18", "Ana Silva (18)"):
+        for name in ("18", "Ana Silva (18)", " Ana  Silva\u00a0(18)"):
             said = office("withdraw", out, name, "--out", self.folder / f"by {name}")
             self.assertEqual(said.status, 0)
             self.assertIn("Ana Silva (18): withdrawn; South (1st of 2) -> withdrawn", said.out)

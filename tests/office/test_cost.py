@@ -1,6 +1,6 @@
 """What the largest tables cost: 20,000 residents, 2,000 programmes, 200,000 pairs, in scripts with and without plain letters.
 
-A run and the check of one mistake are of that size; the other mistakes are a quarter of it, within a quarter of the time,
+A run and the check of one mistake are of that size; the other mistakes are an eighth of it, within an eighth of the time,
 unless `tests/office/run --full` asks for the whole. Times are those of the processor, which other work beside doesn't
 change much, and without those of the match itself.
 """
@@ -60,7 +60,7 @@ class Cost(OfficeTest):
         return took
 
     def mistaken(self, script: str, long: bool = False, in_lists: Callable[[str], str] = str, residents: Callable[[str], str] = str,
-                 part: int = 4) -> Took:
+                 part: int = 8) -> Took:
         """The check of tables with a mistake, of the whole size or a part of it."""
         part = 1 if support.FULL else part
         large.write_tables(self.folder, script, 20000 // part, 2000 // part, 10, long, in_lists)
@@ -88,13 +88,13 @@ class Cost(OfficeTest):
         self.mistaken("latin", residents=lambda text: text + text.split("\n", 1)[1])
 
     def test_no_fault(self) -> None:
-        part = 1 if support.FULL else 4
+        part = 1 if support.FULL else 8
         large.write_tables(self.folder, "arabic", 20000 // part, 2000 // part, 10, long=True)
         self.check(CHECK_SECONDS / part, 0)
 
     def test_cells_and_rows_of_every_length(self) -> None:
         large.write_tables(self.folder, "latin", 20, 5, 2)
-        much = 1_000_000 if support.FULL else 200_000
+        much = 1_000_000 if support.FULL else 60_000
         for text in ("Applicant;Rank 1\n" + "x" * 20 * much + ";\n", "Applicant;Rank 1\nKim" + ";A" * much + "\n",
                      "Applicant;Rank 1\n" + '"' * (2 * much + 1), "Applicant" + ";Rank 1" * much + "\nKim\n", "Applicant;Rank 1\n" + "\n" * 5 * much):
             (self.folder / "residents.csv").write_text(text, encoding="utf-8")

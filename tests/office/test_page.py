@@ -213,6 +213,16 @@ class Other(PageTest):
         self.assertEqual([row[0] for row in self.rows(root, "unfilled")], ["West Infirmary"])
         self.assertIn("3 of 6 places", self.section(root, "unfilled").text())
 
+    def test_those_whom_only_withdrawn_programmes_ranked_back(self) -> None:
+        self.run_tables(out="first")
+        office("withdraw", self.folder / "first", "East Ward", "South Hospital", "--out", self.folder / "out")
+        part = self.section(self.page(self.folder / "out"), "unmatched")
+        # East and South alone ranked Omar, who ranks both; Zoë and Jürgen come after Ana and Kim at North's two places.
+        self.assertEqual([one.text() for one in part.all("h3", "li")],
+                         ["Lost out: 2", "Jürgen Groß", "Zoë Brontë", "Ranked back by nobody: 2", "Fatima Kovács", "Omar Haddad",
+                          "Ranked nobody: 1", "Rosa Rossi"])
+        self.assertIn("no programme on your list that takes part", (self.folder / "out" / "letters" / "omar-haddad.txt").read_text(encoding="utf-8"))
+
     def test_names_are_text(self) -> None:
         bad = "<script>alert(1)</script>"
         out = self.run_tables(PROGRAMMES.replace("North Clinic", f"North {bad} & \"Co").replace('"Co', "'Co"), RESIDENTS.replace(

@@ -5,7 +5,7 @@ import subprocess
 import sys
 
 import planted
-from residency.office import command
+from residency.office import line
 from residency.program import find_program
 from support import OFFICE, PROGRAMMES, RESIDENTS, SAMPLES, TOP, OfficeTest, office, spawn
 
@@ -122,21 +122,26 @@ class Words(OfficeTest):
             self.assertIn("exit statuses: 0 done;", said.out)
             self.assertLessEqual(max(map(len, said.out.splitlines())), 80)
         top = office("--help").out
-        self.assertTrue(all(f"    {name} " in top for name in COMMANDS))
+        self.assertTrue(all(f"    {name} " in top and f"  office {name} " in top for name in COMMANDS))
 
     def test_examples_of_the_help_are_command_lines(self) -> None:
         for name in COMMANDS:
             example = next(line for line in office(name, "--help").out.splitlines() if line.startswith("example: office "))
-            given = command.parser().parse_args(shlex.split(example)[2:])
+            given = line.parser().parse_args(shlex.split(example)[2:])
             self.assertEqual(given.command, name)
 
     def test_wrong_words(self) -> None:
         for words in ([], ["marry"], ["run", "a.csv"], ["run", "a.csv", "b.csv"], ["check"], ["lint"], ["compare", "a"], ["letters", "a"],
                       ["run", "a", "b", "--out", "c", "--date", "yesterday"], ["run", "a", "b", "--out", "c", "--timeout", "0"],
-                      ["run", "a", "b", "--out", "c", "--timeout", "nan"], ["check", "a", "b", "--nothing"]):
+                      ["run", "a", "b", "--out", "c", "--timeout", "nan"], ["run", "a", "b", "--out", "c", "--order", "x"], ["check", "a", "b", "--nothing"]):
             said = office(*words)
             self.assertEqual((said.status, said.out), (2, ""), words)
             self.assertRegex(said.err, r"\Aoffice: .* \(office.* --help says more\)\n\Z")
+
+    def test_a_title_that_is_no_text(self) -> None:
+        said = office("run", *self.tables(), "--out", self.folder / "out", "--title", "T\x1b[2J")
+        self.assertEqual((said.status, said.out, self.left()), (2, "", []))
+        self.assertIn("the title T\\x1b[2J has a character that is no letter", said.err)
 
     def test_words_that_are_no_text(self) -> None:
         for words in (b"check /tmp/\xff\xfe", b"run a\xff b --out c"):

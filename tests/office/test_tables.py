@@ -2,7 +2,7 @@
 from typing import List
 
 import planted
-from residency.office import command
+from residency.office import command, line
 from residency.office.headings import Words
 from support import PROGRAMMES, RESIDENTS, OfficeTest, office
 
@@ -34,7 +34,7 @@ def rows_of(docket: bytes) -> List[str]:
 class Tables(OfficeTest):
     def docket(self, programmes=PROGRAMMES, residents=RESIDENTS, *words: str) -> List[str]:
         """The docket of two tables."""
-        given = command.parser().parse_args(["check", *self.tables(programmes, residents), *words])
+        given = line.parser().parse_args(["check", *self.tables(programmes, residents), *words])
         _, market = command.read_tables(*given.files, command.options_of(given))
         return rows_of(market.docket())
 
@@ -77,11 +77,11 @@ class Forms(Tables):
 
     def test_long_tables(self) -> None:
         programmes, residents = ["Programme\tRank\tApplicant\tPlaces"], ["applicant,rank,programme"]
-        for line in PROGRAMMES.splitlines()[1:]:
-            name, places, *listed = line.rstrip(",").split(",")
+        for row in PROGRAMMES.splitlines()[1:]:
+            name, places, *listed = row.rstrip(",").split(",")
             programmes += [f"{name}\t{rank}\t{one}\t{places if rank == 1 else ''}" for rank, one in enumerate(listed, 1)]
-        for line in RESIDENTS.splitlines()[1:]:
-            name, *listed = line.rstrip(",").split(",")
+        for row in RESIDENTS.splitlines()[1:]:
+            name, *listed = row.rstrip(",").split(",")
             residents += [f"{name},{rank},{one}" for rank, one in enumerate(listed, 1)] or [f"{name},,"]
         self.same("\n".join(programmes), "\n".join(residents))
         # Rows in another order say the same of each list; members come in the order of their first rows.
@@ -103,6 +103,13 @@ class Forms(Tables):
         residents = RESIDENTS.replace(",", ";").replace("Fatima Kovács", "Kovács, Fatima")
         self.assertEqual(self.docket(PROGRAMMES, residents), wanted)
         self.assertEqual(self.docket(PROGRAMMES, RESIDENTS.replace("Fatima Kovács", '"Kovács, Fatima"')), wanted)
+
+    def test_the_heading_says_what_parts_the_cells(self) -> None:
+        residents = "Applicant;Rank 1\nKovács, Fatima;North\nSilva, Ana\nLee, Kim\n"
+        self.assertEqual(self.docket("Programme,Places,1\nNorth,1,\n", residents)[1:], ["R,kovacs-fatima,north", "R,silva-ana", "R,lee-kim"])
+        # Where no heading is known, most lines do.
+        faults = self.faults(PROGRAMMES, RESIDENTS.replace("Applicant,Rank 1,Rank 2,Rank 3", "Applicant"))
+        self.assertEqual(faults[0], "residents, row 1, cell 2 (B1): no column is headed Rank 1 (or Choice 1, 1st choice, First, 1)")
 
     def test_quotes_spaces_and_unseen_letters(self) -> None:
         self.same(PROGRAMMES.replace("Zoë Brontë", '"Zoe\u0308   Bronte\u0308\u200b"'), RESIDENTS.replace("Zoë Brontë", "\u00a0Zoë\u00a0Brontë\ufeff "))
@@ -130,7 +137,7 @@ class Forms(Tables):
         said = office("check", *self.tables(PROGRAMMES.replace("South Hospital,1,Kim Lee,Ana", "South Hospital,1,Kim Lee,,Ana")
                                             .replace("Silva,Omar Haddad,", "Silva,Omar Haddad"), RESIDENTS))
         self.assertEqual(said.status, 0)
-        self.assertIn("note: programmes: 1 lists leave out a rank, and what follows moves up; the first is that of South Hospital in row 3", said.out)
+        self.assertIn("note: programmes: 1 times a list leaves out a rank, and what follows moves up; the first is that of South Hospital in row 3", said.out)
         residents = "Applicant,Rank,Programme\nAna,1,North\nAna,3,South\n"
         programmes = "Programme,Places,Rank 1\nNorth,1,Ana\nSouth,1,Ana\n"
         self.assertIn("Ana has no rank 2", self.faults(programmes, residents)[0])
@@ -265,9 +272,7 @@ class Limits(Tables):
         programmes = ["Programme,Places," + ",".join(map(str, range(1, 2002)))] + [
             f"P{number},1," + ",".join(f"R{one}" for one in range(2001)) for number in range(100)]
         residents = ["Applicant," + ",".join(map(str, range(1, 101)))] + [
-            f"R{number}," + ",".join(f"P{one}" for one in range(100)) for number in range(2001)]
-        self.assertEqual(self.faults("\n".join(programmes), "\n".join(residents))[0], "programmes: 200,100 pairs rank one another, more than 200,000")
-        residents[-1] = "R2000,P0"
+            f"R{number}," + ",".join(f"P{one}" for one in range(100)) for number in range(2000)] + ["R2000,P0"]
         self.assertEqual(self.faults("\n".join(programmes), "\n".join(residents))[0], "programmes: 200,001 pairs rank one another, more than 200,000")
 
 

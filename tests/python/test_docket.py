@@ -2,10 +2,11 @@
 import random
 import subprocess
 import unittest
+from unittest import mock
 
 import made
 from residency import Docket, DocketFault, Journal, find_program, lint, read_docket, write_docket
-from residency.docket import first_fault, sheet_rows
+from residency.docket import MOST_RECORDS, first_fault, sheet_rows
 from residency.records import records, shown
 
 SMALL = b"Q,a,1\nP,a,x\nR,x,a\n"
@@ -25,7 +26,8 @@ class Records(unittest.TestCase):
     def test_quotes_and_ends(self):
         # By the states of a reader of comma-separated records: what follows a closing quote belongs to the field, a quote
         # within a plain field is a letter, an open quote takes all that is left, and a mark is one at the very start alone.
-        for data, rows in ((b"", []), (b"\n\r\n", []), (b",", [["", ""]]), (b'""', [[""]]), (b'"', [[""]]), (b'a"b,"c"', [['a"b', "c"]]),
+        for data, rows in ((b"", []), (b"\n\r\n", []), (b",", [["", ""]]), (b'""', [[""]]), (b'"', [[""]]),
+                           (b'a"b,"c"', [['a"b', "c"]]),
                            (b'"a"b"c,d', [['ab"c', "d"]]), (b'"a""b"', [['a"b']]), (b'"a,\r\nb"\nc', [["a,\r\nb"], ["c"]]),
                            (b'x,"a\ny,b', [["x", "a\ny,b"]]), (b" a , b", [[" a ", " b"]]), (b"a,\r\n,b", [["a", ""], ["", "b"]]),
                            (b"\xef\xbb\xbfa\n\xef\xbb\xbfb", [["a"], ["\xef\xbb\xbfb"]]), (b"\xef\xbb", [["\xef\xbb"]]),
@@ -34,7 +36,8 @@ class Records(unittest.TestCase):
                 self.assertEqual(list(records(data)), rows)
 
     def test_shown(self):
-        for field, text in (("kim", "kim"), ("Zo\xc3\xab", "Zoë"), ("Zo\xeb", "Zo\\xeb"), ("\x1b[31m", "\\x1b[31m"), ("a\nb", "a\\nb"),
+        for field, text in (("kim", "kim"), ("Zo\xc3\xab", "Zoë"), ("Zo\xeb", "Zo\\xeb"), ("\x1b[31m", "\\x1b[31m"),
+                            ("a\nb", "a\\nb"),
                             ("\xe2\x80\xae", "\\u202e"), ("a" * 61, "a" * 60 + "…"), ("\xc3\xab" * 100, "ë" * 60 + "…")):
             self.assertEqual(shown(field), text)
 
@@ -66,10 +69,13 @@ class Reading(unittest.TestCase):
 
     def test_fault_has_record_field_text_and_name(self):
         for data, record, field, text, name in (
-                (b"Q,a,1\n\nP,a,x,y\nR,x\n", 2, 4, "unknown name", "y"), (b"Q,north,1\nP,nort,x\nR,x\n", 2, 2, "unknown name", "nort"),
-                (b"Q,a,1\nQ,a,2\n", 2, 2, "declared twice", "a"), (b"Q,a,x\n", 1, 3, "bad quota", "x"), (b"Q,a\n", 1, None, "wrong number of fields", None),
+                (b"Q,a,1\n\nP,a,x,y\nR,x\n", 2, 4, "unknown name", "y"),
+                (b"Q,north,1\nP,nort,x\nR,x\n", 2, 2, "unknown name", "nort"),
+                (b"Q,a,1\nQ,a,2\n", 2, 2, "declared twice", "a"), (b"Q,a,x\n", 1, 3, "bad quota", "x"),
+                (b"Q,a\n", 1, None, "wrong number of fields", None),
                 (b"V,2\nR,x\nW,R,y\n", 3, 3, "unknown name", "y"), (SMALL + b"C,full\nE,take,y,a\n", 5, 3, "unknown name", "y"),
-                (SMALL + b"C,1,2\nE,close,2\n", 5, 3, "bad journal row", "2"), (SMALL + b"U,x\nF,a,1,1\n", 5, 3, "bad sheet", "a")):
+                (SMALL + b"C,1,2\nE,close,2\n", 5, 3, "bad journal row", "2"),
+                (SMALL + b"U,x\nF,a,1,1\n", 5, 3, "bad sheet", "a")):
             with self.subTest(data=data), self.assertRaises(DocketFault) as caught:
                 read_docket(data)
             fault = caught.exception
@@ -89,9 +95,12 @@ class Writing(unittest.TestCase):
                 self.assertEqual(list(one), list(other))
 
     def test_rows(self):
-        docket = Docket({"a": 2, "b": 0}, {"a": ("x",), "b": ()}, {"x": ("a", "b"), "y": ()}, frozenset("b"), frozenset("y"), {"x": "a", "y": None},
+        docket = Docket({"a": 2, "b": 0}, {"a": ("x",), "b": ()}, {"x": ("a", "b"), "y": ()}, frozenset("b"), frozenset("y"),
+                        {"x": "a", "y": None},
                         Journal(None, 1, (("close",),), (0,)))
-        self.assertEqual(write_docket(docket), b"V,2\nQ,a,2\nQ,b,0\nP,a,x\nP,b\nR,x,a,b\nR,y\nW,P,b\nW,R,y\nM,x,a\nU,y\nF,a,1,2\nF,b,0,0\nC,full,1\nE,close,0\n")
+        self.assertEqual(write_docket(docket),
+                         b"V,2\nQ,a,2\nQ,b,0\nP,a,x\nP,b\nR,x,a,b\nR,y\nW,P,b\nW,R,y\n"
+                         b"M,x,a\nU,y\nF,a,1,2\nF,b,0,0\nC,full,1\nE,close,0\n")
 
     def test_nothing_is_left_out_or_added(self):
         for docket in (Docket({"a b": 1}, {}, {}), Docket({"a": 1}, {"a": ("x\nU,x",)}, {"x": ()}), Docket({}, {}, {"é": ()}),
@@ -124,7 +133,8 @@ class Limits(unittest.TestCase):
     def test_pairs(self):
         # 101 programmes and 1,981 residents who all rank one another: 200,081 pairs; without one resident 199,980.
         programmes = [f"p{i}" for i in range(101)]
-        for count, gone, line in ((1980, (), None), (1981, (), "record 2183: more than 200000 acceptable pairs"), (1981, ("r0",), None)):
+        for count, gone, line in ((1980, (), None), (1981, (), "record 2183: more than 200000 acceptable pairs"),
+                                  (1981, ("r0",), None)):
             residents = [f"r{i}" for i in range(count)]
             rows = ["V,2"] + [f"Q,{p},0" for p in programmes] + [f"P,{p},{','.join(residents)}" for p in programmes]
             rows += [f"R,{r},{','.join(programmes)}" for r in residents] + [f"W,R,{r}" for r in gone]
@@ -132,7 +142,13 @@ class Limits(unittest.TestCase):
             self.agree(data, line)
 
     def test_records(self):
-        self.agree(b"U,x\n" * 2_000_001, "record 2000001: more than 2000000 records")
+        # Two million records take the reader ten seconds, so the limit is a small one here.
+        self.assertEqual(MOST_RECORDS, 2_000_000)
+        with mock.patch("residency.passes.MOST_RECORDS", 3):
+            self.assertEqual([fault.line for fault in lint(SMALL + b"Z\nQ,b,x\n")], ["record 4: more than 2000000 records"])
+            self.assertEqual([fault.line for fault in lint(b"Z\n" + SMALL)][:2],
+                             ["record 1: unknown kind of row", "record 4: more than 2000000 records"])
+            self.assertIsNone(first_fault(SMALL))
 
 
 class Lint(unittest.TestCase):
@@ -140,7 +156,8 @@ class Lint(unittest.TestCase):
         return [str(fault) for fault in lint(data)]
 
     def test_all_faults(self):
-        self.assertEqual(self.lines(b"Q,north,1,\nQ,south,2\nP,north,kim,le e\nP,south,lee,lee\nR,kim,north,sout\nR,lee\nM,kim,north\nF,north,1,1\n"), [
+        self.assertEqual(self.lines(b"Q,north,1,\nQ,south,2\nP,north,kim,le e\nP,south,lee,lee\nR,kim,north,sout\nR,lee\n"
+                                    b"M,kim,north\nF,north,1,1\n"), [
             "record 1: wrong number of fields (4 cells, the last ones empty; Q has 3)",
             "record 3: bad name (cell 4: le e)",
             "record 4: a name is listed twice (cells 3 and 4: lee)",
@@ -150,37 +167,52 @@ class Lint(unittest.TestCase):
 
     def test_each_fault_by_itself(self):
         for data, lines in (
-                (b"Programme,Places\nq,a,1\n", ["record 1: unknown kind of row (cell 1: Programme)", "record 2: unknown kind of row (cell 1: q)"]),
+                (b"Programme,Places\nq,a,1\n",
+                 ["record 1: unknown kind of row (cell 1: Programme)", "record 2: unknown kind of row (cell 1: q)"]),
                 (b"Q;a;1\n", ["record 1: unknown kind of row (semicolons in place of commas)"]),
                 ("Q,a,1\n".encode("utf-16"), [f"record {n}: unknown kind of row (a file saved as UTF-16)" for n in (1, 2)]),
                 (b"W,P,a\n", ["record 1: unknown kind of row (cell 1: W, which is known where record 1 is V,2)"]),
                 (b"V,2\nV,2\n", ["record 2: unknown kind of row (cell 1: V, which is known in record 1 alone)"]),
                 (b"V,3\n", ["record 1: unknown version (cell 2: 3)"]),
-                (b"V,2\nQ,a,1\nW,Q,a\nW,P,a\nW,P,a\nW,R,a\n", ["record 3: bad withdrawal row (cell 2: Q)", "record 5: declared twice (cell 3: a, as in record 4)",
+                (b"V,2\nQ,a,1\nW,Q,a\nW,P,a\nW,P,a\nW,R,a\n",
+                 ["record 3: bad withdrawal row (cell 2: Q)", "record 5: declared twice (cell 3: a, as in record 4)",
                                                             "record 6: unknown name (cell 3: a)"]),
-                (b"Q,a,-1\nQ,b,10001\nQ,%s,1\n" % (b"c" * 33), ["record 1: bad quota (cell 3: -1)", "record 2: quota over 10000 (cell 3: 10001)",
+                (b"Q,a,-1\nQ,b,10001\nQ,%s,1\n" % (b"c" * 33),
+                 ["record 1: bad quota (cell 3: -1)", "record 2: quota over 10000 (cell 3: 10001)",
                                                               f"record 3: bad name (cell 2: {'c' * 33} has more than 32 letters)"]),
-                (SMALL + b"P,a,x\nR,x\n", ["record 4: declared twice (cell 2: a, as in record 2)", "record 5: declared twice (cell 2: x, as in record 3)"]),
-                (SMALL + b"C,0\nE,close\nC,1\n", ["record 4: bad journal row (cell 2: 0)", "record 6: bad journal row (a capacity after an event)"]),
-                (SMALL + b"E,close\nE,stop\nE\n", ["record 4: bad journal row (an event before the capacity)", "record 5: bad journal row (cell 2: stop)",
+                (SMALL + b"P,a,x\nR,x\n",
+                 ["record 4: declared twice (cell 2: a, as in record 2)",
+                  "record 5: declared twice (cell 2: x, as in record 3)"]),
+                (SMALL + b"C,0\nE,close\nC,1\n",
+                 ["record 4: bad journal row (cell 2: 0)", "record 6: bad journal row (a capacity after an event)"]),
+                (SMALL + b"E,close\nE,stop\nE\n",
+                 ["record 4: bad journal row (an event before the capacity)", "record 5: bad journal row (cell 2: stop)",
                                                  "record 6: wrong number of fields (1 cells; E has 2 or more)"]),
-                (SMALL + b"C,full,9\nE,offer,a,x,8\nE,take,x,a\n", ["record 4: bad journal row (cell 3: 9)", "record 5: bad journal row (cell 5: 8)",
+                (SMALL + b"C,full,9\nE,offer,a,x,8\nE,take,x,a\n",
+                 ["record 4: bad journal row (cell 3: 9)", "record 5: bad journal row (cell 5: 8)",
                                                                   "record 6: wrong number of fields (4 cells; E has 5)"]),
-                (SMALL + b"C,1\nE,answer,x,a,maybe\nE,hear,a,y,hold\n", ["record 5: bad journal row (cell 5: maybe)", "record 6: unknown name (cell 4: y)"]),
-                (SMALL + b"M,x,a\nU,x\nF,a,0,2\n", ["record 5: bad sheet (cell 2: x has a row before, in record 4)", "record 6: bad sheet (cell 3: 0, where it is 1)",
+                (SMALL + b"C,1\nE,answer,x,a,maybe\nE,hear,a,y,hold\n",
+                 ["record 5: bad journal row (cell 5: maybe)", "record 6: unknown name (cell 4: y)"]),
+                (SMALL + b"M,x,a\nU,x\nF,a,0,2\n",
+                 ["record 5: bad sheet (cell 2: x has a row before, in record 4)",
+                  "record 6: bad sheet (cell 3: 0, where it is 1)",
                                                   "record 6: bad sheet (cell 4: 2, where it is 1)"]),
-                (b"Q,a,1\nP,a,y,y,x\nR,x,a\n", ["record 2: unknown name (cell 3: y)", "record 2: unknown name (cell 4: y)", "record 2: a name is listed twice (cells 3 and 4: y)"]),
+                (b"Q,a,1\nP,a,y,y,x\nR,x,a\n",
+                 ["record 2: unknown name (cell 3: y)", "record 2: unknown name (cell 4: y)",
+                  "record 2: a name is listed twice (cells 3 and 4: y)"]),
                 (SMALL, [])):
             with self.subTest(data=data):
                 self.assertEqual(self.lines(data), lines)
 
     def test_a_fault_isnt_the_cause_of_others(self):
         # Rows with an empty cell at their ends, as a spreadsheet saves them.
-        for data, count in ((b"V,2,\nQ,a,1,\nR,x,a\nW,R,x\n", 2), (SMALL + b"C,full,,\nE,close\n", 1), (SMALL + b"C,1,9\nE,close,3\n", 1)):
+        for data, count in ((b"V,2,\nQ,a,1,\nR,x,a\nW,R,x\n", 2), (SMALL + b"C,full,,\nE,close\n", 1),
+                            (SMALL + b"C,1,9\nE,close,3\n", 1)):
             self.assertEqual(len(self.lines(data)), count)
 
     def test_no_raw_bytes(self):
-        for data in (b"Q,\x1b[2J,1\n", b"\x07,\n", b"Q,a,\xff\x9b\n", b"Q,a,1\nP,a,\xe2\x80\xae\n", b"Q,%s,1\n" % (b"\x00" * 99999)):
+        for data in (b"Q,\x1b[2J,1\n", b"\x07,\n", b"Q,a,\xff\x9b\n", b"Q,a,1\nP,a,\xe2\x80\xae\n",
+                     b"Q,%s,1\n" % (b"\x00" * 99999)):
             for line in self.lines(data):
                 self.assertTrue(line.isprintable(), line)
                 self.assertLess(len(line), 500)

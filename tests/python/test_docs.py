@@ -23,7 +23,9 @@ from residency import find_program
 
 TOP = Path(__file__).resolve().parent.parent.parent
 PAGE = (TOP / "docs" / "python.md").read_text(encoding="utf-8")
-MODULES = [importlib.import_module(f"residency.{found.name}") for found in pkgutil.iter_modules(residency.__path__) if not found.ispkg]
+MODULES = [importlib.import_module(f"residency.{found.name}") for found in pkgutil.iter_modules(residency.__path__)
+           if not found.ispkg]
+PACKAGE = sorted((TOP / "python").rglob("*.py"))
 
 
 class DataFrame:
@@ -57,7 +59,8 @@ def blocks():
 
 
 class Page(unittest.TestCase):
-    FILES = {"places": "programme,places\nKöln,1\nŁódź,2\n", "ranked": "programme,rank,applicant\nKöln,2,Zoë\nKöln,1,Ana\nŁódź,1,Zoë\n",
+    FILES = {"places": "programme,places\nKöln,1\nŁódź,2\n",
+             "ranked": "programme,rank,applicant\nKöln,2,Zoë\nKöln,1,Ana\nŁódź,1,Zoë\n",
              "choices": "region,applicant,rank,programme\nN,Zoë,1,Köln\nN,Zoë,2,Łódź\nS,Ana,1,Köln\nS,Kim,1,Łódź\n"}
 
     def test_twelve_lines(self):
@@ -81,7 +84,8 @@ class Page(unittest.TestCase):
     def test_every_name_is_there(self):
         for name in re.findall(r"`((?:Market|market|residency)\.[a-z_]+|[a-z_]+(?=\())", PAGE):
             owner, _, last = name.rpartition(".")
-            self.assertTrue(hasattr(residency.Market if owner in ("Market", "market") else residency, last) or hasattr(residency.Match, last), name)
+            of = residency.Market if owner in ("Market", "market") else residency
+            self.assertTrue(hasattr(of, last) or hasattr(residency.Match, last), name)
         errors = {name for name, one in vars(residency).items() if isinstance(one, type) and issubclass(one, Exception)}
         for name in errors - {"ProgramError"}:
             self.assertIn(f"`{name}`", PAGE)
@@ -96,51 +100,72 @@ class Modules(unittest.TestCase):
             tried += result.attempted
         self.assertGreater(tried, 30)
 
-    def test_all_that_is_public_is_told_and_typed(self):
-        for module in MODULES:
-            for name, one in vars(module).items():
-                if name.startswith("_") or getattr(one, "__module__", None) != module.__name__ or not (inspect.isfunction(one) or inspect.isclass(one)):
-                    continue
-                members = [(name, one)] if inspect.isfunction(one) else [(f"{name}.{inner}", getattr(each, "__func__", each)) for inner, each in vars(one).items()
-                                                                          if inspect.isfunction(getattr(each, "__func__", each)) and (inner == "__init__" or not inner.startswith("_"))]
+    def functions(self, module):
+        """The public functions of a module and of its classes, by name; each class and function has a docstring."""
+        for name, one in vars(module).items():
+            if name.startswith("_") or getattr(one, "__module__", None) != module.__name__:
+                continue
+            if inspect.isfunction(one):
                 self.assertTrue(one.__doc__, name)
-                for called, function in members:
-                    if function.__module__ != module.__name__ or "__create_fn__" in function.__qualname__ or not inspect.getsourcefile(function):
-                        continue
-                    with mock.patch.object(typing, "TYPE_CHECKING", True):
-                        hints = typing.get_type_hints(function, {**vars(residency.market), **vars(module)})
-                    parameters = [each for each in inspect.signature(function).parameters if each not in ("self", "cls")]
-                    self.assertEqual([each for each in parameters + ["return"] if each not in hints], [], f"{module.__name__}.{called}")
+                yield name, one
+            elif inspect.isclass(one):
+                self.assertTrue(one.__doc__, name)
+                for inner, method in vars(one).items():
+                    function = getattr(method, "__func__", method)
+                    written = inspect.isfunction(function) and function.__code__.co_filename == module.__file__
+                    if written and (inner == "__init__" or not inner.startswith("_")):
+                        yield f"{name}.{inner}", function
+
+    def test_all_that_is_public_is_told_and_typed(self):
+        tried = 0
+        for module in MODULES:
+            for name, function in self.functions(module):
+                hints = typing.get_type_hints(function, {**vars(residency.market), **vars(module)})
+                parameters = [each for each in inspect.signature(function).parameters if each not in ("self", "cls")]
+                self.assertEqual([each for each in [*parameters, "return"] if each not in hints], [], f"{module.__name__}.{name}")
+                tried += 1
+        self.assertGreater(tried, 80)
 
     def test_the_oldest_python(self):
-        for path in sorted((TOP / "python").rglob("*.py")) + sorted((TOP / "tests" / "python").glob("*.py")) + [TOP / "examples" / "second-opinion.py"]:
+        for path in [*PACKAGE, *sorted((TOP / "tests" / "python").glob("*.py")), TOP / "examples" / "second-opinion.py"]:
             ast.parse(path.read_text(encoding="utf-8"), str(path), feature_version=(3, 9))
 
+    @unittest.skipUnless(hasattr(sys, "stdlib_module_names"), "Python 3.10 and later know their own modules")
     def test_nothing_else_is_needed(self):
-        own = {"residency", "__future__"} | set(sys.stdlib_module_names) if hasattr(sys, "stdlib_module_names") else None
-        for path in sorted((TOP / "python").rglob("*.py")) if own else ():
+        for path in PACKAGE:
             for node in ast.walk(ast.parse(path.read_text(encoding="utf-8"))):
-                names = [each.name for each in node.names] if isinstance(node, ast.Import) else [node.module] if isinstance(node, ast.ImportFrom) and not node.level else []
+                names = [each.name for each in node.names] if isinstance(node, ast.Import) else []
+                names += [node.module] if isinstance(node, ast.ImportFrom) and not node.level else []
                 for name in names:
-                    self.assertIn(name.split(".")[0], own, path)
+                    self.assertIn(name.split(".")[0], {"residency", *sys.stdlib_module_names}, path)
 
 
 class Installed(unittest.TestCase):
+    TRIAL = """
+import residency
+print(residency.__file__)
+print(ascii(residency.Market({"Köln": 1}, {"Köln": ["王"]}, {"王": ["Köln"]}).match().places))
+"""
+
     def test_nothing_is_downloaded(self):
         if subprocess.run([sys.executable, "-m", "pip", "--version"], capture_output=True, check=False).returncode != 0:
             self.skipTest("there is no pip")
         with tempfile.TemporaryDirectory() as folder:
-            # No index, no proxy that could answer, and none of the user's settings.
-            words = [sys.executable, "-m", "pip", "install", "--isolated", "--no-index", "--no-cache-dir", "--target", f"{folder}/site", str(TOP / "python")]
+            # Without an index, a cache and the user's settings.
+            words = [sys.executable, "-m", "pip", "install", "--isolated", "--no-index", "--no-cache-dir", "--target",
+                     f"{folder}/site", str(TOP / "python")]
             said = subprocess.run(words, capture_output=True, text=True, check=False)
             self.assertEqual(said.returncode, 0, said.stdout + said.stderr)
-            shown = subprocess.run([sys.executable, "-c", "import residency; print(residency.__file__); m = residency.Market({'Köln': 1}, {'Köln': ['王']}, {'王': ['Köln']}); "
-                                    "print(ascii(m.match().places))"], cwd=folder, capture_output=True, text=True, check=False,
+            shown = subprocess.run([sys.executable, "-c", self.TRIAL], cwd=folder, capture_output=True, text=True, check=False,
                                    env={**os.environ, "PYTHONPATH": f"{folder}/site", "RESIDENCY_BIN": str(find_program())})
             self.assertEqual(shown.stdout, f"{folder}/site/residency/__init__.py\n{{'\\u738b': 'K\\xf6ln'}}\n", shown.stderr)
-            inside = {path.relative_to(f"{folder}/site").as_posix() for path in Path(folder, "site", "residency").rglob("*") if path.suffix != ".pyc" and path.is_file()}
-            wanted = {path.relative_to(TOP / "python").as_posix() for path in (TOP / "python" / "residency").rglob("*") if path.suffix != ".pyc" and path.is_file()}
-            self.assertEqual(inside, wanted)
+            self.assertEqual(files(Path(folder) / "site"), files(TOP / "python"))
+
+
+def files(folder):
+    """The files of the package below a folder, without what Python keeps beside them."""
+    return {path.relative_to(folder).as_posix() for path in (folder / "residency").rglob("*")
+            if path.is_file() and path.suffix != ".pyc"}
 
 
 if __name__ == "__main__":

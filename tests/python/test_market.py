@@ -10,7 +10,8 @@ from unittest import mock
 
 import made
 import residency
-from residency import (Audit, DocketFault, KeyFault, Market, MarketFault, Member, Names, Replay, UnknownStatus, Why, find_program, read_key,
+from residency import (Audit, DocketFault, KeyFault, Market, MarketFault, Member, Names, Replay, UnknownStatus, Why, find_program,
+                       read_key,
                        write_key)
 from residency.errors import ProgramMissing
 
@@ -31,20 +32,25 @@ class Building(unittest.TestCase):
         one = market()
         self.assertEqual(one.docket().decode(), "Q,koln,2\nQ,lodz-east,1\nP,koln,zoe-weiss,anna-1,r\nP,lodz-east,zoe-weiss\n"
                          "R,zoe-weiss,lodz-east,koln\nR,anna-1,koln\nR,r,koln\n")
-        self.assertEqual((one.quotas, one.programme_lists["=Köln"], one.resident_lists["王芳"]), (PLACES, tuple(PROGRAMMES["=Köln"]), ("=Köln",)))
+        self.assertEqual((one.quotas, one.programme_lists["=Köln"], one.resident_lists["王芳"]),
+                         (PLACES, tuple(PROGRAMMES["=Köln"]), ("=Köln",)))
         self.assertEqual(one.names.name("R", "r"), "王芳")
 
     def test_dictionaries_at_fault(self):
         with self.assertRaises(MarketFault) as caught:
-            Market.from_dictionaries({"Kim": ["Nort", "South", "South"], "": [], "Lee": "North", 7: [], "Ann": [None]}, {"Nrth": ["Kim"], "South": ["Kin"]},
+            Market.from_dictionaries({"Kim": ["Nort", "South", "South"], "": [], "Lee": "North", 7: [], "Ann": [None]},
+                                     {"Nrth": ["Kim"], "South": ["Kin"]},
                                      {"North": 10001, "South": True, "East": "2", "West": -1}, ["West", "Wesst"], "Kim")
         self.assertEqual(list(caught.exception.faults), [
-            "a resident is called '', which is no name", "a resident is called 7, which is no name", "programme North: 10001 is no number of places from 0 to 10000",
-            "programme South: True is no number of places from 0 to 10000", "programme East: 2 is no number of places from 0 to 10000",
+            "a resident is called '', which is no name", "a resident is called 7, which is no name",
+            "programme North: 10001 is no number of places from 0 to 10000",
+            "programme South: True is no number of places from 0 to 10000",
+            "programme East: 2 is no number of places from 0 to 10000",
             "programme West: -1 is no number of places from 0 to 10000",
             "a list of Nrth: no programme is named Nrth; is it North?", "programme South, choice 1: no resident is named Kin",
             "resident Kim, choice 1: no programme is named Nort; is it North?", "resident Kim, choice 3: South is listed twice",
-            "resident Lee: North is no list", "resident Ann, choice 1: no programme is named None", "withdrawn: no programme is named Wesst; is it West?",
+            "resident Lee: North is no list", "resident Ann, choice 1: no programme is named None",
+            "withdrawn: no programme is named Wesst; is it West?",
             "Kim is no list of the withdrawn residents"])
         self.assertIsInstance(caught.exception, ValueError)
 
@@ -68,37 +74,49 @@ class Building(unittest.TestCase):
 
     def test_wide_tables(self):
         nan = math.nan
-        one = Market.from_tables([("=Köln", 2, " Zoë  Weiß", "Anna (1)", "王芳"), (None, nan), ["Łódź, East", "01", "Zoe\u0308 Weiß", nan]],
+        one = Market.from_tables([("=Köln", 2, " Zoë  Weiß", "Anna (1)", "王芳"), (None, nan),
+                                  ["Łódź, East", "01", "Zoe\u0308 Weiß", nan]],
                                  [("Zoë Weiß", "Łódź, East", "", "=Köln"), ("Anna (1)", "=Köln", None), ("王芳", "=Köln")])
         self.assertEqual(one.docket(), market().docket())
 
     def test_ids(self):
         rows = [("Kim", 7, "North"), ("Kim", 8.0, "P2"), ("Lee", "9", "North")]
-        one = Market.from_tables([("North", "P1", 1, 8, "Kim (7)", "Lee"), ("South", "P2", 1, "7")], rows, programme_ids=True, resident_ids=True)
+        one = Market.from_tables([("North", "P1", 1, 8, "Kim (7)", "Lee"), ("South", "P2", 1, "7")], rows, programme_ids=True,
+                                 resident_ids=True)
         self.assertEqual(one.programme_lists, {"North": ("Kim (8)", "Kim (7)", "Lee"), "South": ("Kim (7)",)})
         self.assertEqual(one.resident_lists, {"Kim (7)": ("North",), "Kim (8)": ("South",), "Lee": ("North",)})
         self.assertEqual([one.names.id("R", member.docket_name) for member in one.names.members("R")], ["7", "8", "9"])
         with self.assertRaises(MarketFault) as caught:
-            Market.from_tables([("North", 1, "Kim")], rows + [("Kim", 7, "North"), ("Kim", "", "North"), ("Ann", 9)], resident_ids=True)
-        self.assertEqual(list(caught.exception.faults), ["residents, row 4, cell 1: Kim has a row before", "residents, row 5, cell 1: Kim has a row before, and has no ID here",
-                         "residents, row 6, cell 1: the ID 9 has a row before", "programmes, row 1, cell 3: 2 residents are named Kim: name one by its ID (7, 8)",
+            Market.from_tables([("North", 1, "Kim")], rows + [("Kim", 7, "North"), ("Kim", "", "North"), ("Ann", 9)],
+                               resident_ids=True)
+        self.assertEqual(list(caught.exception.faults),
+                         ["residents, row 4, cell 1: Kim has a row before",
+                          "residents, row 5, cell 1: Kim has a row before, and has no ID here",
+                         "residents, row 6, cell 1: the ID 9 has a row before",
+                          "programmes, row 1, cell 3: 2 residents are named Kim: name one by its ID (7, 8)",
                          "residents, row 2, cell 3: no programme is named P2"])
 
     def test_wide_tables_at_fault(self):
         with self.assertRaises(MarketFault) as caught:
-            Market.from_tables([("A", "x", "Kim", "", "Kim"), ("A", 10001), ("", 1, "Kmi"), ("B", "9" * 5000), ("C",), ("D", 1.5), ("E", True)], [("Kim", "A", "Bb"), ("Kim",)])
+            Market.from_tables([("A", "x", "Kim", "", "Kim"), ("A", 10001), ("", 1, "Kmi"), ("B", "9" * 5000), ("C",), ("D", 1.5),
+                                ("E", True)], [("Kim", "A", "Bb"), ("Kim",)])
         self.assertEqual(list(caught.exception.faults), [
-            "programmes, row 1, cell 2: x is no number of places from 0 to 10000", "programmes, row 2, cell 2: 10001 is no number of places from 0 to 10000",
+            "programmes, row 1, cell 2: x is no number of places from 0 to 10000",
+            "programmes, row 2, cell 2: 10001 is no number of places from 0 to 10000",
             "programmes, row 2, cell 1: A has a row before", "programmes, row 3, cell 1: no name",
-            f"programmes, row 4, cell 2: {'9' * 60}… is no number of places from 0 to 10000", "programmes, row 5, cell 2: an empty cell is no number of places from 0 to 10000",
-            "programmes, row 6, cell 2: 1.5 is neither text nor a whole number", "programmes, row 6, cell 2: an empty cell is no number of places from 0 to 10000",
-            "programmes, row 7, cell 2: True is neither text nor a whole number", "programmes, row 7, cell 2: an empty cell is no number of places from 0 to 10000",
+            f"programmes, row 4, cell 2: {'9' * 60}… is no number of places from 0 to 10000",
+            "programmes, row 5, cell 2: an empty cell is no number of places from 0 to 10000",
+            "programmes, row 6, cell 2: 1.5 is neither text nor a whole number",
+            "programmes, row 6, cell 2: an empty cell is no number of places from 0 to 10000",
+            "programmes, row 7, cell 2: True is neither text nor a whole number",
+            "programmes, row 7, cell 2: an empty cell is no number of places from 0 to 10000",
             "residents, row 2, cell 1: Kim has a row before", "programmes, row 1, cell 5: Kim is listed twice",
             "programmes, row 3, cell 3: no resident is named Kmi", "residents, row 1, cell 3: no programme is named Bb"])
 
     def test_long_tables(self):
         places = [("=Köln", 2), ("Łódź, East", 1)]
-        programme_ranks = [("=Köln", 3, "王芳"), ("Łódź, East", 1, "Zoë Weiß"), ("=Köln", 1, "Zoë Weiß"), ("=Köln", 2.0, "Anna (1)")]
+        programme_ranks = [("=Köln", 3, "王芳"), ("Łódź, East", 1, "Zoë Weiß"), ("=Köln", 1, "Zoë Weiß"),
+                           ("=Köln", 2.0, "Anna (1)")]
         resident_ranks = [("Zoë Weiß", 20, "=Köln"), ("Anna (1)", 1, "=Köln"), ("王芳", 1, "=Köln"), ("Zoë Weiß", 10, "Łódź, East")]
         self.assertEqual(Market.from_ranks(places, programme_ranks, resident_ranks).docket(), market().docket())
         one = Market.from_ranks(places, [("=Köln", 1, 7)], [(7, 1, "=Köln")], [("Kim", 8), ("Kim", 7)])
@@ -106,19 +124,25 @@ class Building(unittest.TestCase):
 
     def test_long_tables_at_fault(self):
         with self.assertRaises(MarketFault) as caught:
-            Market.from_ranks([("A", 1), ("B", 2), ("A", 1)], [("A", 1, "Kim"), ("A", 1, "Lee"), ("C", 1, "Kim"), ("B", "x", "Kim"), ("B", 1, "Ann")],
-                              [("Kim", 1, "A"), ("Kim", 2, "A"), ("Lee", "", "B"), ("Joe", 1, "A"), ("Lee", -1, "B"), ("Lee", 1)], ["Kim", "Lee"])
+            Market.from_ranks([("A", 1), ("B", 2), ("A", 1)],
+                              [("A", 1, "Kim"), ("A", 1, "Lee"), ("C", 1, "Kim"), ("B", "x", "Kim"), ("B", 1, "Ann")],
+                              [("Kim", 1, "A"), ("Kim", 2, "A"), ("Lee", "", "B"), ("Joe", 1, "A"), ("Lee", -1, "B"), ("Lee", 1)],
+                              ["Kim", "Lee"])
         self.assertEqual(list(caught.exception.faults), [
-            "places, row 3, cell 1: A has a row before", "programme ranks, row 2, cell 2: A has two of rank 1", "programme ranks, row 3, cell 1: no programme is named C",
-            "programme ranks, row 4, cell 2: x is no rank", "programme ranks, row 5, cell 3: no resident is named Ann", "resident ranks, row 2, cell 3: A is listed twice by Kim",
-            "resident ranks, row 3, cell 2: an empty cell is no rank", "resident ranks, row 4, cell 1: no resident is named Joe", "resident ranks, row 5, cell 2: -1 is no rank",
+            "places, row 3, cell 1: A has a row before", "programme ranks, row 2, cell 2: A has two of rank 1",
+            "programme ranks, row 3, cell 1: no programme is named C",
+            "programme ranks, row 4, cell 2: x is no rank", "programme ranks, row 5, cell 3: no resident is named Ann",
+            "resident ranks, row 2, cell 3: A is listed twice by Kim",
+            "resident ranks, row 3, cell 2: an empty cell is no rank", "resident ranks, row 4, cell 1: no resident is named Joe",
+            "resident ranks, row 5, cell 2: -1 is no rank",
             "resident ranks, row 6, cell 3: an empty cell"])
 
     def test_dockets(self):
         one = market().withdraw(["Łódź, East"], ["王芳"])
         again = Market.from_docket(one.docket(), read_key(write_key(one.names)))
         self.assertEqual(again.docket(), one.docket())
-        self.assertEqual((again.quotas, again.programme_lists, again.resident_lists), (one.quotas, one.programme_lists, one.resident_lists))
+        self.assertEqual((again.quotas, again.programme_lists, again.resident_lists),
+                         (one.quotas, one.programme_lists, one.resident_lists))
         self.assertEqual((again.withdrawn_programmes, again.withdrawn_residents), (("Łódź, East",), ("王芳",)))
         self.assertEqual(Market.from_docket(one.docket()).withdrawn_residents, ("r",))
         with self.assertRaises(DocketFault):
@@ -129,7 +153,9 @@ class Building(unittest.TestCase):
     def test_withdrawing(self):
         one = market().withdraw(residents=["Zoë Weiß"])
         self.assertEqual(one.docket(), b"V,2\n" + market().docket() + b"W,R,zoe-weiss\n")
-        self.assertEqual(one.withdraw(["=Köln"]).withdraw(residents=["Zoë Weiß"]).docket(), b"V,2\n" + market().docket() + b"W,P,koln\nW,R,zoe-weiss\n")
+        self.assertEqual(repr(one), "<Market of 2 programmes and 3 residents, 1 withdrawn>")
+        self.assertEqual(one.withdraw(["=Köln"]).withdraw(residents=["Zoë Weiß"]).docket(),
+                         b"V,2\n" + market().docket() + b"W,P,koln\nW,R,zoe-weiss\n")
         with self.assertRaisesRegex(MarketFault, "withdrawn: no resident is named Zoe; "):
             Market.from_dictionaries({"Zoé": []}, {}, {}).withdraw(residents=["Zoe"])
 
@@ -140,15 +166,18 @@ class Answers(unittest.TestCase):
         self.assertEqual(list(match.places.items()), list(MATCHED.items()))
         self.assertEqual((match.filled, match.quotas, match.unmatched), ({"=Köln": 2, "Łódź, East": 1}, PLACES, ()))
         self.assertEqual(match.residents_of("=Köln"), ("Anna (1)", "王芳"))
-        self.assertEqual((match.sheet, match.journal), (b"M,zoe-weiss,lodz-east\nM,anna-1,koln\nM,r,koln\nF,koln,2,2\nF,lodz-east,1,1\n", b""))
+        self.assertEqual((match.sheet, match.journal),
+                         (b"M,zoe-weiss,lodz-east\nM,anna-1,koln\nM,r,koln\nF,koln,2,2\nF,lodz-east,1,1\n", b""))
         with self.assertRaises(FrozenInstanceError):
             match.sheet = b""
 
     def test_match_of_the_withdrawn(self):
         match = market().withdraw(["Łódź, East"]).match()
-        self.assertEqual((match.places, match.filled), ({"Zoë Weiß": "=Köln", "Anna (1)": "=Köln", "王芳": None}, {"=Köln": 2, "Łódź, East": 0}))
+        self.assertEqual((match.places, match.filled),
+                         ({"Zoë Weiß": "=Köln", "Anna (1)": "=Köln", "王芳": None}, {"=Köln": 2, "Łódź, East": 0}))
         self.assertEqual(match.unmatched, ("王芳",))
-        self.assertEqual(market().withdraw(residents=["Zoë Weiß"]).match().places, {"Zoë Weiß": None, "Anna (1)": "=Köln", "王芳": "=Köln"})
+        self.assertEqual(market().withdraw(residents=["Zoë Weiß"]).match().places,
+                         {"Zoë Weiß": None, "Anna (1)": "=Köln", "王芳": "=Köln"})
 
     def test_match_of_nobody(self):
         match = Market({}, {}, {}).match(workers=1, journal="by worker")
@@ -156,11 +185,13 @@ class Answers(unittest.TestCase):
 
     def test_options(self):
         one = market()
-        for workers, capacity, journal, head in ((1, 1, True, b"C,1\n"), (8, 1024, "by worker", b"C,1024,8\n"), (3, None, True, b"C,full\n")):
+        for workers, capacity, journal, head in ((1, 1, True, b"C,1\n"), (8, 1024, "by worker", b"C,1024,8\n"),
+                                                 (3, None, True, b"C,full\n")):
             match = one.match(workers, capacity, journal)
             self.assertEqual((match.places, match.journal[:len(head)]), (MATCHED, head))
             self.assertTrue(one.replay(match).good)
-        for workers, capacity, error in ((9, None, residency.ProgramFailed), (1, 0, residency.ProgramFailed), (1, 1025, residency.ProgramFailed)):
+        for workers, capacity, error in ((9, None, residency.ProgramFailed), (1, 0, residency.ProgramFailed),
+                                         (1, 1025, residency.ProgramFailed)):
             with self.assertRaises(error) as caught:
                 one.match(workers, capacity)
             self.assertEqual(caught.exception.status, 2)
@@ -172,14 +203,17 @@ class Answers(unittest.TestCase):
         self.assertEqual(one.audit(one.match()), Audit(True))
         self.assertEqual(residency.audit(one, MATCHED), Audit(True))
         # Zoë is second choice nowhere: with her at Köln she and Łódź would both rather have one another.
-        self.assertEqual(one.audit({**MATCHED, "Zoë Weiß": "=Köln"}), Audit(False, (), (("=Köln", 3, 2),), (("Zoë Weiß", "Łódź, East"),)))
-        self.assertEqual(one.audit({**MATCHED, "王芳": "Łódź, East"}), Audit(False, (("王芳", "Łódź, East"),), (("Łódź, East", 2, 1),), (("王芳", "=Köln"),)))
+        self.assertEqual(one.audit({**MATCHED, "Zoë Weiß": "=Köln"}),
+                         Audit(False, (), (("=Köln", 3, 2),), (("Zoë Weiß", "Łódź, East"),)))
+        self.assertEqual(one.audit({**MATCHED, "王芳": "Łódź, East"}),
+                         Audit(False, (("王芳", "Łódź, East"),), (("Łódź, East", 2, 1),), (("王芳", "=Köln"),)))
         self.assertEqual(one.withdraw(residents=["Anna (1)"]).audit(MATCHED), Audit(False, (("Anna (1)", "=Köln"),)))
 
     def test_places_at_fault(self):
         with self.assertRaises(MarketFault) as caught:
             market().audit({"Zoë Weiß": "Koln", "Kim": None})
-        self.assertEqual(list(caught.exception.faults), ["resident Anna (1) has no place, and no None", "resident 王芳 has no place, and no None",
+        self.assertEqual(list(caught.exception.faults),
+                         ["resident Anna (1) has no place, and no None", "resident 王芳 has no place, and no None",
                          "no resident is named Kim", "resident Zoë Weiß: no programme is named Koln"])
 
     def test_replay(self):
@@ -191,11 +225,14 @@ class Answers(unittest.TestCase):
         self.assertEqual(one.replay(match, {**MATCHED, "王芳": None}), Replay(False, differs="王芳"))
         by_worker = one.replay(one.match(3, journal="by worker"))
         self.assertEqual((by_worker.good, len(by_worker.by_worker), sum(by_worker.by_worker)), (True, 3, by_worker.events))
-        for journal, answer in ((b"C,full\n", Replay(False, place=1, word="not-closed")), (b"C,full\nE,close\n", Replay(False, place=1, word="still-pending", pending="wish", at="=Köln")),
+        for journal, answer in ((b"C,full\n", Replay(False, place=1, word="not-closed")),
+                                (b"C,full\nE,close\n", Replay(False, place=1, word="still-pending", pending="wish", at="=Köln")),
                                 (b"C,full\nE,offer,koln,r\n", Replay(False, place=1, word="not-next")),
-                                (b"C,full\nE,offer,koln,zoe-weiss\nE,close\n", Replay(False, place=2, word="still-pending", pending="offers", at="Zoë Weiß"))):
+                                (b"C,full\nE,offer,koln,zoe-weiss\nE,close\n",
+                                 Replay(False, place=2, word="still-pending", pending="offers", at="Zoë Weiß"))):
             self.assertEqual(one.replay(journal), answer)
-        for journal, record, text in ((one.match(), 0, "no journal in the docket"), (b"E,close\n", 8, "bad journal row"), (b"C,full\nE,offer,koln,kim\n", 9, "unknown name")):
+        for journal, record, text in ((one.match(), 0, "no journal in the docket"), (b"E,close\n", 8, "bad journal row"),
+                                      (b"C,full\nE,offer,koln,kim\n", 9, "unknown name")):
             with self.assertRaises(DocketFault) as caught:
                 one.replay(journal)
             self.assertEqual((caught.exception.record, caught.exception.text), (record, text))
@@ -206,7 +243,8 @@ class Answers(unittest.TestCase):
         match = one.match(journal=True)
         self.assertEqual(one.read_match(match.sheet, match.journal), match)
         # Without a sheet, with one of other members, and with one row twice.
-        for sheet, text in ((b"", "no sheet in the docket"), (b"M,kim,koln\n", "unknown name"), (match.sheet * 2, "bad sheet"), (match.sheet[:-2] + b"2\n", "bad sheet")):
+        for sheet, text in ((b"", "no sheet in the docket"), (b"M,kim,koln\n", "unknown name"), (match.sheet * 2, "bad sheet"),
+                            (match.sheet[:-2] + b"2\n", "bad sheet")):
             with self.assertRaises(DocketFault) as caught:
                 one.read_match(sheet)
             self.assertEqual(caught.exception.text, text)
@@ -218,10 +256,13 @@ class Answers(unittest.TestCase):
         for number in range(60):
             rng = random.Random(f"market {number}")
             it = made.Made(rng, 6, 12)
-            call = {side: {name: f"{side} {name} é" for name in names} for side, names in (("P", it.quotas), ("R", it.resident_lists))}
-            one = Market(dict(zip(call["P"].values(), it.quotas.values())), {call["P"][p]: [call["R"][r] for r in listed] for p, listed in it.programme_lists.items()},
+            call = {side: {name: f"{side} {name} é" for name in names} for side,
+                    names in (("P", it.quotas), ("R", it.resident_lists))}
+            one = Market(dict(zip(call["P"].values(), it.quotas.values())),
+                         {call["P"][p]: [call["R"][r] for r in listed] for p, listed in it.programme_lists.items()},
                          {call["R"][r]: [call["P"][p] for p in listed] for r, listed in it.resident_lists.items()},
-                         [call["P"][name] for side, name in it.gone if side == "P"], [call["R"][name] for side, name in it.gone if side == "R"])
+                         [call["P"][name] for side, name in it.gone if side == "P"],
+                         [call["R"][name] for side, name in it.gone if side == "R"])
             wanted = {call["R"][r]: p and call["P"][p] for r, p in it.settled().items()}
             match = one.match(rng.randint(1, 8), rng.choice((None, 1, 5)), "by worker")
             self.assertEqual(list(match.places.items()), list(wanted.items()))
@@ -235,7 +276,7 @@ class WhyNot(unittest.TestCase):
     TABLE = """#!/bin/sh
 if [ "$1" = --help ]; then echo "why [--all]"; exit 0; fi
 cat > /dev/null
-printf 'resident,programme,choice,answer,rank,last_rank,quota\\nzoe-weiss,lodz-east,1,matched,,,\\nzoe-weiss,koln,2,prefers-own,,,\\nanna-1,koln,1,full,2,3,2\\n%s' "$LAST"
+cat "$ROWS"
 """
 
     def in_folder(self, last):
@@ -248,18 +289,24 @@ printf 'resident,programme,choice,answer,rank,last_rank,quota\\nzoe-weiss,lodz-e
             else:
                 place.write_text(path)
                 place.chmod(0o755)
-        return mock.patch.dict(os.environ, {"RESIDENCY_BIN": folder.name, "LAST": last})
+        rows = Path(folder.name) / "rows"
+        rows.write_text("resident,programme,choice,answer,rank,last_rank,quota\nzoe-weiss,lodz-east,1,matched,,,\n"
+                        f"zoe-weiss,koln,2,better,,,\nanna-1,koln,1,full,2,3,2\n{last}")
+        return mock.patch.dict(os.environ, {"RESIDENCY_BIN": folder.name, "ROWS": str(rows)})
 
     def test_table(self):
         one = market()
         with self.in_folder("r,koln,1,matched,,,\n"):
-            self.assertEqual(one.why(MATCHED, "Zoë Weiß"), (Why("Zoë Weiß", "Łódź, East", choice=1, answer="matched"), Why("Zoë Weiß", "=Köln", choice=2, answer="prefers-own")))
+            self.assertEqual(one.why(MATCHED, "Zoë Weiß"),
+                             (Why("Zoë Weiß", "Łódź, East", choice=1, answer="matched"),
+                              Why("Zoë Weiß", "=Köln", choice=2, answer="better")))
             self.assertEqual(one.why(MATCHED, "Anna (1)", "=Köln"), (Why("Anna (1)", "=Köln", "", 1, "full", 2, 3, 2),))
             self.assertEqual([(each.resident, each.programme) for each in residency.why_all(one, MATCHED)],
                              [("Zoë Weiß", "Łódź, East"), ("Zoë Weiß", "=Köln"), ("Anna (1)", "=Köln"), ("王芳", "=Köln")])
 
     def test_a_table_that_leaves_somebody_out(self):
-        for last in ("", "r,koln,x,matched,,,\n", "r,koln,1,matched\n", "r,koln,1,matched,,,\nr,koln,1,matched,,,\nr,lodz-east,2,matched,,,\n"):
+        for last in ("", "r,koln,x,matched,,,\n", "r,koln,1,matched\n",
+                     "r,koln,1,matched,,,\nr,koln,1,matched,,,\nr,lodz-east,2,matched,,,\n"):
             with self.in_folder(last), self.assertRaises(UnknownStatus):
                 market().why(MATCHED, "Zoë Weiß")
 
@@ -270,12 +317,17 @@ printf 'resident,programme,choice,answer,rank,last_rank,quota\\nzoe-weiss,lodz-e
             self.skipTest(str(missing))
         one = market()
         whys = one.why(MATCHED, "Zoë Weiß")
-        self.assertEqual([(each.resident, each.programme, each.choice) for each in whys], [("Zoë Weiß", "Łódź, East", 1), ("Zoë Weiß", "=Köln", 2)])
+        self.assertEqual([(each.resident, each.programme, each.choice) for each in whys],
+                         [("Zoë Weiß", "Łódź, East", 1), ("Zoë Weiß", "=Köln", 2)])
+        # Of a programme that isn't on the list there is a sentence alone, which names it as the caller does.
+        text = one.why(MATCHED, "王芳", "Łódź, East")[0].text
+        self.assertEqual(("Łódź, East" in text, "lodz" in text), (True, False), text)
         if not whys[0].answer:
             self.assertEqual([each.text for each in whys], ["Łódź, East has a place for you: you are matched there.",
                              "=Köln is 2nd on your list of those that ranked you too; you have the 1st, Łódź, East."])
             self.assertEqual(one.why(MATCHED, "王芳", "Łódź, East")[0].text, "you and Łódź, East don't rank one another.")
-            self.assertEqual(one.withdraw(["=Köln"]).why({**MATCHED, "Anna (1)": None, "王芳": None}, "王芳")[0].text, "=Köln is withdrawn.")
+            self.assertEqual(one.withdraw(["=Köln"]).why({**MATCHED, "Anna (1)": None, "王芳": None}, "王芳")[0].text,
+                             "=Köln is withdrawn.")
         else:
             self.assertEqual(len({each.answer for each in whys}), 2)
 

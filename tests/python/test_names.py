@@ -19,9 +19,12 @@ def a_text(rng):
 
 class DocketNames(unittest.TestCase):
     def test_readable(self):
-        for text, name in (("St. Mary's – Internal Medicine", "st-marys-internal-medicine"), ("Hôpital Saint-Éloi – Pédiatrie", "hopital-saint-eloi-pediatrie"),
-                           ("Zoë O’Connor", "zoe-oconnor"), ("Zoe\u0308", "zoe"), ("Łódź & Øst", "lodz-and-ost"), ("Groß", "gross"), ("ÐÞ", "dth"),
-                           ("Щукин Жора", "shchukin-zhora"), ("Θεσσαλονίκη", "thessaloniki"), ("Їжак", "izhak"), ("42", "42"), ("North_2", "north-2"),
+        for text, name in (("St. Mary's – Internal Medicine", "st-marys-internal-medicine"),
+                           ("Hôpital Saint-Éloi – Pédiatrie", "hopital-saint-eloi-pediatrie"),
+                           ("Zoë O’Connor", "zoe-oconnor"), ("Zoe\u0308", "zoe"), ("Łódź & Øst", "lodz-and-ost"),
+                           ("Groß", "gross"), ("ÐÞ", "dth"),
+                           ("Щукин Жора", "shchukin-zhora"), ("Θεσσαλονίκη", "thessaloniki"), ("Їжак", "izhak"), ("42", "42"),
+                           ("North_2", "north-2"),
                            # Every word keeps its start, the longest lose most.
                            ("Universitätsklinik Köln – Chirurgie", "universitatsklini-koln-chirurgie"), ("a" * 40, "a" * 32),
                            ("Centre hospitalier universitaire de Montpellier – Pédiatrie", "centr-hospi-unive-de-montp-pedia"),
@@ -39,14 +42,17 @@ class DocketNames(unittest.TestCase):
             self.assertRegex(name, r"\A[A-Za-z0-9._-]{1,32}\Z")
 
     def test_like_names(self):
-        self.assertEqual(list(docket_names(["A b", "a-b", "A-B", "a b 2", "a b"]).values()), ["a-b", "a-b-2", "a-b-3", "a-b-2-2", "a-b-4"])
+        self.assertEqual(list(docket_names(["A b", "a-b", "A-B", "a b 2", "a b"]).values()),
+                         ["a-b", "a-b-2", "a-b-3", "a-b-2-2", "a-b-4"])
         self.assertEqual(list(docket_names(["x" * 33, "x" * 34]).values()), ["x" * 32, "x" * 26 + "-2"])
 
     def test_cost(self):
         # In another script; with numbers that are taken; and pairs that share their first letters. Each took minutes in a
         # form that counts from 2 for each name; a machine four times as slow as this one is still within the limit.
         other = ["".join(chr(0x4e00 + (number // 70 ** place) % 70) for place in range(3)) for number in range(20000)]
-        taken = [f"n {number}" for number in range(2, 10002)] + ["n" + f"{number:014b}".translate({48: ".", 49: "'"}) for number in range(10000)]
+        taken = [f"n {number}" for number in range(2,
+                                                   10002)] + ["n" + f"{number:014b}".translate({48: ".",
+                                                                                                49: "'"}) for number in range(10000)]
         alike = [f"{'x' * 30} {sign}{number}" for number in range(10000) for sign in ("", "'")]
         for texts in (other, taken, alike):
             start = time.process_time()
@@ -57,8 +63,10 @@ class DocketNames(unittest.TestCase):
 class WhoIsWho(unittest.TestCase):
     def test_both_ways(self):
         names = Names.of(["Köln", "Łódź"], ["Köln", ("Kim", "7"), ("Kim", "8"), ("Lee", "9")])
-        self.assertEqual([(m.side, m.docket_name, names.name(m.side, m.docket_name), names.id(m.side, m.docket_name)) for m in names.members()], [
-            ("P", "koln", "Köln", ""), ("P", "lodz", "Łódź", ""), ("R", "koln", "Köln", ""), ("R", "kim", "Kim (7)", "7"), ("R", "kim-2", "Kim (8)", "8"),
+        self.assertEqual([(m.side, m.docket_name, names.name(m.side, m.docket_name),
+                           names.id(m.side, m.docket_name)) for m in names.members()], [
+            ("P", "koln", "Köln", ""), ("P", "lodz", "Łódź", ""), ("R", "koln", "Köln", ""), ("R", "kim", "Kim (7)", "7"),
+            ("R", "kim-2", "Kim (8)", "8"),
             ("R", "lee", "Lee", "9")])
         for member in names.members():
             self.assertEqual(names.docket_name(member.side, names.name(member.side, member.docket_name)), member.docket_name)
@@ -69,24 +77,32 @@ class WhoIsWho(unittest.TestCase):
                 names.docket_name(side, name)
 
     def test_members_that_cant_be_told_apart(self):
-        for members, row in (([Member("P", "a", "A"), Member("P", "a", "B")], 2), ([Member("P", "a", "A"), Member("R", "b", "A"), Member("P", "c", "A")], 3),
-                             ([Member("R", "a", "A", "1"), Member("R", "b", "A", "1")], 2), ([Member("R", "a", "A", "1"), Member("R", "b", "A", "2"), Member("R", "c", "A (2)")], 3)):
+        for members, row in (([Member("P", "a", "A"), Member("P", "a", "B")], 2),
+                             ([Member("P", "a", "A"), Member("R", "b", "A"), Member("P", "c", "A")], 3),
+                             ([Member("R", "a", "A", "1"), Member("R", "b", "A", "1")], 2),
+                             ([Member("R", "a", "A", "1"), Member("R", "b", "A", "2"), Member("R", "c", "A (2)")], 3)):
             with self.assertRaises(KeyFault) as caught:
                 Names(members)
             self.assertEqual(caught.exception.row, row)
+        with self.assertRaises(KeyFault) as caught:
+            Names([Member("R", "a", "\x1b[2J"), Member("R", "b", "\x1b[2J")])
+        self.assertEqual(str(caught.exception), "row 2, cell 3: two residents are called \\x1b[2J, and no IDs tell them apart")
 
 
 class Key(unittest.TestCase):
-    names = Names([Member("P", "north", "North, East"), Member("P", "south", "=1+1", "-7"), Member("R", "zoe", "Zoë \"Zo\" O'Connor"),
+    names = Names([Member("P", "north", "North, East"), Member("P", "south", "=1+1", "-7"),
+                   Member("R", "zoe", "Zoë \"Zo\" O'Connor"),
                    Member("R", "kim", "'t Hooft; Kim", "007"), Member("R", "lee", "李\n娜")])
 
     def test_bytes(self):
-        self.assertEqual(write_key(self.names).decode(), 'P,north,"North, East"\nP,south,\'=1+1,\'-7\nR,zoe,"Zoë ""Zo"" O\'Connor"\n'
+        self.assertEqual(write_key(self.names).decode(),
+                         'P,north,"North, East"\nP,south,\'=1+1,\'-7\nR,zoe,"Zoë ""Zo"" O\'Connor"\n'
                          'R,kim,"\'t Hooft; Kim",007\nR,lee,"李\n娜"\n')
 
     def test_reads_back_any_text(self):
         rng = random.Random(2)
-        texts = list(dict.fromkeys(["=", "'", "''", "'=", "''=", "\t", "'a", "- ", "+1", "@x", "\rx", "＝x", "'＝x"] + [a_text(rng) for _ in range(3000)]))
+        texts = list(dict.fromkeys(["=", "'", "''", "'=", "''=", "\t", "'a", "- ", "+1", "@x", "\rx", "＝x",
+                                    "'＝x"] + [a_text(rng) for _ in range(3000)]))
         for text in texts:
             self.assertEqual(from_cell(to_cell(text)), text)
             self.assertNotRegex(to_cell(text), r"\A[=+@\t\r\n＝＋－＠-]")
@@ -100,7 +116,8 @@ class Key(unittest.TestCase):
         text = data.decode()
         padded = "".join(line + "," * (3 - line.count(",")) + "\n" for line in text.splitlines())
         quoted = "".join(",".join(f'"{cell}"' for cell in line.split(",")) + "\n" for line in text.splitlines())
-        for form in (text, padded, quoted, ",,,\n\n" + padded + ",,,\n\n", text.replace("\n", "\r"), text.replace("\n", "\r\n\r\n"), text[:-1]):
+        for form in (text, padded, quoted, ",,,\n\n" + padded + ",,,\n\n", text.replace("\n", "\r"),
+                     text.replace("\n", "\r\n\r\n"), text[:-1]):
             for delimiter in ",;\t":
                 for encoding in ("utf-8", "utf-8-sig", "cp1252", "utf-16", "utf-16-le", "utf-16-be", "utf-32"):
                     with self.subTest(form=form, delimiter=delimiter, encoding=encoding):
@@ -109,8 +126,10 @@ class Key(unittest.TestCase):
         self.assertEqual(read_key("R,zoe,Łukasz\n".encode("cp1250"), "cp1250").name("R", "zoe"), "Łukasz")
 
     def test_what_is_no_key(self):
-        for data, row, cell in ((b"Q,a,A\n", 1, 1), (b"\nP,a\n", 2, None), (b"P,a,A,1,2\n", 1, None), (b"P,a b,A\n", 1, 2), (b"P,a,A\nP,a,B\n", 2, 2),
-                                (b"P,a,A\n\nP,b,A\n", 3, 3), (b'P,a,"A\nP,b,B\n', 1, 3), (b'P,a,"A"B\n', 1, 3), (b"\xff\xfeP\x00,", 0, None),
+        for data, row, cell in ((b"Q,a,A\n", 1, 1), (b"\nP,a\n", 2, None), (b"P,a,A,1,2\n", 1, None), (b"P,a b,A\n", 1, 2),
+                                (b"P,a,A\nP,a,B\n", 2, 2),
+                                (b"P,a,A\n\nP,b,A\n", 3, 3), (b'P,a,"A\nP,b,B\n', 1, 3), (b'P,a,"A"B\n', 1, 3),
+                                (b"\xff\xfeP\x00,", 0, None),
                                 (b"P,a,A\nprogramme,b,B\n", 2, 1)):
             with self.subTest(data=data), self.assertRaises(KeyFault) as caught:
                 read_key(data)
@@ -125,9 +144,14 @@ class Key(unittest.TestCase):
 class Texts(unittest.TestCase):
     def test_character_sets(self):
         text = "Zoë Weiß; 1,2\n" * 3
-        for encoding, found in (("utf-8", "utf-8"), ("utf-8-sig", "utf-8-sig"), ("cp1252", "cp1252"), ("utf-16", "utf-16"), ("utf-16-le", "utf-16-le"),
+        for encoding, found in (("utf-8", "utf-8"), ("utf-8-sig", "utf-8-sig"), ("cp1252", "cp1252"), ("utf-16", "utf-16"),
+                                ("utf-16-le", "utf-16-le"),
                                 ("utf-16-be", "utf-16-be"), ("utf-32", "utf-32")):
             self.assertEqual(decode(text.encode(encoding)), (text, found))
+        # A mark is no part of the text where the set is given, too.
+        for encoding in ("utf-8", "utf-8-sig", "utf-16", "utf-16-le", "utf-32-be"):
+            mark = "" if encoding in ("utf-8-sig", "utf-16") else "\ufeff"
+            self.assertEqual(decode((mark + text).encode(encoding), encoding), (text, encoding))
         self.assertEqual(decode(b""), ("", "utf-8"))
         self.assertEqual(decode(b"\x81a"), ("\x81a", "latin-1"))
         self.assertEqual(decode("Łukasz".encode("cp1250"), "cp1250"), ("Łukasz", "cp1250"))
@@ -138,7 +162,8 @@ class Texts(unittest.TestCase):
 
     def test_rows(self):
         for text, found in (("", []), ("a", [(1, ["a"])]), ("a,", [(1, ["a", ""])]), ("a\r\n\r\n\n\rb", [(1, ["a"]), (5, ["b"])]),
-                            ('"a\r\nb","c""d"\n,', [(1, ["a\r\nb", 'c"d']), (2, ["", ""])]), ('""\n"",', [(1, [""]), (2, ["", ""])]), ('a"b\n', [(1, ['a"b'])]),
+                            ('"a\r\nb","c""d"\n,', [(1, ["a\r\nb", 'c"d']), (2, ["", ""])]),
+                            ('""\n"",', [(1, [""]), (2, ["", ""])]), ('a"b\n', [(1, ['a"b'])]),
                             ("x" * 200000, [(1, ["x" * 200000])])):
             with self.subTest(text=text[:20]):
                 self.assertEqual(list(rows(text)), found)
@@ -154,13 +179,17 @@ class Texts(unittest.TestCase):
 
 
 class Near(unittest.TestCase):
-    known = ["Kovács, Fatima", "Kovács, Anna", "Anna-Maria Weiß", "South", "North", "Programme 1", "Programme 12", "王芳芳", "Lee", "Leo", "Smith John", "Jon Smith"]
+    known = ["Kovács, Fatima", "Kovács, Anna", "Anna-Maria Weiß", "South", "North", "Programme 1", "Programme 12", "王芳芳", "Lee",
+             "Leo", "Smith John", "Jon Smith"]
 
     def test_near(self):
         names = NearNames(self.known)
-        for name, near in (("kovacs, anna", "Kovács, Anna"), ("Anna Kovács", "Kovács, Anna"), ("Kovács Ana", "Kovács, Anna"), ("Kovács, Kwame", None),
-                           ("Weiss, Anna Maria", "Anna-Maria Weiß"), ("sout", "South"), ("Nroth", "North"), ("outh", "South"), ("th", None), ("", None),
-                           ("Programme 2", None), ("Program 12", "Programme 12"), ("Programm 1", "Programme 1"), ("王芳", None), ("Le", None), ("South" * 99, None),
+        for name, near in (("kovacs, anna", "Kovács, Anna"), ("Anna Kovács", "Kovács, Anna"), ("Kovács Ana", "Kovács, Anna"),
+                           ("Kovács, Kwame", None),
+                           ("Weiss, Anna Maria", "Anna-Maria Weiß"), ("sout", "South"), ("Nroth", "North"), ("outh", "South"),
+                           ("th", None), ("", None),
+                           ("Programme 2", None), ("Program 12", "Programme 12"), ("Programm 1", "Programme 1"), ("王芳", None),
+                           ("Le", None), ("South" * 99, None),
                            # As near to two.
                            ("xorth", "North"), ("Jon Smiht", "Jon Smith"), ("Lex", None)):
             with self.subTest(name=name):

@@ -1,5 +1,6 @@
 """Finding and running the programs: what is missing, too slow or odd is an exception of its own, never an empty result."""
 import os
+import pickle
 import shutil
 import subprocess
 import sys
@@ -9,7 +10,8 @@ import unittest
 from pathlib import Path
 from unittest import mock
 
-from residency import DocketFault, Market, ProgramError, ProgramFailed, ProgramMissing, ProgramTimeout, UnknownStatus, find_program
+from residency import (DocketFault, KeyFault, Market, MarketFault, ProgramError, ProgramFailed, ProgramMissing, ProgramTimeout,
+                       UnknownStatus, find_program)
 from residency import program as finding
 from residency.program import run_program
 
@@ -46,7 +48,9 @@ class Finding(Folders):
             place.unlink()
 
     def test_why_beside_it(self):
-        for path, why in (("bin/residency", "bin/residency-why"), ("crates/residency_cli/out/residency_cli", "crates/residency_why/out/residency_why"), ("x", "residency_why")):
+        for path, why in (("bin/residency", "bin/residency-why"),
+                          ("crates/residency_cli/out/residency_cli", "crates/residency_why/out/residency_why"),
+                          ("x", "residency_why")):
             program, other = self.put(path), self.put(why)
             for named in (program, program.parent):
                 with self.named(named):
@@ -60,7 +64,8 @@ class Finding(Folders):
         elsewhere = self.put("elsewhere/residency")
         for path in ("nowhere", "empty/"):
             (self.folder / "empty").mkdir(exist_ok=True)
-            with self.named(self.folder / path), mock.patch.dict(os.environ, {"PATH": str(elsewhere.parent)}), self.assertRaisesRegex(ProgramMissing, "RESIDENCY_BIN names"):
+            with self.named(self.folder / path), mock.patch.dict(os.environ,
+                                                                 {"PATH": str(elsewhere.parent)}), self.assertRaisesRegex(ProgramMissing, "RESIDENCY_BIN names"):
                 find_program()
         with self.named(self.put("readable", mode=0o644)), self.assertRaises(ProgramMissing):
             find_program()
@@ -69,7 +74,8 @@ class Finding(Folders):
         """What a copy of the package finds, with another PATH and without RESIDENCY_BIN."""
         shutil.copytree(PACKAGE, package, ignore=shutil.ignore_patterns("__pycache__", "office"))
         try:
-            said = subprocess.run([sys.executable, "-c", "import residency; print(residency.find_program())"], cwd=package.parent, capture_output=True, text=True,
+            said = subprocess.run([sys.executable, "-c", "import residency; print(residency.find_program())"], cwd=package.parent,
+                                  capture_output=True, text=True,
                                   env={"PATH": str(self.folder / "path")}, check=False)
         finally:
             shutil.rmtree(package)
@@ -78,7 +84,8 @@ class Finding(Folders):
     def test_the_order(self):
         package = self.folder / "clone" / "python" / "residency"
         self.assertIn("ProgramMissing: there is no built program residency: looked for", self.found_by(package))
-        for path in ("path/residency", "residency-1.0.0-x86_64-linux/bin/residency", "residency-1.1.0-x86_64-linux/bin/residency", "clone/bin/residency",
+        for path in ("path/residency", "residency-1.0.0-x86_64-linux/bin/residency", "residency-1.1.0-x86_64-linux/bin/residency",
+                     "clone/bin/residency",
                      "clone/crates/residency_cli/out/residency_cli"):
             place = self.put(path)
             self.assertEqual(self.found_by(package), str(place))
@@ -87,6 +94,15 @@ class Finding(Folders):
         place = self.put("residency-1.0.0-x86_64-linux/bin/residency")
         for path in ("residency", "python/residency", "lib/python/residency"):
             self.assertEqual(self.found_by(place.parent.parent / path), str(place))
+
+
+class Exceptions(unittest.TestCase):
+    def test_they_can_be_sent_to_another_process(self):
+        for one in (DocketFault(3, "unknown name", 4, "kim", "cell 4: kim"), MarketFault(["a", "b"]), KeyFault(1, "a", 2),
+                    ProgramMissing("a"),
+                    ProgramTimeout("a", 0.5), ProgramFailed(1, "a"), UnknownStatus(-9, "a")):
+            again = pickle.loads(pickle.dumps(one))
+            self.assertEqual((type(again), str(again), vars(again)), (type(one), str(one), vars(one)))
 
 
 class Running(Folders):
@@ -114,17 +130,22 @@ class Running(Folders):
     def test_faults_of_the_docket(self):
         with self.assertRaises(DocketFault) as caught:
             self.run_script("echo 'residency: record 2: declared twice' >&2; exit 3")
-        self.assertEqual((caught.exception.record, caught.exception.field, caught.exception.text, caught.exception.name), (2, 2, "declared twice", "a"))
+        self.assertEqual((caught.exception.record, caught.exception.field, caught.exception.text, caught.exception.name),
+                         (2, 2, "declared twice", "a"))
         # Where the reader doesn't find what the program tells, the program's own words stand.
-        for told, record, text in (("record 1: bad name", 1, "bad name"), ("no sheet in the docket", 0, "no sheet in the docket")):
+        for told, record, text in (("record 1: bad name", 1, "bad name"),
+                                   ("no sheet in the docket", 0, "no sheet in the docket")):
             with self.assertRaises(DocketFault) as caught:
                 self.run_script(f"echo 'residency: {told}' >&2; exit 3")
             self.assertEqual((caught.exception.record, caught.exception.text, caught.exception.name), (record, text, None))
 
     def test_other_statuses(self):
-        for text, error, status in (("echo 'residency: out of memory' >&2; exit 1", ProgramFailed, 1), ("echo 'residency: bad capacity' >&2; exit 2", ProgramFailed, 2),
-                                    ("exit 1", UnknownStatus, 1), ("exit 2", UnknownStatus, 2), ("exit 3", UnknownStatus, 3), ("exit 5", UnknownStatus, 5), ("exit 127", UnknownStatus, 127),
-                                    ("kill -9 $$", UnknownStatus, -9), ("echo odd >&2", UnknownStatus, 0), ("echo odd >&2; exit 4", UnknownStatus, 4)):
+        for text, error, status in (("echo 'residency: out of memory' >&2; exit 1", ProgramFailed, 1),
+                                    ("echo 'residency: bad capacity' >&2; exit 2", ProgramFailed, 2),
+                                    ("exit 1", UnknownStatus, 1), ("exit 2", UnknownStatus, 2), ("exit 3", UnknownStatus, 3),
+                                    ("exit 5", UnknownStatus, 5), ("exit 127", UnknownStatus, 127),
+                                    ("kill -9 $$", UnknownStatus, -9), ("echo odd >&2", UnknownStatus, 0),
+                                    ("echo odd >&2; exit 4", UnknownStatus, 4)):
             with self.subTest(text=text), self.assertRaises(error) as caught:
                 self.run_script(text)
             self.assertEqual(caught.exception.status, status)
@@ -133,17 +154,23 @@ class Running(Folders):
     def test_answers_that_are_none(self):
         market = Market({"A": 1}, {"A": ["Kim"]}, {"Kim": ["A"]})
         places = {"Kim": "A"}
-        for text in ("true", "echo M,kim,a", "echo U,kim", "printf 'M,kim,a\\nF,a,1,1\\n'; exit 4", "printf 'M,kim,a\\nF,a,0,1\\n'", "printf 'C,full\\nM,kim,a\\nF,a,1,1\\n'",
+        for text in ("true", "echo M,kim,a", "echo U,kim", "printf 'M,kim,a\\nF,a,1,1\\n'; exit 4",
+                     "printf 'M,kim,a\\nF,a,0,1\\n'", "printf 'C,full\\nM,kim,a\\nF,a,1,1\\n'",
                      "printf 'M,kim,a\\nF,a,1,1\\nC,full\\nE,close\\n'", "printf '\\377'"):
-            with self.subTest(text=text), self.named(self.put("residency", f"#!/bin/sh\n{text}\n")), self.assertRaises(UnknownStatus):
+            with self.subTest(text=text), self.named(self.put("residency",
+                                                              f"#!/bin/sh\n{text}\n")), self.assertRaises(UnknownStatus):
                 market.match()
-        for text in ("true", "echo S,unstable", "echo S,stable; exit 4", "printf 'S,stable\\nB,kim,a\\n'", "echo S,unstable; exit 4", "printf 'S,unstable\\nY,kim,a\\n'; exit 4",
+        for text in ("true", "echo S,unstable", "echo S,stable; exit 4", "printf 'S,stable\\nB,kim,a\\n'",
+                     "echo S,unstable; exit 4", "printf 'S,unstable\\nY,kim,a\\n'; exit 4",
                      "printf 'S,unstable\\nO,a,1\\n'; exit 4", "echo G,1"):
-            with self.subTest(text=text), self.named(self.put("residency", f"#!/bin/sh\n{text}\n")), self.assertRaises(UnknownStatus):
+            with self.subTest(text=text), self.named(self.put("residency",
+                                                              f"#!/bin/sh\n{text}\n")), self.assertRaises(UnknownStatus):
                 market.audit(places)
-        for text in ("true", "echo G", "echo G,x", "echo G,1; exit 4", "echo N,1,closed", "echo D,kim", "printf 'G,1\\nK,1,1\\n'", "echo N,1,still-pending,wish; exit 4",
+        for text in ("true", "echo G", "echo G,x", "echo G,1; exit 4", "echo N,1,closed", "echo D,kim", "printf 'G,1\\nK,1,1\\n'",
+                     "echo N,1,still-pending,wish; exit 4",
                      "echo N,1,still-pending,lunch,a; exit 4", "echo X,1; exit 4", "printf 'N,1,closed\\nN,2,closed\\n'; exit 4"):
-            with self.subTest(text=text), self.named(self.put("residency", f"#!/bin/sh\n{text}\n")), self.assertRaises(UnknownStatus):
+            with self.subTest(text=text), self.named(self.put("residency",
+                                                              f"#!/bin/sh\n{text}\n")), self.assertRaises(UnknownStatus):
                 market.replay(b"C,full\n")
         with self.named(self.put("residency", "#!/bin/sh\nprintf 'M,kim,a\\nF,a,1,1\\n'\n")):
             self.assertEqual(market.match().places, places)

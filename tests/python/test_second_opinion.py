@@ -30,7 +30,8 @@ def told(data):
     lines = []
     for word, most in (("audit", 1), ("replay", None)):
         said = subprocess.run([str(find_program()), word], input=data, capture_output=True, text=False, check=False)
-        if said.returncode == 3 and said.stderr not in (b"residency: no sheet in the docket\n", b"residency: no journal in the docket\n"):
+        if said.returncode == 3 and said.stderr not in (b"residency: no sheet in the docket\n",
+                                                        b"residency: no journal in the docket\n"):
             raise AssertionError(said.stderr, data)
         lines += said.stdout.decode().splitlines()[:most]
     return "".join(line + "\n" for line in lines)

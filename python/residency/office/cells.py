@@ -13,7 +13,7 @@ WORDS = {"comma": ",", "semicolon": ";", "tab": "\t", "bar": "|", "\\t": "\t"}
 MOST_LETTERS_OF_A_CELL = 500
 QUOTED = re.compile(r'"[^"]*(?:""[^"]*)*"')
 # Letters that nobody sees: marks of direction, spaces of no width, soft hyphens.
-UNSEEN = {code: None for code in (0xAD, 0x200B, 0x200E, 0x200F, 0x2060, 0xFEFF, *range(0x202A, 0x202F), *range(0x2066, 0x206A))}
+UNSEEN = dict.fromkeys((0xAD, 0x200B, 0x200E, 0x200F, 0x2060, 0xFEFF, *range(0x202A, 0x202F), *range(0x2066, 0x206A)))
 
 # Whether cells are a heading row.
 IsHeading = Callable[[List[str]], bool]
@@ -29,7 +29,8 @@ class Rows:
     declared: bool
 
     def title(self) -> str:
-        return DELIMITERS.get(self.delimiter, f"parted by {shown(self.delimiter)}") + (" by its line sep=" if self.declared else "")
+        title = DELIMITERS.get(self.delimiter, f"parted by {shown(self.delimiter)}")
+        return title + (" by its line sep=" if self.declared else "")
 
 
 def known_delimiter(word: str) -> str:
@@ -52,18 +53,14 @@ def sep_line(text: str) -> Tuple[Optional[str], str]:
 
 
 def found_delimiter(text: str, is_heading: IsHeading) -> str:
-    """What parts the cells: that under which the first row is a heading and most rows have several cells, or else that
-    which most lines have."""
+    """What parts the cells: that by which the first row is a heading, or else that which most lines have."""
     bare = QUOTED.sub("x", text)
     lines = [line for line in LINE_END.split(bare) if line.strip()]
     first = next((line for line in LINE_END.split(text) if line.strip()), "")
     counts = {mark: sum(mark in line for line in lines) for mark in DELIMITERS}
-    most = max(counts, key=lambda mark: (counts[mark], bare.count(mark)))
-    for mark in sorted(DELIMITERS, key=lambda mark: -counts[mark]):
-        heads = [name_of(cell.strip('"')) for cell in first.split(mark)]
-        if len(heads) > 1 and 2 * counts[mark] >= counts[most] and is_heading(heads):
-            return mark
-    return most
+    often = sorted(DELIMITERS, key=lambda mark: (-counts[mark], -bare.count(mark)))
+    heading = (mark for mark in often if mark in first and is_heading([name_of(cell.strip('"')) for cell in first.split(mark)]))
+    return next(heading, often[0])
 
 
 def numbered(text: str, delimiter: str) -> Iterable[Tuple[int, List[str]]]:
@@ -79,7 +76,8 @@ def rows_of(text: str, table: str, delimiter: Optional[str], is_heading: IsHeadi
     chosen = delimiter or declared or found_delimiter(rest, is_heading)
     cells = Cells(table, chosen, faults)
     try:
-        kept = [(number, [cells.name(number, cell, text) for cell, text in enumerate(row, 1)]) for number, row in numbered(rest, chosen)]
+        kept = [(number, [cells.name(number, cell, text) for cell, text in enumerate(row, 1)])
+                for number, row in numbered(rest, chosen)]
     except BadQuotes as fault:
         faults.tell("file", table, fault.row, fault.cell, f"{fault.text}: it may swallow the rows below")
         kept = []
@@ -106,7 +104,8 @@ class Cells:
         if known is not None:
             return known
         name = name_of(text)
-        cause = self.cause(number, text) if len(text) > MOST_LETTERS_OF_A_CELL or not text.isprintable() or "\ufffd" in text else None
+        is_plain = len(text) <= MOST_LETTERS_OF_A_CELL and text.isprintable() and "\ufffd" not in text
+        cause = None if is_plain else self.cause(number, text)
         if cause is None:
             self.good[text] = name
         else:

@@ -2,33 +2,25 @@
 import argparse
 import os
 import sys
-import textwrap
 from datetime import date
-from typing import Callable, Dict, List, NoReturn, Optional, Sequence, Tuple
+from typing import Callable, Dict, List, Optional, Sequence, Tuple
 
-from ..errors import DocketFault, MarketFault, ProgramError, ResidencyError
+from ..errors import DocketFault, MarketFault, ResidencyError
 from ..lint import lint
 from ..market import Market
-from ..program import DEFAULT_TIMEOUT
 from . import compare, folder, running
 from .cells import known_delimiter
 from .faults import MOST_LINES, Faults, OfficeError, TablesError, shown
 from .headings import Words
-from .letters import FIELDS, Letters, checked_template
+from .letters import Letters, checked_template
+from .line import parser
 from .lists import market_of
+from .outcome import UNMATCHED, Standing
 from .page import About
 from .running import Run, Wishes
 from .tables import Options, Table, read_table
+from .telling import complain, failed, say, silence
 from .text import bytes_of, decoded, known_encoding
-
-STATUSES = ("exit statuses: 0 done; 1 a file, the output or the built program failed; 2 a wrong command line, or a folder that "
-            "is there already; 3 a fault in the tables, the docket or a folder, with nothing written.")
-ABOUT = ("Matches residents with programmes from two tables as a spreadsheet saves them (CSV), by the built program.\n"
-         "`office COMMAND --help` says more of each command.")
-TABLES = ("A table is wide (a row for each member: Programme, Places, Rank 1, Rank 2, ..; Applicant, Rank 1, Rank 2, ..) or long "
-          "(a row for each rank: Programme, Places, Rank, Applicant; Applicant, Rank, Programme). Both have a heading row. A "
-          "column headed ID tells two people of one name apart. What parts the cells and the character set are found from the "
-          "whole file.")
 
 
 def main(words: Optional[Sequence[str]] = None) -> int:
@@ -65,171 +57,7 @@ def dispatch(words: Optional[Sequence[str]]) -> int:
         given = parser().parse_args(words)
     except SystemExit as end:
         return int(end.code or 0)
-    return given.does(given)
-
-
-def silence() -> None:
-    """Lets what is still to be written go nowhere, so that the end of the program has nothing to fail at."""
-    try:
-        os.dup2(os.open(os.devnull, os.O_WRONLY), 1)
-    except OSError:
-        pass
-
-
-def failed(text: str, status: int) -> int:
-    for line in text.split("\n"):
-        complain(line)
-    return status
-
-
-def complain(line: str) -> None:
-    """A line on standard error, if anybody has that."""
-    try:
-        print(f"office: {line}", file=sys.stderr, flush=True)
-    except (OSError, ValueError):
-        pass
-
-
-def say(line: str) -> None:
-    if sys.stdout is None:
-        raise OSError(0, "it is closed")
-    print(line)
-
-
-# Command lines.
-class Parser(argparse.ArgumentParser):
-    """A command line whose help and faults are told as all else is."""
-
-    def print_help(self, file=None) -> None:
-        say(self.format_help().rstrip())
-
-    def error(self, message: str) -> NoReturn:
-        raise OfficeError(f"{shown(message, 300)} ({self.prog} --help says more)", 2)
-
-
-def wrapped(*paragraphs: str) -> str:
-    return "\n\n".join(textwrap.fill(paragraph, 78) for text in paragraphs for paragraph in text.split("\n") if paragraph)
-
-
-def parser() -> argparse.ArgumentParser:
-    """The whole command line, from which man pages and completions may be made, too."""
-    top = Parser(prog="office", description=wrapped(ABOUT), epilog=wrapped(STATUSES),
-                 formatter_class=argparse.RawDescriptionHelpFormatter)
-    commands = top.add_subparsers(dest="command", metavar="COMMAND", required=True)
-    for add in (add_check, add_lint, add_run, add_withdraw, add_compare, add_letters):
-        add(commands)
-    return top
-
-
-def command(commands, name: str, about: Sequence[str], example: str, does: Callable[[argparse.Namespace], int]) -> argparse.ArgumentParser:
-    """A command; the first paragraph about it is its line in the list of all."""
-    one = commands.add_parser(name, help=about[0][0].lower() + about[0][1:].rstrip("."), description=wrapped(*about),
-                              epilog=f"example: {example}\n\n{wrapped(STATUSES)}", formatter_class=argparse.RawDescriptionHelpFormatter)
-    one.set_defaults(does=does)
-    return one
-
-
-def add_tables(one: argparse.ArgumentParser) -> None:
-    one.add_argument("--delimiter", action="append", default=[], metavar="[TABLE=]MARK",
-                     help="what parts the cells: comma, semicolon, tab, bar or a sign; of both tables, or of the one that is named "
-                     "(programmes=semicolon)")
-    one.add_argument("--encoding", action="append", default=[], metavar="[TABLE=]SET",
-                     help="the character set, as utf-8, windows-1252 or utf-16; of both tables or of one (residents=iso-8859-2)")
-    one.add_argument("--heading", action="append", default=[], metavar="ROLE=WORD",
-                     help="a word that heads a column, besides the known ones; ROLE is programme, resident, places, rank or id "
-                     "(--heading rank=Rang)")
-    one.add_argument("--ignore", action="append", default=[], metavar="HEADING", help="a column to leave out")
-    one.add_argument("--allow-gaps", action="store_true", help="in long tables, take ranks in their order where one is left out")
-    one.add_argument("--all", action="store_true", help="tell every fault on a line of its own, however many there are")
-
-
-def add_wishes(one: argparse.ArgumentParser) -> None:
-    one.add_argument("--date", type=day, default=None, metavar="YYYY-MM-DD", help="the day that page and letters name (today)")
-    one.add_argument("--order", choices=("name", "table"), default="name", help="the order of names in the page (name)")
-    one.add_argument("--template", metavar="FILE", help="the text of the letters, with $name, $outcome, $list and others")
-    one.add_argument("--timeout", type=seconds, default=DEFAULT_TIMEOUT, metavar="SECONDS",
-                     help=f"how long the program may take at each step ({DEFAULT_TIMEOUT:g})")
-
-
-def day(text: str) -> date:
-    try:
-        return date.fromisoformat(text)
-    except ValueError:
-        raise argparse.ArgumentTypeError(f"{shown(text)} is no day; it is written as 2026-03-20") from None
-
-
-def seconds(text: str) -> float:
-    try:
-        number = float(text)
-    except ValueError:
-        number = 0
-    if not 0 < number < 1e6:
-        raise argparse.ArgumentTypeError(f"{shown(text)} is no number of seconds")
-    return number
-
-
-def add_check(commands) -> None:
-    one = command(commands, "check", ("Tells every fault of two tables, or of a docket, at once.", "It writes nothing.", TABLES),
-                  "office check programmes.csv residents.csv", check)
-    one.add_argument("files", nargs="+", metavar="FILE", help="PROGRAMMES and RESIDENTS, or one docket")
-    add_tables(one)
-
-
-def add_lint(commands) -> None:
-    one = command(commands, "lint", ("Tells every fault of a docket, with its record, its cell and what stands there.",
-                                     "The first line begins with what the program says of the same docket."),
-                  "office lint docket.csv", lint_command)
-    one.add_argument("docket", metavar="DOCKET", help="the docket's file, or - for standard input")
-    one.add_argument("--all", action="store_true", help="tell every fault, however many there are")
-
-
-def add_run(commands) -> None:
-    one = command(commands, "run", (
-        "Matches two tables into a new folder.",
-        "The folder has the docket, the key from its names to the real ones, the sheet, the journal, audit and replay, a page, "
-        "a letter for each resident, a roster for each programme, the unfilled places and a row for each resident for a "
-        "database. It appears complete or not at all.", TABLES),
-        "office run programmes.csv residents.csv --out match-2026", run)
-    one.add_argument("programmes", metavar="PROGRAMMES", help="the table of programmes")
-    one.add_argument("residents", metavar="RESIDENTS", help="the table of residents")
-    one.add_argument("--out", required=True, metavar="FOLDER", help="the folder to make, which isn't there yet")
-    one.add_argument("--title", default=running.TITLE, help=f"the page's title ({running.TITLE})")
-    add_tables(one)
-    add_wishes(one)
-
-
-def add_withdraw(commands) -> None:
-    one = command(commands, "withdraw", (
-        "Matches a folder's docket again with members withdrawn, into a new folder, and tells what changed.",
-        "A name is the one of the tables, the ID, or the docket's name."),
-        "office withdraw match-2026 'Greta Weiß' --out match-2026-b", withdraw)
-    one.add_argument("folder", metavar="FOLDER", help="a folder that run or withdraw made")
-    one.add_argument("names", nargs="*", metavar="NAME", help="who withdraws")
-    one.add_argument("--programme", action="append", default=[], metavar="NAME", help="a programme that withdraws")
-    one.add_argument("--resident", action="append", default=[], metavar="NAME", help="a resident who withdraws")
-    one.add_argument("--out", metavar="FOLDER", help="the folder to make (FOLDER-2, or the next number that is free)")
-    add_wishes(one)
-
-
-def add_compare(commands) -> None:
-    one = command(commands, "compare", (
-        "Tells who stands otherwise in the second of two folders: two runs, or two years.",
-        "Members are known by their IDs where all have one, else by their names."),
-        "office compare match-2025 match-2026", compare_command)
-    one.add_argument("before", metavar="BEFORE", help="the folder of before")
-    one.add_argument("now", metavar="NOW", help="the folder of now")
-    one.add_argument("--out", metavar="FILE", help="a CSV file to write the changes to, which isn't there yet")
-
-
-def add_letters(commands) -> None:
-    one = command(commands, "letters", (
-        "Writes the letters of a folder again, into a new folder, from a template of your own.",
-        f"In it ${', $'.join(FIELDS)} stand for what they say, and $$ for the sign."),
-        "office letters match-2026 --template letter.txt --out letters-2026", letters)
-    one.add_argument("folder", metavar="FOLDER", help="a folder that run or withdraw made")
-    one.add_argument("--out", required=True, metavar="FOLDER", help="the folder to make, which isn't there yet")
-    one.add_argument("--template", metavar="FILE", help="the text of the letters (the one of run)")
-    one.add_argument("--date", type=day, default=None, metavar="YYYY-MM-DD", help="the day that the letters name (that of the run)")
+    return DOES[given.command](given)
 
 
 def as_text(word: str) -> str:
@@ -240,13 +68,12 @@ def as_text(word: str) -> str:
         raise OfficeError(f"{shown(word)} is no text", 2) from None
 
 
-# What each command does.
 def options_of(given: argparse.Namespace) -> Options:
-    return Options(Words([as_text(one) for one in given.heading], [as_text(one) for one in given.ignore]), by_table(given.encoding, known_encoding), by_table(given.delimiter, known_delimiter),
-                   given.allow_gaps)
+    words = Words([as_text(one) for one in given.heading], [as_text(one) for one in given.ignore])
+    return Options(words, by_table(given.encoding, known_encoding), by_table(given.delimiter, known_delimiter), given.allow_gaps)
 
 
-def by_table(given: Sequence[str], known) -> Dict[str, str]:
+def by_table(given: Sequence[str], known: Callable[[str], str]) -> Dict[str, str]:
     """What is said for each table; a word without a table's name is for both."""
     said: Dict[str, str] = {}
     for one in given:
@@ -257,7 +84,7 @@ def by_table(given: Sequence[str], known) -> Dict[str, str]:
     return said
 
 
-def read_tables(programmes: str, residents: str, options: Options) -> tuple:
+def read_tables(programmes: str, residents: str, options: Options) -> Tuple[Tuple[Table, Table], Market]:
     """Both tables and their market; TablesError with all faults."""
     faults = Faults()
     tables = (read_table(programmes, "programmes", "programme", options, faults),
@@ -268,7 +95,8 @@ def read_tables(programmes: str, residents: str, options: Options) -> tuple:
     return tables, market
 
 
-def tables_at_fault(error: TablesError, all_of_them: bool, tell) -> int:
+def tables_at_fault(error: TablesError, all_of_them: bool, tell: Callable[[str], None]) -> int:
+    """Tells the faults of tables, and answers the status."""
     for line in error.how + error.faults.report(all_of_them, MOST_LINES - len(error.how)):
         tell(line)
     count = len(error.faults)
@@ -339,7 +167,10 @@ def template_of(path: Optional[str]) -> Optional[str]:
 
 
 def run(given: argparse.Namespace) -> int:
-    wishes = wishes_of(given, " ".join(as_text(given.title).split()) or running.TITLE)
+    title = " ".join(as_text(given.title).split()) or running.TITLE
+    if not title.isprintable():
+        raise OfficeError(f"the title {shown(title)} has a character that is no letter", 2)
+    wishes = wishes_of(given, title)
     folder.refuse(given.out)
     try:
         tables, market = read_tables(given.programmes, given.residents, options_of(given))
@@ -348,9 +179,9 @@ def run(given: argparse.Namespace) -> int:
         complain("nothing was written")
         return 3
     result = running.matched(market, wishes.timeout)
+    read = [{"file": shown(os.path.basename(table.path)), "sha256": table.sha256, "read": table.how()} for table in tables]
     with folder.new_folder(given.out) as draft:
-        running.fill(draft, result, wishes, {"tables": [{"file": os.path.basename(table.path), "sha256": table.sha256, "read": table.how()}
-                                                        for table in tables]})
+        running.fill(draft, result, wishes, {"tables": read})
     for line in describe(tables, market) + told(given.out, result):
         say(line)
     return 0
@@ -358,9 +189,9 @@ def run(given: argparse.Namespace) -> int:
 
 def told(out: str, result: running.Matched) -> List[str]:
     """What a run says when it is done."""
-    from .outcome import UNMATCHED, Standing
     outcome = result.outcome
-    counts = [f"{len(outcome.standing(one)):,} {one.value}" for one in UNMATCHED + (Standing.WITHDRAWN,) if outcome.standing(one)]
+    kinds = {one.value: len(outcome.standing(one)) for one in (*UNMATCHED, Standing.WITHDRAWN)}
+    counts = [f"{count:,} {kind}" for kind, count in kinds.items() if count]
     matched = len(outcome.standing(Standing.MATCHED))
     left = sum(one.unfilled for one in outcome.programmes.values())
     return [f"{matched:,} of {len(outcome.residents):,} residents matched" + "".join(f", {count}" for count in counts)
@@ -373,11 +204,12 @@ def withdraw(given: argparse.Namespace) -> int:
     before = Run(given.folder)
     out = given.out or folder.free_name(given.folder)
     folder.refuse(out)
-    market = running.withdrawn(before, *([as_text(name) for name in names] for names in (given.programme, given.resident, given.names)))
+    named = ([as_text(name) for name in names] for names in (given.programme, given.resident, given.names))
+    market = running.withdrawn(before, *named)
     result = running.matched(market, given.timeout)
     found = compare.changes(before.outcome, result.outcome)
     with folder.new_folder(out) as draft:
-        running.write_changes(draft, found)
+        draft.write(folder.CHANGES, compare.changes_table(found))
         running.fill(draft, result, wishes_of(given, before.title()), {"from": before.digests()})
     for line in [one.line() for one in found] + told(out, result):
         say(line)
@@ -404,3 +236,8 @@ def letters(given: argparse.Namespace) -> int:
         count = running.write_letters(draft, Letters(run_before.market, run_before.outcome, about, template), "")
     say(f"{count:,} letters written to {shown(given.out)}")
     return 0
+
+
+DOES: Dict[str, Callable[[argparse.Namespace], int]] = {
+    "check": check, "lint": lint_command, "run": run, "withdraw": withdraw, "compare": compare_command, "letters": letters,
+}

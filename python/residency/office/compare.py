@@ -76,14 +76,16 @@ def changes(before: Outcome, now: Outcome) -> List[Change]:
     for key in dict.fromkeys([*old, *new]):
         what = of_programme(old.get(key), new.get(key))
         if what:
-            one = new.get(key) or old[key]
-            found.append(Change("programme", one.name, one.id, what, filled(old.get(key)), filled(new.get(key))))
+            programme = new.get(key) or old[key]
+            before_now = filled(old.get(key)), filled(new.get(key))
+            found.append(Change("programme", programme.name, programme.id, what, *before_now))
     people, now_people = keyed(before.residents, now.residents), keyed(now.residents, before.residents)
     for key in dict.fromkeys([*people, *now_people]):
         what = of_resident(people.get(key), now_people.get(key), same)
         if what:
-            one = now_people.get(key) or people[key]
-            found.append(Change("resident", one.name, one.id, what, stood(people.get(key)), stood(now_people.get(key))))
+            resident = now_people.get(key) or people[key]
+            before_now = stood(people.get(key)), stood(now_people.get(key))
+            found.append(Change("resident", resident.name, resident.id, what, *before_now))
     order = {what: place for place, what in enumerate(ORDER)}
     return sorted(found, key=lambda one: (one.side == "programme", order.get(one.what, 0), alphabetical(one.name), one.id))
 

@@ -128,8 +128,8 @@ class Reader:
         return None if self.told else self.made()
 
     def wanted(self) -> str:
-        places = "Places, " if self.owners == "programme" else ""
-        return f"{TITLES[self.owners]}, {places}Rank 1, Rank 2, .. or {TITLES[self.owners]}, {places}Rank, {TITLES[self.items]}"
+        begin = TITLES[self.owners] + (", Places" if self.owners == "programme" else "")
+        return f"{begin}, Rank 1, Rank 2, .. or {begin}, Rank, {TITLES[self.items]}"
 
     def sort(self, cell: int, heading: str) -> None:
         """Notes what one column is."""
@@ -147,7 +147,8 @@ class Reader:
 
     def once(self, at: Dict, what: object, cell: int) -> None:
         if what in at:
-            self.tell(cell + 1, f"two columns are headed {shown(self.heading[cell])}: cells {at[what] + 1} and {cell + 1}")
+            heading = shown(self.heading[cell])
+            self.tell(cell + 1, f"two columns are headed {heading}: cells {at[what] + 1} and {cell + 1}")
         at.setdefault(what, cell)
 
     def looks_exchanged(self) -> bool:
@@ -177,7 +178,8 @@ class Reader:
         if rank is not None and self.ranks:
             self.tell(rank + 1, "a column headed Rank beside numbered ones: a table is long or wide, not both")
         elif rank is not None and item is None:
-            self.absent(f"no column is headed {TITLES[self.items]}, where cell {rank + 1} is headed {shown(self.heading[rank])}")
+            heading = shown(self.heading[rank])
+            self.absent(f"no column is headed {TITLES[self.items]}, where cell {rank + 1} is headed {heading}")
         elif item is not None and rank is None:
             self.absent(f"no column is headed Rank, where cell {item + 1} is headed {shown(self.heading[item])}")
         elif rank is None and not self.ranks:

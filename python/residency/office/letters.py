@@ -20,7 +20,8 @@ $list
 In the docket that was matched you are $docket_name. Its SHA-256 is
 $docket_sha256.
 """
-FIELDS = ("day", "date", "title", "name", "id", "programme", "choice", "listed", "outcome", "list", "docket_name", "docket_sha256")
+FIELDS = ("day", "date", "title", "name", "id", "programme", "choice", "listed", "outcome", "list", "docket_name",
+          "docket_sha256")
 
 
 def checked_template(text: str) -> string.Template:
@@ -28,8 +29,9 @@ def checked_template(text: str) -> string.Template:
     for number, line in enumerate(text.split("\n"), 1):
         for found in re.finditer(r"\$(?:(\$)|(\w+)|\{(\w+)\}|)", line):
             if not found.group(1) and (found.group(2) or found.group(3)) not in FIELDS:
-                raise OfficeError(f"the template, line {number}: {shown(found.group(0))} is none of ${', $'.join(FIELDS)}; "
-                                  "write $$ for the sign itself", 3)
+                fields = ", $".join(FIELDS)
+                raise OfficeError(f"the template, line {number}: {shown(found.group(0))} is none of ${fields}; write $$ for the "
+                                  "sign itself", 3)
     return string.Template(text)
 
 
@@ -61,9 +63,10 @@ class Letters:
         return {
             Standing.WITHDRAWN: "You are withdrawn, and have no place.",
             Standing.RANKED_NOBODY: "You are not matched: your list is empty.",
-            Standing.NOT_RANKED_BACK: "You are not matched: no programme on your list that takes part\nhas you on its own list.",
-            Standing.LOST_OUT: "You are not matched: each programme on your list that has you on\nits own filled all of its places "
-                               "with residents whom it ranks before you.",
+            Standing.NOT_RANKED_BACK: "You are not matched: no programme on your list that takes part\n"
+                                      "has you on its own list.",
+            Standing.LOST_OUT: "You are not matched: each programme on your list that has you on\n"
+                               "its own filled all of its places with residents whom it ranks before you.",
         }[resident.standing]
 
     def of_list(self, resident: Resident, listed: Sequence[str]) -> str:

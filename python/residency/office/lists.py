@@ -79,8 +79,9 @@ class Joiner:
         for entry in self.residents.entries:
             if not entry.id and programmes.find(entry.name):
                 other = self.programmes.entries[programmes.find(entry.name)[0]]
-                self.faults.tell("name", self.residents.name, entry.row, entry.cell, f"{shown(entry.name)} is the name of a programme, "
-                                 f"too ({place_of(self.programmes.name, other.row, None)}); is the row shifted?", ("both sides",))
+                cause = (f"{shown(entry.name)} is the name of a programme, too "
+                         f"({place_of(self.programmes.name, other.row, None)}); is the row shifted?")
+                self.faults.tell("name", self.residents.name, entry.row, entry.cell, cause, ("both sides",))
 
     def side(self, table: Table, directory: Directory) -> List[List[int]]:
         return [self.found(table, entry, directory) for entry in table.entries]
@@ -98,8 +99,8 @@ class Joiner:
                                      f"{shown(item.text)} is listed twice by {shown(entry.name)}, as in {where}")
             elif meant:
                 ids = ", ".join(shown(directory.table.entries[one].id, 20) for one in meant[:4])
-                self.faults.tell("twice", table.name, item.row, item.cell, f"{len(meant)} {directory.table.owners}s may be meant by "
-                                 f"{shown(item.text)}; write the ID, one of {ids}", (table.name, "several", item.text))
+                cause = f"{len(meant)} {directory.table.owners}s may be meant by {shown(item.text)}; write the ID, one of {ids}"
+                self.faults.tell("twice", table.name, item.row, item.cell, cause, (table.name, "several", item.text))
             else:
                 self.unknown.setdefault((table.name, item.text), []).append(item)
         return list(numbers)

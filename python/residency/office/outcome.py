@@ -118,8 +118,9 @@ def outcome_of(market: Market, places: Mapping[str, Optional[str]]) -> Outcome:
     for name, quota in market.quotas.items():
         taken = sorted(members[name])
         made = market.names.docket_name(PROGRAMME, name)
+        last, ranked = taken[-1][0] if taken else None, len(market.programme_lists.get(name, ()))
         programmes[name] = Programme(name, market.names.id(PROGRAMME, made), made, quota, tuple(one for _, one in taken),
-                                     taken[-1][0] if taken else None, len(market.programme_lists.get(name, ())), name in gone_programmes)
+                                     last, ranked, name in gone_programmes)
     return Outcome(residents, programmes)
 
 

@@ -5,13 +5,18 @@ It is one file that needs nothing else, without a script; it reads on a telephon
 import html
 from dataclasses import dataclass
 from datetime import date
-from typing import Dict, Iterable, List, Sequence, Tuple
+from typing import Dict, Iterable, List, Sequence, Tuple, Union
 
-from .outcome import UNMATCHED, Outcome, Programme, Standing, by_name, ordinal
+from .outcome import UNMATCHED, Outcome, Programme, Resident, Standing, by_name, ordinal
 from .style import STYLE
 
+MONTHS = ("January", "February", "March", "April", "May", "June", "July", "August", "September", "October", "November",
+          "December")
 # As many choices have a bar of their own; all later ones share one.
 MOST_BARS = 10
+# The parts of the page, and what the links at its top call them.
+PARTS = (("unfilled", "Unfilled places"), ("figures", "In short"), ("choices", "Choices"), ("unmatched", "Unmatched"),
+         ("withdrawn", "Withdrawn"), ("matched", "Matched"), ("programmes", "Programmes"), ("made", "Digests"))
 TOLD = {
     Standing.LOST_OUT: ("Lost out", "Programmes that they ranked also ranked them, and all places there went to others, whom these "
                         "programmes rank before them."),
@@ -30,8 +35,7 @@ class About:
 
 
 def long_day(day: date) -> str:
-    months = ("January", "February", "March", "April", "May", "June", "July", "August", "September", "October", "November", "December")
-    return f"{day.day} {months[day.month - 1]} {day.year}"
+    return f"{day.day} {MONTHS[day.month - 1]} {day.year}"
 
 
 def counted(number: int, one: str, many: str = "") -> str:
@@ -43,11 +47,10 @@ def bdi(text: str) -> str:
     return f"<bdi>{html.escape(text)}</bdi>"
 
 
-def label(member: object) -> str:
+def label(member: Union[Programme, Resident]) -> str:
     """A member's name, with its ID where it has one."""
-    ident = getattr(member, "id")
-    name = getattr(member, "name")
-    return bdi(f"{name} ({ident})" if ident and not name.endswith(f"({ident})") else name)
+    named = not member.id or member.name.endswith(f"({member.id})")
+    return bdi(member.name if named else f"{member.name} ({member.id})")
 
 
 def table(caption: str, heads: Sequence[Tuple[str, str]], rows: Iterable[str], kind: str = "") -> str:
@@ -88,7 +91,8 @@ class Page:
         short = [one for one in self.programmes if one.unfilled]
         if not short:
             return section("unfilled", "Unfilled places", "<p>Every place is filled.</p>")
-        rows = (row(label(one), ("n", f"{one.places:,}"), ("n", f"{one.filled:,}"), ("n short", f"{one.unfilled:,}")) for one in short)
+        rows = (row(label(one), ("n", f"{one.places:,}"), ("n", f"{one.filled:,}"), ("n short", f"{one.unfilled:,}"))
+                for one in short)
         left = sum(one.unfilled for one in short)
         told = f"{left:,} of {counted(self.outcome.places(), 'place')}, at {counted(len(short), 'programme')}, {self.in_order()}"
         return section("unfilled", "Unfilled places",
@@ -109,9 +113,9 @@ class Page:
         bars.append(("Unmatched", self.taking_part - len(self.matched), "bar left"))
         most = max(count for _, count, _ in bars) or 1
         rows = (row(what, ("n", f"{count:,}"), ("share", self.bar(count, most, kind))) for what, count, kind in bars)
-        return section("choices", "Which choice residents got",
-                       table(f"Of {counted(self.taking_part, 'resident')}; a choice is a programme's rank on the resident's list as written",
-                             (("", "Choice"), ("n", "Residents"), ("", "Share")), rows, "bars"))
+        told = f"Of {counted(self.taking_part, 'resident')}; a choice is a programme's rank on the resident's list as written"
+        heads = (("", "Choice"), ("n", "Residents"), ("", "Share"))
+        return section("choices", "Which choice residents got", table(told, heads, rows, "bars"))
 
     def bar(self, count: int, most: int, kind: str) -> str:
         share = f"{100 * count / self.taking_part:.0f}%" if self.taking_part else ""
@@ -137,8 +141,8 @@ class Page:
         return section("withdrawn", "Withdrawn", *(parts or ["<p>Nobody.</p>"]))
 
     def residents(self) -> str:
-        rows = (row(label(one), ("", label(self.outcome.programmes[one.programme])), ("n", f"{ordinal(one.choice)} of {one.ranked:,}"))
-                for one in self.matched)
+        rows = (row(label(one), ("", label(self.outcome.programmes[one.programme])),
+                    ("n", f"{ordinal(one.choice)} of {one.ranked:,}")) for one in self.matched)
         return section("matched", "Matched residents",
                        table(f"{counted(len(self.matched), 'resident')}, {self.in_order()}",
                              (("", "Resident"), ("", "Programme"), ("n", "Choice")), rows))
@@ -151,22 +155,23 @@ class Page:
 
     def all_programmes(self) -> str:
         heads = (("", "Programme"), ("n", "Places"), ("n", "Filled"), ("n", "Unfilled"), ("n", "Last rank taken"))
-        told = f"{counted(len(self.programmes), 'programme')}, {self.in_order()}; the last rank is on the programme's list as written"
+        told = (f"{counted(len(self.programmes), 'programme')}, {self.in_order()}; the last rank is on the programme's list as "
+                "written")
         return section("programmes", "Programmes", table(told, heads, map(self.programme_row, self.programmes), "wide"))
 
     def made_of(self) -> str:
-        rows = (row(f"<code>{html.escape(name)}</code>", ("", f"<code>{digest}</code>")) for name, digest in self.about.digests.items())
-        return section("made", "What this page was made of",
-                       table("Each file and its SHA-256, which <code>sha256sum</code> prints, too", (("", "File"), ("", "SHA-256")), rows))
+        rows = (row(f"<code>{html.escape(name)}</code>", ("", f"<code>{digest}</code>"))
+                for name, digest in self.about.digests.items())
+        told = "Each file and its SHA-256, which <code>sha256sum</code> prints, too"
+        return section("made", "What this page was made of", table(told, (("", "File"), ("", "SHA-256")), rows))
 
     def head(self) -> str:
         title = html.escape(self.about.title)
         day = f'<time datetime="{self.about.day.isoformat()}">{long_day(self.about.day)}</time>'
-        parts = (("unfilled", "Unfilled places"), ("figures", "In short"), ("choices", "Choices"), ("unmatched", "Unmatched"),
-                 ("withdrawn", "Withdrawn"), ("matched", "Matched"), ("programmes", "Programmes"), ("made", "Digests"))
-        links = "".join(f'<li><a href="#{name}">{what}</a></li>' for name, what in parts)
+        links = "".join(f'<li><a href="#{name}">{what}</a></li>' for name, what in PARTS)
         return (f'<header>\n<h1>{title}</h1>\n<p class="soft">{day}. {counted(len(self.outcome.residents), "resident")}, '
-                f'{counted(len(self.programmes), "programme")}.</p>\n</header>\n<nav aria-label="Parts of this page"><ul>{links}</ul></nav>')
+                f'{counted(len(self.programmes), "programme")}.</p>\n</header>\n'
+                f'<nav aria-label="Parts of this page"><ul>{links}</ul></nav>')
 
     def style(self) -> str:
         docket = next(iter(self.about.digests.values()), "")[:16]
@@ -181,5 +186,6 @@ class Page:
         inside = "\n".join(parts)
         return ('<!doctype html>\n<html lang="en">\n<head>\n<meta charset="utf-8">\n'
                 '<meta name="viewport" content="width=device-width, initial-scale=1">\n'
-                f"<title>{html.escape(self.about.title)}, {self.about.day.isoformat()}</title>\n<style>\n{self.style()}</style>\n</head>\n"
+                f"<title>{html.escape(self.about.title)}, {self.about.day.isoformat()}</title>\n"
+                f"<style>\n{self.style()}</style>\n</head>\n"
                 f"<body>\n{self.head()}\n<main>\n{inside}\n</main>\n</body>\n</html>\n")

@@ -10,12 +10,17 @@ from .outcome import Outcome, Programme, by_name
 MARK = "\ufeff"
 
 
+def cell_of(value: object) -> object:
+    """A value as a cell: numbers as they are, nothing as an empty cell, names so that no spreadsheet takes them for formulas."""
+    return value if isinstance(value, int) else "" if value is None else to_cell(str(value))
+
+
 def table_bytes(heading: Sequence[str], rows: Iterable[Sequence[object]], mark: bool = True) -> bytes:
     """A CSV table of these rows; no cell of it is a formula."""
     text = io.StringIO()
     writer = csv.writer(text, lineterminator="\r\n" if mark else "\n")
     writer.writerow(heading)
-    writer.writerows([cell if isinstance(cell, int) else to_cell(str(cell)) if cell is not None else "" for cell in row] for row in rows)
+    writer.writerows([cell_of(cell) for cell in row] for row in rows)
     return ((MARK if mark else "") + text.getvalue()).encode("utf-8")
 
 

@@ -8,7 +8,8 @@ from ..key import read_key, write_key
 from ..market import Market
 from ..names import PROGRAMME, RESIDENT, Names
 from ..program import DEFAULT_TIMEOUT, run_program
-from . import compare, folder, rosters
+from . import folder, rosters
+from .cells import name_of
 from .faults import OfficeError, shown
 from .folder import Draft, Results, digest, file_names
 from .letters import Letters
@@ -151,19 +152,16 @@ def withdrawn(run: Run, programmes: Sequence[str], residents: Sequence[str], eit
     whose owner is withdrawn already."""
     gone: Dict[str, List[str]] = {PROGRAMME: [], RESIDENT: []}
     before = {PROGRAMME: set(run.market.withdrawn_programmes), RESIDENT: set(run.market.withdrawn_residents)}
-    for text, side in [(one, "") for one in either] + [(one, PROGRAMME) for one in programmes] + [(one, RESIDENT) for one in residents]:
-        found = run.members(" ".join(text.split()), side)
+    named = [(one, "") for one in either] + [(one, PROGRAMME) for one in programmes] + [(one, RESIDENT) for one in residents]
+    for text, side in named:
+        found = run.members(name_of(text), side)
         if not found:
             raise OfficeError(f"{run.label}: nobody is named {shown(text)}; nothing was written", 3)
         if len(found) > 1:
-            raise OfficeError(f"{run.label}: {len(found)} members may be meant by {shown(text)}: give the ID, or say --programme or "
-                              "--resident; nothing was written", 3)
+            raise OfficeError(f"{run.label}: {len(found)} members may be meant by {shown(text)}: give the ID, or say "
+                              "--programme or --resident; nothing was written", 3)
         side, name = found[0]
         if name in before[side] or name in gone[side]:
             raise OfficeError(f"{run.label}: {shown(name)} is withdrawn already; nothing was written", 3)
         gone[side].append(name)
     return run.market.withdraw(programmes=gone[PROGRAMME], residents=gone[RESIDENT])
-
-
-def write_changes(draft: Draft, found: Sequence[compare.Change]) -> None:
-    draft.write(folder.CHANGES, compare.changes_table(found))

@@ -96,7 +96,8 @@ class Members:
         """One row below the heading."""
         other = other_mark(row, self.table.rows.delimiter)
         if other is not None and self.columns.width > 1:
-            return self.tell("row", number, 0, f"the row is parted by {other}, where the table is by {self.table.rows.title()}", (other,))
+            cause = f"the row is parted by {other}, where the table is by {self.table.rows.title()}"
+            return self.tell("row", number, 0, cause, (other,))
         self.headless(number, row)
         name = cell_of(row, self.columns.owner)
         if not name:
@@ -117,7 +118,8 @@ class Members:
         """Tells cells in columns without a heading."""
         for cell, text in enumerate(row):
             if text and cell not in self.columns.known:
-                self.tell("heading", number, cell, f"{shown(text)} stands in a column without a heading", (f"no heading {cell}",))
+                cause = f"{shown(text)} stands in a column without a heading"
+                self.tell("heading", number, cell, cause, (f"no heading {cell}",))
 
     def entry(self, number: int, row: List[str], name: str) -> Optional[Entry]:
         """The member whose row this is; in a wide table a second row is a fault, and two of one name need IDs."""
@@ -131,7 +133,8 @@ class Members:
         if known is None:
             return self.added(number, name, ident)
         if known.name != name:
-            self.tell("name", number, self.columns.ident or 0, f"the ID {shown(ident)} is that of {shown(known.name)} in row {known.row}")
+            cause = f"the ID {shown(ident)} is that of {shown(known.name)} in row {known.row}"
+            self.tell("name", number, self.columns.ident or 0, cause)
         elif self.columns.is_long:
             return known
         elif ident:
@@ -194,8 +197,9 @@ class Members:
         if not item:
             self.tell("rank", number, item_cell, f"nobody stands at rank {shown(rank, 20)} of {shown(entry.name)}")
         elif place:
-            self.tell("rank", number, rank_cell, f"{shown(entry.name)} ranks two at {place}: {shown(ranks[place].text)} in row "
-                      f"{ranks[place].row} and {shown(item)}")
+            before = ranks[place]
+            self.tell("rank", number, rank_cell, f"{shown(entry.name)} ranks two at {place}: {shown(before.text)} in row "
+                      f"{before.row} and {shown(item)}")
         elif rank:
             self.tell("rank", number, rank_cell, f"{shown(rank, 20)} is no rank; ranks count from 1", ("rank", rank))
         else:
@@ -210,12 +214,13 @@ class Members:
                 self.gap(entry, ranks)
             if self.columns.places is not None and entry.places is None:
                 if self.columns.is_long:
-                    self.tell("places", entry.row, self.columns.places, f"{shown(entry.name)} has no number of places in any row")
+                    cause = f"{shown(entry.name)} has no number of places in any row"
+                    self.tell("places", entry.row, self.columns.places, cause)
                 entry.places = 0
         if self.gaps:
             first = self.gaps[0]
-            self.table.notes.append(f"{self.table.name}: {len(self.gaps):,} lists leave out a rank, and what follows moves up; the "
-                                    f"first is that of {shown(first.text)} in row {first.row}")
+            self.table.notes.append(f"{self.table.name}: {len(self.gaps):,} times a list leaves out a rank, and what follows moves "
+                                    f"up; the first is that of {shown(first.text)} in row {first.row}")
         if not self.table.entries and not len(self.faults):
             self.tell("file", self.heading + 1, self.columns.owner, f"no {self.table.owners} stands below the heading")
 
@@ -226,8 +231,8 @@ class Members:
         if self.options.allow_gaps:
             self.gaps.append(Item(entry.name, after.row, after.cell))
         else:
-            self.tell("rank", after.row, self.columns.rank or 0, f"{shown(entry.name)} has no rank {wanted}; is a row lost, or the "
-                      "name misspelt there? (--allow-gaps takes the ranks in their order)")
+            self.tell("rank", after.row, self.columns.rank or 0, f"{shown(entry.name)} has no rank {wanted}; is a row lost, or "
+                      "the name misspelt there? (--allow-gaps takes the ranks in their order)")
 
 
 def cell_of(row: List[str], cell: int) -> str:

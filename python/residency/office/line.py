@@ -1,0 +1,161 @@
+"""The command line: its words, their help and their faults. Man pages and completions may be made of `parser`."""
+import argparse
+import textwrap
+from datetime import date
+from typing import Any, NoReturn
+
+from ..program import DEFAULT_TIMEOUT
+from .faults import OfficeError, shown
+from .letters import FIELDS
+from .running import TITLE
+from .telling import say
+
+EXAMPLES = {
+    "check": "office check programmes.csv residents.csv",
+    "lint": "office lint docket.csv",
+    "run": "office run programmes.csv residents.csv --out match-2026",
+    "withdraw": "office withdraw match-2026 'Greta Weiß' --out match-2026-b",
+    "compare": "office compare match-2025 match-2026",
+    "letters": "office letters match-2026 --template letter.txt --out letters-2026",
+}
+# What argparse adds commands to; its type has no public name.
+Commands = Any
+
+STATUSES = ("exit statuses: 0 done; 1 a file, the output or the built program failed; 2 a wrong command line, or a folder that "
+            "is there already; 3 a fault in the tables, the docket or a folder, with nothing written.")
+ABOUT = ("Matches residents with programmes from two tables as a spreadsheet saves them (CSV), by the built program.\n"
+         "`office COMMAND --help` says more of each command.")
+TABLES = ("A table is wide (a row for each member: Programme, Places, Rank 1, Rank 2, ..; Applicant, Rank 1, Rank 2, ..) or long "
+          "(a row for each rank: Programme, Places, Rank, Applicant; Applicant, Rank, Programme). Both have a heading row. A "
+          "column headed ID tells two people of one name apart. What parts the cells and the character set are found from the "
+          "whole file.")
+
+
+class Parser(argparse.ArgumentParser):
+    """A command line whose help and faults are told as all else is."""
+
+    def print_help(self, file: Any = None) -> None:
+        say(self.format_help().rstrip())
+
+    def error(self, message: str) -> NoReturn:
+        raise OfficeError(f"{shown(message, 300)} ({self.prog} --help says more)", 2)
+
+
+def wrapped(*paragraphs: str) -> str:
+    return "\n\n".join(textwrap.fill(paragraph, 78) for text in paragraphs for paragraph in text.split("\n") if paragraph)
+
+
+def parser() -> argparse.ArgumentParser:
+    """The whole command line."""
+    examples = "\n".join(f"  {example}" for example in EXAMPLES.values())
+    top = Parser(prog="office", description=wrapped(ABOUT), epilog=f"examples:\n{examples}\n\n{wrapped(STATUSES)}",
+                 formatter_class=argparse.RawDescriptionHelpFormatter)
+    commands = top.add_subparsers(dest="command", metavar="COMMAND", required=True)
+    for add in (add_check, add_lint, add_run, add_withdraw, add_compare, add_letters):
+        add(commands)
+    return top
+
+
+def add_command(commands: Commands, name: str, *about: str) -> argparse.ArgumentParser:
+    """A command; the first paragraph about it is its line in the list of all."""
+    one: argparse.ArgumentParser = commands.add_parser(
+        name, help=about[0][0].lower() + about[0][1:].rstrip("."), description=wrapped(*about),
+        epilog=f"example: {EXAMPLES[name]}\n\n{wrapped(STATUSES)}", formatter_class=argparse.RawDescriptionHelpFormatter)
+    return one
+
+
+def add_tables(one: argparse.ArgumentParser) -> None:
+    one.add_argument("--delimiter", action="append", default=[], metavar="[TABLE=]MARK",
+                     help="what parts the cells: comma, semicolon, tab, bar or a sign; of both tables, or of the one that is named "
+                     "(programmes=semicolon)")
+    one.add_argument("--encoding", action="append", default=[], metavar="[TABLE=]SET",
+                     help="the character set, as utf-8, windows-1252 or utf-16; of both tables or of one (residents=iso-8859-2)")
+    one.add_argument("--heading", action="append", default=[], metavar="ROLE=WORD",
+                     help="a word that heads a column, besides the known ones; ROLE is programme, resident, places, rank or id "
+                     "(--heading rank=Rang)")
+    one.add_argument("--ignore", action="append", default=[], metavar="HEADING", help="a column to leave out")
+    one.add_argument("--allow-gaps", action="store_true", help="in long tables, take ranks in their order where one is left out")
+    one.add_argument("--all", action="store_true", help="tell every fault on a line of its own, however many there are")
+
+
+def add_wishes(one: argparse.ArgumentParser) -> None:
+    one.add_argument("--date", type=day, default=None, metavar="YYYY-MM-DD", help="the day that page and letters name (today)")
+    one.add_argument("--order", choices=("name", "table"), default="name", help="the order of names in the page (name)")
+    one.add_argument("--template", metavar="FILE", help="the text of the letters, with $name, $outcome, $list and others")
+    one.add_argument("--timeout", type=seconds, default=DEFAULT_TIMEOUT, metavar="SECONDS",
+                     help=f"how long the program may take at each step ({DEFAULT_TIMEOUT:g})")
+
+
+def day(text: str) -> date:
+    try:
+        return date.fromisoformat(text)
+    except ValueError:
+        raise argparse.ArgumentTypeError(f"{shown(text)} is no day; it is written as 2026-03-20") from None
+
+
+def seconds(text: str) -> float:
+    try:
+        number = float(text)
+    except ValueError:
+        number = 0
+    if not 0 < number < 1e6:
+        raise argparse.ArgumentTypeError(f"{shown(text)} is no number of seconds")
+    return number
+
+
+def add_check(commands: Commands) -> None:
+    one = add_command(commands, "check", "Tells every fault of two tables, or of a docket, at once.", "It writes nothing.", TABLES)
+    one.add_argument("files", nargs="+", metavar="FILE", help="PROGRAMMES and RESIDENTS, or one docket")
+    add_tables(one)
+
+
+def add_lint(commands: Commands) -> None:
+    one = add_command(commands, "lint", "Tells every fault of a docket, with its record, its cell and what stands there.",
+                      "The first line begins with what the program says of the same docket.")
+    one.add_argument("docket", metavar="DOCKET", help="the docket's file, or - for standard input")
+    one.add_argument("--all", action="store_true", help="tell every fault, however many there are")
+
+
+def add_run(commands: Commands) -> None:
+    one = add_command(
+        commands, "run", "Matches two tables into a new folder.",
+        "The folder has the docket, the key from its names to the real ones, the sheet, the journal, audit and replay, a page, "
+        "a letter for each resident, a roster for each programme, the unfilled places and a row for each resident for a "
+        "database. It appears complete or not at all.", TABLES)
+    one.add_argument("programmes", metavar="PROGRAMMES", help="the table of programmes")
+    one.add_argument("residents", metavar="RESIDENTS", help="the table of residents")
+    one.add_argument("--out", required=True, metavar="FOLDER", help="the folder to make, which isn't there yet")
+    one.add_argument("--title", default=TITLE, help=f"the page's title ({TITLE})")
+    add_tables(one)
+    add_wishes(one)
+
+
+def add_withdraw(commands: Commands) -> None:
+    one = add_command(
+        commands, "withdraw", "Matches a folder's docket again with members withdrawn, into a new folder, and tells what changed.",
+        "A name is the one of the tables, the ID, or the docket's name.")
+    one.add_argument("folder", metavar="FOLDER", help="a folder that run or withdraw made")
+    one.add_argument("names", nargs="*", metavar="NAME", help="who withdraws")
+    one.add_argument("--programme", action="append", default=[], metavar="NAME", help="a programme that withdraws")
+    one.add_argument("--resident", action="append", default=[], metavar="NAME", help="a resident who withdraws")
+    one.add_argument("--out", metavar="FOLDER", help="the folder to make (FOLDER-2, or the next number that is free)")
+    add_wishes(one)
+
+
+def add_compare(commands: Commands) -> None:
+    one = add_command(
+        commands, "compare", "Tells who stands otherwise in the second of two folders: two runs, or two years.",
+        "Members are known by their IDs where all have one, else by their names.")
+    one.add_argument("before", metavar="BEFORE", help="the folder of before")
+    one.add_argument("now", metavar="NOW", help="the folder of now")
+    one.add_argument("--out", metavar="FILE", help="a CSV file to write the changes to, which isn't there yet")
+
+
+def add_letters(commands: Commands) -> None:
+    one = add_command(
+        commands, "letters", "Writes the letters of a folder again, into a new folder, from a template of your own.",
+        f"In it ${', $'.join(FIELDS)} stand for what they say, and $$ for the sign.")
+    one.add_argument("folder", metavar="FOLDER", help="a folder that run or withdraw made")
+    one.add_argument("--out", required=True, metavar="FOLDER", help="the folder to make, which isn't there yet")
+    one.add_argument("--template", metavar="FILE", help="the text of the letters (the one of run)")
+    one.add_argument("--date", type=day, default=None, metavar="YYYY-MM-DD", help="the day that the letters name (that of the run)")
