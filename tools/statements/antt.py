@@ -142,7 +142,13 @@ class Walk:
                     at += 1
                 self.literal(parts[at], scope)
                 at += 1
-            elif part in ("let", "elim", "open"):
+            elif part == "let":
+                equals, end = parts.index("=", at), parts.index("in", at)
+                self.term([it for it in parts[at + 1:equals] if it != ":"], scope)
+                self.term(parts[equals + 1:end], scope)
+                scope.add(str(parts[at]))
+                at = end + 1
+            elif part in ("elim", "open"):
                 raise Missing(f"{self.item.file}: {self.item.name}: this tool doesn't read `{part}` yet")
             else:
                 self.word(part, scope)

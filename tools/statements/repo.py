@@ -193,7 +193,10 @@ class Repo:
     def associated(self, file: File, item: Item, trait: str, body: List[str]) -> None:
         """Adds the types that a type names for a trait of the repository."""
         given = dict(re.findall(r"^    type (\w+) = (.*);$", "\n".join(body), re.M))
-        where = self.rust(file, trait)[0] if given else ""
+        try:
+            where = self.rust(file, trait)[0]
+        except Missing:
+            where = ""
         there = self.file(where) if "/" in where else None
         asked = block(there.lines, rf"pub trait {trait}\b")[1] if there else []
         for name in re.findall(r"^    type (\w+)", "\n".join(asked), re.M):

@@ -126,6 +126,6 @@ def read_call(path: str, lines: List[str], name: str) -> Call:
         raise Missing(f"{path}: {name} has a signature that this tool doesn't read")
     bounds: Dict[str, List[str]] = {it.partition(":")[0]: [] for it in pieces(head[1] or "")}
     for it, of in re.findall(r"\b([A-Z]\w*): ([A-Z][\w +]*)", f"{head[1]} {signature.partition(' where ')[2]}"):
-        bounds[it] = of.split(" + ")
+        bounds[it] = of.strip().split(" + ")
     parameters = {it.partition(":")[0] for it in pieces(head[2])}
     return Call(item, clauses, signature, parameters | {"result"}, bounds)
