@@ -199,7 +199,7 @@ class Near(unittest.TestCase):
         rng = random.Random(3)
         known = list(dict.fromkeys("".join(rng.choice("abcdefgh") for _ in range(rng.randint(8, 14))) for _ in range(400)))
         names = NearNames(known)
-        for _ in range(3000):
+        for _ in range(400):
             name = list(rng.choice(known))
             for _ in range(rng.randint(1, 2)):
                 at, what = rng.randrange(len(name)), rng.randrange(3)
