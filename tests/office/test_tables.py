@@ -423,6 +423,20 @@ class Headings(Tables):
             self.faults(PROGRAMMES.split("\n", 1)[1], RESIDENTS)[0],
         )
 
+    def test_a_heading_or_a_row_of_too_many_cells_is_one_fault(self) -> None:
+        wide = "Applicant" + ",Rank 1" * 20101
+        self.assertEqual(
+            self.faults(PROGRAMMES, wide + "\nKim Lee,North Clinic\n"),
+            ["residents, row 1, cell 20101 (ACSC1): the heading has 20,102 cells, more than 20,100", "1 fault in the tables"],
+        )
+        self.assertEqual(
+            self.faults(PROGRAMMES, RESIDENTS.replace("Rosa Rossi,,,", "Rosa Rossi,,,,A,B,C,D,E")),
+            [
+                "residents, row 8, cell 5 (E8): A stands in a column without a heading (also in F8, G8, H8 and 1 more cell)",
+                "1 fault in the tables",
+            ],
+        )
+
     def test_what_heads_a_rank(self) -> None:
         words = Words(["rank=Wunsch"])
         for heading, rank in (
