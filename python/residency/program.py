@@ -5,7 +5,7 @@ A program is looked for in this order:
 1. what the environment's `RESIDENCY_BIN` names, a folder or the file of the program `residency`; where it is set, nothing
    else is looked at;
 2. the clone that this package is part of: `crates/residency_cli/out/residency_cli`, `crates/residency_why/out/residency_why`;
-3. an unpacked release: the one that this package is part of, or one beside the clone (`residency-*/bin/residency`);
+3. an unpacked release: the one that this package is part of, or the newest beside the clone (`residency-*/bin/residency`);
 4. PATH: `residency`, `residency-why`.
 """
 from __future__ import annotations
@@ -29,12 +29,15 @@ _TUNABLES = "glibc.malloc.hugetlb=1:glibc.malloc.mmap_threshold=33554432"
 
 
 def _in_folder(name: str, folder: Path) -> Iterator[Path]:
-    """Where a folder that a person names may have a program: a release or its `bin`, a clone or a crate's `out`."""
+    """Where a folder that a person names may have a program: a clone, a release or its `bin`, a crate's `out`."""
     crate, file = _PROGRAMS[name]
+    yield folder / "crates" / crate / "out" / crate
+    if (folder / "crates").is_dir():
+        # A clone's own `residency` builds the program first, and is none of those that are built.
+        return
     for place in (folder, folder / "bin"):
         yield place / file
         yield place / crate
-    yield folder / "crates" / crate / "out" / crate
     yield folder.parent.parent / crate / "out" / crate
 
 
@@ -47,6 +50,11 @@ def _named(name: str, named: Path) -> List[Path]:
     return list(_in_folder(name, named.parent))
 
 
+def _version(path: Path) -> Tuple[List[int], str]:
+    """What orders releases by their versions, the newest last."""
+    return [int(digits) for digits in re.findall("[0-9]+", path.parent.parent.name)], str(path)
+
+
 def _places(name: str) -> Iterator[Path]:
     """Where a program may be without `RESIDENCY_BIN`, but for PATH."""
     crate, file = _PROGRAMS[name]
@@ -55,7 +63,7 @@ def _places(name: str) -> Iterator[Path]:
     yield clone / "crates" / crate / "out" / crate
     for folder in (folder for folder in package.parents[:4] if folder.name):
         yield folder / "bin" / file
-    yield from sorted(clone.parent.glob(f"residency-*/bin/{file}"), reverse=True)
+    yield from sorted(clone.parent.glob(f"residency-*/bin/{file}"), key=_version, reverse=True)
 
 
 def find_program(name: str = "residency") -> Path:
