@@ -5,7 +5,7 @@ A program is looked for in this order:
 1. what the environment's `RESIDENCY_BIN` names, a folder or the file of the program `residency`; where it is set, nothing
    else is looked at;
 2. the clone that this package is part of: `crates/residency_cli/out/residency_cli`, `crates/residency_why/out/residency_why`;
-3. an unpacked release: the one that this package is part of, or one beside the clone (`residency-*/bin/residency`);
+3. an unpacked release: the one that this package is part of, or the newest beside the clone (`residency-*/bin/residency`);
 4. PATH: `residency`, `residency-why`.
 """
 from __future__ import annotations
@@ -47,6 +47,11 @@ def _named(name: str, named: Path) -> List[Path]:
     return list(_in_folder(name, named.parent))
 
 
+def _version(path: Path) -> Tuple[List[int], str]:
+    """What orders releases by their versions, the newest last."""
+    return [int(digits) for digits in re.findall("[0-9]+", path.parent.parent.name)], str(path)
+
+
 def _places(name: str) -> Iterator[Path]:
     """Where a program may be without `RESIDENCY_BIN`, but for PATH."""
     crate, file = _PROGRAMS[name]
@@ -55,7 +60,7 @@ def _places(name: str) -> Iterator[Path]:
     yield clone / "crates" / crate / "out" / crate
     for folder in (folder for folder in package.parents[:4] if folder.name):
         yield folder / "bin" / file
-    yield from sorted(clone.parent.glob(f"residency-*/bin/{file}"), reverse=True)
+    yield from sorted(clone.parent.glob(f"residency-*/bin/{file}"), key=_version, reverse=True)
 
 
 def find_program(name: str = "residency") -> Path:

@@ -137,11 +137,18 @@ class Forms(Tables):
         said = office("check", *self.tables(PROGRAMMES.replace("South Hospital,1,Kim Lee,Ana", "South Hospital,1,Kim Lee,,Ana")
                                             .replace("Silva,Omar Haddad,", "Silva,Omar Haddad"), RESIDENTS))
         self.assertEqual(said.status, 0)
-        self.assertIn("note: programmes: 1 times a list leaves out a rank, and what follows moves up; the first is that of South Hospital in row 3", said.out)
+        self.assertIn("note: programmes: 1 rank is left out, and what follows moves up; the first is in the list of South Hospital, row 3", said.out)
         residents = "Applicant,Rank,Programme\nAna,1,North\nAna,3,South\n"
         programmes = "Programme,Places,Rank 1\nNorth,1,Ana\nSouth,1,Ana\n"
         self.assertIn("Ana has no rank 2", self.faults(programmes, residents)[0])
         self.assertEqual(self.docket(programmes, residents, "--allow-gaps")[-1], "R,ana,north,south")
+
+
+    def test_members_who_may_be_remarks_are_noted(self) -> None:
+        said = office("check", *self.tables(PROGRAMMES + "* without Saturdays,0,,,\n", RESIDENTS + "Exported on 20 March,,,\n"))
+        self.assertEqual(said.out.splitlines()[2:], [
+            "note: programmes: 1 programme without a list whom nobody ranks; the first is * without Saturdays, row 6",
+            "note: residents: 2 residents without a list whom nobody ranks; the first is Rosa Rossi, row 8", "no fault"])
 
 
 class Ids(Tables):

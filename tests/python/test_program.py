@@ -84,7 +84,8 @@ class Finding(Folders):
     def test_the_order(self):
         package = self.folder / "clone" / "python" / "residency"
         self.assertIn("ProgramMissing: there is no built program residency: looked for", self.found_by(package))
-        for path in ("path/residency", "residency-1.0.0-x86_64-linux/bin/residency", "residency-1.1.0-x86_64-linux/bin/residency",
+        for path in ("path/residency", "residency-1.0.0-x86_64-linux/bin/residency", "residency-1.9.0-x86_64-linux/bin/residency",
+                     "residency-1.10.0-x86_64-linux/bin/residency",
                      "clone/bin/residency",
                      "clone/crates/residency_cli/out/residency_cli"):
             place = self.put(path)
@@ -92,7 +93,7 @@ class Finding(Folders):
 
     def test_an_unpacked_release(self):
         place = self.put("residency-1.0.0-x86_64-linux/bin/residency")
-        for path in ("residency", "python/residency", "lib/python/residency"):
+        for path in ("residency", "python/residency", "lib/python/residency", "lib/residency/python/residency"):
             self.assertEqual(self.found_by(place.parent.parent / path), str(place))
 
 

@@ -10,7 +10,7 @@ from ..lint import lint
 from ..market import Market
 from . import compare, folder, running
 from .cells import known_delimiter
-from .faults import MOST_LINES, Faults, OfficeError, TablesError, shown
+from .faults import MOST_LINES, Faults, OfficeError, TablesError, counted, shown
 from .headings import Words
 from .letters import Letters, checked_template
 from .line import parser
@@ -100,7 +100,7 @@ def tables_at_fault(error: TablesError, all_of_them: bool, tell: Callable[[str],
     for line in error.how + error.faults.report(all_of_them, MOST_LINES - len(error.how)):
         tell(line)
     count = len(error.faults)
-    tell(f"{count:,} {'fault' if count == 1 else 'faults'} in the tables")
+    tell(f"{counted(count, 'fault')} in the tables")
     return 3
 
 
@@ -234,7 +234,7 @@ def letters(given: argparse.Namespace) -> int:
     about = About(run_before.title(), given.date or run_before.day(), run_before.digests())
     with folder.new_folder(given.out) as draft:
         count = running.write_letters(draft, Letters(run_before.market, run_before.outcome, about, template), "")
-    say(f"{count:,} letters written to {shown(given.out)}")
+    say(f"{counted(count, 'letter')} written to {shown(given.out)}")
     return 0
 
 

@@ -1,6 +1,6 @@
 """Faults of tables: each says where it is and what it is, and a report of them is short."""
 from dataclasses import dataclass, field
-from typing import Dict, Iterable, List, Optional, Tuple
+from typing import Dict, Iterator, List, Optional, Tuple
 
 # What a report has at most, unless all is asked for; the command adds a line or two of its own.
 MOST_LINES = 16
@@ -32,6 +32,11 @@ def shown(text: str, most: int = MOST_LETTERS) -> str:
     return "".join(c if c.isprintable() else repr(c)[1:-1] for c in cut)
 
 
+def counted(number: int, one: str, many: str = "") -> str:
+    """A number of things: `1 place`, `2 places`."""
+    return f"{number:,} {one if number == 1 else many or one + 's'}"
+
+
 def column_letters(cell: int) -> str:
     """What a spreadsheet calls the column of this cell, which counts from 1: A, B, .., Z, AA."""
     letters = ""
@@ -61,7 +66,8 @@ class Fault:
         named = ", ".join(f"{'' if table == self.table else table + ' '}{column_letters(cell)}{row}"
                           for table, row, cell in self.also[:MOST_PLACES])
         more = len(self.also) - MOST_PLACES
-        return f" (also in {named}{f' and {more:,} more cells' if more > 0 else ''})"
+        rest = f" and {counted(more, 'more cell')}" if more > 0 else ""
+        return f" (also in {named}{rest})"
 
 
 def place_of(table: str, row: Optional[int], cell: Optional[int]) -> str:
@@ -89,7 +95,7 @@ class Faults:
     def __len__(self) -> int:
         return len(self.kept)
 
-    def __iter__(self) -> Iterable[Fault]:
+    def __iter__(self) -> Iterator[Fault]:
         return iter(self.kept)
 
     def tell(self, kind: str, table: str, row: Optional[int], cell: Optional[int], cause: str,

@@ -7,7 +7,7 @@ from ..market import Market
 from ..names import PROGRAMME, RESIDENT, Member, Names, docket_names
 from ..near import NearNames, edits, folded
 from ..records import is_name
-from .faults import Faults, place_of, shown
+from .faults import Faults, counted, place_of, shown
 from .tables import Entry, Item, Table
 
 # For how many names that no row has the near ones are looked up.
@@ -130,6 +130,8 @@ def market_of(programmes: Table, residents: Table, faults: Faults) -> Optional[M
     if not programmes.whole or not residents.whole:
         return None
     programme_lists, resident_lists = Joiner(programmes, residents, faults).lists()
+    note_alone(programmes, programme_lists, resident_lists)
+    note_alone(residents, resident_lists, programme_lists)
     pairs = mutual_pairs(programme_lists, resident_lists)
     if pairs > MOST_PAIRS:
         faults.tell("limit", programmes.name, None, None, f"{pairs:,} pairs rank one another, more than {MOST_PAIRS:,}")
@@ -145,6 +147,15 @@ def market_of(programmes: Table, residents: Table, faults: Faults) -> Optional[M
                   {name: [of_residents[one] for one in listed] for name, listed in zip(of_programmes, programme_lists)},
                   {name: [of_programmes[one] for one in listed] for name, listed in zip(of_residents, resident_lists)},
                   names=names)
+
+
+def note_alone(table: Table, lists: List[List[int]], others: List[List[int]]) -> None:
+    """Notes members who rank nobody and whom nobody ranks: one may be a remark that stands below the table."""
+    ranked = {member for listed in others for member in listed}
+    alone = [entry for index, (entry, listed) in enumerate(zip(table.entries, lists)) if not listed and index not in ranked]
+    if alone:
+        table.notes.append(f"{table.name}: {counted(len(alone), table.owners)} without a list whom nobody ranks; the first is "
+                           f"{shown(alone[0].name)}, row {alone[0].row}")
 
 
 def mutual_pairs(programme_lists: List[List[int]], resident_lists: List[List[int]]) -> int:

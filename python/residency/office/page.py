@@ -7,6 +7,7 @@ from dataclasses import dataclass
 from datetime import date
 from typing import Dict, Iterable, List, Sequence, Tuple, Union
 
+from .faults import counted
 from .outcome import UNMATCHED, Outcome, Programme, Resident, Standing, by_name, ordinal
 from .style import STYLE
 
@@ -36,10 +37,6 @@ class About:
 
 def long_day(day: date) -> str:
     return f"{day.day} {MONTHS[day.month - 1]} {day.year}"
-
-
-def counted(number: int, one: str, many: str = "") -> str:
-    return f"{number:,} {one if number == 1 else many or one + 's'}"
 
 
 def bdi(text: str) -> str:

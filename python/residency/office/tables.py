@@ -6,7 +6,7 @@ from typing import Dict, List, NamedTuple, Optional, Set, Tuple
 
 from ..docket import MOST_PLACES, MOST_PROGRAMMES, MOST_RESIDENTS
 from .cells import Rows, other_mark, rows_of
-from .faults import Faults, shown
+from .faults import Faults, counted, shown
 from .headings import Columns, Words, columns_of, plain
 from .text import Text, bytes_of, decoded
 
@@ -219,8 +219,8 @@ class Members:
                 entry.places = 0
         if self.gaps:
             first = self.gaps[0]
-            self.table.notes.append(f"{self.table.name}: {len(self.gaps):,} times a list leaves out a rank, and what follows moves "
-                                    f"up; the first is that of {shown(first.text)} in row {first.row}")
+            self.table.notes.append(f"{self.table.name}: {counted(len(self.gaps), 'rank is', 'ranks are')} left out, and what follows "
+                                    f"moves up; the first is in the list of {shown(first.text)}, row {first.row}")
         if not self.table.entries and not len(self.faults):
             self.tell("file", self.heading + 1, self.columns.owner, f"no {self.table.owners} stands below the heading")
 
