@@ -1,4 +1,4 @@
-use Rattle.std.proofs.Common.{◌≡◌, ◌<◌, ℕ, ◌+◌, ◌∙◌, List, [], length, drop, get_or, ap, sym, subst, arith}
+use Rattle.std.proofs.Common.{◌<◌, ℕ, ◌∙◌, List, length, drop, ap, sym, subst, arith}
 use Rattle.std.proofs.lemmas.List.{length-drop, take_all}
 use Rattle.csv.specs.Records.{fields_of}
 use Rattle.reasons_text.specs.Answers.{AreProgrammes, names_of}
