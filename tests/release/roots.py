@@ -5,6 +5,7 @@ import glob
 import os
 import re
 import shutil
+import signal
 import subprocess
 import sys
 from typing import Iterable, List, Optional, Tuple
@@ -17,6 +18,8 @@ seq sha1sum sha224sum sha256sum sha384sum sha512sum shred shuf sleep sort split 
 timeout touch tr true truncate tsort tty uname unexpand uniq unlink users vdir wc who whoami yes""".split()
 LEFT_OUT = shutil.ignore_patterns("site-packages", "test", "tests", "idlelib", "tkinter", "turtledemo", "ensurepip", "lib2to3",
                                   "__pycache__", "config-*", "*.a", "_test*", "_tkinter*")
+# A command that takes longer hangs; the longest takes a second on a quiet machine.
+MOST_SECONDS = 120
 LIBRARY = re.compile(r"(?:=> )?(/\S+) \(0x")
 
 
@@ -97,9 +100,15 @@ class Root:
         words = [*(self.words or []), bash, "-c", f"cd '{folder}' && {command}"]
         environment = {"HOME": self.home, "PATH": path, "LC_ALL": "C", **known}
         # `env` comes from outside, since the words before it have to be found there.
-        ran = subprocess.run(["env", "-i", f"PATH={os.environ['PATH']}", *self.words_within(environment, words)], input=stdin,
-                             capture_output=True, timeout=600, check=False)
-        return ran.returncode, ran.stdout, ran.stderr
+        line = ["env", "-i", f"PATH={os.environ['PATH']}", *self.words_within(environment, words)]
+        with subprocess.Popen(line, stdin=subprocess.PIPE, stdout=subprocess.PIPE, stderr=subprocess.PIPE,
+                              start_new_session=True) as ran:
+            try:
+                out, err = ran.communicate(stdin, timeout=MOST_SECONDS)
+            except subprocess.TimeoutExpired:
+                os.killpg(ran.pid, signal.SIGKILL)
+                return 124, b"", b"it didn't end"
+        return ran.returncode, out, err
 
     def words_within(self, environment: "dict[str, str]", words: List[str]) -> List[str]:
         before = len(self.words or [])
