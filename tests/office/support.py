@@ -53,7 +53,7 @@ def office(*words: str) -> Said:
 
 def spawn(words: Sequence[str], env: Optional[dict] = None, data: bytes = b"", shell: str = "") -> Said:
     """The command in a process of its own; `shell` is put after it, as `| head -n 1` or `> /dev/full`."""
-    line = ["bash", "-c", f'"$0" "$@" {shell}', sys.executable, OFFICE, *map(str, words)]
+    line = ["bash", "-c", f'"$0" "$@" {shell}', OFFICE, *map(str, words)]
     done = subprocess.run(line, input=data, capture_output=True, env={**os.environ, **(env or {})}, timeout=300)
     return Said(done.returncode, done.stdout.decode("utf-8", "replace"), done.stderr.decode("utf-8", "replace"))
 

@@ -145,12 +145,12 @@ class Words(OfficeTest):
 
     def test_words_that_are_no_text(self) -> None:
         for words in (b"check /tmp/\xff\xfe", b"run a\xff b --out c"):
-            done = subprocess.run([sys.executable, OFFICE, *words.split()], capture_output=True, cwd=self.folder)
+            done = subprocess.run([OFFICE, *words.split()], capture_output=True, cwd=self.folder)
             self.assertEqual((done.returncode, done.stdout), (1, b""))
             self.assertTrue(done.stderr.startswith(b"office: "), done.stderr)
         tables = self.tables()
-        done = subprocess.run([sys.executable, OFFICE, "run", *tables, "--out", b"out\xff"], capture_output=True, cwd=self.folder)
+        done = subprocess.run([OFFICE, "run", *tables, "--out", b"out\xff"], capture_output=True, cwd=self.folder)
         self.assertEqual((done.returncode, done.stderr), (0, b""))
         self.assertTrue(os.path.isdir(os.path.join(os.fsencode(self.folder), b"out\xff")))
-        done = subprocess.run([sys.executable, OFFICE, "run", *tables, "--out", "out", "--title", b"T\xff"], capture_output=True, cwd=self.folder)
+        done = subprocess.run([OFFICE, "run", *tables, "--out", "out", "--title", b"T\xff"], capture_output=True, cwd=self.folder)
         self.assertEqual((done.returncode, done.stderr), (2, b"office: T\\udcff is no text\n"))
