@@ -1,6 +1,7 @@
 """A market in the caller's own names: programmes with quotas and lists, residents with lists, and who is withdrawn."""
 from __future__ import annotations
 
+import operator
 from typing import Dict, Iterable, List, Mapping, Optional, Sequence, Tuple, Union
 
 from . import calls
@@ -50,9 +51,8 @@ class Market:
     def __init__(self, quotas: Mapping[str, int], programme_lists: Mapping[str, Sequence[str]],
                  resident_lists: Mapping[str, Sequence[str]], withdrawn_programmes: Iterable[str] = (),
                  withdrawn_residents: Iterable[str] = (), names: Optional[Names] = None) -> None:
-        self.quotas: Dict[str, int] = dict(quotas)
-        faults = _Faults(self.quotas, resident_lists)
-        faults.quotas(self.quotas)
+        faults = _Faults(quotas, resident_lists)
+        self.quotas: Dict[str, int] = faults.quotas(quotas)
         self.programme_lists = faults.lists("programme", programme_lists, "resident")
         self.resident_lists = faults.lists("resident", resident_lists, "programme")
         self.withdrawn_programmes = faults.withdrawn("programme", withdrawn_programmes)
@@ -211,13 +211,14 @@ class _Faults:
         self._known: Dict[str, Mapping[str, object]] = {"programme": quotas, "resident": resident_lists}
         self._near: Dict[str, NearNames] = {}
 
-    def quotas(self, quotas: Mapping[str, int]) -> None:
+    def quotas(self, quotas: Mapping[str, int]) -> Dict[str, int]:
         for who in ("programme", "resident"):
             self.told += [f"a {who} is called {_shown(name)}, which is no name" for name in self._known[who]
                           if not _is_text(name)]
-        for name, quota in quotas.items():
-            if isinstance(quota, bool) or not isinstance(quota, int) or not 0 <= quota <= MOST_PLACES:
-                self.told.append(f"programme {_shown(name)}: {_shown(quota)} is no number of places from 0 to {MOST_PLACES}")
+        read = {name: _number(quota) for name, quota in quotas.items()}
+        self.told += [f"programme {_shown(name)}: {_shown(quotas[name])} is no number of places from 0 to {MOST_PLACES}"
+                      for name, quota in read.items() if not 0 <= quota <= MOST_PLACES]
+        return read
 
     def unknown(self, who: str, name: object) -> str:
         """What is wrong with a name that no member of a side has."""
@@ -277,6 +278,14 @@ def _is_text(name: object) -> bool:
     except UnicodeEncodeError:
         return False
     return True
+
+
+def _number(quota: object) -> int:
+    """A whole number, Python's own or that of a data frame; -1 for anything else."""
+    try:
+        return -1 if isinstance(quota, bool) else operator.index(quota)  # type: ignore[arg-type]
+    except TypeError:
+        return -1
 
 
 def _shown(name: object) -> str:

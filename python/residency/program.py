@@ -29,12 +29,15 @@ _TUNABLES = "glibc.malloc.hugetlb=1:glibc.malloc.mmap_threshold=33554432"
 
 
 def _in_folder(name: str, folder: Path) -> Iterator[Path]:
-    """Where a folder that a person names may have a program: a release or its `bin`, a clone or a crate's `out`."""
+    """Where a folder that a person names may have a program: a clone, a release or its `bin`, a crate's `out`."""
     crate, file = _PROGRAMS[name]
+    yield folder / "crates" / crate / "out" / crate
+    if (folder / "crates").is_dir():
+        # A clone's own `residency` builds the program first, and is none of those that are built.
+        return
     for place in (folder, folder / "bin"):
         yield place / file
         yield place / crate
-    yield folder / "crates" / crate / "out" / crate
     yield folder.parent.parent / crate / "out" / crate
 
 

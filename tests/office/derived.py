@@ -33,9 +33,15 @@ def tables(programmes: str, residents: str) -> Derived:
     read = []
     for text in (programmes, residents):
         mark = ";" if ";" in text.split("\n")[0] else ","
-        read.append([[cell.strip() for cell in row] for row in csv.reader(text.lstrip("\ufeff").splitlines(), delimiter=mark)][1:])
-    return Derived({row[0]: int(row[1]) for row in read[0]}, {row[0]: [cell for cell in row[2:] if cell] for row in read[0]},
-                   {row[0]: [cell for cell in row[1:] if cell] for row in read[1]}, {})
+        read.append(
+            [[cell.strip() for cell in row] for row in csv.reader(text.lstrip("\ufeff").splitlines(), delimiter=mark)][1:]
+        )
+    return Derived(
+        {row[0]: int(row[1]) for row in read[0]},
+        {row[0]: [cell for cell in row[2:] if cell] for row in read[0]},
+        {row[0]: [cell for cell in row[1:] if cell] for row in read[1]},
+        {},
+    )
 
 
 def match(given: Derived, gone: Sequence[str] = ()) -> Derived:

@@ -36,8 +36,16 @@ def lists(residents: int, programmes: int, each: int, seed: int) -> Tuple[List[L
     return of_residents, of_programmes
 
 
-def write_tables(folder: Path, script: str, residents: int = 20000, programmes: int = 2000, each: int = 10, long: bool = False,
-                 in_lists: Callable[[str], str] = str, seed: int = 1) -> Tuple[str, str]:
+def write_tables(
+    folder: Path,
+    script: str,
+    residents: int = 20000,
+    programmes: int = 2000,
+    each: int = 10,
+    long: bool = False,
+    in_lists: Callable[[str], str] = str,
+    seed: int = 1,
+) -> Tuple[str, str]:
     """Writes both tables and answers their paths; `in_lists` changes how programmes write residents' names."""
     of_residents, of_programmes = lists(residents, programmes, each, seed)
     people = [person(script, number) for number in range(residents)]

@@ -7,12 +7,64 @@ is written beside it by hand: row 1 is the heading, resident number i (from 0) s
 from dataclasses import dataclass, field
 from typing import Callable, Dict, List, Optional, Tuple
 
-FIRST = ("Ana", "Björn", "Chloé", "Dmitri", "Élodie", "Fatima", "Greta", "Hanna", "Inês", "José", "Kwame", "Łukasz", "Márta",
-         "Noor", "Omar", "Priya", "Rosa", "Søren", "Tomáš", "Zoë")
-LAST = ("Abel", "Brontë", "Conceição", "Dvořák", "Egger", "Fischer", "García", "Haddad", "Ivanov", "Jónsson", "Kovács", "Lefèvre",
-        "Müller", "Nilsson", "Okafor", "Pérez", "Quist", "Rossi", "Silva", "Tanaka")
-PROGRAMMES = ("Åkerö Sjukhus", "Bellevue Surgery", "County Paediatrics", "Hôpital Saint-Éloi", "Klinik Köln", "Lakeview Family Medicine",
-              "Mercy Radiology", "Northgate General", "Queen's Park Psychiatry", "Riverside Emergency", "St. Mary's Medicine", "Szpital Łąkowy")
+FIRST = (
+    "Ana",
+    "Björn",
+    "Chloé",
+    "Dmitri",
+    "Élodie",
+    "Fatima",
+    "Greta",
+    "Hanna",
+    "Inês",
+    "José",
+    "Kwame",
+    "Łukasz",
+    "Márta",
+    "Noor",
+    "Omar",
+    "Priya",
+    "Rosa",
+    "Søren",
+    "Tomáš",
+    "Zoë",
+)
+LAST = (
+    "Abel",
+    "Brontë",
+    "Conceição",
+    "Dvořák",
+    "Egger",
+    "Fischer",
+    "García",
+    "Haddad",
+    "Ivanov",
+    "Jónsson",
+    "Kovács",
+    "Lefèvre",
+    "Müller",
+    "Nilsson",
+    "Okafor",
+    "Pérez",
+    "Quist",
+    "Rossi",
+    "Silva",
+    "Tanaka",
+)
+PROGRAMMES = (
+    "Åkerö Sjukhus",
+    "Bellevue Surgery",
+    "County Paediatrics",
+    "Hôpital Saint-Éloi",
+    "Klinik Köln",
+    "Lakeview Family Medicine",
+    "Mercy Radiology",
+    "Northgate General",
+    "Queen's Park Psychiatry",
+    "Riverside Emergency",
+    "St. Mary's Medicine",
+    "Szpital Łąkowy",
+)
 RESIDENTS, EACH, QUOTA = 400, 5, 30
 
 
@@ -39,8 +91,10 @@ class Pair:
     options: Tuple[str, ...] = ()
 
     def bytes(self) -> Tuple[bytes, bytes]:
-        return (text_of(self.programmes).encode() if self.programmes_data is None else self.programmes_data,
-                text_of(self.residents).encode() if self.residents_data is None else self.residents_data)
+        return (
+            text_of(self.programmes).encode() if self.programmes_data is None else self.programmes_data,
+            text_of(self.residents).encode() if self.residents_data is None else self.residents_data,
+        )
 
 
 def text_of(rows: List[List[str]], mark: str = ",") -> str:
@@ -49,8 +103,10 @@ def text_of(rows: List[List[str]], mark: str = ",") -> str:
 
 def wide() -> Pair:
     most = max(len(rankers(number)) for number in range(12))
-    pair = Pair([["Programme", "Places"] + [f"Rank {rank}" for rank in range(1, most + 1)]],
-                [["Applicant"] + [f"Rank {rank}" for rank in range(1, EACH + 1)]])
+    pair = Pair(
+        [["Programme", "Places"] + [f"Rank {rank}" for rank in range(1, most + 1)]],
+        [["Applicant"] + [f"Rank {rank}" for rank in range(1, EACH + 1)]],
+    )
     pair.programmes += [[name, str(QUOTA)] + [person(one) for one in rankers(number)] for number, name in enumerate(PROGRAMMES)]
     pair.residents += [[person(number)] + [PROGRAMMES[one] for one in ranked_by(number)] for number in range(RESIDENTS)]
     return pair
@@ -68,7 +124,9 @@ def long() -> Pair:
 def with_ids() -> Pair:
     """The wide pair with a column of IDs, A1000 and on, after each resident's name."""
     pair = wide()
-    pair.residents = [[row[0], f"A{998 + number}" if number > 1 else "ID", *row[1:]] for number, row in enumerate(pair.residents, 1)]
+    pair.residents = [
+        [row[0], f"A{998 + number}" if number > 1 else "ID", *row[1:]] for number, row in enumerate(pair.residents, 1)
+    ]
     return pair
 
 
@@ -79,10 +137,12 @@ MISTAKES: Dict[str, Tuple[Callable[[], Pair], Callable[[Pair], None], Wanted]] =
 
 def mistake(table: str, row: int, cell: int, words: str, start: Callable[[], Pair] = wide):
     """Plants the mistake of the function below into a fresh pair."""
+
     def named(plant: Callable[[Pair], None]) -> Callable[[Pair], None]:
         assert plant.__name__ not in MISTAKES
         MISTAKES[plant.__name__] = (start, plant, (table, row, cell, words))
         return plant
+
     return named
 
 
@@ -115,7 +175,7 @@ def utf_16_cut_short(pair):
 @mistake("residents", 31, 1, "ends in the middle of a letter")
 def utf_8_cut_short(pair):
     data = text_of(pair.residents).encode()
-    pair.residents_data = data[:data.index("José Brontë".encode()) + 4]
+    pair.residents_data = data[: data.index("José Brontë".encode()) + 4]
 
 
 @mistake("residents", 11, 1, "the byte e9 is no letter in UTF-8")
@@ -357,7 +417,9 @@ def capitals(pair):
 
 @mistake("programmes", 2, 3, "no resident is named Abel, Ana; is it Ana Abel?")
 def a_table_with_all_last_names_first(pair):
-    pair.programmes[1:] = [row[:2] + [f'"{name.split()[1]}, {name.split()[0]}"' for name in row[2:]] for row in pair.programmes[1:]]
+    pair.programmes[1:] = [
+        row[:2] + [f'"{name.split()[1]}, {name.split()[0]}"' for name in row[2:]] for row in pair.programmes[1:]
+    ]
 
 
 @mistake("programmes", 3, 3, "another character set")
@@ -470,7 +532,7 @@ def a_name_misspelt_in_one_row(pair):
 
 for _name in ("a_row_without_an_id", "an_id_twice", "a_name_that_two_have", "an_id_that_nobody_has"):
     MISTAKES[_name] = (with_ids, *MISTAKES[_name][1:])
-_LONG = list(MISTAKES)[list(MISTAKES).index("no_heading_of_rank"):]
+_LONG = list(MISTAKES)[list(MISTAKES).index("no_heading_of_rank") :]
 for _name in _LONG:
     MISTAKES[_name] = (long, *MISTAKES[_name][1:])
 

@@ -81,7 +81,9 @@ class OfficeTest(unittest.TestCase):
 
     def run_tables(self, programmes=PROGRAMMES, residents=RESIDENTS, out: str = "out", *words: str) -> Path:
         """A run that has to be done; answers its folder."""
-        said = office("run", *self.tables(programmes, residents), "--out", str(self.folder / out), "--date", "2026-03-20", *words)
+        said = office(
+            "run", *self.tables(programmes, residents), "--out", str(self.folder / out), "--date", "2026-03-20", *words
+        )
         self.assertEqual((said.status, said.err), (0, ""), said)
         return self.folder / out
 

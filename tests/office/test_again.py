@@ -38,8 +38,11 @@ class Again(OfficeTest):
 
 class Withdraw(Again):
     def test_what_changes_by_name(self) -> None:
-        for gone, word in ((["Zoë O'Connor"], "resident"), (["Lakeview – Family Medicine", "Greta Weiß"], "both"),
-                           (["Queen's Park – Psychiatry"], "programme")):
+        for gone, word in (
+            (["Zoë O'Connor"], "resident"),
+            (["Lakeview – Family Medicine", "Greta Weiß"], "both"),
+            (["Queen's Park – Psychiatry"], "programme"),
+        ):
             now = derived.match(self.given, gone)
             said = office("withdraw", self.out, *gone, "--out", self.folder / word, "--date", "2026-03-21")
             self.assertEqual((said.status, said.err), (0, ""), said)
@@ -48,8 +51,15 @@ class Withdraw(Again):
             self.assertEqual({row["resident"] for row in rows if row["standing"] == "withdrawn"}, set(gone) & set(now.match))
             moved = {one for one, where in now.match.items() if where != self.before.match[one]} | (set(gone) & set(now.match))
             changed = table(self.folder / word / "changes.csv")
-            self.assertEqual({row["Name"] for row in changed if row["Side"] == "resident" and row["Change"] != "stands otherwise"}, moved)
-            self.assertTrue(all(any(line.startswith(f"{row['Name']}: {row['Change']}; ") for line in said.out.splitlines()) for row in changed))
+            self.assertEqual(
+                {row["Name"] for row in changed if row["Side"] == "resident" and row["Change"] != "stands otherwise"}, moved
+            )
+            self.assertTrue(
+                all(
+                    any(line.startswith(f"{row['Name']}: {row['Change']}; ") for line in said.out.splitlines())
+                    for row in changed
+                )
+            )
             told = {row["Name"]: row["Change"] for row in changed}
             for one in set(now.match) & moved - set(gone):
                 was, where = self.before.match[one], now.match[one]
@@ -71,7 +81,9 @@ class Withdraw(Again):
     def test_twice_is_the_same_as_at_once(self) -> None:
         for one, start, out in (("Greta Weiß", "match", "a"), ("dmitri-ivanov", "a", "b")):
             self.assertEqual(office("withdraw", self.folder / start, one, "--out", self.folder / out).status, 0)
-        self.assertEqual(office("withdraw", self.out, "Dmitri Ivanov", "--resident", "Greta Weiß", "--out", self.folder / "c").status, 0)
+        self.assertEqual(
+            office("withdraw", self.out, "Dmitri Ivanov", "--resident", "Greta Weiß", "--out", self.folder / "c").status, 0
+        )
         self.assertEqual((self.folder / "b" / "matches.csv").read_bytes(), (self.folder / "c" / "matches.csv").read_bytes())
 
     def test_names_that_are_refused(self) -> None:
@@ -101,8 +113,11 @@ class Changed(Again):
     """A folder whose files were changed is refused; a key that a spreadsheet saved again is taken where it says the same."""
 
     def every(self, cause: str, status: int = 3) -> None:
-        for words in (["withdraw", self.out, "Greta Weiß", "--out", self.folder / "new"], ["compare", self.out, self.out],
-                      ["letters", self.out, "--out", self.folder / "new"]):
+        for words in (
+            ["withdraw", self.out, "Greta Weiß", "--out", self.folder / "new"],
+            ["compare", self.out, self.out],
+            ["letters", self.out, "--out", self.folder / "new"],
+        ):
             self.refused(status, cause, *words)
 
     def test_a_sheet_of_another_docket(self) -> None:
@@ -137,8 +152,13 @@ class Changed(Again):
     def test_a_key_that_was_saved_again(self) -> None:
         key = (self.out / "key.csv").read_bytes().decode("utf-8")
         wanted = office("withdraw", self.out, "Greta Weiß", "--out", self.folder / "new").out
-        for text in ("\ufeff" + key, key.replace(",", ";").replace("\n", ";\r\n"), "\ufeff" + key.replace(",", "\t").replace("\n", "\r\n"),
-                     "\n" + key.replace("\n", "\n,,,\n"), key.replace("\n", "\r")):
+        for text in (
+            "\ufeff" + key,
+            key.replace(",", ";").replace("\n", ";\r\n"),
+            "\ufeff" + key.replace(",", "\t").replace("\n", "\r\n"),
+            "\n" + key.replace("\n", "\n,,,\n"),
+            key.replace("\n", "\r"),
+        ):
             for encoding in ("utf-8", "utf-16"):
                 shutil.rmtree(self.folder / "new")
                 (self.out / "key.csv").write_bytes(text.encode(encoding))
@@ -155,35 +175,51 @@ class Changed(Again):
 class Compare(OfficeTest):
     def test_two_years_by_name(self) -> None:
         before = self.run_tables(out="before")
-        programmes = PROGRAMMES.replace("West Infirmary,3,Kim Lee,,,", "West Infirmary,2,Kim Lee,Fatima Kovács,,").replace(
-            "East Ward,1,Zoë Brontë,", "East Ward,1,New One,").replace(",Zoë Brontë", "")
+        programmes = (
+            PROGRAMMES.replace("West Infirmary,3,Kim Lee,,,", "West Infirmary,2,Kim Lee,Fatima Kovács,,")
+            .replace("East Ward,1,Zoë Brontë,", "East Ward,1,New One,")
+            .replace(",Zoë Brontë", "")
+        )
         residents = RESIDENTS.replace("Zoë Brontë,East Ward,North Clinic,", "New One,East Ward,,")
         now = self.run_tables(programmes, residents, "now")
         said = office("compare", before, now)
         was, is_now = (derived.match(derived.tables(*tables)) for tables in ((PROGRAMMES, RESIDENTS), (programmes, residents)))
         self.assertEqual((was.match["Fatima Kovács"], is_now.match["Fatima Kovács"]), (None, "West Infirmary"))
         self.assertEqual(said.status, 0)
-        self.assertEqual(said.out.splitlines(), [
-            "residents: 7 before, 7 now; 1 now matched, 1 new, 1 gone",
-            "Fatima Kovács: now matched; unmatched (ranked back by nobody) -> West Infirmary (1st of 2)",
-            "New One: new; not there -> East Ward (1st of 1)",
-            "Zoë Brontë: gone; East Ward (1st of 2) -> not there",
-            "West Infirmary: filled otherwise; 0 of 3 filled -> 1 of 2 filled"])
+        self.assertEqual(
+            said.out.splitlines(),
+            [
+                "residents: 7 before, 7 now; 1 now matched, 1 new, 1 gone",
+                "Fatima Kovács: now matched; unmatched (ranked back by nobody) -> West Infirmary (1st of 2)",
+                "New One: new; not there -> East Ward (1st of 1)",
+                "Zoë Brontë: gone; East Ward (1st of 2) -> not there",
+                "West Infirmary: filled otherwise; 0 of 3 filled -> 1 of 2 filled",
+            ],
+        )
         self.assertEqual(office("compare", before, now, "--out", self.folder / "changes.csv").out, said.out)
         rows = table(self.folder / "changes.csv")
-        self.assertEqual([f"{row['Name']}: {row['Change']}; {row['Before']} -> {row['Now']}" for row in rows], said.out.splitlines()[1:])
+        self.assertEqual(
+            [f"{row['Name']}: {row['Change']}; {row['Before']} -> {row['Now']}" for row in rows], said.out.splitlines()[1:]
+        )
         again = office("compare", before, now, "--out", self.folder / "changes.csv")
         self.assertEqual((again.status, again.out), (2, ""))
         self.assertEqual(office("compare", before, before).out, "residents: 7 before, 7 now; nobody stands otherwise\n")
 
     def test_people_and_programmes_are_known_by_their_ids(self) -> None:
         first = ("Programme,ID,Places,1,2\nNorth,p1,1,17,18\n", "ID,Applicant,1\n17,Ana Silva,North\n18,Kim Lee,North\n")
-        second = ("Programme,ID,Places,1,2\nNorth Clinic,p1,1,18,17\n", "ID,Applicant,1\n17,Ana Silva-Lee,p1\n18,Ana Silva,p1\n")
+        second = (
+            "Programme,ID,Places,1,2\nNorth Clinic,p1,1,18,17\n",
+            "ID,Applicant,1\n17,Ana Silva-Lee,p1\n18,Ana Silva,p1\n",
+        )
         before, now = self.run_tables(*first, "before"), self.run_tables(*second, "now")
-        self.assertEqual(office("compare", before, now).out.splitlines(), [
-            "residents: 2 before, 2 now; 1 now matched, 1 no longer matched",
-            "Ana Silva: now matched; unmatched (lost out) -> North Clinic (1st of 1)",
-            "Ana Silva-Lee: no longer matched; North (1st of 1) -> unmatched (lost out)"])
+        self.assertEqual(
+            office("compare", before, now).out.splitlines(),
+            [
+                "residents: 2 before, 2 now; 1 now matched, 1 no longer matched",
+                "Ana Silva: now matched; unmatched (lost out) -> North Clinic (1st of 1)",
+                "Ana Silva-Lee: no longer matched; North (1st of 1) -> unmatched (lost out)",
+            ],
+        )
         # A programme that is only renamed isn't moved to.
         third = (first[0].replace("North", "North Clinic"), first[1].replace(",North", ",p1"))
         self.assertIn("nobody stands otherwise", office("compare", before, self.run_tables(*third, "third")).out)
@@ -195,19 +231,27 @@ class Letters(Again):
         said = office("letters", self.out, "--template", template, "--out", self.folder / "letters")
         self.assertEqual((said.status, said.out), (0, f"40 letters written to {self.folder / 'letters'}\n"))
         self.assertEqual(len(os.listdir(self.folder / "letters")), 40)
-        self.assertEqual((self.folder / "letters" / "jurgen-gross.txt").read_text(encoding="utf-8"),
-                         "An Jürgen Groß (jurgen-gross): Queen's Park – Psychiatry/4th von 4, $5, 2026-03-20\n")
+        self.assertEqual(
+            (self.folder / "letters" / "jurgen-gross.txt").read_text(encoding="utf-8"),
+            "An Jürgen Groß (jurgen-gross): Queen's Park – Psychiatry/4th von 4, $5, 2026-03-20\n",
+        )
 
     def test_without_a_template_they_are_the_same(self) -> None:
         self.assertEqual(office("letters", self.out, "--out", self.folder / "letters").status, 0)
         self.assertEqual(snapshot(self.folder / "letters"), snapshot(self.out / "letters"))
 
     def test_a_template_at_fault(self) -> None:
-        for text, cause in (("a\n$nmae", "line 2: $nmae is none of"), ("costs 5$", "line 1: $ is none of"), ("$name ${", "line 1: $ is none of"),
-                            ("${name.__class__}", "line 1: $ is none of")):
+        for text, cause in (
+            ("a\n$nmae", "line 2: $nmae is none of"),
+            ("costs 5$", "line 1: $ is none of"),
+            ("$name ${", "line 1: $ is none of"),
+            ("${name.__class__}", "line 1: $ is none of"),
+        ):
             template = self.write("letter.txt", text)
             self.refused(3, cause, "letters", self.out, "--template", template, "--out", self.folder / "letters")
-        self.refused(1, "can't be read", "letters", self.out, "--template", self.folder / "nowhere", "--out", self.folder / "letters")
+        self.refused(
+            1, "can't be read", "letters", self.out, "--template", self.folder / "nowhere", "--out", self.folder / "letters"
+        )
 
     def test_each_standing_has_its_letter(self) -> None:
         out = self.run_tables(out="small")
@@ -215,7 +259,9 @@ class Letters(Again):
         letter = lambda name: (self.folder / "b" / "letters" / f"{name}.txt").read_text(encoding="utf-8")  # noqa: E731
         self.assertIn("You are withdrawn, and have no place.", letter("jurgen-gross"))
         self.assertIn("1. South Hospital: it is withdrawn\n  2. North Clinic: you are matched here", letter("ana-silva"))
-        self.assertIn("You are not matched: your list is empty.\n\nYour list, as it was matched, is empty.", letter("rosa-rossi"))
+        self.assertIn(
+            "You are not matched: your list is empty.\n\nYour list, as it was matched, is empty.", letter("rosa-rossi")
+        )
         self.assertIn("no programme on your list that takes part\nhas you on its own list", letter("fatima-kovacs"))
         self.assertIn("each programme on your list that has you on\nits own filled all of its places", letter("omar-haddad"))
 
@@ -226,7 +272,9 @@ class Formulas(OfficeTest):
     NAMES = ("=1+1", "+49 Kim", "-Ana", "@Omar", "'=x", "'t Hooft", "''@y", "＝2")
 
     def test_no_cell_is_a_formula_and_names_come_back(self) -> None:
-        programmes = "Programme;Places;" + ";".join(map(str, range(1, 9))) + "\n=North;3;" + ";".join(self.NAMES) + "\n-South;9;\n"
+        programmes = (
+            "Programme;Places;" + ";".join(map(str, range(1, 9))) + "\n=North;3;" + ";".join(self.NAMES) + "\n-South;9;\n"
+        )
         residents = "Applicant;1;2\n" + "".join(f"{name};=North;-South\n" for name in self.NAMES)
         out = self.run_tables(programmes, residents)
         said = office("withdraw", out, "=1+1", "--out", self.folder / "b")
@@ -239,4 +287,3 @@ class Formulas(OfficeTest):
         self.assertEqual([names.name(one.side, one.docket_name) for one in names.members("R")], list(self.NAMES))
         self.assertIn("=1+1: withdrawn; =North (1st of 2) -> withdrawn", said.out)
         self.assertIn("@Omar: now matched; unmatched (lost out) -> =North (1st of 2)", said.out)
-

@@ -35,15 +35,18 @@ class Took(NamedTuple):
 
 class Cost(OfficeTest):
     def took(self, *words: str) -> Took:
-        done = subprocess.run([sys.executable, "-c", MEASURED, str(Path(OFFICE).parent / "python"), *map(str, words)],
-                              capture_output=True, timeout=600)
+        done = subprocess.run(
+            [sys.executable, "-c", MEASURED, str(Path(OFFICE).parent / "python"), *map(str, words)],
+            capture_output=True,
+            timeout=600,
+        )
         *lines, last = done.stderr.decode("utf-8").splitlines()
         word, seconds, megabytes = last.split()
         self.assertEqual(word, "took", last)
         return Took(done.returncode, done.stdout.decode("utf-8").splitlines() + lines, float(seconds), float(megabytes))
 
     def test_a_run_at_the_limits(self) -> None:
-        for script, long in (("devanagari", False), ("latin", True))[:1 + support.FULL]:
+        for script, long in (("devanagari", False), ("latin", True))[: 1 + support.FULL]:
             tables = large.write_tables(self.folder, script, long=long)
             took = self.took("run", *tables, "--out", self.folder / script)
             self.assertEqual(took.status, 0, took.lines)
@@ -59,8 +62,14 @@ class Cost(OfficeTest):
         self.assertLess(took.megabytes, MEGABYTES)
         return took
 
-    def mistaken(self, script: str, long: bool = False, in_lists: Callable[[str], str] = str, residents: Callable[[str], str] = str,
-                 part: int = 8) -> Took:
+    def mistaken(
+        self,
+        script: str,
+        long: bool = False,
+        in_lists: Callable[[str], str] = str,
+        residents: Callable[[str], str] = str,
+        part: int = 8,
+    ) -> Took:
         """The check of tables with a mistake, of the whole size or a part of it."""
         part = 1 if support.FULL else part
         large.write_tables(self.folder, script, 20000 // part, 2000 // part, 10, long, in_lists)
@@ -95,8 +104,13 @@ class Cost(OfficeTest):
     def test_cells_and_rows_of_every_length(self) -> None:
         large.write_tables(self.folder, "latin", 20, 5, 2)
         much = 1_000_000 if support.FULL else 60_000
-        for text in ("Applicant;Rank 1\n" + "x" * 20 * much + ";\n", "Applicant;Rank 1\nKim" + ";A" * much + "\n",
-                     "Applicant;Rank 1\n" + '"' * (2 * much + 1), "Applicant" + ";Rank 1" * much + "\nKim\n", "Applicant;Rank 1\n" + "\n" * 5 * much):
+        for text in (
+            "Applicant;Rank 1\n" + "x" * 20 * much + ";\n",
+            "Applicant;Rank 1\nKim" + ";A" * much + "\n",
+            "Applicant;Rank 1\n" + '"' * (2 * much + 1),
+            "Applicant" + ";Rank 1" * much + "\nKim\n",
+            "Applicant;Rank 1\n" + "\n" * 5 * much,
+        ):
             (self.folder / "residents.csv").write_text(text, encoding="utf-8")
             self.check()
 

@@ -17,8 +17,32 @@ import derived
 from residency.office import command, folder
 from support import OFFICE, PROGRAMMES, RESIDENTS, SAMPLES, OfficeTest, office, spawn
 
-FILES = ["SHA256SUMS", "audit.csv", "docket.csv", "journal.csv", "key.csv", "letters", "manifest.json", "matches.csv", "page.html",
-         "replay.csv", "rosters", "sheet.csv", "unfilled.csv"]
+FILES = [
+    "SHA256SUMS",
+    "audit.csv",
+    "docket.csv",
+    "journal.csv",
+    "key.csv",
+    "letters",
+    "manifest.json",
+    "matches.csv",
+    "page.html",
+    "replay.csv",
+    "rosters",
+    "sheet.csv",
+    "unfilled.csv",
+]
+
+
+# The office's command with a second between two files.
+SLOW = """
+import sys, time
+sys.path.insert(0, sys.argv.pop(1))
+from residency.office import folder, main
+write = folder.Draft.write
+folder.Draft.write = lambda *words: (time.sleep(1), write(*words))[1]
+sys.exit(main(sys.argv[1:]))
+"""
 
 
 def table(path: Path) -> List[Dict[str, str]]:
@@ -44,11 +68,22 @@ class Written(OfficeTest):
     def setUp(self) -> None:
         super().setUp()
         self.out = self.folder / "match"
-        said = office("run", SAMPLES / "programmes.csv", SAMPLES / "residents.csv", "--out", self.out, "--date", "2026-03-20",
-                      "--title", "Match of <2026>")
+        said = office(
+            "run",
+            SAMPLES / "programmes.csv",
+            SAMPLES / "residents.csv",
+            "--out",
+            self.out,
+            "--date",
+            "2026-03-20",
+            "--title",
+            "Match of <2026>",
+        )
         self.assertEqual((said.status, said.err), (0, ""))
         self.said = said.out
-        self.key = {(row[0], row[1]): row[2] for row in csv.reader((self.out / "key.csv").read_text(encoding="utf-8").splitlines())}
+        self.key = {
+            (row[0], row[1]): row[2] for row in csv.reader((self.out / "key.csv").read_text(encoding="utf-8").splitlines())
+        }
 
     def test_which_files(self) -> None:
         self.assertEqual(sorted(os.listdir(self.out)), FILES)
@@ -58,18 +93,31 @@ class Written(OfficeTest):
 
     def test_what_it_says(self) -> None:
         lost = [one for one, where in self.wanted.match.items() if where is None and self.wanted.ranked_back(one)]
-        self.assertEqual(self.said.splitlines()[2:], [
-            f"29 of 40 residents matched, {len(lost)} lost out, {11 - len(lost)} ranked back by nobody; 4 of 33 places unfilled",
-            f"audit: stable; replay: good; written to {self.out}"])
+        self.assertEqual(
+            self.said.splitlines()[2:],
+            [
+                f"29 of 40 residents matched, {len(lost)} lost out, {11 - len(lost)} ranked back by nobody; 4 of 33 places unfilled",
+                f"audit: stable; replay: good; written to {self.out}",
+            ],
+        )
 
     def test_docket_and_sheet_by_the_key(self) -> None:
         rows = [line.split(",") for line in (self.out / "docket.csv").read_text().splitlines()]
         name = lambda side, made: self.key[side, made]  # noqa: E731
         self.assertEqual({name("P", row[1]): int(row[2]) for row in rows if row[0] == "Q"}, self.wanted.places)
-        self.assertEqual({name("P", row[1]): [name("R", one) for one in row[2:]] for row in rows if row[0] == "P"}, self.wanted.programme_lists)
-        self.assertEqual({name("R", row[1]): [name("P", one) for one in row[2:]] for row in rows if row[0] == "R"}, self.wanted.resident_lists)
+        self.assertEqual(
+            {name("P", row[1]): [name("R", one) for one in row[2:]] for row in rows if row[0] == "P"},
+            self.wanted.programme_lists,
+        )
+        self.assertEqual(
+            {name("R", row[1]): [name("P", one) for one in row[2:]] for row in rows if row[0] == "R"},
+            self.wanted.resident_lists,
+        )
         sheet = [line.split(",") for line in (self.out / "sheet.csv").read_text().splitlines()]
-        self.assertEqual({name("R", row[1]): name("P", row[2]) if row[0] == "M" else None for row in sheet if row[0] in "MU"}, self.wanted.match)
+        self.assertEqual(
+            {name("R", row[1]): name("P", row[2]) if row[0] == "M" else None for row in sheet if row[0] in "MU"},
+            self.wanted.match,
+        )
 
     def test_audit_and_replay(self) -> None:
         self.assertEqual((self.out / "audit.csv").read_text(), "S,stable\n")
@@ -85,8 +133,10 @@ class Written(OfficeTest):
             self.assertEqual(self.key["R", row["resident_docket_name"]], resident)
             self.assertEqual(row["programmes_listed"], str(len(self.wanted.resident_lists[resident])))
             if where:
-                self.assertEqual((row["standing"], row["choice"], row["rank_at_programme"]),
-                                 ("matched", str(self.wanted.choice(resident)), str(self.wanted.rank(resident))))
+                self.assertEqual(
+                    (row["standing"], row["choice"], row["rank_at_programme"]),
+                    ("matched", str(self.wanted.choice(resident)), str(self.wanted.rank(resident))),
+                )
                 self.assertEqual(self.key["P", row["programme_docket_name"]], where)
             else:
                 back = self.wanted.ranked_back(resident)
@@ -94,8 +144,11 @@ class Written(OfficeTest):
         self.assertFalse((self.out / "matches.csv").read_bytes().startswith(b"\xef\xbb\xbf"))
 
     def test_unfilled_places(self) -> None:
-        wanted = {one: (places, len(self.wanted.members(one))) for one, places in self.wanted.places.items()
-                  if places > len(self.wanted.members(one))}
+        wanted = {
+            one: (places, len(self.wanted.members(one)))
+            for one, places in self.wanted.places.items()
+            if places > len(self.wanted.members(one))
+        }
         rows = table(self.out / "unfilled.csv")
         self.assertEqual({row["Programme"]: (int(row["Places"]), int(row["Filled"])) for row in rows}, wanted)
         self.assertEqual(sum(int(row["Unfilled"]) for row in rows), 4)
@@ -104,8 +157,10 @@ class Written(OfficeTest):
         for programme in self.wanted.places:
             made = next(made for (side, made), name in self.key.items() if side == "P" and name == programme)
             rows = table(self.out / "rosters" / f"{made}.csv")
-            self.assertEqual([(int(row["Rank on your list"]), row["Resident"]) for row in rows],
-                             [(self.wanted.rank(one), one) for one in self.wanted.members(programme)])
+            self.assertEqual(
+                [(int(row["Rank on your list"]), row["Resident"]) for row in rows],
+                [(self.wanted.rank(one), one) for one in self.wanted.members(programme)],
+            )
 
     def test_letters(self) -> None:
         for (side, made), name in self.key.items():
@@ -116,8 +171,11 @@ class Written(OfficeTest):
             self.assertTrue(text.startswith(f"20 March 2026\n\n{name}\n\n"), text)
             self.assertIn(f"you are {made}. Its SHA-256 is\n{sha256(self.out / 'docket.csv')}", text)
             if where:
-                self.assertIn(f"You are matched with {where},\nthe {['1st', '2nd', '3rd', '4th', '5th', '6th'][self.wanted.choice(name) - 1]} "
-                              f"of the {len(listed)} on your list.", text)
+                self.assertIn(
+                    f"You are matched with {where},\nthe {['1st', '2nd', '3rd', '4th', '5th', '6th'][self.wanted.choice(name) - 1]} "
+                    f"of the {len(listed)} on your list.",
+                    text,
+                )
             for choice, programme in enumerate(listed, 1):
                 line = next(line for line in text.splitlines() if line.startswith(f"  {choice}. {programme}: "))
                 if programme == where:
@@ -138,17 +196,31 @@ class Written(OfficeTest):
         files = [name for name in FILES if name not in ("letters", "rosters", "manifest.json", "SHA256SUMS")]
         self.assertEqual(manifest["sha256"], {name: sha256(self.out / name) for name in files})
         self.assertEqual((manifest["date"], manifest["title"], manifest["withdrawn"]), ("2026-03-20", "Match of <2026>", []))
-        self.assertEqual([one["sha256"] for one in manifest["tables"]], [sha256(SAMPLES / "programmes.csv"), sha256(SAMPLES / "residents.csv")])
+        self.assertEqual(
+            [one["sha256"] for one in manifest["tables"]],
+            [sha256(SAMPLES / "programmes.csv"), sha256(SAMPLES / "residents.csv")],
+        )
         page = (self.out / "page.html").read_text(encoding="utf-8")
         for name in ("docket.csv", "key.csv", "sheet.csv"):
             self.assertIn(sha256(self.out / name), page)
         sums = dict(reversed(line.split("  ", 1)) for line in (self.out / "SHA256SUMS").read_text().splitlines())
-        paths = [str(path.relative_to(self.out)) for path in self.out.rglob("*") if path.is_file() and path.name != "SHA256SUMS"]
+        paths = [
+            str(path.relative_to(self.out)) for path in self.out.rglob("*") if path.is_file() and path.name != "SHA256SUMS"
+        ]
         self.assertEqual(sums, {path: sha256(self.out / path) for path in paths})
 
     def test_the_same_tables_and_day_give_the_same_bytes(self) -> None:
-        office("run", SAMPLES / "programmes.csv", SAMPLES / "residents.csv", "--out", self.folder / "again", "--date", "2026-03-20",
-               "--title", "Match of <2026>")
+        office(
+            "run",
+            SAMPLES / "programmes.csv",
+            SAMPLES / "residents.csv",
+            "--out",
+            self.folder / "again",
+            "--date",
+            "2026-03-20",
+            "--title",
+            "Match of <2026>",
+        )
         self.assertEqual((self.out / "SHA256SUMS").read_text(), (self.folder / "again" / "SHA256SUMS").read_text())
 
 
@@ -172,9 +244,13 @@ class Ranks(OfficeTest):
         kinds = {row["resident"]: row["standing"] for row in table(out / "matches.csv")}
         # By hand: South takes Ana, East Zoë, North Kim and Jürgen; Omar comes after Ana and Zoë; West ranks Kim alone.
         wanted = derived.match(derived.tables(PROGRAMMES, RESIDENTS))
-        self.assertEqual({one: kind for one, kind in kinds.items() if kind != "matched"},
-                         {"Omar Haddad": "lost out", "Fatima Kovács": "ranked back by nobody", "Rosa Rossi": "ranked nobody"})
-        self.assertEqual({one for one, kind in kinds.items() if kind == "matched"}, {one for one, where in wanted.match.items() if where})
+        self.assertEqual(
+            {one: kind for one, kind in kinds.items() if kind != "matched"},
+            {"Omar Haddad": "lost out", "Fatima Kovács": "ranked back by nobody", "Rosa Rossi": "ranked nobody"},
+        )
+        self.assertEqual(
+            {one for one, kind in kinds.items() if kind == "matched"}, {one for one, where in wanted.match.items() if where}
+        )
 
 
 class Whole(OfficeTest):
@@ -218,20 +294,19 @@ class Whole(OfficeTest):
             self.assertEqual(self.left(), [])
 
     def test_a_signal(self) -> None:
-        residents = "Applicant,1\n" + "".join(f"Resident {number},\n" for number in range(6000))
-        files = self.tables("Programme,Places,1\nNorth,1,\n", residents)
+        """A run whose files are slow to write is asked to end while its folder is half full."""
+        files = self.tables()
         for number in (signal.SIGTERM, signal.SIGHUP, signal.SIGINT):
-            with subprocess.Popen([OFFICE, "run", *files, "--out", str(self.folder / "out")],
-                                  stdout=subprocess.PIPE, stderr=subprocess.PIPE) as running:
-                deadline = time.monotonic() + 60
+            words = [sys.executable, "-c", SLOW, str(Path(OFFICE).parent / "python"), "run", *files, "--out", str(self.folder / "out")]
+            with subprocess.Popen(words, stdout=subprocess.PIPE, stderr=subprocess.PIPE) as running:
+                deadline = time.monotonic() + 100
                 while not self.left() and time.monotonic() < deadline and running.poll() is None:
-                    time.sleep(0.002)
+                    time.sleep(0.01)
                 began = [name for name in self.left() if name.startswith(".out.part-")]
                 running.send_signal(number)
-                _, err = running.communicate(timeout=60)
-            self.assertEqual(len(began), 1, err)
-            self.assertEqual((running.returncode, self.left()), (1, []), err)
-            self.assertEqual(err, b"office: interrupted; nothing was written\n")
+                _, err = running.communicate(timeout=100)
+            self.assertEqual((len(began), running.returncode, self.left()), (1, 1, []), err)
+            self.assertEqual(err, b"office: interrupted\n")
 
     def test_a_place_that_cant_be_written(self) -> None:
         (self.folder / "file").write_text("")
@@ -271,8 +346,13 @@ class Programs(OfficeTest):
     def test_a_result_that_fails_its_checks(self) -> None:
         real = os.environ.get("RESIDENCY_BIN") or ""
         from residency.program import find_program
+
         real = str(find_program("residency"))
-        err = self.tried(self.program(f'if [ "$1" = audit ]; then cat > /dev/null; echo S,unstable; exit 4; fi\nexec "{real}" "$@"\n'), 1)
+        err = self.tried(
+            self.program(f'if [ "$1" = audit ]; then cat > /dev/null; echo S,unstable; exit 4; fi\nexec "{real}" "$@"\n'), 1
+        )
         self.assertIn("doesn't pass its own audit and replay; nothing was written", err)
-        err = self.tried(self.program(f'if [ "$1" = replay ]; then cat > /dev/null; echo N,1,not-next; exit 4; fi\nexec "{real}" "$@"\n'), 1)
+        err = self.tried(
+            self.program(f'if [ "$1" = replay ]; then cat > /dev/null; echo N,1,not-next; exit 4; fi\nexec "{real}" "$@"\n'), 1
+        )
         self.assertIn("doesn't pass its own audit and replay; nothing was written", err)

@@ -1,4 +1,4 @@
-"""The page: its parts, its order, its names, its colours; and by a browser, where there is one, how it fits on screens and paper."""
+"""The page: its parts, order, names and colours; and by a browser, where there is one, how it fits on screens and paper."""
 import html
 import html.parser
 import re
@@ -62,7 +62,7 @@ class Tree(html.parser.HTMLParser):
 
 
 def luminance(colour: str) -> float:
-    parts = [int(colour[place:place + 2], 16) / 255 for place in (1, 3, 5)]
+    parts = [int(colour[place : place + 2], 16) / 255 for place in (1, 3, 5)]
     lines = [part / 12.92 if part <= 0.03928 else ((part + 0.055) / 1.055) ** 2.4 for part in parts]
     return 0.2126 * lines[0] + 0.7152 * lines[1] + 0.0722 * lines[2]
 
@@ -91,7 +91,12 @@ class Sample(PageTest):
     def setUp(self) -> None:
         super().setUp()
         self.out = self.folder / "match"
-        self.assertEqual(office("run", SAMPLES / "programmes.csv", SAMPLES / "residents.csv", "--out", self.out, "--date", "2026-03-20").status, 0)
+        self.assertEqual(
+            office(
+                "run", SAMPLES / "programmes.csv", SAMPLES / "residents.csv", "--out", self.out, "--date", "2026-03-20"
+            ).status,
+            0,
+        )
         self.root = self.page(self.out)
         self.wanted = derived.match(derived.tables(sample("programmes.csv"), sample("residents.csv")))
 
@@ -126,7 +131,9 @@ class Sample(PageTest):
             self.assertEqual([node.tag for node in table.children if isinstance(node, Node)], ["caption", "thead", "tbody"])
             self.assertTrue(table.all("caption")[0].text())
             heads = table.all("thead")[0].all("th", "td")
-            self.assertTrue(heads and all(node.tag == "th" and node.attributes.get("scope") == "col" and node.text() for node in heads))
+            self.assertTrue(
+                heads and all(node.tag == "th" and node.attributes.get("scope") == "col" and node.text() for node in heads)
+            )
             for row in table.all("tbody")[0].all("tr"):
                 cells = row.all("th", "td")
                 self.assertEqual([node.attributes.get("scope") for node in cells], ["row"] + [None] * (len(heads) - 1))
@@ -153,7 +160,7 @@ class Sample(PageTest):
         self.assertIn("counter(page)", page)
         self.assertIn("counter(pages)", page)
         self.assertIn(f'content: "The match, 2026-03-20, docket {sha256(self.out / "docket.csv")[:16]}"', page)
-        paper = style[style.index("@media print"):]
+        paper = style[style.index("@media print") :]
         self.assertIn("thead { display: table-header-group; }", paper)
         self.assertIn("break-inside: avoid", paper)
 
@@ -161,34 +168,56 @@ class Sample(PageTest):
         head = self.root.all("header")[0]
         self.assertEqual(head.text(), "The match 20 March 2026. 40 residents, 10 programmes.")
         self.assertEqual(head.all("time")[0].attributes["datetime"], "2026-03-20")
-        self.assertEqual(self.rows(self.root, "made"), [[name, sha256(self.out / name)] for name in ("docket.csv", "key.csv", "sheet.csv")])
+        self.assertEqual(
+            self.rows(self.root, "made"), [[name, sha256(self.out / name)] for name in ("docket.csv", "key.csv", "sheet.csv")]
+        )
 
     def test_unfilled_places_first(self) -> None:
         self.assertEqual(self.root.all("section")[0].attributes["aria-labelledby"], "unfilled")
         wanted = [(one, places, len(self.wanted.members(one))) for one, places in self.wanted.places.items()]
-        self.assertEqual(self.rows(self.root, "unfilled"),
-                         [[one, str(places), str(filled), str(places - filled)] for one, places, filled in sorted(wanted) if places > filled])
+        self.assertEqual(
+            self.rows(self.root, "unfilled"),
+            [
+                [one, str(places), str(filled), str(places - filled)]
+                for one, places, filled in sorted(wanted)
+                if places > filled
+            ],
+        )
 
     def test_figures_and_choices(self) -> None:
         matched = [one for one, where in self.wanted.match.items() if where]
         boxes = self.section(self.root, "figures").all("div")
         lost = sum(not where and self.wanted.ranked_back(one) for one, where in self.wanted.match.items())
-        self.assertEqual([box.text() for box in boxes], [f"residents matched{len(matched)}", f"lost out{lost}",
-                                                         f"ranked back by nobody{11 - lost}", "ranked nobody0"])
+        self.assertEqual(
+            [box.text() for box in boxes],
+            [f"residents matched{len(matched)}", f"lost out{lost}", f"ranked back by nobody{11 - lost}", "ranked nobody0"],
+        )
         counts = [sum(self.wanted.choice(one) == choice for one in matched) for choice in (1, 2, 3, 4)]
-        wanted = [[f"{nth} choice", str(count), f"{100 * count / 40:.0f}%"] for nth, count in zip(("1st", "2nd", "3rd", "4th"), counts)]
+        wanted = [
+            [f"{nth} choice", str(count), f"{100 * count / 40:.0f}%"]
+            for nth, count in zip(("1st", "2nd", "3rd", "4th"), counts)
+        ]
         self.assertEqual(self.rows(self.root, "choices"), wanted + [["Unmatched", "11", f"{100 * 11 / 40:.0f}%"]])
-        widths = [float(re.search(r"width:([0-9.]+)%", node.attributes["style"]).group(1)) for node in self.section(self.root, "choices").all("span")]
+        widths = [
+            float(re.search(r"width:([0-9.]+)%", node.attributes["style"]).group(1))
+            for node in self.section(self.root, "choices").all("span")
+        ]
         for width, count in zip(widths, counts + [11]):
             self.assertAlmostEqual(width / widths[0], count / counts[0], places=2)
 
     def test_matched_residents_by_the_alphabet(self) -> None:
         rows = self.rows(self.root, "matched")
         self.assertEqual({row[0]: row[1] for row in rows}, {one: where for one, where in self.wanted.match.items() if where})
-        self.assertEqual([row[0] for row in rows[:6]], ["Amara Okafor", "Ángela García", "Björn Östlund", "Chloé Brontë", "Dmitri Ivanov", "Élodie Bélanger"])
+        self.assertEqual(
+            [row[0] for row in rows[:6]],
+            ["Amara Okafor", "Ángela García", "Björn Östlund", "Chloé Brontë", "Dmitri Ivanov", "Élodie Bélanger"],
+        )
         for resident, _, choice in rows:
             number = self.wanted.choice(resident)
-            self.assertEqual(choice, f"{ {1: '1st', 2: '2nd', 3: '3rd'}.get(number, f'{number}th') } of {len(self.wanted.resident_lists[resident])}")
+            self.assertEqual(
+                choice,
+                f"{ {1: '1st', 2: '2nd', 3: '3rd'}.get(number, f'{number}th') } of {len(self.wanted.resident_lists[resident])}",
+            )
 
     def test_programmes(self) -> None:
         rows = {row[0]: row[1:] for row in self.rows(self.root, "programmes")}
@@ -207,7 +236,10 @@ class Other(PageTest):
         root = self.page(self.folder / "out")
         names = lambda name: [(part.text()) for part in self.section(root, name).all("h3", "li")]  # noqa: E731
         # Without East and Zoë: South takes Ana, North Kim and Jürgen; Omar ranks East, which is gone, and South.
-        self.assertEqual(names("unmatched"), ["Lost out: 1", "Omar Haddad", "Ranked back by nobody: 1", "Fatima Kovács", "Ranked nobody: 1", "Rosa Rossi"])
+        self.assertEqual(
+            names("unmatched"),
+            ["Lost out: 1", "Omar Haddad", "Ranked back by nobody: 1", "Fatima Kovács", "Ranked nobody: 1", "Rosa Rossi"],
+        )
         self.assertEqual(names("withdrawn"), ["Residents: 1", "Zoë Brontë", "Programmes: 1", "East Ward"])
         self.assertIn(["East Ward (withdrawn)", "1", "0", "0", "– of 4"], self.rows(root, "programmes"))
         self.assertEqual([row[0] for row in self.rows(root, "unfilled")], ["West Infirmary"])
@@ -218,15 +250,33 @@ class Other(PageTest):
         office("withdraw", self.folder / "first", "East Ward", "South Hospital", "--out", self.folder / "out")
         part = self.section(self.page(self.folder / "out"), "unmatched")
         # East and South alone ranked Omar, who ranks both; Zoë and Jürgen come after Ana and Kim at North's two places.
-        self.assertEqual([one.text() for one in part.all("h3", "li")],
-                         ["Lost out: 2", "Jürgen Groß", "Zoë Brontë", "Ranked back by nobody: 2", "Fatima Kovács", "Omar Haddad",
-                          "Ranked nobody: 1", "Rosa Rossi"])
-        self.assertIn("no programme on your list that takes part", (self.folder / "out" / "letters" / "omar-haddad.txt").read_text(encoding="utf-8"))
+        self.assertEqual(
+            [one.text() for one in part.all("h3", "li")],
+            [
+                "Lost out: 2",
+                "Jürgen Groß",
+                "Zoë Brontë",
+                "Ranked back by nobody: 2",
+                "Fatima Kovács",
+                "Omar Haddad",
+                "Ranked nobody: 1",
+                "Rosa Rossi",
+            ],
+        )
+        self.assertIn(
+            "no programme on your list that takes part",
+            (self.folder / "out" / "letters" / "omar-haddad.txt").read_text(encoding="utf-8"),
+        )
 
     def test_names_are_text(self) -> None:
         bad = "<script>alert(1)</script>"
-        out = self.run_tables(PROGRAMMES.replace("North Clinic", f"North {bad} & \"Co").replace('"Co', "'Co"), RESIDENTS.replace(
-            "North Clinic", f"North {bad} & 'Co"), "out", "--title", f'T "{bad}" \\ }} é')
+        out = self.run_tables(
+            PROGRAMMES.replace("North Clinic", f'North {bad} & "Co').replace('"Co', "'Co"),
+            RESIDENTS.replace("North Clinic", f"North {bad} & 'Co"),
+            "out",
+            "--title",
+            f'T "{bad}" \\ }} é',
+        )
         root = self.page(out)
         self.assertEqual(root.all("script"), [])
         self.assertIn(f"North {bad} & 'Co", [row[0] for row in self.rows(root, "programmes")])
@@ -236,7 +286,10 @@ class Other(PageTest):
 
     def test_the_order_of_the_table(self) -> None:
         out = self.run_tables(PROGRAMMES, RESIDENTS, "out", "--order", "table")
-        self.assertEqual([row[0] for row in self.rows(self.page(out), "programmes")], ["North Clinic", "South Hospital", "East Ward", "West Infirmary"])
+        self.assertEqual(
+            [row[0] for row in self.rows(self.page(out), "programmes")],
+            ["North Clinic", "South Hospital", "East Ward", "West Infirmary"],
+        )
 
     def test_everything_filled_and_nobody(self) -> None:
         out = self.run_tables("Programme,Places,1\nNorth,1,Kim\nSouth,0,\n", "Applicant,1\nKim,North\n")
@@ -246,9 +299,21 @@ class Other(PageTest):
 
     def test_many_choices_share_a_bar(self) -> None:
         programmes = "Programme,Places,1\n" + "".join(f"P{number:02},1,R{number:02}\n" for number in range(1, 15))
-        residents = "Applicant," + ",".join(map(str, range(1, 15))) + "\n" + "".join(
-            f"R{number:02}," + ",".join(f"P{one:02}" for one in [*range(15 - number, 15 - number), *(x for x in range(1, 15) if x != number)][:number - 1]
-                                        + [number]) + "\n" for number in range(1, 15))
+        residents = (
+            "Applicant,"
+            + ",".join(map(str, range(1, 15)))
+            + "\n"
+            + "".join(
+                f"R{number:02},"
+                + ",".join(
+                    f"P{one:02}"
+                    for one in [*range(15 - number, 15 - number), *(x for x in range(1, 15) if x != number)][: number - 1]
+                    + [number]
+                )
+                + "\n"
+                for number in range(1, 15)
+            )
+        )
         rows = self.rows(self.page(self.run_tables(programmes, residents)), "choices")
         self.assertEqual(rows[9:], [["10th choice", "1", "7%"], ["11th or later", "4", "29%"], ["Unmatched", "0", "0%"]])
 
@@ -274,8 +339,17 @@ class Browser(PageTest):
             self.skipTest("there is no Chromium here")
 
     def browse(self, path: Path, *words: str) -> str:
-        line = [self.program, "--headless", "--no-sandbox", "--disable-gpu", "--hide-scrollbars", "--force-device-scale-factor=1",
-                f"--user-data-dir={self.folder / 'browser'}", *words, f"file://{quote(str(path))}"]
+        line = [
+            self.program,
+            "--headless",
+            "--no-sandbox",
+            "--disable-gpu",
+            "--hide-scrollbars",
+            "--force-device-scale-factor=1",
+            f"--user-data-dir={self.folder / 'browser'}",
+            *words,
+            f"file://{quote(str(path))}",
+        ]
         done = subprocess.run(line, capture_output=True, timeout=120)
         self.assertEqual(done.returncode, 0, done.stderr)
         return done.stdout.decode("utf-8")
@@ -283,10 +357,15 @@ class Browser(PageTest):
     def long_names(self) -> Path:
         """A run of the planted tests' tables, in which a programme and a resident have long names."""
         pair = planted.wide()
-        programmes, residents = (text.decode().replace("Klinik Köln", "Universitätsklinikum Köln-Lindenthal, Abteilung für Kinderheilkunde")
-                                 .replace("Priya Silva", "Priyadarshini-Annapurneshwari Venkatanarasimharajuvaripeta Silva")
-                                 for text in pair.bytes())
-        return self.run_tables(programmes.replace("Köln-Lindenthal,", "Köln-Lindenthal"), residents.replace("Köln-Lindenthal,", "Köln-Lindenthal"))
+        programmes, residents = (
+            text.decode()
+            .replace("Klinik Köln", "Universitätsklinikum Köln-Lindenthal, Abteilung für Kinderheilkunde")
+            .replace("Priya Silva", "Priyadarshini-Annapurneshwari Venkatanarasimharajuvaripeta Silva")
+            for text in pair.bytes()
+        )
+        return self.run_tables(
+            programmes.replace("Köln-Lindenthal,", "Köln-Lindenthal"), residents.replace("Köln-Lindenthal,", "Köln-Lindenthal")
+        )
 
     def test_it_fits_on_three_screens(self) -> None:
         out = self.long_names()
@@ -307,11 +386,15 @@ class Browser(PageTest):
         self.assertTrue(5 <= pages <= 13, pages)
         if shutil.which("pdftotext") is None:
             self.skipTest(f"{pages} sheets; there is no pdftotext here to read them")
-        text = subprocess.run(["pdftotext", "-layout", str(self.folder / "page.pdf"), "-"], capture_output=True, check=True).stdout.decode()
+        text = subprocess.run(
+            ["pdftotext", "-layout", str(self.folder / "page.pdf"), "-"], capture_output=True, check=True
+        ).stdout.decode()
         sheets = text.split("\f")[:-1]
         self.assertEqual(len(sheets), pages)
         for number, sheet in enumerate(sheets, 1):
-            self.assertRegex(sheet.strip().splitlines()[-1], rf"^The match, 2026-03-20, docket [0-9a-f]{{16}}\s+{number} of {pages}$")
+            self.assertRegex(
+                sheet.strip().splitlines()[-1], rf"^The match, 2026-03-20, docket [0-9a-f]{{16}}\s+{number} of {pages}$"
+            )
             if re.search(r"\b(1st|2nd|3rd|4th|5th) of 5\b", sheet):
                 self.assertRegex(sheet, r"Resident\s+Programme\s+Choice")
 
@@ -322,9 +405,8 @@ class Browser(PageTest):
             picture = self.folder / name
             self.browse(out / "page.html", f"--window-size={size}", f"--screenshot={picture}")
             data = picture.read_bytes()
-            width, height = (int.from_bytes(data[place:place + 4], "big") for place in (16, 20))
+            width, height = (int.from_bytes(data[place : place + 4], "big") for place in (16, 20))
             self.assertEqual(f"{width},{height}", size)
             if support.PICTURES:
                 shutil.copy(picture, TOP / "docs" / name)
             self.assertTrue((TOP / "docs" / name).is_file(), "tests/office/run --pictures makes it")
-

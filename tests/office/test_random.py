@@ -7,7 +7,33 @@ from typing import Dict, List, Tuple
 from residency.office import command, line
 from support import PROGRAMMES, RESIDENTS, OfficeTest, office
 
-SYLLABLES = ("Ka", "lo", "Zoë", "Åsa", "ß", "Łu", "Ana", "O'", "王", "芳", "مح", "مد", "रा", "म", "-", ".", " ", " & ", "(2)", "7", "=", "+x", "@", ", ", ";")
+SYLLABLES = (
+    "Ka",
+    "lo",
+    "Zoë",
+    "Åsa",
+    "ß",
+    "Łu",
+    "Ana",
+    "O'",
+    "王",
+    "芳",
+    "مح",
+    "مد",
+    "रा",
+    "म",
+    "-",
+    ".",
+    " ",
+    " & ",
+    "(2)",
+    "7",
+    "=",
+    "+x",
+    "@",
+    ", ",
+    ";",
+)
 PLAIN = tuple(one for one in SYLLABLES if all(ord(c) < 128 or c in "ëÅß" for c in one))
 HEADS = {",": "comma", ";": "semicolon", "\t": "tab", "|": "bar"}
 
@@ -43,10 +69,14 @@ class Market:
         return programmes, residents
 
     def long(self) -> Tuple[List[List[str]], List[List[str]]]:
-        programmes, residents = [["Programme", "Places", "Rank", "Applicant"]], [["Applicant"] + ["ID"] * self.ids + ["Rank", "Programme"]]
+        programmes, residents = [["Programme", "Places", "Rank", "Applicant"]], [
+            ["Applicant"] + ["ID"] * self.ids + ["Rank", "Programme"]
+        ]
         for one, places in self.programmes.items():
             listed = self.programme_lists[one]
-            programmes += [[one, str(places), str(rank), item] for rank, item in enumerate(listed, 1)] or [[one, str(places), "", ""]]
+            programmes += [[one, str(places), str(rank), item] for rank, item in enumerate(listed, 1)] or [
+                [one, str(places), "", ""]
+            ]
         for one, ident in self.residents:
             begin, listed = [one] + [ident] * self.ids, self.resident_lists[ident or one]
             residents += [begin + [str(rank), item] for rank, item in enumerate(listed, 1)] or [begin + ["", ""]]
@@ -56,9 +86,13 @@ class Market:
 def saved(chance: random.Random, rows: List[List[str]], mark: str) -> str:
     """A table as some spreadsheet saves it. A row of one cell with another table's mark in it would be taken for such a row."""
     width = max(map(len, rows))
-    padded = [row + [""] * (width - len(row)) if chance.random() < 0.5 or len(row) == 1 and any(c in row[0] for c in ",;|") else row
-              for row in rows]
-    cell = lambda text: '"' + text.replace('"', '""') + '"' if any(c in text for c in ',;\t|"') or chance.random() < 0.05 else text  # noqa: E731
+    padded = [
+        row + [""] * (width - len(row)) if chance.random() < 0.5 or len(row) == 1 and any(c in row[0] for c in ",;|") else row
+        for row in rows
+    ]
+    cell = (
+        lambda text: '"' + text.replace('"', '""') + '"' if any(c in text for c in ',;\t|"') or chance.random() < 0.05 else text
+    )  # noqa: E731
     end = chance.choice(("\n", "\r\n", "\r"))
     return "".join(mark.join(map(cell, row)) + end for row in padded)
 
@@ -79,8 +113,14 @@ class Random(OfficeTest):
             for member in market.names.members("R"):
                 called[market.names.name("R", member.docket_name)] = member.id or member.name
             self.assertEqual(dict(market.quotas), given.programmes, seed)
-            self.assertEqual({one: [called[item] for item in listed] for one, listed in market.programme_lists.items()}, given.programme_lists, seed)
-            self.assertEqual({called[one]: list(listed) for one, listed in market.resident_lists.items()}, given.resident_lists, seed)
+            self.assertEqual(
+                {one: [called[item] for item in listed] for one, listed in market.programme_lists.items()},
+                given.programme_lists,
+                seed,
+            )
+            self.assertEqual(
+                {called[one]: list(listed) for one, listed in market.resident_lists.items()}, given.resident_lists, seed
+            )
             # What the package makes of them is a docket without faults.
             self.assertEqual(office("lint", self.write("docket.csv", market.docket())), (0, "no fault\n", ""), seed)
 
@@ -111,16 +151,23 @@ class Random(OfficeTest):
         at, to = sorted(chance.randrange(len(data) + 1) for _ in range(2))
         lines = data.split(b"\n")
         row = chance.randrange(len(lines))
-        return chance.choice((
-            lambda: data[:at] + data[min(to, at + 9):],
-            lambda: data[:at] + chance.choice((b",", b";", b'"', b"\n", b"\r", b"\0", b"\xff", b"\xc3", b"\t", b" ", b"1", "é".encode())) + data[at:],
-            lambda: data[:at],
-            lambda: b"\n".join(lines[:row] + lines[row + 1:]),
-            lambda: b"\n".join(lines[:row] + [lines[row]] + lines[row:]),
-            lambda: b"\n".join(lines[:row] + [b",".join(reversed(lines[row].split(b",")))] + lines[row + 1:]),
-            lambda: data.replace(b",", b";"),
-            lambda: data.decode("utf-8", "replace").encode("utf-16"),
-        ))() or b"x"
+        return (
+            chance.choice(
+                (
+                    lambda: data[:at] + data[min(to, at + 9) :],
+                    lambda: data[:at]
+                    + chance.choice((b",", b";", b'"', b"\n", b"\r", b"\0", b"\xff", b"\xc3", b"\t", b" ", b"1", "é".encode()))
+                    + data[at:],
+                    lambda: data[:at],
+                    lambda: b"\n".join(lines[:row] + lines[row + 1 :]),
+                    lambda: b"\n".join(lines[:row] + [lines[row]] + lines[row:]),
+                    lambda: b"\n".join(lines[:row] + [b",".join(reversed(lines[row].split(b",")))] + lines[row + 1 :]),
+                    lambda: data.replace(b",", b";"),
+                    lambda: data.decode("utf-8", "replace").encode("utf-16"),
+                )
+            )()
+            or b"x"
+        )
 
     def nothing_is_lost(self, seed: int, files: List[str], texts: List[bytes]) -> None:
         """Of tables that are taken, every row is a member and every cell of a list a name in it."""
@@ -130,7 +177,9 @@ class Random(OfficeTest):
             if '"' in text:
                 continue
             rows = [re.split("[,;]", row) for row in re.split(r"\r\n|\r|\n", text) if row.strip(",; \t")][1:]
-            wanted = {" ".join(row[0].split()): [" ".join(cell.split()) for cell in row[first:] if cell.strip()] for row in rows}
+            wanted = {
+                " ".join(row[0].split()): [" ".join(cell.split()) for cell in row[first:] if cell.strip()] for row in rows
+            }
             self.assertEqual(len(wanted), len(rows), seed)
             self.assertEqual({one: list(listed) for one, listed in lists.items()}, wanted, seed)
 

@@ -26,13 +26,17 @@ class Streams(OfficeTest):
             self.no_traceback(said)
             self.assertEqual(said.status, 3)
             self.assertIn("is named Zo", said.out)
-            done = spawn(["run", *self.tables(PROGRAMMES, RESIDENTS), "--out", str(self.folder / encoding), "--title", "Zoë"], env=env)
+            done = spawn(
+                ["run", *self.tables(PROGRAMMES, RESIDENTS), "--out", str(self.folder / encoding), "--title", "Zoë"], env=env
+            )
             self.assertEqual(done.status, 0, done.err)
             self.assertIn("Zoë Brontë", (self.folder / encoding / "page.html").read_text(encoding="utf-8"))
 
     def test_a_pipe_that_is_closed(self) -> None:
         pair = planted.wide()
-        pair.residents = [[*row[:1], *(f"{cell}x" for cell in row[1:])] if row[0] != "Applicant" else row for row in pair.residents]
+        pair.residents = [
+            [*row[:1], *(f"{cell}x" for cell in row[1:])] if row[0] != "Applicant" else row for row in pair.residents
+        ]
         tables = self.tables(*pair.bytes())
         docket = self.write("docket.csv", "Q;a;1\n" * 30000)
         for words in (["check", *tables, "--all"], ["lint", docket, "--all"]):
@@ -78,16 +82,48 @@ record 5: unknown name (cell 4: sout; is it south?)
         self.assertEqual(spawn(["lint", "-"], data=DOCKET.encode()), (3, self.WANTED, ""))
         # What stands on standard input is nothing to a docket that is named.
         self.assertEqual(spawn(["lint", docket], shell="< /dev/null"), (3, self.WANTED, ""))
-        self.assertEqual(office("lint", self.write("good.csv", (TOP / "examples" / "two-by-two.csv").read_bytes())), (0, "no fault\n", ""))
+        self.assertEqual(
+            office("lint", self.write("good.csv", (TOP / "examples" / "two-by-two.csv").read_bytes())), (0, "no fault\n", "")
+        )
 
     def test_the_first_fault_is_the_programs(self) -> None:
         small = "Q,a,1\nP,a,x\nR,x,a\n"
         program = str(find_program("residency"))
-        for text in (small, "Q,a", "Z,a", "Q,a/b,1", "Q,a,", "Q,a,1\nQ,a,2", "Q,a,1\nP,b", "M,x,a", "E,close", "Q,a,1\nR,x,a\nF,a,0,1",
-                     "Q,a,10001", "Q;a;1", ",,\nQ,a", "Q,a,1\nR,x,b,a a", "Q,b,1\nR,y,\n", 'Q,a,1\r\n\r\n"Q","a",1\r\n', small + "C,0",
-                     small + "C,full\nC,1", small + "C,1\nE,offer,x,a", small + "C,1\nE,answer,x,a,maybe", small + "E,take,x\n",
-                     small + "M,x,a\nF,a,0,1\n", small + "U,x\nU,x\nF,a,0,1", small + "U,x\nF,a,0,2", small + "F,a,0,1",
-                     "Q,a,1\nP,a,y,y\nR,x\n", "V,3", "V", "Q,a,1\nV,2", "W,P,a", "V,2\nW,Q,a", "V,2\nW,P,a", "V,2\nQ,a,1\nW,P,a\nW,P,a"):
+        for text in (
+            small,
+            "Q,a",
+            "Z,a",
+            "Q,a/b,1",
+            "Q,a,",
+            "Q,a,1\nQ,a,2",
+            "Q,a,1\nP,b",
+            "M,x,a",
+            "E,close",
+            "Q,a,1\nR,x,a\nF,a,0,1",
+            "Q,a,10001",
+            "Q;a;1",
+            ",,\nQ,a",
+            "Q,a,1\nR,x,b,a a",
+            "Q,b,1\nR,y,\n",
+            'Q,a,1\r\n\r\n"Q","a",1\r\n',
+            small + "C,0",
+            small + "C,full\nC,1",
+            small + "C,1\nE,offer,x,a",
+            small + "C,1\nE,answer,x,a,maybe",
+            small + "E,take,x\n",
+            small + "M,x,a\nF,a,0,1\n",
+            small + "U,x\nU,x\nF,a,0,1",
+            small + "U,x\nF,a,0,2",
+            small + "F,a,0,1",
+            "Q,a,1\nP,a,y,y\nR,x\n",
+            "V,3",
+            "V",
+            "Q,a,1\nV,2",
+            "W,P,a",
+            "V,2\nW,Q,a",
+            "V,2\nW,P,a",
+            "V,2\nQ,a,1\nW,P,a\nW,P,a",
+        ):
             said = subprocess.run([program, "match"], input=text.encode(), capture_output=True).stderr.decode()
             wanted = said.replace("residency: ", "").strip() or "no fault"
             self.assertEqual(office("lint", self.write("docket.csv", text)).out.splitlines()[0].split(" (")[0], wanted, text)
@@ -97,7 +133,9 @@ record 5: unknown name (cell 4: sout; is it south?)
             path = self.write("docket.csv", text)
             for word in ("lint", "check"):
                 said = office(word, path)
-                self.assertEqual((said.status, said.out), (3, f"{path} has no programme and no resident: it is empty, or no docket\n"))
+                self.assertEqual(
+                    (said.status, said.out), (3, f"{path} has no programme and no resident: it is empty, or no docket\n")
+                )
 
     def test_many_faults_and_raw_bytes(self) -> None:
         path = self.write("docket.csv", b"Q,\x1b[31m\xff,1\n" * 5000)
@@ -131,9 +169,21 @@ class Words(OfficeTest):
             self.assertEqual(given.command, name)
 
     def test_wrong_words(self) -> None:
-        for words in ([], ["marry"], ["run", "a.csv"], ["run", "a.csv", "b.csv"], ["check"], ["lint"], ["compare", "a"], ["letters", "a"],
-                      ["run", "a", "b", "--out", "c", "--date", "yesterday"], ["run", "a", "b", "--out", "c", "--timeout", "0"],
-                      ["run", "a", "b", "--out", "c", "--timeout", "nan"], ["run", "a", "b", "--out", "c", "--order", "x"], ["check", "a", "b", "--nothing"]):
+        for words in (
+            [],
+            ["marry"],
+            ["run", "a.csv"],
+            ["run", "a.csv", "b.csv"],
+            ["check"],
+            ["lint"],
+            ["compare", "a"],
+            ["letters", "a"],
+            ["run", "a", "b", "--out", "c", "--date", "yesterday"],
+            ["run", "a", "b", "--out", "c", "--timeout", "0"],
+            ["run", "a", "b", "--out", "c", "--timeout", "nan"],
+            ["run", "a", "b", "--out", "c", "--order", "x"],
+            ["check", "a", "b", "--nothing"],
+        ):
             said = office(*words)
             self.assertEqual((said.status, said.out), (2, ""), words)
             self.assertRegex(said.err, r"\Aoffice: .* \(office.* --help says more\)\n\Z")
@@ -149,8 +199,12 @@ class Words(OfficeTest):
             self.assertEqual((done.returncode, done.stdout), (1, b""))
             self.assertTrue(done.stderr.startswith(b"office: "), done.stderr)
         tables = self.tables()
-        done = subprocess.run([OFFICE, "run", *tables, "--out", b"out\xff"], capture_output=True, cwd=self.folder)
+        done = subprocess.run(
+            [OFFICE, "run", *tables, "--out", b"out\xff"], capture_output=True, cwd=self.folder
+        )
         self.assertEqual((done.returncode, done.stderr), (0, b""))
         self.assertTrue(os.path.isdir(os.path.join(os.fsencode(self.folder), b"out\xff")))
-        done = subprocess.run([OFFICE, "run", *tables, "--out", "out", "--title", b"T\xff"], capture_output=True, cwd=self.folder)
+        done = subprocess.run(
+            [OFFICE, "run", *tables, "--out", "out", "--title", b"T\xff"], capture_output=True, cwd=self.folder
+        )
         self.assertEqual((done.returncode, done.stderr), (2, b"office: T\\udcff is no text\n"))

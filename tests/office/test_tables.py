@@ -50,11 +50,20 @@ class Tables(OfficeTest):
 class Forms(Tables):
     def test_delimiters_character_sets_and_line_ends(self) -> None:
         for mark, title in ((",", "commas"), (";", "semicolons"), ("\t", "tabs"), ("|", "bars")):
-            for encoding, called in (("utf-8", "UTF-8"), ("utf-8-sig", "UTF-8"), ("utf-16", "UTF-16"), ("utf-16-le", "UTF-16"),
-                                     ("utf-16-be", "UTF-16"), ("utf-32", "UTF-32"), ("cp1252", "Windows-1252")):
+            for encoding, called in (
+                ("utf-8", "UTF-8"),
+                ("utf-8-sig", "UTF-8"),
+                ("utf-16", "UTF-16"),
+                ("utf-16-le", "UTF-16"),
+                ("utf-16-be", "UTF-16"),
+                ("utf-32", "UTF-32"),
+                ("cp1252", "Windows-1252"),
+            ):
                 for end in ("\n", "\r\n", "\r"):
-                    texts = [text.replace(",", mark).replace("\n", end).replace("á", "a").encode(encoding)
-                             for text in (PROGRAMMES, RESIDENTS)]
+                    texts = [
+                        text.replace(",", mark).replace("\n", end).replace("á", "a").encode(encoding)
+                        for text in (PROGRAMMES, RESIDENTS)
+                    ]
                     self.assertEqual(self.docket(*texts), DOCKET.splitlines(), (mark, encoding, end))
             said = office("check", *self.tables(*(text.replace(",", mark) for text in (PROGRAMMES, RESIDENTS))))
             self.assertIn(f"residents.csv, UTF-8, {title}, a row for each resident; 7 residents", said.out)
@@ -66,10 +75,18 @@ class Forms(Tables):
             self.assertIn(f"programmes.csv, {called}, commas, a row for each programme; 4 programmes, 7 places", said.out)
 
     def test_a_set_and_a_delimiter_may_be_named(self) -> None:
-        tables = [text.replace("Kovács", "Wójcik Łoś").replace("Zoë Brontë", "Zofia Brońta").replace(",", "~")
-                  .replace("ü", "u").replace("ß", "ss") for text in (PROGRAMMES, RESIDENTS)]
+        tables = [
+            text.replace("Kovács", "Wójcik Łoś")
+            .replace("Zoë Brontë", "Zofia Brońta")
+            .replace(",", "~")
+            .replace("ü", "u")
+            .replace("ß", "ss")
+            for text in (PROGRAMMES, RESIDENTS)
+        ]
         wanted = [row.replace("kovacs", "wojcik-los").replace("zoe-bronte", "zofia-bronta") for row in DOCKET.splitlines()]
-        self.assertEqual(self.docket(*(text.encode("cp1250") for text in tables), "--encoding", "cp1250", "--delimiter", "~"), wanted)
+        self.assertEqual(
+            self.docket(*(text.encode("cp1250") for text in tables), "--encoding", "cp1250", "--delimiter", "~"), wanted
+        )
         apart = [tables[0].replace("~", ";").encode("utf-8"), tables[1].encode("iso-8859-2")]
         self.assertEqual(self.docket(*apart, "--encoding", "residents=latin2", "--delimiter", "residents=~"), wanted)
         # Without its name the set is taken for Windows-1252, and names differ.
@@ -85,8 +102,10 @@ class Forms(Tables):
             residents += [f"{name},{rank},{one}" for rank, one in enumerate(listed, 1)] or [f"{name},,"]
         self.same("\n".join(programmes), "\n".join(residents))
         # Rows in another order say the same of each list; members come in the order of their first rows.
-        self.assertEqual(sorted(self.docket("\n".join([programmes[0]] + programmes[:0:-1]), "\n".join([residents[0]] + residents[:0:-1]))),
-                         sorted(DOCKET.splitlines()))
+        self.assertEqual(
+            sorted(self.docket("\n".join([programmes[0]] + programmes[:0:-1]), "\n".join([residents[0]] + residents[:0:-1]))),
+            sorted(DOCKET.splitlines()),
+        )
         # A long table and a wide one go together.
         self.same("\n".join(programmes), RESIDENTS)
         said = office("check", *self.tables("\n".join(programmes), "\n".join(residents)))
@@ -99,20 +118,30 @@ class Forms(Tables):
         self.assertIn("residents, row 4, cell 2 (B4): no programme is named East World", faults[0])
 
     def test_names_with_the_other_tables_marks(self) -> None:
-        wanted = [row.replace("kovacs", "kovacs-fatima").replace("fatima-kovacs-fatima", "kovacs-fatima") for row in DOCKET.splitlines()]
+        wanted = [
+            row.replace("kovacs", "kovacs-fatima").replace("fatima-kovacs-fatima", "kovacs-fatima")
+            for row in DOCKET.splitlines()
+        ]
         residents = RESIDENTS.replace(",", ";").replace("Fatima Kovács", "Kovács, Fatima")
         self.assertEqual(self.docket(PROGRAMMES, residents), wanted)
         self.assertEqual(self.docket(PROGRAMMES, RESIDENTS.replace("Fatima Kovács", '"Kovács, Fatima"')), wanted)
 
     def test_the_heading_says_what_parts_the_cells(self) -> None:
         residents = "Applicant;Rank 1\nKovács, Fatima;North\nSilva, Ana\nLee, Kim\n"
-        self.assertEqual(self.docket("Programme,Places,1\nNorth,1,\n", residents)[1:], ["R,kovacs-fatima,north", "R,silva-ana", "R,lee-kim"])
+        self.assertEqual(
+            self.docket("Programme,Places,1\nNorth,1,\n", residents)[1:], ["R,kovacs-fatima,north", "R,silva-ana", "R,lee-kim"]
+        )
         # Where no heading is known, most lines do.
         faults = self.faults(PROGRAMMES, RESIDENTS.replace("Applicant,Rank 1,Rank 2,Rank 3", "Applicant"))
-        self.assertEqual(faults[0], "residents, row 1, cell 2 (B1): no column is headed Rank 1 (or Choice 1, 1st choice, First, 1)")
+        self.assertEqual(
+            faults[0], "residents, row 1, cell 2 (B1): no column is headed Rank 1 (or Choice 1, 1st choice, First, 1)"
+        )
 
     def test_quotes_spaces_and_unseen_letters(self) -> None:
-        self.same(PROGRAMMES.replace("Zoë Brontë", '"Zoe\u0308   Bronte\u0308\u200b"'), RESIDENTS.replace("Zoë Brontë", "\u00a0Zoë\u00a0Brontë\ufeff "))
+        self.same(
+            PROGRAMMES.replace("Zoë Brontë", '"Zoe\u0308   Bronte\u0308\u200b"'),
+            RESIDENTS.replace("Zoë Brontë", "\u00a0Zoë\u00a0Brontë\ufeff "),
+        )
         self.same(PROGRAMMES.replace("North Clinic", '"North Clinic"'), RESIDENTS)
         self.same("\n\n" + PROGRAMMES + ",,,\n\n", RESIDENTS.replace("\n", "\n\n"))
 
@@ -122,11 +151,27 @@ class Forms(Tables):
 
     def test_other_headings(self) -> None:
         self.same(PROGRAMMES.replace("Programme,Places", "HOSPITAL,Number of places"), RESIDENTS)
-        self.same(PROGRAMMES.replace("Rank 1,Rank 2", "1st choice,Choice 2"), RESIDENTS.replace("Applicant,Rank 1,Rank 2,Rank 3", "Name,First,2,Programme 3"))
-        words = ("--heading", "rank=Rang", "--heading", "places=Plätze", "--heading", "resident=Bewerber*in", "--ignore", "E-Mail")
-        residents = "\n".join(f"{line},{'E-Mail' if not number else 'x@example.org'}" for number, line in
-                              enumerate(RESIDENTS.replace("Rank", "Rang").replace("Applicant", "Bewerber*in").splitlines()))
-        self.assertEqual(self.docket(PROGRAMMES.replace("Rank", "Rang").replace("Places", "Plätze"), residents, *words), DOCKET.splitlines())
+        self.same(
+            PROGRAMMES.replace("Rank 1,Rank 2", "1st choice,Choice 2"),
+            RESIDENTS.replace("Applicant,Rank 1,Rank 2,Rank 3", "Name,First,2,Programme 3"),
+        )
+        words = (
+            "--heading",
+            "rank=Rang",
+            "--heading",
+            "places=Plätze",
+            "--heading",
+            "resident=Bewerber*in",
+            "--ignore",
+            "E-Mail",
+        )
+        residents = "\n".join(
+            f"{line},{'E-Mail' if not number else 'x@example.org'}"
+            for number, line in enumerate(RESIDENTS.replace("Rank", "Rang").replace("Applicant", "Bewerber*in").splitlines())
+        )
+        self.assertEqual(
+            self.docket(PROGRAMMES.replace("Rank", "Rang").replace("Places", "Plätze"), residents, *words), DOCKET.splitlines()
+        )
 
     def test_ranks_stand_in_the_order_of_their_numbers(self) -> None:
         turned = "\n".join(",".join([line.split(",")[0], *line.split(",")[:0:-1]]) for line in RESIDENTS.splitlines())
@@ -134,21 +179,35 @@ class Forms(Tables):
         self.same(PROGRAMMES, turned)
 
     def test_a_rank_that_is_left_out_is_noted(self) -> None:
-        said = office("check", *self.tables(PROGRAMMES.replace("South Hospital,1,Kim Lee,Ana", "South Hospital,1,Kim Lee,,Ana")
-                                            .replace("Silva,Omar Haddad,", "Silva,Omar Haddad"), RESIDENTS))
+        said = office(
+            "check",
+            *self.tables(
+                PROGRAMMES.replace("South Hospital,1,Kim Lee,Ana", "South Hospital,1,Kim Lee,,Ana").replace(
+                    "Silva,Omar Haddad,", "Silva,Omar Haddad"
+                ),
+                RESIDENTS,
+            ),
+        )
         self.assertEqual(said.status, 0)
-        self.assertIn("note: programmes: 1 rank is left out, and what follows moves up; the first is in the list of South Hospital, row 3", said.out)
+        self.assertIn(
+            "note: programmes: 1 rank is left out, and what follows moves up; the first is in the list of South Hospital, row 3",
+            said.out,
+        )
         residents = "Applicant,Rank,Programme\nAna,1,North\nAna,3,South\n"
         programmes = "Programme,Places,Rank 1\nNorth,1,Ana\nSouth,1,Ana\n"
         self.assertIn("Ana has no rank 2", self.faults(programmes, residents)[0])
         self.assertEqual(self.docket(programmes, residents, "--allow-gaps")[-1], "R,ana,north,south")
 
-
     def test_members_who_may_be_remarks_are_noted(self) -> None:
         said = office("check", *self.tables(PROGRAMMES + "* without Saturdays,0,,,\n", RESIDENTS + "Exported on 20 March,,,\n"))
-        self.assertEqual(said.out.splitlines()[2:], [
-            "note: programmes: 1 programme without a list whom nobody ranks; the first is * without Saturdays, row 6",
-            "note: residents: 2 residents without a list whom nobody ranks; the first is Rosa Rossi, row 8", "no fault"])
+        self.assertEqual(
+            said.out.splitlines()[2:],
+            [
+                "note: programmes: 1 programme without a list whom nobody ranks; the first is * without Saturdays, row 6",
+                "note: residents: 2 residents without a list whom nobody ranks; the first is Rosa Rossi, row 8",
+                "no fault",
+            ],
+        )
 
 
 class Ids(Tables):
@@ -158,7 +217,15 @@ class Ids(Tables):
     RESIDENTS = "ID,Applicant,1,2\nA17,Ana Silva,North,South\nA18,Ana Silva,South,North\nA19,Kim Lee,South,\n"
 
     def test_wide(self) -> None:
-        wanted = ["Q,north,1", "Q,south,1", "P,north,A17,A18", "P,south,A18,A19", "R,A17,north,south", "R,A18,south,north", "R,A19,south"]
+        wanted = [
+            "Q,north,1",
+            "Q,south,1",
+            "P,north,A17,A18",
+            "P,south,A18,A19",
+            "R,A17,north,south",
+            "R,A18,south,north",
+            "R,A19,south",
+        ]
         self.assertEqual(self.docket(self.PROGRAMMES, self.RESIDENTS), wanted)
         long = "Applicant,ID,Rank,Programme\nAna Silva,A17,1,North\nAna Silva,A18,1,South\nAna Silva,A17,2,South\nAna Silva,A18,2,North\nKim Lee,A19,1,South\n"
         self.assertEqual(self.docket(self.PROGRAMMES, long), wanted)
@@ -171,13 +238,22 @@ class Ids(Tables):
 
     def test_programmes_of_one_name(self) -> None:
         programmes = "Programme,Code,Places,1\nSurgery,P1,1,Kim\nSurgery,P2,2,Kim\n"
-        self.assertEqual(self.docket(programmes, "Applicant,1,2\nKim,P2,Surgery (P1)\n"), ["Q,P1,1", "Q,P2,2", "P,P1,kim", "P,P2,kim", "R,kim,P2,P1"])
-        self.assertIn("2 programmes may be meant by Surgery; write the ID, one of P1, P2", self.faults(programmes, "Applicant,1\nKim,Surgery\n")[0])
+        self.assertEqual(
+            self.docket(programmes, "Applicant,1,2\nKim,P2,Surgery (P1)\n"),
+            ["Q,P1,1", "Q,P2,2", "P,P1,kim", "P,P2,kim", "R,kim,P2,P1"],
+        )
+        self.assertIn(
+            "2 programmes may be meant by Surgery; write the ID, one of P1, P2",
+            self.faults(programmes, "Applicant,1\nKim,Surgery\n")[0],
+        )
 
     def test_without_ids(self) -> None:
         residents = "Applicant,1\nAna Silva,North\nAna Silva,South\n"
         faults = self.faults("Programme,Places,1\nNorth,1,Ana Silva\nSouth,1,\n", residents)
-        self.assertEqual(faults[0], "residents, row 3, cell 1 (A3): Ana Silva has a row before, row 2; if these are two, a column headed ID tells them apart")
+        self.assertEqual(
+            faults[0],
+            "residents, row 3, cell 1 (A3): Ana Silva has a row before, row 2; if these are two, a column headed ID tells them apart",
+        )
 
 
 class Near(Tables):
@@ -188,32 +264,56 @@ class Near(Tables):
         line = self.faults(f"Programme;Places;1\nNorth;1;{wrong}\n", residents)[0]
         begin = f"programmes, row 2, cell 3 (C2): no resident is named {wrong}"
         self.assertTrue(line.startswith(begin), line)
-        return line[len(begin):]
+        return line[len(begin) :]
 
     def test_likely_ones(self) -> None:
-        for known, wrong in (("Zoë O'Connor", "Zoe O'Connor"), ("Zoë O'Connor", "ZOË O'CONNOR"), ("Zoë O'Connor", "Zoë O’Connor"),
-                             ("Ana Silva", "Silva, Ana"), ("Kwame Mensah", "Kwame Mensa"), ("Kwame Mensah", "Kwame Mesnah"),
-                             ("Łukasz Kowalska", "Łukasz Kowlaska"), ("Mary-Ann de la Cruz", "Mary Ann de la Cruz"),
-                             ("Μαρία Παπαδοπούλου", "Μαρια Παπαδοπουλου"), ("Анна Каренина", "Анна Карелина")):
+        for known, wrong in (
+            ("Zoë O'Connor", "Zoe O'Connor"),
+            ("Zoë O'Connor", "ZOË O'CONNOR"),
+            ("Zoë O'Connor", "Zoë O’Connor"),
+            ("Ana Silva", "Silva, Ana"),
+            ("Kwame Mensah", "Kwame Mensa"),
+            ("Kwame Mensah", "Kwame Mesnah"),
+            ("Łukasz Kowalska", "Łukasz Kowlaska"),
+            ("Mary-Ann de la Cruz", "Mary Ann de la Cruz"),
+            ("Μαρία Παπαδοπούλου", "Μαρια Παπαδοπουλου"),
+            ("Анна Каренина", "Анна Карелина"),
+        ):
             self.assertEqual(self.hint([known, "Rosa Rossi"], wrong), f"; is it {known}?")
 
     def test_unlikely_ones(self) -> None:
-        for known, wrong in ((["Kovács, Fatima", "Kovács, Anna"], "Kovács, Kwame"), (["Hanna Abel"], "Ana Abel"), (["Omar Abel"], "Tomáš Abel"),
-                             (["Kim Lee"], "Kim Leung"), (["王小明"], "王大明"), (["Programme 1"], "Programme 2"), (["A1042"], "A1043"),
-                             (["Anna Berg", "Anne Berg"], "Annx Berg"), (["Rosa Rossi"], "Completely Another")):
+        for known, wrong in (
+            (["Kovács, Fatima", "Kovács, Anna"], "Kovács, Kwame"),
+            (["Hanna Abel"], "Ana Abel"),
+            (["Omar Abel"], "Tomáš Abel"),
+            (["Kim Lee"], "Kim Leung"),
+            (["王小明"], "王大明"),
+            (["Programme 1"], "Programme 2"),
+            (["A1042"], "A1043"),
+            (["Anna Berg", "Anne Berg"], "Annx Berg"),
+            (["Rosa Rossi"], "Completely Another"),
+        ):
             self.assertEqual(self.hint(known, wrong), "", (known, wrong))
 
 
 class Reports(Tables):
     def test_every_fault_at_once(self) -> None:
-        programmes = PROGRAMMES.replace("North Clinic,2", "North Clinic,two").replace("South Hospital,1,Kim Lee", "South Hospital,1,Kim Leigh")
-        residents = RESIDENTS.replace("Groß,North Clinic", "Groß,Nroth Clinic").replace("Omar Haddad,East Ward,South Hospital", "Omar Haddad,East Ward,East Ward")
-        self.assertEqual(self.faults(programmes, residents), [
-            "programmes, row 2, cell 2 (B2): two is no number of places",
-            "programmes, row 3, cell 3 (C3): no resident is named Kim Leigh",
-            "residents, row 5, cell 2 (B5): no programme is named Nroth Clinic; is it North Clinic?",
-            "residents, row 6, cell 3 (C6): East Ward is listed twice by Omar Haddad, as in cell 2",
-            "4 faults in the tables"])
+        programmes = PROGRAMMES.replace("North Clinic,2", "North Clinic,two").replace(
+            "South Hospital,1,Kim Lee", "South Hospital,1,Kim Leigh"
+        )
+        residents = RESIDENTS.replace("Groß,North Clinic", "Groß,Nroth Clinic").replace(
+            "Omar Haddad,East Ward,South Hospital", "Omar Haddad,East Ward,East Ward"
+        )
+        self.assertEqual(
+            self.faults(programmes, residents),
+            [
+                "programmes, row 2, cell 2 (B2): two is no number of places",
+                "programmes, row 3, cell 3 (C3): no resident is named Kim Leigh",
+                "residents, row 5, cell 2 (B5): no programme is named Nroth Clinic; is it North Clinic?",
+                "residents, row 6, cell 3 (C6): East Ward is listed twice by Omar Haddad, as in cell 2",
+                "4 faults in the tables",
+            ],
+        )
 
     def test_many_faults_are_told_in_20_lines_and_counted(self) -> None:
         pair = planted.wide()
@@ -242,15 +342,22 @@ class Reports(Tables):
         self.assertIn(f"(also in D5, F7, C10 and {cells - 4} more cells)", lines[0])
 
     def test_no_raw_bytes_reach_the_terminal(self) -> None:
-        for text in (self.faults(PROGRAMMES.replace("Kim Lee", "Kim\x1b[31m Lee\x07"), RESIDENTS),
-                     self.faults(PROGRAMMES.replace("Kim Lee", "\u202eKim \u2066Leee"), RESIDENTS)):
+        for text in (
+            self.faults(PROGRAMMES.replace("Kim Lee", "Kim\x1b[31m Lee\x07"), RESIDENTS),
+            self.faults(PROGRAMMES.replace("Kim Lee", "\u202eKim \u2066Leee"), RESIDENTS),
+        ):
             self.assertTrue(all(line.isprintable() for line in text), text)
 
     def test_wrong_words_on_the_command_line(self) -> None:
         files = self.tables()
-        for words, cause in ((["--encoding", "klingon"], "no character set is named klingon"), (["--encoding", "base64"], "no character set"),
-                             (["--delimiter", "ab"], "ab parts no cells"), (["--delimiter", '"'], "parts no cells"),
-                             (["--heading", "places"], "it is ROLE=WORD"), (["--heading", "beds=Beds"], "it is ROLE=WORD")):
+        for words, cause in (
+            (["--encoding", "klingon"], "no character set is named klingon"),
+            (["--encoding", "base64"], "no character set"),
+            (["--delimiter", "ab"], "ab parts no cells"),
+            (["--delimiter", '"'], "parts no cells"),
+            (["--heading", "places"], "it is ROLE=WORD"),
+            (["--heading", "beds=Beds"], "it is ROLE=WORD"),
+        ):
             said = office("check", *files, *words)
             self.assertEqual((said.status, said.out), (2, ""), said)
             self.assertTrue(said.err.startswith("office: ") and cause in said.err, said.err)
@@ -258,9 +365,18 @@ class Reports(Tables):
 
     def test_files_that_cant_be_read(self) -> None:
         files = self.tables()
-        for path, cause in ((str(self.folder / "nowhere.csv"), "no such file"), (str(self.folder), "is a directory"), ("a\0b", "no path")):
-            for words in (["check", path, files[1]], ["check", files[0], path], ["check", path], ["lint", path],
-                          ["run", path, files[1], "--out", str(self.folder / "out")]):
+        for path, cause in (
+            (str(self.folder / "nowhere.csv"), "no such file"),
+            (str(self.folder), "is a directory"),
+            ("a\0b", "no path"),
+        ):
+            for words in (
+                ["check", path, files[1]],
+                ["check", files[0], path],
+                ["check", path],
+                ["lint", path],
+                ["run", path, files[1], "--out", str(self.folder / "out")],
+            ):
                 said = office(*words)
                 self.assertEqual((said.status, said.out), (1, ""), said)
                 self.assertTrue(said.err.startswith("office: ") and cause in said.err.lower(), said.err)
@@ -272,26 +388,76 @@ class Limits(Tables):
     def test_too_many_members(self) -> None:
         programmes = "Programme,Places,1\n" + "".join(f"P {number},1,\n" for number in range(2001))
         residents = "Applicant,1\n" + "".join(f"R {number},\n" for number in range(20001))
-        self.assertEqual(self.faults(programmes, "Applicant,1\nKim,\n")[0], "programmes, row 2002, cell 1 (A2002): more than 2,000 programmes")
-        self.assertEqual(self.faults("Programme,Places,1\nNorth,1,\n", residents)[0], "residents, row 20002, cell 1 (A20002): more than 20,000 residents")
+        self.assertEqual(
+            self.faults(programmes, "Applicant,1\nKim,\n")[0],
+            "programmes, row 2002, cell 1 (A2002): more than 2,000 programmes",
+        )
+        self.assertEqual(
+            self.faults("Programme,Places,1\nNorth,1,\n", residents)[0],
+            "residents, row 20002, cell 1 (A20002): more than 20,000 residents",
+        )
 
     def test_too_many_pairs(self) -> None:
         programmes = ["Programme,Places," + ",".join(map(str, range(1, 2002)))] + [
-            f"P{number},1," + ",".join(f"R{one}" for one in range(2001)) for number in range(100)]
-        residents = ["Applicant," + ",".join(map(str, range(1, 101)))] + [
-            f"R{number}," + ",".join(f"P{one}" for one in range(100)) for number in range(2000)] + ["R2000,P0"]
-        self.assertEqual(self.faults("\n".join(programmes), "\n".join(residents))[0], "programmes: 200,001 pairs rank one another, more than 200,000")
+            f"P{number},1," + ",".join(f"R{one}" for one in range(2001)) for number in range(100)
+        ]
+        residents = (
+            ["Applicant," + ",".join(map(str, range(1, 101)))]
+            + [f"R{number}," + ",".join(f"P{one}" for one in range(100)) for number in range(2000)]
+            + ["R2000,P0"]
+        )
+        self.assertEqual(
+            self.faults("\n".join(programmes), "\n".join(residents))[0],
+            "programmes: 200,001 pairs rank one another, more than 200,000",
+        )
 
 
 class Headings(Tables):
     def test_both_tables_need_their_headings(self) -> None:
-        self.assertIn("a heading row is wanted, with Applicant, Rank 1, Rank 2, .. or Applicant, Rank, Programme",
-                      self.faults(PROGRAMMES, RESIDENTS.split("\n", 1)[1])[0])
-        self.assertIn("a heading row is wanted, with Programme, Places, Rank 1, Rank 2, ..", self.faults(PROGRAMMES.split("\n", 1)[1], RESIDENTS)[0])
+        self.assertIn(
+            "a heading row is wanted, with Applicant, Rank 1, Rank 2, .. or Applicant, Rank, Programme",
+            self.faults(PROGRAMMES, RESIDENTS.split("\n", 1)[1])[0],
+        )
+        self.assertIn(
+            "a heading row is wanted, with Programme, Places, Rank 1, Rank 2, ..",
+            self.faults(PROGRAMMES.split("\n", 1)[1], RESIDENTS)[0],
+        )
+
+    def test_a_heading_or_a_row_of_too_many_cells_is_one_fault(self) -> None:
+        wide = "Applicant" + ",Rank 1" * 20101
+        self.assertEqual(
+            self.faults(PROGRAMMES, wide + "\nKim Lee,North Clinic\n"),
+            ["residents, row 1, cell 20101 (ACSC1): the heading has 20,102 cells, more than 20,100", "1 fault in the tables"],
+        )
+        self.assertEqual(
+            self.faults(PROGRAMMES, RESIDENTS.replace("Rosa Rossi,,,", "Rosa Rossi,,,,A,B,C,D,E")),
+            [
+                "residents, row 8, cell 5 (E8): A stands in a column without a heading (also in F8, G8, H8 and 1 more cell)",
+                "1 fault in the tables",
+            ],
+        )
 
     def test_what_heads_a_rank(self) -> None:
         words = Words(["rank=Wunsch"])
-        for heading, rank in (("Rank 1", 1), ("rank2", 2), ("Choice #3", 3), ("4", 4), ("5th choice", 5), ("2nd", 2), ("Second choice", 2),
-                              ("Tenth", 10), ("Programme 7", 7), ("Wunsch 12", 12), ("Rank 01", 1), ("Rank_3", 3), ("Rank (4)", 4),
-                              ("Rank", None), ("Rank 0", None), ("Email 2", None), ("Rank 1 2", None), ("First name", None), ("", None)):
+        for heading, rank in (
+            ("Rank 1", 1),
+            ("rank2", 2),
+            ("Choice #3", 3),
+            ("4", 4),
+            ("5th choice", 5),
+            ("2nd", 2),
+            ("Second choice", 2),
+            ("Tenth", 10),
+            ("Programme 7", 7),
+            ("Wunsch 12", 12),
+            ("Rank 01", 1),
+            ("Rank_3", 3),
+            ("Rank (4)", 4),
+            ("Rank", None),
+            ("Rank 0", None),
+            ("Email 2", None),
+            ("Rank 1 2", None),
+            ("First name", None),
+            ("", None),
+        ):
             self.assertEqual(words.rank(heading, "programme"), rank, heading)

@@ -36,6 +36,19 @@ class Building(unittest.TestCase):
                          (PLACES, tuple(PROGRAMMES["=Köln"]), ("=Köln",)))
         self.assertEqual(one.names.name("R", "r"), "王芳")
 
+    def test_numbers_of_a_data_frame(self):
+        class Number:
+            """A whole number as data frames have them, which is no int."""
+
+            def __index__(self):
+                return 2
+
+            def item(self):
+                return 2
+
+        self.assertEqual(Market({"A": Number()}, {}, {}).docket(), b"Q,a,2\n")
+        self.assertEqual(Market.from_tables([("A", Number(), Number())], [(Number(), "A")]).docket(), b"Q,a,2\nP,a,2\nR,2,a\n")
+
     def test_dictionaries_at_fault(self):
         with self.assertRaises(MarketFault) as caught:
             Market.from_dictionaries({"Kim": ["Nort", "South", "South"], "": [], "Lee": "North", 7: [], "Ann": [None]},

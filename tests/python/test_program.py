@@ -46,6 +46,17 @@ class Finding(Folders):
             with self.named(place):
                 self.assertEqual(find_program(), place)
             place.unlink()
+            if path.startswith("crates"):
+                shutil.rmtree(self.folder / "crates")
+
+    def test_a_clones_own_script_is_none(self):
+        self.put("residency")
+        (self.folder / "crates").mkdir()
+        with self.named(self.folder), self.assertRaises(ProgramMissing):
+            find_program()
+        place = self.put("crates/residency_cli/out/residency_cli")
+        with self.named(self.folder):
+            self.assertEqual(find_program(), place)
 
     def test_why_beside_it(self):
         for path, why in (("bin/residency", "bin/residency-why"),
@@ -58,7 +69,9 @@ class Finding(Folders):
             other.unlink()
             with self.named(program), self.assertRaises(ProgramMissing):
                 find_program("why")
-            program.unlink()
+            for part in (program, other):
+                shutil.rmtree(self.folder / part.relative_to(self.folder).parts[0], ignore_errors=True)
+            program.unlink(missing_ok=True)
 
     def test_a_name_that_has_none(self):
         elsewhere = self.put("elsewhere/residency")

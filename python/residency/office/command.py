@@ -49,7 +49,7 @@ def main(words: Optional[Sequence[str]] = None) -> int:
     except MemoryError:
         return failed("out of memory", 1)
     except (KeyboardInterrupt, folder.Stopped):
-        return failed("interrupted; nothing was written", 1)
+        return failed("interrupted", 1)
 
 
 def dispatch(words: Optional[Sequence[str]]) -> int:

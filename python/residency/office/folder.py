@@ -2,9 +2,9 @@
 import hashlib
 import json
 import os
+import secrets
 import shutil
 import signal
-import tempfile
 import threading
 from contextlib import contextmanager
 from pathlib import Path
@@ -79,10 +79,11 @@ def new_folder(out: str) -> Iterator[Draft]:
     """
     target = Path(os.path.abspath(out))
     refuse(out)
-    part = None
+    # Its name stands before the folder does, so that no signal comes between the two.
+    part = target.with_name(f".{target.name[:100]}.part-{secrets.token_hex(8)}")
     before = stopping()
     try:
-        part = beside(target)
+        part.mkdir(mode=0o700)
         yield Draft(part)
         part.chmod(0o777 & ~umask())
         refuse(out)
@@ -92,15 +93,9 @@ def new_folder(out: str) -> Iterator[Draft]:
     finally:
         for number in before:
             signal.signal(number, signal.SIG_IGN)
-        if part is not None:
-            shutil.rmtree(part, ignore_errors=True)
+        shutil.rmtree(part, ignore_errors=True)
         for number, handler in before.items():
             signal.signal(number, handler)
-
-
-def beside(target: Path) -> Path:
-    """A new folder beside a path, so that it can be renamed to it."""
-    return Path(tempfile.mkdtemp(prefix=f".{target.name[:100]}.part-", dir=target.parent))
 
 
 def refuse(out: str) -> None:

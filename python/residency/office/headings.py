@@ -2,8 +2,9 @@
 import re
 import unicodedata
 from dataclasses import dataclass, field
-from typing import Dict, List, Optional, Sequence, Tuple
+from typing import Dict, FrozenSet, List, Optional, Sequence, Tuple
 
+from ..docket import MOST_RESIDENTS
 from .faults import Faults, OfficeError, shown
 
 # What each column may be headed, without accents, capitals and points.
@@ -19,6 +20,8 @@ WORDS: Dict[str, Tuple[str, ...]] = {
 }
 # What the report calls a column that is missing.
 TITLES = {"programme": "Programme", "resident": "Applicant", "places": "Places", "rank": "Rank", "id": "ID"}
+# The longest list has as many columns as there are residents at most, and a few stand before it.
+MOST_COLUMNS = MOST_RESIDENTS + 100
 ROLES = ("programme", "resident", "places", "rank", "id")
 ORDINALS = {word: number for number, word in enumerate(
     ("first", "second", "third", "fourth", "fifth", "sixth", "seventh", "eighth", "ninth", "tenth"), 1)}
@@ -72,7 +75,8 @@ class Words:
 
 @dataclass
 class Columns:
-    """Which cells of a row are what, counted from 0. A wide table has `ranks`, a long one `rank` and `item`."""
+    """Which cells of a row are what, counted from 0. A wide table has `ranks`, a long one `rank` and `item`; `known` are the
+    cells that have a heading, and `width` is how many cells the heading has."""
 
     owner: int
     places: Optional[int] = None
@@ -80,11 +84,8 @@ class Columns:
     ranks: List[Tuple[int, int]] = field(default_factory=list)
     rank: Optional[int] = None
     item: Optional[int] = None
-    known: Tuple[int, ...] = ()
-
-    @property
-    def width(self) -> int:
-        return len(self.known)
+    known: FrozenSet[int] = frozenset()
+    width: int = 0
 
     @property
     def is_long(self) -> bool:
@@ -114,6 +115,9 @@ class Reader:
 
     def columns(self) -> Optional[Columns]:
         """The columns, or None where the heading is at fault, which is told."""
+        if len(self.heading) > MOST_COLUMNS:
+            self.tell(MOST_COLUMNS + 1, f"the heading has {len(self.heading):,} cells, more than {MOST_COLUMNS:,}")
+            return None
         for cell, heading in enumerate(self.heading):
             if heading:
                 self.sort(cell, heading)
@@ -190,9 +194,9 @@ class Reader:
 
     def made(self) -> Columns:
         at = self.at
-        known = tuple(cell for cell, heading in enumerate(self.heading) if heading)
+        known = frozenset(cell for cell, heading in enumerate(self.heading) if heading)
         return Columns(at[self.owners], at.get("places"), at.get("id"), sorted(self.ranks.items()), at.get("rank"),
-                       at.get(self.items) if "rank" in at else None, known)
+                       at.get(self.items) if "rank" in at else None, known, len(self.heading))
 
 
 def columns_of(table: str, owners: str, row: int, heading: List[str], words: Words, faults: Faults) -> Optional[Columns]:

@@ -119,7 +119,7 @@ class Members:
         for cell, text in enumerate(row):
             if text and cell not in self.columns.known:
                 cause = f"{shown(text)} stands in a column without a heading"
-                self.tell("heading", number, cell, cause, (f"no heading {cell}",))
+                self.tell("heading", number, cell, cause, (f"no heading {min(cell, self.columns.width)}",))
 
     def entry(self, number: int, row: List[str], name: str) -> Optional[Entry]:
         """The member whose row this is; in a wide table a second row is a fault, and two of one name need IDs."""
