@@ -67,8 +67,7 @@ int pthread_create(pthread_t *thread, const pthread_attr_t *attributes, void *(*
     return create(thread, attributes, work, given);
 }
 
-// The program ends by this call, which runs no destructor.
-void _exit(int status) {
+static void tell(void) {
     if (told) {
         char text[64];
         int length = snprintf(text, sizeof text, "%ld %ld\n", in.done, out.done);
@@ -78,5 +77,12 @@ void _exit(int status) {
             close(file);
         }
     }
+}
+
+// A program with threads ends by this call, which runs no destructor, and one without by its last return.
+void _exit(int status) {
+    tell();
     for (;;) syscall(SYS_exit_group, status);
 }
+
+__attribute__((destructor)) static void end(void) { tell(); }

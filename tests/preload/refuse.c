@@ -72,11 +72,13 @@ static void tell(void) {
     close(file);
 }
 
-// The program ends by this call, which runs no destructor.
+// A program with threads ends by this call, which runs no destructor, and one without by its last return.
 void _exit(int status) {
     tell();
     for (;;) syscall(SYS_exit_group, status);
 }
+
+__attribute__((destructor)) static void end(void) { tell(); }
 
 // The marks are lines that are written whole.
 ssize_t write(int file, const void *text, size_t length) {
