@@ -62,6 +62,11 @@ class Cost(OfficeTest):
         self.assertLess(took.megabytes, MEGABYTES)
         return took
 
+    @staticmethod
+    def bound(part: int) -> float:
+        """The seconds for a part of the whole size: that part of those for the whole, and one for Python's own start."""
+        return CHECK_SECONDS if part == 1 else CHECK_SECONDS / part + 1
+
     def mistaken(
         self,
         script: str,
@@ -75,7 +80,7 @@ class Cost(OfficeTest):
         large.write_tables(self.folder, script, 20000 // part, 2000 // part, 10, long, in_lists)
         path = self.folder / "residents.csv"
         path.write_text(residents(path.read_text(encoding="utf-8")), encoding="utf-8")
-        return self.check(CHECK_SECONDS / part)
+        return self.check(self.bound(part))
 
     def test_last_names_first_in_one_table(self) -> None:
         took = self.mistaken("latin", in_lists=lambda name: ", ".join(reversed(name.split())), part=1)
@@ -99,7 +104,7 @@ class Cost(OfficeTest):
     def test_no_fault(self) -> None:
         part = 1 if support.FULL else 8
         large.write_tables(self.folder, "arabic", 20000 // part, 2000 // part, 10, long=True)
-        self.check(CHECK_SECONDS / part, 0)
+        self.check(self.bound(part), 0)
 
     def test_cells_and_rows_of_every_length(self) -> None:
         large.write_tables(self.folder, "latin", 20, 5, 2)
