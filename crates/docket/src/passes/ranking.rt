@@ -29,8 +29,9 @@ fn listed_residents(
     ensures fault { Answers (unknown_fault (k + 1) (residents_of tables.now) (row_at tables.now k)) result }
 {
     listed.clear();
-    for i in 0..tables.listed(k) {
-        let Some(resident) = tables.resident(k, i + 2) else {
+    let (start, end) = tables.span(k);
+    for place in start + 2..end {
+        let Some(resident) = tables.resident_at(place) else {
             return Err(DocketFault::UnknownName {
                 place: tables.place(k),
             });
@@ -51,8 +52,9 @@ fn listed_programmes(
     ensures fault { Answers (unknown_fault (k + 1) (programmes_of tables.now) (row_at tables.now k)) result }
 {
     listed.clear();
-    for i in 0..tables.listed(k) {
-        let Some(programme) = tables.programme(k, i + 2) else {
+    let (start, end) = tables.span(k);
+    for place in start + 2..end {
+        let Some(programme) = tables.programme_at(place) else {
             return Err(DocketFault::UnknownName {
                 place: tables.place(k),
             });

@@ -154,6 +154,12 @@ impl FlatRows {
         }
     }
 
+    #[inline(always)]
+    pub(crate) fn span(&self, k: usize) -> (usize, usize) { (start_of(&self.ends, k), self.ends.get(k)) }
+
+    #[inline(always)]
+    pub(crate) fn at(&self, place: usize) -> usize { self.fields.get(place) }
+
     /// Field `i` of row `k`, which is empty past the end.
     pub(crate) fn field(&self, k: usize, i: usize) -> &[u8]
         requires { k < length self.now.rows }
