@@ -3,7 +3,6 @@ ghost use Rattle.std.specs.Prelude.{◌≡◌, true};
 
 use crate::fault::Trouble;
 use crate::gate::Gate;
-use crate::run_queue::RunQueue;
 use std::alloc::{AllocError, Global};
 use std::marker::PhantomData;
 
@@ -52,29 +51,24 @@ impl<'a, G: Gate> Scheduler<'a, G> {
         residents: u32,
         programmes: u32,
     ) -> Result<Scheduler<'a, G>, AllocError> {
-        let mut scheduler = Scheduler::idle(alloc, residents, programmes)?;
-        for p in (0..programmes).rev() {
-            scheduler.list(residents.saturating_add(p));
-        }
-        Ok(scheduler)
-    }
-
-    // Desks with nobody and with no work.
-    fn idle(
-        alloc: Global,
-        residents: u32,
-        programmes: u32,
-    ) -> Result<Scheduler<'a, G>, AllocError> {
         let desks = residents as usize + programmes as usize;
-        Ok(Scheduler {
+        let mut scheduler = Scheduler {
             places: vec![in alloc; Place::Idle; desks]?,
-            run_queue: RunQueue::with_desks(alloc, residents, programmes)?,
+            run_queue: RunQueue {
+                residents: Vec::with_capacity(alloc, residents as usize)?,
+                programmes: Vec::with_capacity(alloc, programmes as usize)?,
+                first_programme: residents,
+            },
             waiting: 0,
             ended: false,
             stopped: false,
             gate: PhantomData,
             trouble: None,
-        })
+        };
+        for p in (0..programmes).rev() {
+            scheduler.list(residents.saturating_add(p));
+        }
+        Ok(scheduler)
     }
 
     /// A desk may have work.
@@ -154,11 +148,6 @@ impl<'a, G: Gate> Scheduler<'a, G> {
         self.stopped
     }
 
-    /// What ended the run early, if something did.
-    pub(crate) fn trouble(&self) -> Option<Trouble> {
-        self.trouble
-    }
-
     /// Whether a worker that waits has something to wake for.
     pub(crate) fn has_news(&self) -> bool {
         self.ended || !self.run_queue.is_empty()
@@ -177,5 +166,41 @@ impl<'a, G: Gate> Scheduler<'a, G> {
     /// A worker waits no more.
     pub(crate) fn wait_ends(&mut self) {
         self.waiting = self.waiting.saturating_sub(1);
+    }
+}
+
+/// Desks by number, residents before programmes; of each side the one listed last is on top.
+#[derive(Debug, Drop)]
+struct RunQueue {
+    residents: Vec<u32>,
+    programmes: Vec<u32>,
+    first_programme: u32,
+}
+
+impl RunQueue {
+    // Whether none is listed.
+    fn is_empty(&self) -> bool {
+        self.residents.is_empty() && self.programmes.is_empty()
+    }
+
+    // Lists a desk that isn't listed. Since there is room for each desk of either side, none is left out.
+    fn push(&mut self, desk: u32) {
+        let side = if desk < self.first_programme {
+            &mut self.residents
+        } else {
+            &mut self.programmes
+        };
+        if side.len() < side.capacity() {
+            side.push_reserved(desk);
+        }
+    }
+
+    // A desk, which is listed no more: a resident's where there is one, so that a programme hears many answers in a
+    // visit; and of these the one listed last, of which most is still near.
+    fn pop(&mut self) -> Option<u32> {
+        match self.residents.pop() {
+            Some(desk) => Some(desk),
+            None => self.programmes.pop(),
+        }
     }
 }

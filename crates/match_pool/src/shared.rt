@@ -1,14 +1,14 @@
 //! What the workers share.
 ghost use Rattle.std.specs.Prelude.{◌≡◌, true};
 
-use crate::desks::{BoundProgramme, BoundResident};
+use crate::desks::{ProgrammeDesk, ResidentDesk};
 use crate::exchange::Exchange;
 use crate::fault::Trouble;
 use crate::gate::Gate;
 use crate::mailboxes::Mailboxes;
 use crate::naps::{NapRoom, Naps};
 use crate::scheduler::Scheduler;
-use offer_ledger::{ExchangeIdentity, Ledger};
+use offer_ledger::ExchangeIdentity;
 use std::hint::spin_loop;
 use std::sync::{Condvar, Mutex, MutexGuard, Wait};
 
@@ -47,7 +47,7 @@ fn lock_soon<'a, T, R: Wait>(rt: &R, lock: &'a Mutex<T>, room: &NapRoom) -> Mute
 // The value under a lock that another worker has: tried after each of some naps, and then waited for.
 #[cold]
 fn lock_later<'a, T, R: Wait>(rt: &R, lock: &'a Mutex<T>, room: &NapRoom) -> MutexGuard<'a, T> {
-    let mut naps = Naps::for_lock();
+    let mut naps = Naps::FOR_LOCK;
     for _ in 0..NAPS {
         naps.nap(rt, room);
         if let Some(guard) = try_soon(lock) {
@@ -57,18 +57,19 @@ fn lock_later<'a, T, R: Wait>(rt: &R, lock: &'a Mutex<T>, room: &NapRoom) -> Mut
     lock.lock(rt)
 }
 
-/// What the shared state is taken apart into: the desks of the residents and of the programmes, the ledger and the scheduler.
+/// What the shared state is taken apart into: the desks of the residents and of the programmes, the exchange and the
+/// scheduler.
 pub(crate) type SharedParts<'a, J, M, G> = (
-    Vec<Mutex<BoundResident<J, M>>>,
-    Vec<Mutex<BoundProgramme<J, M>>>,
-    Ledger<J, <M as Mailboxes>::OfferPut, <M as Mailboxes>::AnswerPut>,
+    Vec<Mutex<ResidentDesk<J, M>>>,
+    Vec<Mutex<ProgrammeDesk<J, M>>>,
+    Exchange<J, M>,
     Scheduler<'a, G>,
 );
 
 /// The locks of a run. They are taken in the order desk, ledger; `scheduler` is never held while another is taken.
 pub(crate) struct SharedState<'a, J: ExchangeIdentity, M: Mailboxes, G: Gate> {
-    pub(crate) residents: Vec<Mutex<BoundResident<J, M>>>,
-    pub(crate) programmes: Vec<Mutex<BoundProgramme<J, M>>>,
+    pub(crate) residents: Vec<Mutex<ResidentDesk<J, M>>>,
+    pub(crate) programmes: Vec<Mutex<ProgrammeDesk<J, M>>>,
     pub(crate) exchange: Mutex<Exchange<J, M>>,
     pub(crate) scheduler: Mutex<Scheduler<'a, G>>,
     pub(crate) news: Condvar,
@@ -92,7 +93,7 @@ impl<'a, J: ExchangeIdentity, M: Mailboxes, G: Gate> Drop for SharedState<'a, J,
 }
 
 impl<'a, J: ExchangeIdentity, M: Mailboxes, G: Gate> SharedState<'a, J, M, G> {
-    /// The desks, the ledger and the scheduler, out of their locks but for the desks.
+    /// The desks, the exchange and the scheduler, out of their locks but for the desks.
     pub(crate) fn into_parts(self) -> SharedParts<'a, J, M, G> {
         let SharedState {
             residents,
@@ -103,16 +104,14 @@ impl<'a, J: ExchangeIdentity, M: Mailboxes, G: Gate> SharedState<'a, J, M, G> {
             for_lock: _,
             for_work: _,
         } = self;
-        let ledger = exchange.into_inner().into_ledger();
-        (residents, programmes, ledger, scheduler.into_inner())
+        let exchange = exchange.into_inner();
+        (residents, programmes, exchange, scheduler.into_inner())
     }
-}
 
-impl<'a, J: ExchangeIdentity, M: Mailboxes, G: Gate> SharedState<'a, J, M, G> {
     /// Desks, exchange and scheduler, each under its lock.
     pub(crate) fn new(
-        residents: Vec<Mutex<BoundResident<J, M>>>,
-        programmes: Vec<Mutex<BoundProgramme<J, M>>>,
+        residents: Vec<Mutex<ResidentDesk<J, M>>>,
+        programmes: Vec<Mutex<ProgrammeDesk<J, M>>>,
         exchange: Exchange<J, M>,
         scheduler: Scheduler<'a, G>,
     ) -> SharedState<'a, J, M, G> {

@@ -1,8 +1,8 @@
 //! A worker: it takes desks that may have work, stays at each while it has some, and closes the exchange at rest.
-ghost use Rattle.std.specs.Prelude.{◌≡◌, ◌≢◌, None, slice_get};
+ghost use Rattle.std.specs.Prelude.{◌≡◌, ◌≢◌, None, slice_get, []};
 ghost use Rattle.match_agents.specs.Programmes.{wish_of};
 
-use crate::desks::{BoundProgramme, BoundResident};
+use crate::desks::{ProgrammeDesk, ResidentDesk};
 use crate::exchange::{Entry, Found};
 use crate::fault::Trouble;
 use crate::gate::{Gate, Go};
@@ -10,14 +10,17 @@ use crate::mailboxes::Mailboxes;
 use crate::naps::Naps;
 use crate::scheduler::Next;
 use crate::shared::SharedState;
-use crate::woken::Woken;
-use exchange_core::{AnswerKind, AnswerNote, Desk, Event};
+use arrayvec::ArrayVec;
+use exchange_core::{AnswerKind, AnswerNote, Desk};
 use match_agents::Heard;
 use match_model::{Instance, ProgrammeNo, ResidentNo};
 use offer_ledger::{ExchangeIdentity, Tally};
 use std::sync::Wait;
 
-/// One worker of a run.
+/// How many desks a worker notes before it lists them.
+const MOST_WOKEN: usize = 64;
+
+/// One worker of a run. It notes the desks to which its entries may have given work, by number, until it lists them.
 #[derive(Drop)]
 pub(crate) struct Worker<'a, 'f, J: ExchangeIdentity, M: Mailboxes, G: Gate, R: Wait> {
     rt: &'a R,
@@ -26,7 +29,7 @@ pub(crate) struct Worker<'a, 'f, J: ExchangeIdentity, M: Mailboxes, G: Gate, R: 
     shared: &'a SharedState<'f, J, M, G>,
     number: usize,
     tally: Tally<J>,
-    woken: Woken,
+    woken: ArrayVec<u32, MOST_WOKEN>,
     missed: u32,
     ghost named: { inst.now ≡ J.inst },
 }
@@ -38,17 +41,6 @@ enum Step {
     Stay { more: bool },
     /// The worker leaves the desk; whether it is to be come back to at once.
     Leave { again: bool },
-}
-
-/// Why a look into a mailbox gave no message.
-#[derive(Clone, Copy)]
-enum Look {
-    /// None waits, as far as the mailbox has it.
-    Empty,
-    /// Nobody can put one any more.
-    Gone,
-    /// The log has no room for one.
-    LogFull,
 }
 
 /// After how many misses in a row a worker naps after each.
@@ -78,7 +70,7 @@ impl<'a, 'f, J: ExchangeIdentity, M: Mailboxes, G: Gate, R: Wait> Worker<'a, 'f,
             shared,
             number,
             tally,
-            woken: Woken::new(),
+            woken: ArrayVec::new(),
             missed: 0,
         }
     }
@@ -119,7 +111,7 @@ impl<'a, 'f, J: ExchangeIdentity, M: Mailboxes, G: Gate, R: Wait> Worker<'a, 'f,
 
     // Gives every answer that is due and takes the next offer, while there is one. The mailbox is looked into at first, and
     // the ledger asked where it gives nothing.
-    fn visit_resident(&mut self, agent: &mut BoundResident<J, M>, resident: ResidentNo) -> bool {
+    fn visit_resident(&mut self, agent: &mut ResidentDesk<J, M>, resident: ResidentNo) -> bool {
         let mut more = true;
         for _ in self.rt.forever() {
             if self.shared.is_ending() {
@@ -140,11 +132,7 @@ impl<'a, 'f, J: ExchangeIdentity, M: Mailboxes, G: Gate, R: Wait> Worker<'a, 'f,
 
     // Hears every answer that waits, and offers while there is a wish. Room that it was called for is used first: no
     // receipt may hold it up, since others wait for room behind it.
-    fn visit_programme(
-        &mut self,
-        agent: &mut BoundProgramme<J, M>,
-        programme: ProgrammeNo,
-    ) -> bool {
+    fn visit_programme(&mut self, agent: &mut ProgrammeDesk<J, M>, programme: ProgrammeNo) -> bool {
         let mut more = true;
         if agent.asks_first() {
             let (has_more, is_called) = self
@@ -179,7 +167,7 @@ impl<'a, 'f, J: ExchangeIdentity, M: Mailboxes, G: Gate, R: Wait> Worker<'a, 'f,
     // Gives the first answer that is due.
     fn answer(
         &mut self,
-        agent: &mut BoundResident<J, M>,
+        agent: &mut ResidentDesk<J, M>,
         resident: ResidentNo,
         programme: ProgrammeNo,
         kind: AnswerKind,
@@ -197,7 +185,7 @@ impl<'a, 'f, J: ExchangeIdentity, M: Mailboxes, G: Gate, R: Wait> Worker<'a, 'f,
     }
 
     // Offers to the next resident, if there is a wish.
-    fn offer_next(&mut self, agent: &mut BoundProgramme<J, M>, programme: ProgrammeNo) -> Step {
+    fn offer_next(&mut self, agent: &mut ProgrammeDesk<J, M>, programme: ProgrammeNo) -> Step {
         match agent.wish(self.inst) {
             Some(resident) => self.offer(agent, programme, resident),
             None => LEAVE,
@@ -207,7 +195,7 @@ impl<'a, 'f, J: ExchangeIdentity, M: Mailboxes, G: Gate, R: Wait> Worker<'a, 'f,
     // Offers to this resident, who is the next.
     fn offer(
         &mut self,
-        agent: &mut BoundProgramme<J, M>,
+        agent: &mut ProgrammeDesk<J, M>,
         programme: ProgrammeNo,
         resident: ResidentNo,
     ) -> Step
@@ -226,13 +214,13 @@ impl<'a, 'f, J: ExchangeIdentity, M: Mailboxes, G: Gate, R: Wait> Worker<'a, 'f,
     }
 
     // Takes an offer out of the mailbox, enters the take, and decides.
-    fn take(&mut self, agent: &mut BoundResident<J, M>, resident: ResidentNo) -> Step {
+    fn take(&mut self, agent: &mut ResidentDesk<J, M>, resident: ResidentNo) -> Step {
         let desk = Desk::Resident(resident);
         let again = desk;
         self.list_woken();
         let programme = match agent.take() {
             Heard::Got(note) => note.programme,
-            heard => return self.after_look(look_of(&heard), desk),
+            heard => return self.after_look(heard, desk),
         };
         self.pass(again);
         let entry = self
@@ -240,23 +228,17 @@ impl<'a, 'f, J: ExchangeIdentity, M: Mailboxes, G: Gate, R: Wait> Worker<'a, 'f,
             .lock_exchange(self.rt)
             .take(self.inst, &mut self.tally, resident, programme);
         agent.decide(self.inst);
-        self.after_receipt(
-            entry,
-            Event::Take {
-                resident,
-                programme,
-            },
-        )
+        self.after_receipt(entry)
     }
 
     // Takes an answer out of the mailbox, and enters the hear.
-    fn hear(&mut self, agent: &mut BoundProgramme<J, M>, programme: ProgrammeNo) -> Step {
+    fn hear(&mut self, agent: &mut ProgrammeDesk<J, M>, programme: ProgrammeNo) -> Step {
         let desk = Desk::Programme(programme);
         let again = desk;
         self.list_woken();
         let note = match agent.hear() {
             Heard::Got(note) => note,
-            heard => return self.after_look(look_of(&heard), desk),
+            heard => return self.after_look(heard, desk),
         };
         self.pass(again);
         let AnswerNote { resident, kind } = note;
@@ -264,14 +246,7 @@ impl<'a, 'f, J: ExchangeIdentity, M: Mailboxes, G: Gate, R: Wait> Worker<'a, 'f,
             .shared
             .lock_exchange(self.rt)
             .hear(self.inst, &mut self.tally, programme, resident, kind);
-        self.after_receipt(
-            entry,
-            Event::Hear {
-                programme,
-                resident,
-                kind,
-            },
-        )
+        self.after_receipt(entry)
     }
 
     // Lets the gate see a receipt, and ends the run on its word.
@@ -302,11 +277,11 @@ impl<'a, 'f, J: ExchangeIdentity, M: Mailboxes, G: Gate, R: Wait> Worker<'a, 'f,
 
     // What a receipt leaves at its desk.
     #[inline(always)]
-    fn after_receipt(&mut self, entry: Entry, receipt: Event) -> Step {
+    fn after_receipt(&mut self, entry: Entry) -> Step {
         match entry {
             Entry::Made { more, woken } => self.made(more, woken),
             Entry::Refused => {
-                self.shared.fail(self.rt, Trouble::OutOfStep(receipt));
+                self.shared.fail(self.rt, Trouble::OutOfStep);
                 LEAVE
             }
             Entry::Later | Entry::Missed | Entry::Ended | Entry::Gone => LEAVE,
@@ -315,8 +290,8 @@ impl<'a, 'f, J: ExchangeIdentity, M: Mailboxes, G: Gate, R: Wait> Worker<'a, 'f,
 
     // What a look into the mailbox leaves that gave no message: where none waits by the ledger, the desk does what else it
     // has to do.
-    fn after_look(&mut self, look: Look, desk: Desk) -> Step {
-        if let Look::Gone = look {
+    fn after_look<N: Drop>(&mut self, heard: Heard<N>, desk: Desk) -> Step {
+        if let Heard::Gone = heard {
             self.shared.fail(self.rt, Trouble::MailGone(desk));
             return LEAVE;
         }
@@ -328,13 +303,11 @@ impl<'a, 'f, J: ExchangeIdentity, M: Mailboxes, G: Gate, R: Wait> Worker<'a, 'f,
         if !waits {
             return Step::Stay { more: false };
         }
-        match look {
-            Look::Empty => self.miss(desk),
-            Look::Gone | Look::LogFull => {
-                self.shared.fail(self.rt, Trouble::Torn(desk));
-                LEAVE
-            }
+        if let Heard::LogFull = heard {
+            self.shared.fail(self.rt, Trouble::Torn(desk));
+            return LEAVE;
         }
+        self.miss(desk)
     }
 
     // A mailbox had nothing, or no room, against the journal: the desk is come back to, while there is patience.
@@ -346,7 +319,8 @@ impl<'a, 'f, J: ExchangeIdentity, M: Mailboxes, G: Gate, R: Wait> Worker<'a, 'f,
             return LEAVE;
         }
         if self.missed > MISSES {
-            self.shared.nap(self.rt, &mut Naps::for_work());
+            let mut naps = Naps::FOR_WORK;
+            self.shared.nap(self.rt, &mut naps);
         }
         Step::Leave { again: true }
     }
@@ -357,23 +331,28 @@ impl<'a, 'f, J: ExchangeIdentity, M: Mailboxes, G: Gate, R: Wait> Worker<'a, 'f,
     fn made(&mut self, more: bool, woken: Option<u32>) -> Step {
         self.missed = 0;
         if let Some(desk) = woken {
-            self.woken.push(desk);
-            if G::ENTERED_MAY_HOLD || self.woken.is_full() {
+            if self.woken.is_full() {
                 self.list_woken();
             }
+            self.woken.push(desk);
+        }
+        if G::ENTERED_MAY_HOLD {
+            self.list_woken();
         }
         self.gate.entered(self.number);
         Step::Stay { more }
     }
 
     // Lists the desks that were woken, and wakes a worker that waits for one.
-    fn list_woken(&mut self) {
+    fn list_woken(&mut self)
+        ensures { self.new.woken.items ≡ [] }
+    {
         if self.woken.is_empty() {
             return;
         }
         let wakes = {
             let mut scheduler = self.shared.lock_scheduler(self.rt);
-            scheduler.list_all(self.woken.desks());
+            scheduler.list_all(self.woken.as_slice());
             scheduler.wakes_one()
         };
         self.woken.clear();
@@ -386,7 +365,7 @@ impl<'a, 'f, J: ExchangeIdentity, M: Mailboxes, G: Gate, R: Wait> Worker<'a, 'f,
     fn turn(&mut self, desk: u32, again: bool) -> Option<u32> {
         let (next, wakes) = {
             let mut scheduler = self.shared.lock_scheduler(self.rt);
-            scheduler.list_all(self.woken.desks());
+            scheduler.list_all(self.woken.as_slice());
             scheduler.let_go(desk, again);
             (scheduler.next(), scheduler.wakes_one())
         };
@@ -440,7 +419,7 @@ impl<'a, 'f, J: ExchangeIdentity, M: Mailboxes, G: Gate, R: Wait> Worker<'a, 'f,
     // and then waits for news. Who naps needs no waking.
     fn claim_or_look(&self, desk: u32) -> Next {
         let mut found = self.shared.lock_scheduler(self.rt).claim_or_next(desk);
-        let mut naps = Naps::for_work();
+        let mut naps = Naps::FOR_WORK;
         for _ in 0..LOOKS {
             if found != Next::Nothing {
                 return found;
@@ -471,14 +450,5 @@ impl<'a, 'f, J: ExchangeIdentity, M: Mailboxes, G: Gate, R: Wait> Worker<'a, 'f,
             self.shared.news.notify_one();
         }
         next
-    }
-}
-
-// Why a look into a mailbox that gave nothing did so.
-fn look_of<M>(heard: &Heard<M>) -> Look {
-    match heard {
-        Heard::Gone => Look::Gone,
-        Heard::LogFull => Look::LogFull,
-        Heard::Nothing | Heard::Got(_) => Look::Empty,
     }
 }
