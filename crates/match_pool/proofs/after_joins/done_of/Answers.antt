@@ -6,8 +6,8 @@ use Rattle.match_pool.specs.Done.{AreCounted}
 use Rattle.match_pool.proofs.Runs.{legal_of, shown_of, run_of, settled_run}
 use Rattle.match_pool.proofs.after_joins.done_of.Goals as goal
 
-pub returns : goal.returns
-returns g c =
+pub returns-clause-run : goal.returns-clause-run
+returns-clause-run g c =
     let asked = c.requires in
     let kept = c.into_parts-journal.ensures.kept in
     let parts = c.into_parts-journal.ensures.parts in
