@@ -637,8 +637,8 @@ impl Gate for HoldsVisit {
         if !self.has_begun.swap(true, Ordering::SeqCst) {
             self.worker.store(worker as u64, Ordering::SeqCst);
             self.wait_for_others(worker, 2);
-            for _ in 0..10 {
-                linger();
+            for _ in 0..LINGER {
+                thread::yield_now();
             }
         } else if self.worker.load(Ordering::SeqCst) == worker as u64
             && self.counts.of(worker) == 2
