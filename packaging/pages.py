@@ -1,4 +1,5 @@
-"""Makes a release's pages from the repository's: README's parts for users, and the pages of docs/ that they lead to."""
+"""Makes a release's pages from the repository's: README's parts for users, and the pages of docs/ that they lead to, of which
+those with marks have their parts for users too."""
 from __future__ import annotations
 
 import os
@@ -7,7 +8,7 @@ from typing import Dict, List
 
 BEGIN, END = "<!-- for users -->", "<!-- for all others -->"
 # Pages that users' pages name, and that are for whoever works on the programs.
-NOT_FOR_USERS = ("docs/DECISIONS", "docs/decisions", "docs/architecture", "docs/house")
+NOT_FOR_USERS = ("docs/decisions", "docs/architecture", "docs/testing")
 LINK = re.compile(r"(!?)\[([^\]]*)\]\(([^)#\s]*)(#[^)]*)?\)")
 INSTALLED = {"./residency": "residency", "./why": "residency-why", "./office": "office",
              "./python": "~/.local/lib/residency/python"}
@@ -15,11 +16,11 @@ OF_CLONE = re.compile(r"\./(?:residency|why|office|python)\b(?![/-])")
 
 
 def users_part(text: str) -> str:
-    """README between each begin and the end after it. ValueError where one is missing."""
-    parts = text.split(BEGIN)[1:]
+    """A page's title, and what stands between each begin and the end after it. ValueError where there is none."""
+    title, *parts = text.split(BEGIN)
     if not parts:
-        raise ValueError(f"README.md has no {BEGIN}")
-    return "\n\n".join(["# Residency", *(part.split(END)[0].strip("\n") for part in parts)]) + "\n"
+        raise ValueError(f"the page has no {BEGIN}")
+    return "\n\n".join([title.strip("\n"), *(part.split(END)[0].strip("\n") for part in parts)]) + "\n"
 
 
 def installed(text: str) -> str:
@@ -62,7 +63,8 @@ def release_pages(top: str) -> Dict[str, bytes]:
             if path in texts or path in pictures or not path.startswith("docs/") or path.startswith(NOT_FOR_USERS):
                 continue
             if path.endswith(".md"):
-                texts[path] = read(path).decode()
+                text = read(path).decode()
+                texts[path] = users_part(text) if BEGIN in text else text
                 wanted.append(path)
             else:
                 pictures[path] = read(path)

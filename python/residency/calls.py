@@ -1,11 +1,10 @@
 """The questions to the built program: a match, an audit, a replay, and why; each answered in the caller's names."""
 from __future__ import annotations
 
-import re
 from typing import TYPE_CHECKING, Dict, Iterator, List, Mapping, Optional, Tuple, Union
 
 from .docket import read_docket, sheet_rows
-from .errors import DocketFault, MarketFault, ProgramMissing, UnknownStatus
+from .errors import DocketFault, MarketFault, UnknownStatus
 from .names import Names
 from .program import DEFAULT_TIMEOUT, run_program
 from .results import Audit, Match, Replay, Why
@@ -14,7 +13,6 @@ from .text import shown
 if TYPE_CHECKING:
     from .market import Market, Places
 
-_OWN = re.compile(r"(; you have the [0-9]+[a-z]{2}, )([A-Za-z0-9._-]{1,32})\.\Z")
 _WHY_COLUMNS = "resident,programme,choice,answer,rank,last_rank,quota"
 
 
@@ -133,25 +131,15 @@ def why(market: Market, places: Places, resident: str, programme: Optional[str] 
     if faults:
         raise MarketFault(faults)
     data = market.docket() + _sheet(market, places)
-    asked = market.resident_lists[resident] if programme is None else (programme,)
-    told = _why_all(market, data, timeout) if _has_all() else None
-    if told is None:
-        return tuple(_why_by_sentence(market, data, resident, name, timeout) for name in asked)
     if programme is not None and programme not in market.resident_lists[resident]:
-        return (_why_by_sentence(market, data, resident, programme, timeout),)
-    return tuple(told[resident, name] for name in asked)
+        return (_why_unlisted(market, data, resident, programme, timeout),)
+    told = _why_all(market, data, timeout)
+    return tuple(told[resident, name] for name in (market.resident_lists[resident] if programme is None else (programme,)))
 
 
 def why_all(market: Market, places: Places, timeout: float = DEFAULT_TIMEOUT) -> Tuple[Why, ...]:
     """Why each resident is, or isn't, with each programme of its list, by the residents' order, in one run of the program."""
-    if not _has_all():
-        raise ProgramMissing("this program why has no --all")
     return tuple(_why_all(market, market.docket() + _sheet(market, places), timeout).values())
-
-
-def _has_all() -> bool:
-    """Whether the program tells all in a table."""
-    return b"--all" in run_program("why", ["--help"], b"", 60)[1]
 
 
 def _why_all(market: Market, data: bytes, timeout: float) -> Dict[Tuple[str, str], Why]:
@@ -178,16 +166,11 @@ def _number(cell: str) -> Optional[int]:
     return int(cell) if cell else None
 
 
-def _why_by_sentence(market: Market, data: bytes, resident: str, programme: str, timeout: float) -> Why:
-    """The program's sentence on one programme, with the caller's names in place of the docket's."""
+def _why_unlisted(market: Market, data: bytes, resident: str, programme: str, timeout: float) -> Why:
+    """The program's sentence on a programme that isn't on the list, which no table has, with the caller's name of it."""
     made = market.names.docket_name("P", programme)
     status, answer = run_program("why", [market.names.docket_name("R", resident), made], data, timeout)
-    sentence = answer.decode("utf-8", "replace").strip()
-    if status != 0 or not sentence:
+    said = answer.decode("utf-8", "replace").strip()
+    if status != 0 or not said.startswith(f"{made}: "):
         raise UnknownStatus(status, "an answer without a sentence")
-    sentence = _OWN.sub(lambda own: f"{own.group(1)}{market.names.name('P', own.group(2))}.", sentence)
-    before = "you and " if sentence.startswith(f"you and {made} ") else ""
-    if sentence.startswith((f"{before}{made} ", f"{before}{made}:")):
-        sentence = before + programme + sentence[len(before) + len(made):]
-    listed = market.resident_lists[resident]
-    return Why(resident, programme, sentence, listed.index(programme) + 1 if programme in listed else None)
+    return Why(resident, programme, programme + said[len(made):])

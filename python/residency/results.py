@@ -62,10 +62,10 @@ class Replay:
 class Why:
     """Why a resident is, or isn't, with a programme.
 
-    `choice` is the programme's place in the resident's list as written, None where the resident doesn't list it. Where
-    the program has a table of all answers, `answer` is the table's word, `rank` the resident's place with the programme,
-    `last_rank` that of the last whom it took and `quota` its places, each None where it doesn't belong to that answer.
-    Else `text` is the program's sentence, in the caller's names.
+    `choice` is the programme's place in the resident's list as written, and `answer` the word of the program's table.
+    `rank` is the resident's place with the programme, `last_rank` that of the last whom it took and `quota` its places, each
+    None where it doesn't belong to that answer. Of a programme that isn't on the list there is no row: `choice` and `answer`
+    are None, and `text` is the program's sentence, in the caller's names.
     """
 
     resident: str

@@ -2,6 +2,7 @@
 //   DEVICE_IN_BYTES=n   a call moves n bytes at most
 //   DEVICE_IN_WAITS=n   before each call that does anything n calls are interrupted
 //   DEVICE_IN_FAILS=n   the n-th call that does anything, and each after it, fails
+//   DEVICE_IN_ENDS=1    each call after the one that found the end of the input fails
 //   DEVICE_THREADS=n    n threads are started, and no more
 //   DEVICE_TOLD=F       at the end the file F gets two numbers: the reads and the writes that did or failed something
 #define _GNU_SOURCE
@@ -17,6 +18,7 @@
 struct device {
     long bytes, waits, fails;
     long interrupted, done;
+    long ends, ended;
 };
 
 static struct device in, out;
@@ -29,8 +31,8 @@ static long number(const char *name) {
 }
 
 __attribute__((constructor)) static void begin(void) {
-    in = (struct device){number("DEVICE_IN_BYTES"), number("DEVICE_IN_WAITS"), number("DEVICE_IN_FAILS"), 0, 0};
-    out = (struct device){number("DEVICE_OUT_BYTES"), number("DEVICE_OUT_WAITS"), number("DEVICE_OUT_FAILS"), 0, 0};
+    in = (struct device){number("DEVICE_IN_BYTES"), number("DEVICE_IN_WAITS"), number("DEVICE_IN_FAILS"), 0, 0, number("DEVICE_IN_ENDS"), 0};
+    out = (struct device){number("DEVICE_OUT_BYTES"), number("DEVICE_OUT_WAITS"), number("DEVICE_OUT_FAILS"), 0, 0, 0, 0};
     told = getenv("DEVICE_TOLD");
 }
 
@@ -43,12 +45,14 @@ static ssize_t move(struct device *device, long call, int file, void *text, size
     }
     device->interrupted = 0;
     device->done++;
-    if (device->fails && device->done >= device->fails) {
+    if ((device->fails && device->done >= device->fails) || device->ended) {
         errno = EIO;
         return -1;
     }
     if (device->bytes && length > (size_t)device->bytes) length = (size_t)device->bytes;
-    return syscall(call, file, text, length);
+    ssize_t moved = syscall(call, file, text, length);
+    if (device->ends && moved == 0 && length > 0) device->ended = 1;
+    return moved;
 }
 
 ssize_t read(int file, void *text, size_t length) {
@@ -67,8 +71,7 @@ int pthread_create(pthread_t *thread, const pthread_attr_t *attributes, void *(*
     return create(thread, attributes, work, given);
 }
 
-// The program ends by this call, which runs no destructor.
-void _exit(int status) {
+static void tell(void) {
     if (told) {
         char text[64];
         int length = snprintf(text, sizeof text, "%ld %ld\n", in.done, out.done);
@@ -78,5 +81,12 @@ void _exit(int status) {
             close(file);
         }
     }
+}
+
+// A program with threads ends by this call, which runs no destructor, and one without by its last return.
+void _exit(int status) {
+    tell();
     for (;;) syscall(SYS_exit_group, status);
 }
+
+__attribute__((destructor)) static void end(void) { tell(); }

@@ -1,7 +1,8 @@
 // A preloaded library for tests: it refuses growths of the process.
 //   REFUSE_AT=n    the n-th growth is refused
 //   REFUSE_FROM=n  every growth from the n-th on is refused
-//   REFUSE_TOLD=F  at the end the file F gets two numbers: the growths that were asked for, and those that were refused
+//   REFUSE_TOLD=F  at the end the file F gets three numbers: the growths that were asked for, those that were refused, and the
+//                  blocks that were given while growths counted and never given back
 //   REFUSE_MARKED  where it is set, only growths between the lines `call` and `done` on standard output count
 // A growth is a call of malloc, calloc, realloc or an aligned form that asks for room.
 #define _GNU_SOURCE
@@ -19,12 +20,43 @@ extern void *__libc_malloc(size_t);
 extern void *__libc_calloc(size_t, size_t);
 extern void *__libc_realloc(void *, size_t);
 extern void *__libc_memalign(size_t, size_t);
+extern void __libc_free(void *);
 
 static atomic_long asked, refused;
 static long at, from;
 static const char *told;
 static atomic_int counts;
 static int is_marked;
+
+// The blocks that were given while growths counted, until they are given back. Past the most that there is room for, more are
+// counted as kept.
+#define MOST 65536
+static void *given[MOST];
+static long kept, unnoted;
+static atomic_flag busy = ATOMIC_FLAG_INIT;
+
+static void *note(void *block, int is_counted) {
+    if (!block || !is_counted) return block;
+    while (atomic_flag_test_and_set(&busy)) {
+    }
+    if (kept < MOST) given[kept++] = block;
+    else unnoted++;
+    atomic_flag_clear(&busy);
+    return block;
+}
+
+static void forget(void *block) {
+    if (!block) return;
+    while (atomic_flag_test_and_set(&busy)) {
+    }
+    for (long i = kept - 1; i >= 0; i--) {
+        if (given[i] == block) {
+            given[i] = given[--kept];
+            break;
+        }
+    }
+    atomic_flag_clear(&busy);
+}
 
 static long number(const char *name) {
     const char *text = getenv(name);
@@ -49,10 +81,22 @@ static int is_refused(void) {
     return 1;
 }
 
-void *malloc(size_t size) { return is_refused() ? NULL : __libc_malloc(size); }
-void *calloc(size_t count, size_t size) { return is_refused() ? NULL : __libc_calloc(count, size); }
-void *realloc(void *old, size_t size) { return is_refused() ? NULL : __libc_realloc(old, size); }
-void *memalign(size_t align, size_t size) { return is_refused() ? NULL : __libc_memalign(align, size); }
+void *malloc(size_t size) { return is_refused() ? NULL : note(__libc_malloc(size), counts); }
+void *calloc(size_t count, size_t size) { return is_refused() ? NULL : note(__libc_calloc(count, size), counts); }
+void *memalign(size_t align, size_t size) { return is_refused() ? NULL : note(__libc_memalign(align, size), counts); }
+
+// A block leaves the list before it is given back, since another thread may be given it at once.
+void free(void *block) {
+    forget(block);
+    __libc_free(block);
+}
+
+void *realloc(void *old, size_t size) {
+    if (is_refused()) return NULL;
+    forget(old);
+    return note(__libc_realloc(old, size), counts);
+}
+
 void *aligned_alloc(size_t align, size_t size) { return memalign(align, size); }
 
 int posix_memalign(void **made, size_t align, size_t size) {
@@ -65,18 +109,20 @@ int posix_memalign(void **made, size_t align, size_t size) {
 static void tell(void) {
     if (!told) return;
     char text[64];
-    int length = snprintf(text, sizeof text, "%ld %ld\n", (long)asked, (long)refused);
+    int length = snprintf(text, sizeof text, "%ld %ld %ld\n", (long)asked, (long)refused, kept + unnoted);
     int file = open(told, O_WRONLY | O_CREAT | O_TRUNC, 0600);
     if (file < 0) return;
     (void)!write(file, text, (size_t)length);
     close(file);
 }
 
-// The program ends by this call, which runs no destructor.
+// A program with threads ends by this call, which runs no destructor, and one without by its last return.
 void _exit(int status) {
     tell();
     for (;;) syscall(SYS_exit_group, status);
 }
+
+__attribute__((destructor)) static void end(void) { tell(); }
 
 // The marks are lines that are written whole.
 ssize_t write(int file, const void *text, size_t length) {

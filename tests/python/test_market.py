@@ -284,10 +284,9 @@ class Answers(unittest.TestCase):
 
 
 class WhyNot(unittest.TestCase):
-    """The program's sentences where it has no table of all answers, else its table; and a table by a program of the test."""
+    """The program's table of all answers, and a table by a program of the test."""
 
     TABLE = """#!/bin/sh
-if [ "$1" = --help ]; then echo "why [--all]"; exit 0; fi
 cat > /dev/null
 cat "$ROWS"
 """
@@ -323,26 +322,20 @@ cat "$ROWS"
             with self.in_folder(last), self.assertRaises(UnknownStatus):
                 market().why(MATCHED, "Zoë Weiß")
 
-    def test_sentences(self):
+    def test_answers(self):
         try:
             find_program("why")
         except ProgramMissing as missing:
             self.skipTest(str(missing))
         one = market()
-        whys = one.why(MATCHED, "Zoë Weiß")
-        self.assertEqual([(each.resident, each.programme, each.choice) for each in whys],
-                         [("Zoë Weiß", "Łódź, East", 1), ("Zoë Weiß", "=Köln", 2)])
+        self.assertEqual(one.why(MATCHED, "Zoë Weiß"),
+                         (Why("Zoë Weiß", "Łódź, East", choice=1, answer="matched"),
+                          Why("Zoë Weiß", "=Köln", choice=2, answer="better")))
         # Of a programme that isn't on the list there is a sentence alone, which names it as the caller does.
-        text = one.why(MATCHED, "王芳", "Łódź, East")[0].text
-        self.assertEqual(("Łódź, East" in text, "lodz" in text), (True, False), text)
-        if not whys[0].answer:
-            self.assertEqual([each.text for each in whys], ["Łódź, East has a place for you: you are matched there.",
-                             "=Köln is 2nd on your list of those that ranked you too; you have the 1st, Łódź, East."])
-            self.assertEqual(one.why(MATCHED, "王芳", "Łódź, East")[0].text, "you and Łódź, East don't rank one another.")
-            self.assertEqual(one.withdraw(["=Köln"]).why({**MATCHED, "Anna (1)": None, "王芳": None}, "王芳")[0].text,
-                             "=Köln is withdrawn.")
-        else:
-            self.assertEqual(len({each.answer for each in whys}), 2)
+        self.assertEqual(one.why(MATCHED, "王芳", "Łódź, East"),
+                         (Why("王芳", "Łódź, East", "Łódź, East: it is not on your list."),))
+        gone = one.withdraw(["=Köln"]).why({**MATCHED, "Anna (1)": None, "王芳": None}, "王芳")
+        self.assertEqual([each.answer for each in gone], ["withdrawn"])
 
     def test_names_that_nobody_has(self):
         with self.assertRaisesRegex(MarketFault, "no resident is named Kim\nno programme is named East"):

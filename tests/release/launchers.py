@@ -187,7 +187,7 @@ def freshness(trial: Trial, folder: str) -> None:
                  "crates/version/src/lib.rt", "crates/docket/src/new.rt"):
         clone.after(path, 1, f"{path} changed")
     proof = os.path.relpath(glob.glob(f"{folder}/crates/match_model/proofs/*.antt")[0], folder)
-    for path in (proof, "crates/residency_why/src/main.rt", "crates/samples/src/lib.rt", "crates/docket/src/new.rt~"):
+    for path in (proof, "crates/residency_why/src/main.rt", "crates/test_support/src/lib.rt", "crates/docket/src/new.rt~"):
         clone.after(path, 0, f"{path} changed")
     clone.after(None, 1, "nothing of it was built", "./why")
     clone.after("crates/match_reasons/src/lib.rt", 1, "crates/match_reasons changed", "./why")

@@ -25,4 +25,4 @@ pub mod RestFacts
 pub mod DocketFacts
 pub mod WholeFacts
 pub mod WriteFacts
-mod RowTextFacts
+pub mod RowTextFacts

@@ -1,5 +1,5 @@
 -- Facts on texts that have a place among others.
-use Rattle.std.proofs.Common.{◌≡◌, ◌≢◌, ◌≤◌, ◌<◌, ◌+◌, ◌-◌, ℕ, zero, suc, List, [], ◌∷◌, ◌++◌, Bool, true, false, cond, length, get_or, take, replicate, arith, rules, sym, ◌∙◌, refl, ap, Option, Some, None, is_some, position}
+use Rattle.std.proofs.Common.{◌≡◌, ◌≢◌, ◌≤◌, ◌<◌, ◌+◌, ℕ, zero, suc, List, [], ◌∷◌, ◌++◌, Bool, true, false, cond, length, get_or, take, replicate, arith, rules, sym, ◌∙◌, refl, ap, Option, Some, None, is_some, position}
 use Rattle.std.specs.Prelude.{bytes_eq, nat_eq, slice_get, slice_set}
 use Rattle.std.specs.List.{IsDistinct, position_from}
 use Rattle.std.proofs.lemmas.List.{take_all, get_or-set_same, get_or-set_other}

@@ -1,11 +1,22 @@
 -- The text of a row, field after field.
-use Rattle.std.proofs.Common.{◌≡◌, ◌≢◌, ◌==◌, ◌<◌, ◌+◌, ◌∷◌, [], ℕ, List, Bool, Option, true, false, length, take, get_or, refl, sym, ◌∙◌, subst, arith}
+use Rattle.std.proofs.Common.{◌≡◌, ◌≢◌, ◌==◌, ◌<◌, ◌+◌, ◌∷◌, [], ℕ, List, Bool, Option, None, Some, true, false, length, take, get_or, ◌++◌, refl, sym, ap, append-nil, ◌∙◌, subst, arith}
 use Rattle.std.proofs.lemmas.Bool.{ne_eqb}
-use Rattle.std.proofs.KnownBytes.{Appends-trans}
-use Rattle.std.specs.Io.KnownBytes.{Appends}
+use Rattle.std.specs.Borrow.{MutBor}
+use Rattle.std.specs.Io.KnownBytes.{Appends, append_known}
+use Rattle.std.proofs.KnownBytes.{Appends-nil, Appends-trans}
 use Rattle.csv.specs.Writing.{needs_quotes, escaped, field_text, next_sep, row_body, is_blank, quote_mark}
 use Rattle.csv.proofs.WriteFacts.{quoted-step, row-step}
-use Rattle.docket.specs.RowText.{row_setup, row, row_end}
+use Rattle.docket.specs.RowText.{row_setup, row, row_end, Adds, IsOver, Writes}
+use Rattle.docket.specs.declared.row_writer.RowWriter.{RowWriter}
+
+-- nothing was added
+pub adds_none : {W : Type 0} (contents : W → Option (List ℕ)) (a : RowWriter W) → Adds contents a a []
+adds_none contents a = (refl, Appends-nil _)
+
+-- one text was added after another
+pub adds_both : {W : Type 0} (contents : W → Option (List ℕ)) (a b c : RowWriter W) (first second : List ℕ) → Adds contents a b first →
+    Adds contents b c second → Adds contents a c (first ++ second)
+adds_both contents a b c first second h k = (k.0 ∙ h.0, Appends-trans _ _ _ _ _ h.1 k.1)
 
 long : (b : ℕ) (rest : List ℕ) → (length (b ∷ rest) == 0) ≡ false
 long b rest = ne_eqb _ 0 (λ z. absurd (omega (arith, z)))
@@ -40,18 +51,37 @@ unfolding escaped
 escaped_other b n = let e = ne_eqb b quote_mark n in rw e refl
 
 -- one byte more of a field between quotes
-pub quoted_next : (a b c : Option (List ℕ)) (field : List ℕ) (i : ℕ) → i < length field → Appends a b (quote_mark ∷ escaped row_setup (take i field))
-    → Appends b c (escaped row_setup (get_or field i 0 ∷ [])) → Appends a c (quote_mark ∷ escaped row_setup (take (i + 1) field))
-quoted_next a b c field i lt h k = subst (Appends a c) (quoted-step row_setup quote_mark field i lt) (Appends-trans a b c _ _ h k)
+pub quoted_next : {W : Type 0} (contents : W → Option (List ℕ)) (a b c : RowWriter W) (field : List ℕ) (i : ℕ) → i < length field
+    → Adds contents a b (quote_mark ∷ escaped row_setup (take i field)) → Adds contents b c (escaped row_setup (get_or field i 0 ∷ []))
+    → Adds contents a c (quote_mark ∷ escaped row_setup (take (i + 1) field))
+quoted_next contents a b c field i lt h k =
+    subst (Adds contents a c) (quoted-step row_setup quote_mark field i lt) (adds_both contents a b c _ _ h k)
 
 -- one field more of a row
-pub fields_next : (a b c d : Option (List ℕ)) (fields : List (List ℕ)) (field : List ℕ) (i : ℕ) → i < length fields
-    → Appends a b (row_body row_setup (take i fields)) → Appends b c (next_sep row_setup i) → Appends c d (field_text row_setup field)
-    → field ≡ get_or fields i [] → Appends a d (row_body row_setup (take (i + 1) fields))
-fields_next a b c d fields field i lt h k l e =
-    subst (Appends a d) (sym (row-step row_setup fields i lt)) (Appends-trans a b d _ _ h (Appends-trans b c d _ _ k (rw e at l)))
+pub fields_next : {W : Type 0} (contents : W → Option (List ℕ)) (a b c d : RowWriter W) (fields : List (List ℕ)) (field : List ℕ) (i : ℕ) →
+    i < length fields → Adds contents a b (row_body row_setup (take i fields)) → Adds contents b c (next_sep row_setup i)
+    → Adds contents c d (field_text row_setup field) → field ≡ get_or fields i [] → Adds contents a d (row_body row_setup (take (i + 1) fields))
+fields_next contents a b c d fields field i lt h k l e =
+    subst (Adds contents a d) (sym (row-step row_setup fields i lt))
+    (adds_both contents a b d _ _ h (adds_both contents b c d _ _ k (rw e at l)))
 
 -- a row is its fields and its end
-pub row_whole : (a b c : Option (List ℕ)) (fields : List (List ℕ)) → Appends a b (row_body row_setup fields) → Appends b c (row_end fields) → Appends a c (row fields)
+pub row_whole : {W : Type 0} (contents : W → Option (List ℕ)) (a b c : RowWriter W) (fields : List (List ℕ)) → Adds contents a b (row_body row_setup fields)
+    → Adds contents b c (row_end fields) → Adds contents a c (row fields)
 unfolding row
-row_whole a b c fields h k = Appends-trans a b c _ _ h k
+row_whole contents a b c fields h k = adds_both contents a b c _ _ h k
+
+known_sent : (old mid new : Option (List ℕ)) (none rows text : List ℕ) → none ≡ [] → Appends (append_known old none) (append_known mid rows) text
+    → Appends mid new rows → Appends old new text
+known_sent None mid new none rows text e first second = tt
+known_sent (Some o) None new none rows text e first second = absurd first
+known_sent (Some o) (Some m) None none rows text e first second = absurd second
+known_sent (Some o) (Some m) (Some n) none rows text e first second =
+    second ∙ first ∙ ap (λ (start : List ℕ). (o ++ start) ++ text) e ∙ ap (λ (start : List ℕ). start ++ text) (append-nil o)
+
+-- a text was added to no rows, and what then waited was handed to the writer
+pub sent : {W : Type 0} (contents : W → Option (List ℕ)) (start last : RowWriter W) (lent : MutBor W) (new : W) (none text : List ℕ) → IsOver start lent none
+    → none ≡ [] → Adds contents start last text → Writes contents last.writer.now new last.waiting.now.items → Writes contents lent.now new text
+sent contents start last lent new none text over empty added handed =
+    subst (λ w. Writes contents w new text) over.1
+    (known_sent _ _ _ _ _ text (over.2 ∙ empty) added.1 handed)

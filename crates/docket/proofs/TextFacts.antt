@@ -1,7 +1,6 @@
 -- Facts on texts that are kept by number.
 use Rattle.std.proofs.Common.{◌≡◌, ◌≤◌, ◌<◌, ℕ, suc, List, [], ◌∷◌, ◌++◌, Bool, true, false, length, get_or, map, take, arith, sym, ◌∙◌, refl, ap, Some, append-nil, append_assoc}
 use Rattle.std.specs.Prelude.{slice_get, bytes_eq, if◌then◌else◌}
-use Rattle.std.specs.List.{All}
 use Rattle.std.proofs.lemmas.List.{map_push, length-map, get_or-map, get_or-take, take_all, take-take, length-take, take-append-le}
 use Rattle.std.proofs.lemmas.List.Elements.{All-nil, All-push, All-weaker}
 use Rattle.std.proofs.lemmas.List.Folds.{list_all-append}
@@ -10,7 +9,7 @@ use Rattle.std.proofs.lemmas.Option.{slice_get-get_or, get_or_from_slice_get, sl
 use Rattle.docket.specs.Words.{is_name}
 use Rattle.docket.specs.Contents.{number_in}
 use Rattle.docket.specs.Fields.{field}
-use Rattle.docket.specs.FlatRows.{texts_at, cut, AreCuts, AreFlat, AreNumbersOf, AreShort, AreNames, AddsTexts, StartsWith}
+use Rattle.docket.specs.FlatRows.{texts_at, cut, AreFlat, AreNumbersOf, AreShort, AreNames, AddsTexts, StartsWith}
 use Rattle.docket.specs.declared.store.name_key.TheConstants.{MAX_NAME}
 use Rattle.docket.proofs.FieldFacts.{field-get_or}
 use Rattle.docket.proofs.FlatRowsFacts.{AreCuts-none, AreCuts-push, cut-push}

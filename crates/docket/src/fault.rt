@@ -1,6 +1,6 @@
 //! Why a docket could not be read or written.
 ghost use Rattle.std.specs.Prelude.{◌≡◌};
-ghost use Rattle.docket.specs.declared.fault.DocketFault.TheVariants.{Memory};
+ghost use Rattle.docket.specs.declared.fault.DocketFault.TheVariants.{Memory, Write};
 
 use match_model::ModelFault;
 use std::alloc::{AllocError, AllocFailed};
@@ -99,6 +99,18 @@ impl From<AllocError> for DocketFault {
 
     fn from(_error: AllocError) -> DocketFault {
         DocketFault::Memory
+    }
+}
+
+/// The writer answered a fault.
+#[derive(Clone, Copy, Debug, PartialEq, Eq)]
+pub struct WriteFailed;
+
+impl From<WriteFailed> for DocketFault {
+    ghost from_gives = { λ _ e. e ≡ Write };
+
+    fn from(_error: WriteFailed) -> DocketFault {
+        DocketFault::Write
     }
 }
 

@@ -22,3 +22,4 @@ mod Rows
 mod NoteCodes
 mod Seats
 mod Quiet
+pub mod Told

@@ -8,4 +8,5 @@ pub mod Seats
 pub mod Refusal
 pub mod Pending
 pub mod Steps
+pub mod Told
 pub mod Shown

@@ -4,6 +4,8 @@
 //! them.
 #![tactic(auto)]
 
+mod at_rest;
+mod changes;
 mod event;
 mod exchange;
 mod note;
@@ -12,7 +14,8 @@ mod programme_row;
 mod programmes;
 mod resident_row;
 mod residents;
+mod some_event;
 
 pub use event::{AnswerKind, Capacity, Desk, Event, Pending, Refused};
 pub use exchange::{Core, CoreFault};
-pub use note::{AnswerNote, OfferNote};
+pub use note::{AnswerNote, MailLeft, OfferNote};

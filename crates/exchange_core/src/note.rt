@@ -39,3 +39,12 @@ impl Model for AnswerNote {
 
     ghost inverse = { λ n. record { resident = n.0; kind = n.1 } };
 }
+
+/// What an event leaves in the mailboxes of the two desks that it is between.
+#[derive(Clone, Copy, Debug, PartialEq, Eq)]
+pub struct MailLeft {
+    /// Whether what was sent is the only message that waits at its receiver, so that the mailbox was empty before.
+    pub receiver_was_empty: bool,
+    /// Whether messages wait in the mailbox of the desk whose event it is.
+    pub sender_has_more: bool,
+}

@@ -60,41 +60,34 @@ impl Part {
 
     /// One note more, at the end of those that wait.
     #[inline(always)]
-    pub(crate) fn push(self, notes: &mut Vec<u32>, note: u32) -> Part
-        requires ring { IsRing self }
-        requires within { self.start + self.room ≤ length notes.old.items }
-        requires room { self.len < self.room }
-        ensures part { result ≡ pushed self }
-        ensures notes { notes.new.items ≡ slice_set notes.old.items (place_in self self.len) note }
+    pub(crate) fn push(&mut self, notes: &mut Vec<u32>, note: u32)
+        requires ring { IsRing self.old }
+        requires within { self.old.start + self.old.room ≤ length notes.old.items }
+        requires room { self.old.len < self.old.room }
+        ensures part { self.new ≡ pushed self.old }
+        ensures notes { notes.new.items ≡ slice_set notes.old.items (place_in self.old self.old.len) note }
     {
         let place = self.place(self.len);
         notes[place] = note;
-        Part {
-            len: self.len + 1,
-            ..self
-        }
+        self.len += 1;
     }
 
     /// Without the note in front, if one waits.
     #[inline(always)]
-    pub(crate) fn pop(self) -> Part
-        requires { IsRing self }
-        ensures { result ≡ popped self }
+    pub(crate) fn pop(&mut self)
+        requires { IsRing self.old }
+        ensures { self.new ≡ popped self.old }
     {
         if self.len == 0 {
-            return self;
+            return;
         }
         let from_front = self.room - self.front;
-        let front = if from_front > 1 {
+        self.front = if from_front > 1 {
             self.front + 1
         } else {
             1 - from_front
         };
-        Part {
-            front,
-            len: self.len - 1,
-            ..self
-        }
+        self.len -= 1;
     }
 }
 

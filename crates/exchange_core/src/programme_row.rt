@@ -158,9 +158,8 @@ impl ProgrammeRow {
         requires room { length (seat_of_programme self.old programme).waiting < (seat_of_programme self.old programme).room }
         ensures { self.new ≡ slice_set self.old programme (sent_answer (seat_of_programme self.old programme) (resident, kind)) }
     {
-        let part = self.seats[programme.0 as usize].part;
-        let part = part.push(&mut self.notes, note_of(resident, kind));
-        self.seats[programme.0 as usize].part = part;
+        let seat = &mut self.seats[programme.0 as usize];
+        seat.part.push(&mut self.notes, note_of(resident, kind));
     }
 
     /// The answer in front, which is this one, is heard; a rejection frees its place.
@@ -170,7 +169,7 @@ impl ProgrammeRow {
         ensures { self.new ≡ slice_set self.old programme (heard_answer (seat_of_programme self.old programme) (resident, kind)) }
     {
         let seat = &mut self.seats[programme.0 as usize];
-        seat.part = seat.part.pop();
+        seat.part.pop();
         seat.out = out_after(seat.out, resident, kind);
     }
 }

@@ -149,9 +149,9 @@ impl ResidentRow {
         requires room { length (seat_of_resident self.old resident).waiting < (seat_of_resident self.old resident).room }
         ensures { self.new ≡ slice_set self.old resident (sent_offer (seat_of_resident self.old resident) programme) }
     {
-        let part = self.seats[resident.0 as usize].part;
-        let part = part.push(&mut self.notes, note_of_offer(programme, rank));
-        self.seats[resident.0 as usize].part = part;
+        let seat = &mut self.seats[resident.0 as usize];
+        seat.part
+            .push(&mut self.notes, note_of_offer(programme, rank));
     }
 
     /// The offer in front, which is this programme's and came with this rank, is taken, and calls for its answers.
@@ -169,7 +169,7 @@ impl ResidentRow {
     {
         let seat = &mut self.seats[resident.0 as usize];
         let due = called_for(better, seat.held, programme);
-        seat.part = seat.part.pop();
+        seat.part.pop();
         seat.first_due = due.0;
         seat.second_due = due.1;
         seat.taken_rank = rank;

@@ -1,3 +1,4 @@
+pub mod OutOfStep
 pub mod Rows
 pub mod Runs
 pub mod Walk

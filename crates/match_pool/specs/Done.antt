@@ -1,17 +1,18 @@
 -- What a run gives.
 use Rattle.exchange_core.specs.Shown.{is_capacity}
 use Rattle.std.specs.List.{All}
-use Rattle.std.specs.Prelude.{◌≡◌, ◌⊎◌, ◌<◌, ◌≤◌, ◌==◌, ℕ, sum, count_by, true, false, ◌↔◌, List, ◌∷◌, [], ◌++◌, length, slice_get, Some, Option}
+use Rattle.std.specs.Prelude.{◌≡◌, ◌⊎◌, ◌<◌, ◌≤◌, ◌==◌, ℕ, sum, count_by, Bool, true, false, ◌↔◌, List, ◌∷◌, [], ◌++◌, length, slice_get, Some, Option}
 use Rattle.match_model.specs.Instance.{Instance}
 use Rattle.exchange_core.specs.declared.event.Event.{Event}
 use Rattle.exchange_core.specs.declared.event.Event.TheVariants.{Take, Hear, Close}
 use Rattle.exchange_core.specs.declared.event.Capacity.{Capacity}
 use Rattle.exchange_core.specs.Mail.{Answered, offers_to, answers_to, takes, hears}
 use Rattle.exchange_core.specs.Legal.{IsLegal, IsClosed, IsAtRest, MayFollow}
+use Rattle.exchange_core.specs.Left.{given}
 use Rattle.settle_law.specs.Orderly.{IsOrderly}
 use Rattle.settle_law.specs.Stable.{IsStable, IsSettled}
 use Rattle.match_pool.specs.declared.done.Done.{Done}
-use Rattle.match_pool.specs.declared.done.Ending.TheVariants.{Closed}
+use Rattle.match_pool.specs.declared.done.Ending.TheVariants.{Closed, Stopped}
 use Rattle.match_pool.specs.declared.fault.RunFault.{RunFault}
 use Rattle.match_pool.specs.declared.fault.RunFault.TheVariants.{BadWorkers, BadCapacity, Memory, Thread, OutOfStep, Torn, MailGone}
 
@@ -19,19 +20,6 @@ use Rattle.match_pool.specs.declared.fault.RunFault.TheVariants.{BadWorkers, Bad
 pub record Each {X : Type 0} (xs : List X) (count : ℕ) (property : ℕ → X → Type 0) : Type 0 where
   pub one_each : length xs ≡ count
   pub has : (i : ℕ) (x : X) → slice_get xs i ≡ Some x → property i x
-
--- what a run gives: a legal journal, closed exactly where the run ended so, which is what the ends of every desk have put
--- and the log of its own agent has
-pub record IsRunOf {M P T Q U : Type 0} (done : Done M P T Q U) (offers_put : P → List ℕ) (offers_taken : T → List ℕ)
-    (answers_put : Q → List Answered) (answers_taken : U → List Answered) (inst : Instance) (cap : Capacity) : Type 0 where
-  pub legal : IsLegal inst cap done.journal.items
-  pub closed : (done.ending ≡ Closed) ↔ IsClosed done.journal.items
-  pub offers_are_put : Each done.ends.offer_puts.items (length inst.resident_lists) (λ r end. offers_put end ≡ offers_to r done.journal.items)
-  pub offers_are_taken : Each done.ends.residents.items (length inst.resident_lists)
-      (λ r desk. (desk.resident ≡ r) × (desk.taken ≡ takes r done.journal.items) × (offers_taken desk.end ≡ takes r done.journal.items))
-  pub answers_are_put : Each done.ends.answer_puts.items (length inst.quotas) (λ p end. answers_put end ≡ answers_to p done.journal.items)
-  pub answers_are_heard : Each done.ends.programmes.items (length inst.quotas)
-      (λ p desk. (desk.programme ≡ p) × (desk.heard ≡ hears p done.journal.items) × (answers_taken desk.end ≡ hears p done.journal.items))
 
 -- all is at rest before the close, which is last
 pub record ClosesAtRest (inst : Instance) (journal : List Event) : Type 0 where
@@ -52,6 +40,24 @@ pub record AreCounted (workers : ℕ) (journal : List Event) (who entered : List
   pub among_the_workers : All (λ w. w < workers) who
   pub counted : Each entered workers (λ w n. n ≡ count_by (λ v. v == w) who)
   pub all_counted : sum entered ≡ length journal
+
+-- what a run by so many workers gives, with a gate that may stop it or may not: a legal journal, closed exactly where the
+-- run ended so, which is what the ends of every desk have put and the log of its own agent has; the assignment that it
+-- gives, settled where the run closed; and each event's worker
+pub record IsRunOf {M P T Q U : Type 0} (done : Done M P T Q U) (offers_put : P → List ℕ) (offers_taken : T → List ℕ)
+    (answers_put : Q → List Answered) (answers_taken : U → List Answered) (inst : Instance) (cap : Capacity) (workers : ℕ) (may_stop : Bool) : Type 0 where
+  pub legal : IsLegal inst cap done.journal.items
+  pub closed : (done.ending ≡ Closed) ↔ IsClosed done.journal.items
+  pub offers_are_put : Each done.ends.offer_puts.items (length inst.resident_lists) (λ r end. offers_put end ≡ offers_to r done.journal.items)
+  pub offers_are_taken : Each done.ends.residents.items (length inst.resident_lists)
+      (λ r desk. (desk.resident ≡ r) × (desk.taken ≡ takes r done.journal.items) × (offers_taken desk.end ≡ takes r done.journal.items))
+  pub answers_are_put : Each done.ends.answer_puts.items (length inst.quotas) (λ p end. answers_put end ≡ answers_to p done.journal.items)
+  pub answers_are_heard : Each done.ends.programmes.items (length inst.quotas)
+      (λ p desk. (desk.programme ≡ p) × (desk.heard ≡ hears p done.journal.items) × (answers_taken desk.end ≡ hears p done.journal.items))
+  pub stopped : done.ending ≡ Stopped → may_stop ≡ true
+  pub assigned : done.assignment ≡ given inst done.journal.items
+  pub settled : done.ending ≡ Closed → IsSettledRun inst done.journal.items done.assignment
+  pub counts : AreCounted workers done.journal.items done.who.items done.entered.items
 
 -- a receipt: an offer is taken, or an answer heard
 abbrev pub IsReceipt : Event → Type 0

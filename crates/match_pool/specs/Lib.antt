@@ -1,3 +1,4 @@
 pub mod Compare
 pub mod Done
+pub mod Exchange
 pub mod Rooms

@@ -1,5 +1,5 @@
 //! The threads of a run.
-ghost use Rattle.std.specs.Prelude.{◌≡◌, ◌⊎◌, IfErr};
+ghost use Rattle.std.specs.Prelude.{◌≡◌, ◌≤◌, ◌⊎◌, [], length, vec_capacity, IfErr};
 ghost use Rattle.match_pool.specs.declared.fault.RunFault.TheVariants.{Memory, Thread};
 
 use crate::fault::RunFault;
@@ -17,8 +17,11 @@ use std::thread::{Builder, JoinHandle, Scope, Threads};
 /// How much stack a worker's thread has, in bytes. A worker uses some 5,000 of them.
 const STACK_BYTES: usize = 256 * 1024;
 
+/// The threads of the workers, each of which gives its tally back.
+type Handles<J> = Vec<JoinHandle<Tally<J>>>;
+
 /// Starts a worker for each tally, and joins them all. The tallies come back by worker. Where the system refuses to
-/// start one, the others are ended and joined.
+/// start one, those that were started are ended and joined.
 pub(crate) fn drive<J, M, G, R>(
     rt: &R,
     alloc: Global,
@@ -40,22 +43,27 @@ where
     ensures { IfErr result (λ fault. (fault ≡ Memory) ⊎ (fault ≡ Thread)) }
 {
     let workers = tallies.len();
-    let mut handles = Vec::with_capacity(alloc, workers)?;
-    let back = Vec::with_capacity(alloc, workers)?;
-    let all_started = thread::scope(
+    let handles = Vec::with_capacity(alloc, workers)?;
+    let mut back = Vec::with_capacity(alloc, workers)?;
+    let started = thread::scope(
         thread::scope_env(),
         rt,
-        |scope| -> bool
-            requires { inst.now ≡ J.inst }
-        { start_all(scope, rt, inst, shared, gate, tallies, &mut handles) },
+        |scope| -> Option<Handles<J>>
+            requires instance { inst.now ≡ J.inst }
+            requires none { handles.items ≡ [] }
+            requires room { length tallies.items ≤ vec_capacity handles }
+        { start_all(scope, rt, inst, shared, gate, tallies, handles) },
     );
-    if !all_started {
+    let Some(handles) = started else {
         return Err(RunFault::Thread);
+    };
+    for handle in handles {
+        back.push(handle.join(rt))?;
     }
-    join_all(rt, handles, back)
+    Ok(back)
 }
 
-// Starts a worker for each tally. Answers whether all were started; where one wasn't, the run is ended.
+// Starts a worker for each tally. None where the system refuses to start one, and then the run is ended.
 fn start_all<'s, 'f, E, J, M, G, R>(
     scope: &Scope<'s, E>,
     rt: &'s R,
@@ -63,8 +71,8 @@ fn start_all<'s, 'f, E, J, M, G, R>(
     shared: &'s SharedState<'f, J, M, G>,
     gate: &'s G,
     tallies: Vec<Tally<J>>,
-    handles: &mut Vec<JoinHandle<Tally<J>>>,
-) -> bool
+    handles: Handles<J>,
+) -> Option<Handles<J>>
 where
     J: ExchangeIdentity + Send + Sync,
     M: Mailboxes + Send + Sync,
@@ -74,53 +82,21 @@ where
     M::AnswerTake: Send,
     G: Gate + Sync,
     R: Wait + Sync,
-    requires { inst.now ≡ J.inst }
+    requires instance { inst.now ≡ J.inst }
+    requires none { handles.items ≡ [] }
+    requires room { length tallies.items ≤ vec_capacity handles }
 {
+    let mut handles = handles;
     let mut number = 0;
-    let mut all_started = true;
     for tally in tallies {
-        let started = match start(scope, Worker::new(rt, inst, gate, shared, number, tally)) {
-            Some(handle) => handles.push(handle).is_ok(),
-            None => false,
-        };
-        if !started {
-            all_started = false;
+        let worker = Worker::new(rt, inst, gate, shared, number, tally);
+        let thread = Builder::new().stack_size(STACK_BYTES);
+        let Ok(handle) = thread.spawn_scoped(scope, move || worker.work()) else {
             shared.end(rt);
-        }
+            return None;
+        };
+        handles.push_reserved(handle);
         number = number.saturating_add(1);
     }
-    all_started
-}
-
-// Starts a worker. None where the system refuses.
-fn start<'s, 'f, E, J, M, G, R>(
-    scope: &Scope<'s, E>,
-    worker: Worker<'s, 'f, J, M, G, R>,
-) -> Option<JoinHandle<Tally<J>>>
-where
-    J: ExchangeIdentity + Send + Sync,
-    M: Mailboxes + Send + Sync,
-    M::OfferPut: Send,
-    M::OfferTake: Send,
-    M::AnswerPut: Send,
-    M::AnswerTake: Send,
-    G: Gate + Sync,
-    R: Wait + Sync,
-{
-    let thread = Builder::new().stack_size(STACK_BYTES);
-    thread.spawn_scoped(scope, move || worker.work()).ok()
-}
-
-// Joins the workers, each of which ends with the run: their tallies by worker.
-fn join_all<J: ExchangeIdentity, R: Threads>(
-    rt: &R,
-    handles: Vec<JoinHandle<Tally<J>>>,
-    mut back: Vec<Tally<J>>,
-) -> Result<Vec<Tally<J>>, RunFault>
-    ensures { IfErr result (λ fault. fault ≡ Memory) }
-{
-    for handle in handles {
-        back.push(handle.join(rt))?;
-    }
-    Ok(back)
+    Some(handles)
 }

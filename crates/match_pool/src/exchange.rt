@@ -1,16 +1,33 @@
-//! What lies under the ledger's lock.
-ghost use Rattle.std.specs.Prelude.{◌≡◌};
+//! What lies under the ledger's lock: the ledger, and the desks that wait for room in a mailbox.
+ghost use Rattle.std.specs.Prelude.{◌≡◌, None};
+ghost use Rattle.match_pool.specs.Done.{IsReceipt};
+ghost use Rattle.match_pool.specs.Exchange.{IsRefusedForGood};
+ghost use Rattle.offer_ledger.specs.Ledger.{IsRefused};
 
 use crate::mailboxes::Mailboxes;
-use crate::wait_queues::WaitQueues;
+use desk_scheduler::WaitQueues;
 use exchange_core::{AnswerKind, Desk, Event, Refused};
 use match_model::{Instance, ProgrammeNo, ResidentNo};
 use offer_ledger::{EntryRefused, ExchangeIdentity, Ledger, PutRefusal, Tally};
+use std::alloc::{AllocError, Global};
+use std::marker::Model;
 
-/// The ledger, and the desks that wait for room.
+/// The ledger, the desks that wait for room, and a receipt that the core refused, if it refused one: the ledger is
+/// spoiled then, so that the receipt is out of step ever after.
 pub(crate) struct Exchange<J: ExchangeIdentity, M: Mailboxes> {
-    pub(crate) ledger: Ledger<J, M::OfferPut, M::AnswerPut>,
-    pub(crate) wait_queues: WaitQueues,
+    ledger: Ledger<J, M::OfferPut, M::AnswerPut>,
+    wait_queues: WaitQueues,
+    out_of_step: Option<Event>,
+}
+
+impl<J: ExchangeIdentity, M: Mailboxes> Model for Exchange<J, M> {
+    ghost use Rattle.match_pool.specs.Exchange.{Exchanged, IsRefusedForGood};
+
+    ghost Value = { Exchanged M.OfferPut M.AnswerPut };
+
+    ghost view = { λ e. record { ledger = e.ledger; out_of_step = e.out_of_step } };
+
+    ghost invariant = { λ e. IsRefusedForGood J.inst J.cap e.ledger e.out_of_step };
 }
 
 /// What became of an event that was to be entered.
@@ -32,53 +49,55 @@ pub(crate) enum Entry {
     Gone,
 }
 
-// As one call, so that whoever lets books go proves nothing of its parts.
+// As one call, so that whoever lets an exchange go proves nothing of its parts.
 impl<J: ExchangeIdentity, M: Mailboxes> Drop for Exchange<J, M> {
     fn drop(self) {
         let Exchange {
             ledger: _,
             wait_queues: _,
+            out_of_step: _,
         } = self;
     }
 }
 
 impl<J: ExchangeIdentity, M: Mailboxes> Exchange<J, M> {
-    /// The ledger alone.
-    pub(crate) fn into_ledger(self) -> Ledger<J, M::OfferPut, M::AnswerPut>
-        ensures { result ≡ self.ledger }
+    /// This ledger, with nobody waiting at so many desks.
+    pub(crate) fn new(
+        alloc: Global,
+        ledger: Ledger<J, M::OfferPut, M::AnswerPut>,
+        desks: usize,
+    ) -> Result<Exchange<J, M>, AllocError> {
+        Ok(Exchange {
+            wait_queues: WaitQueues::with_desks(alloc, desks)?,
+            ledger,
+            out_of_step: None,
+        })
+    }
+
+    /// The ledger, and the receipt that its core refused, if it refused one.
+    pub(crate) fn into_parts(self) -> (Ledger<J, M::OfferPut, M::AnswerPut>, Option<Event>)
+        ensures { IsRefusedForGood J.inst J.cap result.0 result.1 }
     {
         let Exchange {
             ledger,
             wait_queues: _,
+            out_of_step,
         } = self;
-        ledger
-    }
-}
-
-impl<J: ExchangeIdentity, M: Mailboxes> Exchange<J, M> {
-    // Whether offers wait at a resident: put, and by the journal not taken yet.
-    #[inline(always)]
-    fn offers_wait(&self, inst: &Instance, resident: ResidentNo) -> bool
-        requires { inst.now ≡ J.inst }
-    {
-        resident.0 < inst.residents() && self.ledger.core().has_offers(resident)
-    }
-
-    // Whether answers wait at a programme: put, and by the journal not heard yet.
-    #[inline(always)]
-    fn answers_wait(&self, inst: &Instance, programme: ProgrammeNo) -> bool
-        requires { inst.now ≡ J.inst }
-    {
-        programme.0 < inst.programmes() && self.ledger.core().has_answers(programme)
+        (ledger, out_of_step)
     }
 
     /// Whether messages wait at a desk: put, and by the journal not received yet.
+    #[inline(always)]
     pub(crate) fn has_mail(&self, inst: &Instance, desk: Desk) -> bool
         requires { inst.now ≡ J.inst }
     {
         match desk {
-            Desk::Resident(resident) => self.offers_wait(inst, resident),
-            Desk::Programme(programme) => self.answers_wait(inst, programme),
+            Desk::Resident(resident) => {
+                resident.0 < inst.residents() && self.ledger.core().has_offers(resident)
+            }
+            Desk::Programme(programme) => {
+                programme.0 < inst.programmes() && self.ledger.core().has_answers(programme)
+            }
         }
     }
 
@@ -92,7 +111,7 @@ impl<J: ExchangeIdentity, M: Mailboxes> Exchange<J, M> {
         requires { inst.now ≡ J.inst }
     {
         let is_called = self.wait_queues.comes(desk_of_programme(inst, programme));
-        (self.answers_wait(inst, programme), is_called)
+        (self.has_mail(inst, Desk::Programme(programme)), is_called)
     }
 
     /// Enters an offer.
@@ -105,16 +124,19 @@ impl<J: ExchangeIdentity, M: Mailboxes> Exchange<J, M> {
     ) -> Entry
         requires { inst.now ≡ J.inst }
     {
-        let receiver = resident.0;
-        let was_empty = !self.offers_wait(inst, resident);
-        let made = self.ledger.enter_offer(inst, tally, programme, resident);
         let sender = desk_of_programme(inst, programme);
-        match self.put_entry(made, receiver, sender, was_empty) {
-            Entry::Made { woken, .. } => Entry::Made {
-                more: self.answers_wait(inst, programme),
-                woken,
-            },
-            entry => entry,
+        match self
+            .ledger
+            .enter_offer_and_tell(inst, tally, programme, resident)
+        {
+            Ok(mail) => {
+                self.wait_queues.leave(sender);
+                Entry::Made {
+                    more: mail.sender_has_more,
+                    woken: mail.receiver_was_empty.then_some(resident.0),
+                }
+            }
+            Err(refused) => self.put_refused(refused, resident.0, sender),
         }
     }
 
@@ -130,57 +152,22 @@ impl<J: ExchangeIdentity, M: Mailboxes> Exchange<J, M> {
         requires { inst.now ≡ J.inst }
     {
         let receiver = desk_of_programme(inst, programme);
-        let was_empty = !self.answers_wait(inst, programme);
-        let made = self
+        match self
             .ledger
-            .enter_answer(inst, tally, resident, programme, kind);
-        match self.put_entry(made, receiver, resident.0, was_empty) {
-            Entry::Made { woken, .. } => Entry::Made {
-                more: self.offers_wait(inst, resident),
-                woken,
-            },
-            entry => entry,
-        }
-    }
-
-    // What became of a put, whose receiver is woken where its mailbox was empty. Its sender waits for room in this
-    // mailbox where the put was refused as full, and for none where it is entered.
-    #[inline(always)]
-    fn put_entry(
-        &mut self,
-        made: Result<(), EntryRefused>,
-        receiver: u32,
-        sender: u32,
-        was_empty: bool,
-    ) -> Entry {
-        match made {
-            Ok(()) => {
-                self.wait_queues.leave(sender);
+            .enter_answer_and_tell(inst, tally, resident, programme, kind)
+        {
+            Ok(mail) => {
+                self.wait_queues.leave(resident.0);
                 Entry::Made {
-                    more: false,
-                    woken: if was_empty { Some(receiver) } else { None },
+                    more: mail.sender_has_more,
+                    woken: mail.receiver_was_empty.then_some(receiver),
                 }
             }
-            Err(refused) => self.put_refused(refused, receiver, sender),
+            Err(refused) => self.put_refused(refused, receiver, resident.0),
         }
     }
 
-    // What became of a put that was refused.
-    #[cold]
-    fn put_refused(&mut self, refused: EntryRefused, receiver: u32, sender: u32) -> Entry {
-        match refused {
-            EntryRefused::Step(Refused::MailboxFull) => {
-                self.wait_queues.join(receiver, sender);
-                Entry::Later
-            }
-            EntryRefused::PutRefused(PutRefusal::Full) => Entry::Missed,
-            EntryRefused::Spoiled => Entry::Ended,
-            EntryRefused::PutRefused(PutRefusal::Gone) => Entry::Gone,
-            EntryRefused::Step(_) => Entry::Refused,
-        }
-    }
-
-    /// Enters a take. A receipt that the core refuses spoils the ledger.
+    /// Enters a take, which makes room in its mailbox. One that the core refuses spoils the ledger.
     pub(crate) fn take(
         &mut self,
         inst: &Instance,
@@ -190,14 +177,22 @@ impl<J: ExchangeIdentity, M: Mailboxes> Exchange<J, M> {
     ) -> Entry
         requires { inst.now ≡ J.inst }
     {
-        let made = self.ledger.enter_take(inst, tally, resident, programme);
-        match self.receipt_entry(made, resident.0) {
-            Entry::Made { woken, .. } => Entry::Made { more: true, woken },
-            entry => entry,
+        match self.ledger.enter_take(inst, tally, resident, programme) {
+            Ok(()) => Entry::Made {
+                more: true,
+                woken: self.wait_queues.call_first(resident.0),
+            },
+            Err(refused) => {
+                let receipt = Event::Take {
+                    resident,
+                    programme,
+                };
+                self.receipt_refused(refused, receipt)
+            }
         }
     }
 
-    /// Enters a hear. A receipt that the core refuses spoils the ledger.
+    /// Enters a hear, which makes room in its mailbox. One that the core refuses spoils the ledger.
     pub(crate) fn hear(
         &mut self,
         inst: &Instance,
@@ -208,32 +203,57 @@ impl<J: ExchangeIdentity, M: Mailboxes> Exchange<J, M> {
     ) -> Entry
         requires { inst.now ≡ J.inst }
     {
-        let made = self
+        match self
             .ledger
-            .enter_hear(inst, tally, programme, resident, kind);
-        let receiver = desk_of_programme(inst, programme);
-        match self.receipt_entry(made, receiver) {
-            Entry::Made { woken, .. } => Entry::Made {
-                more: self.answers_wait(inst, programme),
-                woken,
+            .enter_hear_and_tell(inst, tally, programme, resident, kind)
+        {
+            Ok(mail) => Entry::Made {
+                more: mail.sender_has_more,
+                woken: self
+                    .wait_queues
+                    .call_first(desk_of_programme(inst, programme)),
             },
-            entry => entry,
+            Err(refused) => {
+                let receipt = Event::Hear {
+                    programme,
+                    resident,
+                    kind,
+                };
+                self.receipt_refused(refused, receipt)
+            }
         }
     }
 
-    // What became of a receipt, which makes room in its mailbox.
-    #[inline(always)]
-    fn receipt_entry(&mut self, made: Result<(), EntryRefused>, receiver: u32) -> Entry {
-        match made {
-            Ok(()) => Entry::Made {
-                more: false,
-                woken: self.wait_queues.call_first(receiver),
-            },
-            Err(EntryRefused::Spoiled) => Entry::Ended,
-            Err(_) => {
+    // What became of a put that was refused. Its sender waits for room in a mailbox that was full.
+    #[cold]
+    fn put_refused(&mut self, refused: EntryRefused, mailbox: u32, sender: u32) -> Entry {
+        match refused {
+            EntryRefused::Step(Refused::MailboxFull) => {
+                self.wait_queues.join(mailbox, sender);
+                Entry::Later
+            }
+            EntryRefused::PutRefused(PutRefusal::Full) => Entry::Missed,
+            EntryRefused::Spoiled => Entry::Ended,
+            EntryRefused::PutRefused(PutRefusal::Gone) => Entry::Gone,
+            EntryRefused::Step(_) => Entry::Refused,
+        }
+    }
+
+    // What became of a receipt that was refused. From the first that the core refuses on nothing is entered.
+    #[cold]
+    fn receipt_refused(&mut self, refused: EntryRefused, receipt: Event) -> Entry
+        requires receipt { IsReceipt receipt }
+        requires refused { IsRefused J.inst J.cap self.old.ledger receipt ⊥ ⊥ refused }
+    {
+        match refused {
+            EntryRefused::Spoiled => Entry::Ended,
+            EntryRefused::Step(_) => {
                 self.ledger.spoil();
+                self.out_of_step = Some(receipt);
                 Entry::Refused
             }
+            EntryRefused::PutRefused(PutRefusal::Full) => unreachable!(),
+            EntryRefused::PutRefused(PutRefusal::Gone) => unreachable!(),
         }
     }
 

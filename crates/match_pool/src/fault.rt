@@ -41,8 +41,8 @@ pub enum RunFault {
 /// What ended the workers early.
 #[derive(Clone, Copy, Debug)]
 pub(crate) enum Trouble {
-    /// A receipt that the core refused.
-    OutOfStep(Event),
+    /// The core refused a receipt.
+    OutOfStep,
     /// A desk whose log is full, whose event the core refused, or whose mailbox was at odds with the journal for too long.
     Torn(Desk),
     /// A desk whose mailbox has lost its other end.

@@ -2,25 +2,20 @@
 //! and the desks in hands and those that may have work under a third.
 #![tactic(auto)]
 
+mod after_joins;
 mod compare;
 mod desks;
 mod done;
 mod drive;
-mod ending;
 mod exchange;
 mod fault;
 mod gate;
 mod mailboxes;
 mod naps;
 mod open;
-mod outcome;
 mod pool;
-mod reserve;
-mod run_queue;
-mod scheduler;
+mod run_state;
 mod shared;
-mod wait_queues;
-mod woken;
 mod worker;
 
 pub use done::{Done, Ending, Ends};

@@ -3,16 +3,6 @@ use std::sync::Wait;
 use std::sync::atomic::{AtomicU64, Ordering};
 use std::time::Duration;
 
-/// How many microseconds the first nap of a worker takes that found a lock taken, and how many the longest.
-const FIRST_FOR_LOCK: u64 = 25_000;
-
-const LONGEST_FOR_LOCK: u64 = 100_000;
-
-/// The same of a worker that found nothing to do.
-const FIRST_FOR_WORK: u64 = 200;
-
-const LONGEST_FOR_WORK: u64 = 3_200;
-
 /// Where the workers of a run nap. All wake when it ends.
 #[derive(Debug, Drop)]
 pub(crate) struct NapRoom {
@@ -44,8 +34,8 @@ impl NapRoom {
     }
 }
 
-/// Naps of a worker, each twice as long as the one before, up to the longest. So the more workers there are that find
-/// nothing to do, the less they cost those that work.
+/// Naps of a worker, in microseconds, each twice as long as the one before, up to the longest. So the more workers there
+/// are that find nothing to do, the less they cost those that work.
 #[derive(Clone, Copy, Debug)]
 pub(crate) struct Naps {
     micros: u64,
@@ -53,22 +43,18 @@ pub(crate) struct Naps {
 }
 
 impl Naps {
-    /// No nap yet, of a worker that found a lock taken. They are long, since a lock that goes to and fro brings all that lies
-    /// behind it from one processor to another.
-    pub(crate) fn for_lock() -> Naps {
-        Naps {
-            micros: FIRST_FOR_LOCK,
-            longest: LONGEST_FOR_LOCK,
-        }
-    }
+    /// No nap yet, of a worker that found a lock taken. They are long, since a lock that goes to and fro brings all that
+    /// lies behind it from one processor to another.
+    pub(crate) const FOR_LOCK: Naps = Naps {
+        micros: 25_000,
+        longest: 100_000,
+    };
 
     /// No nap yet, of a worker that found nothing to do.
-    pub(crate) fn for_work() -> Naps {
-        Naps {
-            micros: FIRST_FOR_WORK,
-            longest: LONGEST_FOR_WORK,
-        }
-    }
+    pub(crate) const FOR_WORK: Naps = Naps {
+        micros: 200,
+        longest: 3_200,
+    };
 
     /// Naps once in this room.
     pub(crate) fn nap<R: Wait>(&mut self, rt: &R, room: &NapRoom) {

@@ -1,127 +1,166 @@
 //! What a run has before its workers start: mailboxes, agents and the ledger.
-ghost use Rattle.std.specs.Prelude.{◌≡◌, ◌≢◌, ◌≤◌, ◌++◌, ◌∷◌, [], length, true, IfOk, IfErr, OnOk};
+ghost use Rattle.std.specs.Prelude.{◌≡◌, ◌≢◌, ◌≤◌, length, true, IfOk, IfErr};
 ghost use Rattle.exchange_core.specs.Shown.{is_capacity};
-ghost use Rattle.match_model.specs.Instance.{IsResident, IsProgramme, list_of_resident, list_of_programme};
+ghost use Rattle.match_model.specs.Instance.{IsResident, IsProgramme};
 ghost use Rattle.match_pool.specs.Done.{Each};
 ghost use Rattle.match_pool.specs.Rooms.{room_of, offer_room_of, answer_room_of, IsNew};
 ghost use Rattle.match_pool.specs.declared.fault.RunFault.TheVariants.{Memory};
 
-use crate::desks::{BoundProgramme, BoundResident};
+use crate::desks::{Agent, BoundDesk, ProgrammeDesk, ResidentDesk};
 use crate::exchange::Exchange;
 use crate::fault::RunFault;
 use crate::gate::Gate;
 use crate::mailboxes::Mailboxes;
-use crate::scheduler::Scheduler;
+use crate::run_state::RunState;
 use crate::shared::SharedState;
-use crate::wait_queues::WaitQueues;
+use desk_scheduler::Scheduler;
 use exchange_core::Capacity;
 use match_agents::{ProgrammeAgent, ResidentAgent};
 use match_model::{Instance, ProgrammeNo, ResidentNo};
 use offer_ledger::{ExchangeIdentity, Ledger, Tally};
 use std::alloc::Global;
+use std::marker::PhantomData;
 use std::sync::Mutex;
 use std::sync::ledger::Blank;
 
-/// By receiver, the sending ends of the mailboxes of one kind, and the locks of the desks.
+/// One side's desks: by receiver, the sending ends of their mailboxes, and what lies under their locks.
+type Side<P, D> = (Vec<P>, Vec<Mutex<D>>);
+
+/// What a run opens its exchange from, which the type names.
 #[derive(Drop)]
-struct Side<P: Drop, S: Drop> {
-    puts: Vec<P>,
-    agents: Vec<Mutex<S>>,
+pub(crate) struct Opening<'a, J: ExchangeIdentity, M: Mailboxes> {
+    pub(crate) alloc: Global,
+    pub(crate) mailboxes: &'a M,
+    pub(crate) inst: &'a Instance,
+    pub(crate) cap: Capacity,
+    pub(crate) exchange: PhantomData<J>,
+    ghost instance: { inst.now ≡ J.inst },
+    ghost capacity: { cap ≡ J.cap },
+    ghost admitted: { is_capacity cap ≡ true },
 }
 
-impl<P: Drop, S: Drop> Side<P, S> {
-    // Room for so many desks.
-    fn with_room(alloc: Global, count: usize) -> Result<Side<P, S>, RunFault>
-        ensures none { IfOk result (λ side. side.puts.items ≡ []) }
+impl<'a, J: ExchangeIdentity, M: Mailboxes> Opening<'a, J, M> {
+    /// Everything that the workers share, before any event, and their tallies.
+    pub(crate) fn shared<'g, G: Gate>(
+        &self,
+        blank: Blank,
+        workers: u32,
+    ) -> Result<(SharedState<'g, J, M, G>, Vec<Tally<J>>), RunFault>
+        requires workers { workers ≡ J.workers }
+        requires blank { (blank.name ≡ J.name) × (blank.parts ≡ J.parts) × (J.parts ≡ 8) }
+        ensures { IfErr result (λ fault. fault ≡ Memory) }
+    {
+        let (residents, programmes) = (self.inst.residents(), self.inst.programmes());
+        let scheduler = Scheduler::open(self.alloc, residents, programmes)?;
+        let (offer_puts, residents) = self.residents()?;
+        let (answer_puts, programmes) = self.programmes()?;
+        let (exchange, tallies) = self.exchange(blank, workers, offer_puts, answer_puts)?;
+        let shared = SharedState::new(residents, programmes, exchange, RunState::new(scheduler));
+        Ok((shared, tallies))
+    }
+
+    // A mailbox for each resident: its sending end, and a lock with the resident's agent over its receiving end.
+    fn residents(&self) -> Result<Side<M::OfferPut, ResidentDesk<J, M>>, RunFault>
+        ensures puts { IfOk result (λ side. Each side.0.items (length J.inst.resident_lists)
+            (IsNew M.OfferPut.puts M.offer_room (offer_room_of J.inst J.cap))) }
         ensures fault { IfErr result (λ fault. fault ≡ Memory) }
     {
-        Ok(Side {
-            puts: Vec::with_capacity(alloc, count)?,
-            agents: Vec::with_capacity(alloc, count)?,
-        })
+        let count = self.inst.residents();
+        let mut puts = Vec::with_capacity(self.alloc, count as usize)?;
+        let mut desks = Vec::with_capacity(self.alloc, count as usize)?;
+        for r in 0..count {
+            let (put, desk) = self.resident(ResidentNo(r))?;
+            puts.push(put)?;
+            desks.push(Mutex::new(desk))?;
+        }
+        Ok((puts, desks))
     }
 
-    // Adds a desk: the sending end of its mailbox, and its lock.
-    fn add(&mut self, desk: (P, Mutex<S>)) -> Result<(), RunFault>
-        ensures added { OnOk result (self.new.puts.items ≡ self.old.puts.items ++ desk.0 ∷ []) }
+    // A mailbox for each programme: its sending end, and a lock with the programme's agent over its receiving end.
+    fn programmes(&self) -> Result<Side<M::AnswerPut, ProgrammeDesk<J, M>>, RunFault>
+        ensures puts { IfOk result (λ side. Each side.0.items (length J.inst.quotas)
+            (IsNew M.AnswerPut.puts M.answer_room (answer_room_of J.inst J.cap))) }
         ensures fault { IfErr result (λ fault. fault ≡ Memory) }
     {
-        let (put, agent) = desk;
-        self.puts.push(put)?;
-        self.agents.push(agent)?;
-        Ok(())
+        let count = self.inst.programmes();
+        let mut puts = Vec::with_capacity(self.alloc, count as usize)?;
+        let mut desks = Vec::with_capacity(self.alloc, count as usize)?;
+        for p in 0..count {
+            let (put, desk) = self.programme(ProgrammeNo(p))?;
+            puts.push(put)?;
+            desks.push(Mutex::new(desk))?;
+        }
+        Ok((puts, desks))
     }
-}
 
-/// The residents' desks.
-type Residents<J, M> = Side<<M as Mailboxes>::OfferPut, BoundResident<J, M>>;
-
-/// The programmes' desks.
-type Programmes<J, M> = Side<<M as Mailboxes>::AnswerPut, BoundProgramme<J, M>>;
-
-/// Everything that the workers share, before any event, and their tallies.
-pub(crate) fn open_shared<'a, J: ExchangeIdentity, M: Mailboxes, G: Gate>(
-    alloc: Global,
-    blank: Blank,
-    mailboxes: &M,
-    inst: &Instance,
-    cap: Capacity,
-    workers: u32,
-) -> Result<(SharedState<'a, J, M, G>, Vec<Tally<J>>), RunFault>
-    requires instance { inst.now ≡ J.inst }
-    requires capacity { cap ≡ J.cap }
-    requires workers { workers ≡ J.workers }
-    requires blank { (blank.name ≡ J.name) × (blank.parts ≡ J.parts) × (J.parts ≡ 8) }
-    requires admitted { is_capacity cap ≡ true }
-    ensures { IfErr result (λ fault. fault ≡ Memory) }
-{
-    let scheduler = Scheduler::open(alloc, inst.residents(), inst.programmes())?;
-    let residents = open_residents::<J, M>(alloc, mailboxes, inst, cap)?;
-    let programmes = open_programmes::<J, M>(alloc, mailboxes, inst, cap)?;
-    let puts = (residents.puts, programmes.puts);
-    let (exchange, tallies) = open_exchange(alloc, blank, inst, cap, workers, puts)?;
-    let shared = SharedState::new(residents.agents, programmes.agents, exchange, scheduler);
-    Ok((shared, tallies))
-}
-
-// A mailbox for each resident: its sending end, and a lock with the resident's agent over its receiving end.
-fn open_residents<J: ExchangeIdentity, M: Mailboxes>(
-    alloc: Global,
-    mailboxes: &M,
-    inst: &Instance,
-    cap: Capacity,
-) -> Result<Residents<J, M>, RunFault>
-    requires instance { inst.now ≡ J.inst }
-    requires admitted { is_capacity cap ≡ true }
-    ensures puts { IfOk result (λ side. Each side.puts.items (length inst.now.resident_lists) (IsNew M.OfferPut.puts M.offer_room (offer_room_of inst.now cap))) }
-    ensures fault { IfErr result (λ fault. fault ≡ Memory) }
-{
-    let count = inst.residents();
-    let mut side = Side::with_room(alloc, count as usize)?;
-    for r in 0..count {
-        side.add(open_resident(alloc, mailboxes, inst, cap, ResidentNo(r))?)?;
+    // A resident's desk: the sending end of its mailbox, and its agent.
+    fn resident(&self, resident: ResidentNo) -> Result<(M::OfferPut, ResidentDesk<J, M>), RunFault>
+        requires { IsResident J.inst resident }
+        ensures new { IfOk result (λ desk. IsNew M.OfferPut.puts M.offer_room
+            (offer_room_of J.inst J.cap) resident desk.0) }
+        ensures fault { IfErr result (λ fault. fault ≡ Memory) }
+    {
+        let room = room(self.cap, self.inst.list_of_resident(resident).len());
+        let Ok((put, take)) = self.mailboxes.open_offers(self.alloc, resident, room) else {
+            return Err(RunFault::Memory);
+        };
+        match ResidentAgent::open(self.alloc, self.inst, resident, take) {
+            Ok(agent) => Ok((put, BoundDesk::new(agent))),
+            Err(_) => Err(RunFault::Memory),
+        }
     }
-    Ok(side)
-}
 
-// A mailbox for each programme: its sending end, and a lock with the programme's agent over its receiving end.
-fn open_programmes<J: ExchangeIdentity, M: Mailboxes>(
-    alloc: Global,
-    mailboxes: &M,
-    inst: &Instance,
-    cap: Capacity,
-) -> Result<Programmes<J, M>, RunFault>
-    requires instance { inst.now ≡ J.inst }
-    requires admitted { is_capacity cap ≡ true }
-    ensures puts { IfOk result (λ side. Each side.puts.items (length inst.now.quotas) (IsNew M.AnswerPut.puts M.answer_room (answer_room_of inst.now cap))) }
-    ensures fault { IfErr result (λ fault. fault ≡ Memory) }
-{
-    let count = inst.programmes();
-    let mut side = Side::with_room(alloc, count as usize)?;
-    for p in 0..count {
-        side.add(open_programme(alloc, mailboxes, inst, cap, ProgrammeNo(p))?)?;
+    // A programme's desk: the sending end of its mailbox, and its agent.
+    fn programme(
+        &self,
+        programme: ProgrammeNo,
+    ) -> Result<(M::AnswerPut, ProgrammeDesk<J, M>), RunFault>
+        requires { IsProgramme J.inst programme }
+        ensures new { IfOk result (λ desk. IsNew M.AnswerPut.puts M.answer_room
+            (answer_room_of J.inst J.cap) programme desk.0) }
+        ensures fault { IfErr result (λ fault. fault ≡ Memory) }
+    {
+        let room = room(self.cap, 2 * self.inst.list_of_programme(programme).len());
+        let Ok((put, take)) = self.mailboxes.open_answers(self.alloc, programme, room) else {
+            return Err(RunFault::Memory);
+        };
+        match ProgrammeAgent::open(self.alloc, self.inst, programme, take) {
+            Ok(agent) => Ok((put, BoundDesk::new(agent))),
+            Err(_) => Err(RunFault::Memory),
+        }
     }
-    Ok(side)
+
+    // The ledger over these ends, which have put nothing, with nobody waiting for room; and each worker's tally.
+    fn exchange(
+        &self,
+        blank: Blank,
+        workers: u32,
+        offer_puts: Vec<M::OfferPut>,
+        answer_puts: Vec<M::AnswerPut>,
+    ) -> Result<(Exchange<J, M>, Vec<Tally<J>>), RunFault>
+        requires workers { workers ≡ J.workers }
+        requires blank { (blank.name ≡ J.name) × (blank.parts ≡ J.parts) × (J.parts ≡ 8) }
+        requires offer_puts { Each offer_puts.items (length J.inst.resident_lists)
+            (IsNew M.OfferPut.puts M.offer_room (offer_room_of J.inst J.cap)) }
+        requires answer_puts { Each answer_puts.items (length J.inst.quotas)
+            (IsNew M.AnswerPut.puts M.answer_room (answer_room_of J.inst J.cap)) }
+        ensures { IfErr result (λ fault. fault ≡ Memory) }
+    {
+        let (alloc, inst) = (self.alloc, self.inst);
+        let desks = offer_puts.len() + answer_puts.len();
+        match Ledger::open(
+            alloc,
+            blank,
+            inst,
+            self.cap,
+            workers,
+            offer_puts,
+            answer_puts,
+        ) {
+            Ok((ledger, tallies)) => Ok((Exchange::new(alloc, ledger, desks)?, tallies)),
+            Err(_) => Err(RunFault::Memory),
+        }
+    }
 }
 
 // The room of a mailbox into which at most this many messages are ever put: no more than that is used.
@@ -135,87 +174,5 @@ fn room(cap: Capacity, most: usize) -> u32
     match cap {
         Capacity::Full => full,
         Capacity::Each(n) => n.min(full),
-    }
-}
-
-// A resident's desk: the sending end of its mailbox, and a lock with its agent.
-fn open_resident<J: ExchangeIdentity, M: Mailboxes>(
-    alloc: Global,
-    mailboxes: &M,
-    inst: &Instance,
-    cap: Capacity,
-    resident: ResidentNo,
-) -> Result<(M::OfferPut, Mutex<BoundResident<J, M>>), RunFault>
-    requires instance { inst.now ≡ J.inst }
-    requires member { IsResident inst.now resident }
-    requires admitted { is_capacity cap ≡ true }
-    ensures unused { IfOk result (λ desk. M.OfferPut.puts desk.0 ≡ []) }
-    ensures room { IfOk result (λ desk. M.offer_room desk.0 ≡ offer_room_of inst.now cap resident) }
-    ensures fault { IfErr result (λ fault. fault ≡ Memory) }
-{
-    let most = inst.list_of_resident(resident).len();
-    let Ok((put, take)) = mailboxes.open_offers(alloc, resident, room(cap, most)) else {
-        return Err(RunFault::Memory);
-    };
-    match ResidentAgent::open(alloc, inst, resident, take) {
-        Ok(agent) => Ok((put, Mutex::new(BoundResident::new(agent)))),
-        Err(_) => Err(RunFault::Memory),
-    }
-}
-
-// A programme's desk: the sending end of its mailbox, and a lock with its agent.
-fn open_programme<J: ExchangeIdentity, M: Mailboxes>(
-    alloc: Global,
-    mailboxes: &M,
-    inst: &Instance,
-    cap: Capacity,
-    programme: ProgrammeNo,
-) -> Result<(M::AnswerPut, Mutex<BoundProgramme<J, M>>), RunFault>
-    requires instance { inst.now ≡ J.inst }
-    requires member { IsProgramme inst.now programme }
-    requires admitted { is_capacity cap ≡ true }
-    ensures unused { IfOk result (λ desk. M.AnswerPut.puts desk.0 ≡ []) }
-    ensures room { IfOk result (λ desk. M.answer_room desk.0 ≡ answer_room_of inst.now cap programme) }
-    ensures fault { IfErr result (λ fault. fault ≡ Memory) }
-{
-    let most = 2 * inst.list_of_programme(programme).len();
-    let Ok((put, take)) = mailboxes.open_answers(alloc, programme, room(cap, most)) else {
-        return Err(RunFault::Memory);
-    };
-    match ProgrammeAgent::open(alloc, inst, programme, take) {
-        Ok(agent) => Ok((put, Mutex::new(BoundProgramme::new(agent)))),
-        Err(_) => Err(RunFault::Memory),
-    }
-}
-
-// The ledger over these ends, which have put nothing, with nobody waiting for room; and each worker's tally.
-fn open_exchange<J: ExchangeIdentity, M: Mailboxes>(
-    alloc: Global,
-    blank: Blank,
-    inst: &Instance,
-    cap: Capacity,
-    workers: u32,
-    puts: (Vec<M::OfferPut>, Vec<M::AnswerPut>),
-) -> Result<(Exchange<J, M>, Vec<Tally<J>>), RunFault>
-    requires instance { inst.now ≡ J.inst }
-    requires capacity { cap ≡ J.cap }
-    requires workers { workers ≡ J.workers }
-    requires blank { (blank.name ≡ J.name) × (blank.parts ≡ J.parts) × (J.parts ≡ 8) }
-    requires offer_puts { Each puts.0.items (length inst.now.resident_lists) (IsNew M.OfferPut.puts M.offer_room (offer_room_of inst.now cap)) }
-    requires answer_puts { Each puts.1.items (length inst.now.quotas) (IsNew M.AnswerPut.puts M.answer_room (answer_room_of inst.now cap)) }
-    ensures { IfErr result (λ fault. fault ≡ Memory) }
-{
-    let desks = inst.residents() as usize + inst.programmes() as usize;
-    let wait_queues = WaitQueues::with_desks(alloc, desks)?;
-    let (offer_puts, answer_puts) = puts;
-    match Ledger::open(alloc, blank, inst, cap, workers, offer_puts, answer_puts) {
-        Ok((ledger, tallies)) => Ok((
-            Exchange {
-                ledger,
-                wait_queues,
-            },
-            tallies,
-        )),
-        Err(_) => Err(RunFault::Memory),
     }
 }

@@ -1,21 +1,20 @@
 //! A run: mailboxes, agents, ledger and workers, from an instance to what the ends put and took.
-ghost use Rattle.std.specs.Prelude.{◌≡◌, ◌≤◌, ℕ, true, IfOk, IfErr, OnOk};
-ghost use Rattle.exchange_core.specs.Left.{given};
-ghost use Rattle.match_pool.specs.Done.{IsRunOf, IsSettledRun, AreCounted, IsFault, IsRunFault};
+ghost use Rattle.std.specs.Prelude.{◌≡◌, ◌≤◌, true, IfOk, IfErr, OnOk};
 ghost use Rattle.exchange_core.specs.Shown.{is_capacity};
+ghost use Rattle.match_pool.specs.Done.{IsRunOf, IsFault, IsRunFault};
 
-use crate::done::{Done, Ending};
+use crate::after_joins::Reserve;
+use crate::done::Done;
 use crate::drive::drive;
 use crate::fault::RunFault;
 use crate::gate::Gate;
 use crate::mailboxes::{Mailboxes, RuledMailboxes};
-use crate::open::open_shared;
-use crate::reserve::Reserve;
+use crate::open::Opening;
 use exchange_core::Capacity;
 use match_model::Instance;
 use offer_ledger::{ExchangeIdentity, PARTS};
 use std::alloc::Global;
-use std::marker::Brand;
+use std::marker::{Brand, PhantomData};
 use std::sync::Wait;
 use std::sync::ledger::Blank;
 use std::thread::Threads;
@@ -38,11 +37,8 @@ pub fn run<G: Gate + Sync, R: Threads + Wait + Sync + Send + Copy>(
     workers: usize,
     gate: &G,
 ) -> Result<RuledDone<R>, RunFault>
-    ensures run { IfOk result (λ done. IsRunOf done (λ end. end.puts) (λ end. end.taken) (λ end. end.puts) (λ end. end.taken) inst.now cap) }
-    ensures stopped { IfOk result (λ done. done.ending ≡ Ending.Stopped → G.MAY_STOP ≡ true) }
-    ensures given { IfOk result (λ done. done.assignment ≡ given inst.now done.journal.items) }
-    ensures counts { IfOk result (λ done. AreCounted workers done.journal.items done.who.items done.entered.items) }
-    ensures settled { IfOk result (λ done. done.ending ≡ Ending.Closed → IsSettledRun inst.now done.journal.items done.assignment) }
+    ensures run { IfOk result (λ done. IsRunOf done (λ end. end.puts) (λ end. end.taken)
+        (λ end. end.puts) (λ end. end.taken) inst.now cap workers G.MAY_STOP) }
     ensures admitted { OnOk result ((1 ≤ workers) × (workers ≤ 8) × (is_capacity cap ≡ true)) }
     ensures fault { IfErr result (IsRunFault inst.now cap workers) }
 {
@@ -60,11 +56,8 @@ pub fn run_over<M: Mailboxes + Send + Sync, G: Gate + Sync, R: Threads + Wait + 
     workers: usize,
     gate: &G,
 ) -> Result<Done<M>, RunFault>
-    ensures run { IfOk result (λ done. IsRunOf done M.OfferPut.puts M.OfferTake.taken M.AnswerPut.puts M.AnswerTake.taken inst.now cap) }
-    ensures stopped { IfOk result (λ done. done.ending ≡ Ending.Stopped → G.MAY_STOP ≡ true) }
-    ensures given { IfOk result (λ done. done.assignment ≡ given inst.now done.journal.items) }
-    ensures counts { IfOk result (λ done. AreCounted workers done.journal.items done.who.items done.entered.items) }
-    ensures settled { IfOk result (λ done. done.ending ≡ Ending.Closed → IsSettledRun inst.now done.journal.items done.assignment) }
+    ensures run { IfOk result (λ done. IsRunOf done M.OfferPut.puts M.OfferTake.taken
+        M.AnswerPut.puts M.AnswerTake.taken inst.now cap workers G.MAY_STOP) }
     ensures admitted { OnOk result ((1 ≤ workers) × (workers ≤ 8) × (is_capacity cap ≡ true)) }
     ensures fault { IfErr result (IsRunFault inst.now cap workers) }
 {
@@ -99,22 +92,19 @@ fn run_named<
     requires workers { (workers ≡ J.workers) × (1 ≤ workers) × (workers ≤ 8) }
     requires blank { (blank.name ≡ J.name) × (blank.parts ≡ J.parts) × (J.parts ≡ 8) }
     requires admitted { is_capacity cap ≡ true }
-    ensures run { IfOk result (λ done. IsRunOf done M.OfferPut.puts M.OfferTake.taken M.AnswerPut.puts M.AnswerTake.taken inst.now cap) }
-    ensures stopped { IfOk result (λ done. done.ending ≡ Ending.Stopped → G.MAY_STOP ≡ true) }
-    ensures given { IfOk result (λ done. done.assignment ≡ given inst.now done.journal.items) }
-    ensures counts { IfOk result (λ done. AreCounted workers done.journal.items done.who.items done.entered.items) }
-    ensures settled { IfOk result (λ done. done.ending ≡ Ending.Closed → IsSettledRun inst.now done.journal.items done.assignment) }
+    ensures run { IfOk result (λ done. IsRunOf done M.OfferPut.puts M.OfferTake.taken
+        M.AnswerPut.puts M.AnswerTake.taken inst.now cap workers G.MAY_STOP) }
     ensures fault { IfErr result (IsFault inst.now cap) }
 {
     let reserve = Reserve::new(alloc, inst, workers)?;
-    let (shared, tallies) = open_shared::<J, M, G>(
+    let opening = Opening::<J, M> {
         alloc,
-        blank,
         mailboxes,
         inst,
         cap,
-        workers as u32,
-    )?;
+        exchange: PhantomData,
+    };
+    let (shared, tallies) = opening.shared::<G>(blank, workers as u32)?;
     let tallies = drive(rt, alloc, inst, &shared, gate, tallies)?;
     reserve.finish(inst, shared, tallies)
 }

@@ -1,14 +1,14 @@
 //! What the workers share.
 ghost use Rattle.std.specs.Prelude.{◌≡◌, true};
 
-use crate::desks::{BoundProgramme, BoundResident};
+use crate::desks::{ProgrammeDesk, ResidentDesk};
 use crate::exchange::Exchange;
 use crate::fault::Trouble;
 use crate::gate::Gate;
 use crate::mailboxes::Mailboxes;
 use crate::naps::{NapRoom, Naps};
-use crate::scheduler::Scheduler;
-use offer_ledger::{ExchangeIdentity, Ledger};
+use crate::run_state::RunState;
+use offer_ledger::ExchangeIdentity;
 use std::hint::spin_loop;
 use std::sync::{Condvar, Mutex, MutexGuard, Wait};
 
@@ -47,7 +47,7 @@ fn lock_soon<'a, T, R: Wait>(rt: &R, lock: &'a Mutex<T>, room: &NapRoom) -> Mute
 // The value under a lock that another worker has: tried after each of some naps, and then waited for.
 #[cold]
 fn lock_later<'a, T, R: Wait>(rt: &R, lock: &'a Mutex<T>, room: &NapRoom) -> MutexGuard<'a, T> {
-    let mut naps = Naps::for_lock();
+    let mut naps = Naps::FOR_LOCK;
     for _ in 0..NAPS {
         naps.nap(rt, room);
         if let Some(guard) = try_soon(lock) {
@@ -57,20 +57,21 @@ fn lock_later<'a, T, R: Wait>(rt: &R, lock: &'a Mutex<T>, room: &NapRoom) -> Mut
     lock.lock(rt)
 }
 
-/// What the shared state is taken apart into: the desks of the residents and of the programmes, the ledger and the scheduler.
+/// What the shared state is taken apart into: the desks of the residents and of the programmes, the exchange and how
+/// the run stands.
 pub(crate) type SharedParts<'a, J, M, G> = (
-    Vec<Mutex<BoundResident<J, M>>>,
-    Vec<Mutex<BoundProgramme<J, M>>>,
-    Ledger<J, <M as Mailboxes>::OfferPut, <M as Mailboxes>::AnswerPut>,
-    Scheduler<'a, G>,
+    Vec<Mutex<ResidentDesk<J, M>>>,
+    Vec<Mutex<ProgrammeDesk<J, M>>>,
+    Exchange<J, M>,
+    RunState<'a, G>,
 );
 
-/// The locks of a run. They are taken in the order desk, ledger; `scheduler` is never held while another is taken.
+/// The locks of a run. They are taken in the order desk, ledger; `state` is never held while another is taken.
 pub(crate) struct SharedState<'a, J: ExchangeIdentity, M: Mailboxes, G: Gate> {
-    pub(crate) residents: Vec<Mutex<BoundResident<J, M>>>,
-    pub(crate) programmes: Vec<Mutex<BoundProgramme<J, M>>>,
+    pub(crate) residents: Vec<Mutex<ResidentDesk<J, M>>>,
+    pub(crate) programmes: Vec<Mutex<ProgrammeDesk<J, M>>>,
     pub(crate) exchange: Mutex<Exchange<J, M>>,
-    pub(crate) scheduler: Mutex<Scheduler<'a, G>>,
+    pub(crate) state: Mutex<RunState<'a, G>>,
     pub(crate) news: Condvar,
     for_lock: NapRoom,
     for_work: NapRoom,
@@ -83,7 +84,7 @@ impl<'a, J: ExchangeIdentity, M: Mailboxes, G: Gate> Drop for SharedState<'a, J,
             residents: _,
             programmes: _,
             exchange: _,
-            scheduler: _,
+            state: _,
             news: _,
             for_lock: _,
             for_work: _,
@@ -92,35 +93,33 @@ impl<'a, J: ExchangeIdentity, M: Mailboxes, G: Gate> Drop for SharedState<'a, J,
 }
 
 impl<'a, J: ExchangeIdentity, M: Mailboxes, G: Gate> SharedState<'a, J, M, G> {
-    /// The desks, the ledger and the scheduler, out of their locks but for the desks.
+    /// The desks, the exchange and how the run stands, out of their locks but for the desks.
     pub(crate) fn into_parts(self) -> SharedParts<'a, J, M, G> {
         let SharedState {
             residents,
             programmes,
             exchange,
-            scheduler,
+            state,
             news: _,
             for_lock: _,
             for_work: _,
         } = self;
-        let ledger = exchange.into_inner().into_ledger();
-        (residents, programmes, ledger, scheduler.into_inner())
+        let exchange = exchange.into_inner();
+        (residents, programmes, exchange, state.into_inner())
     }
-}
 
-impl<'a, J: ExchangeIdentity, M: Mailboxes, G: Gate> SharedState<'a, J, M, G> {
-    /// Desks, exchange and scheduler, each under its lock.
+    /// Desks, exchange and how the run stands, each under its lock.
     pub(crate) fn new(
-        residents: Vec<Mutex<BoundResident<J, M>>>,
-        programmes: Vec<Mutex<BoundProgramme<J, M>>>,
+        residents: Vec<Mutex<ResidentDesk<J, M>>>,
+        programmes: Vec<Mutex<ProgrammeDesk<J, M>>>,
         exchange: Exchange<J, M>,
-        scheduler: Scheduler<'a, G>,
+        state: RunState<'a, G>,
     ) -> SharedState<'a, J, M, G> {
         SharedState {
             residents,
             programmes,
             exchange: Mutex::new(exchange),
-            scheduler: Mutex::new(scheduler),
+            state: Mutex::new(state),
             news: Condvar::new(),
             for_lock: NapRoom::new(),
             for_work: NapRoom::new(),
@@ -133,10 +132,10 @@ impl<'a, J: ExchangeIdentity, M: Mailboxes, G: Gate> SharedState<'a, J, M, G> {
         lock_soon(rt, &self.exchange, &self.for_lock)
     }
 
-    /// The desks in hands and the list, under their lock.
+    /// The desks in hands, the list and how the run ends, under their lock.
     #[inline(always)]
-    pub(crate) fn lock_scheduler<R: Wait>(&self, rt: &R) -> MutexGuard<'_, Scheduler<'a, G>> {
-        lock_soon(rt, &self.scheduler, &self.for_lock)
+    pub(crate) fn lock_state<R: Wait>(&self, rt: &R) -> MutexGuard<'_, RunState<'a, G>> {
+        lock_soon(rt, &self.state, &self.for_lock)
     }
 
     /// Naps once, having found nothing to do. Whoever naps for a lock goes on, since what there is to do may be in its hands.
@@ -155,7 +154,7 @@ impl<'a, J: ExchangeIdentity, M: Mailboxes, G: Gate> SharedState<'a, J, M, G> {
     pub(crate) fn end<R: Wait>(&self, rt: &R) {
         self.for_lock.end();
         self.for_work.end();
-        self.lock_scheduler(rt).ended = true;
+        self.lock_state(rt).scheduler.end();
         self.news.notify_all();
     }
 
@@ -163,13 +162,13 @@ impl<'a, J: ExchangeIdentity, M: Mailboxes, G: Gate> SharedState<'a, J, M, G> {
     pub(crate) fn stop<R: Wait>(&self, rt: &R)
         requires { G.MAY_STOP ≡ true }
     {
-        self.lock_scheduler(rt).stop();
+        self.lock_state(rt).stop();
         self.end(rt);
     }
 
     /// Ends the run for a trouble, of which the first one is kept.
     pub(crate) fn fail<R: Wait>(&self, rt: &R, trouble: Trouble) {
-        self.lock_scheduler(rt).trouble.get_or_insert(trouble);
+        self.lock_state(rt).trouble.get_or_insert(trouble);
         self.end(rt);
     }
 }

@@ -1,23 +1,22 @@
 //! A worker: it takes desks that may have work, stays at each while it has some, and closes the exchange at rest.
-ghost use Rattle.std.specs.Prelude.{◌≡◌, ◌≢◌, None, slice_get};
+ghost use Rattle.std.specs.Prelude.{◌≡◌, ◌≢◌, ◌⊎◌, ◌++◌, ◌∷◌, [], None, slice_get};
 ghost use Rattle.match_agents.specs.Programmes.{wish_of};
 
-use crate::desks::{BoundProgramme, BoundResident};
+use crate::desks::{ProgrammeDesk, ResidentDesk};
 use crate::exchange::{Entry, Found};
 use crate::fault::Trouble;
 use crate::gate::{Gate, Go};
 use crate::mailboxes::Mailboxes;
 use crate::naps::Naps;
-use crate::scheduler::Next;
 use crate::shared::SharedState;
-use crate::woken::Woken;
-use exchange_core::{AnswerKind, AnswerNote, Desk, Event};
+use desk_scheduler::{Next, Woken};
+use exchange_core::{AnswerKind, AnswerNote, Desk};
 use match_agents::Heard;
 use match_model::{Instance, ProgrammeNo, ResidentNo};
 use offer_ledger::{ExchangeIdentity, Tally};
 use std::sync::Wait;
 
-/// One worker of a run.
+/// One worker of a run. It notes the desks to which its entries may have given work, by number, until it lists them.
 #[derive(Drop)]
 pub(crate) struct Worker<'a, 'f, J: ExchangeIdentity, M: Mailboxes, G: Gate, R: Wait> {
     rt: &'a R,
@@ -38,17 +37,6 @@ enum Step {
     Stay { more: bool },
     /// The worker leaves the desk; whether it is to be come back to at once.
     Leave { again: bool },
-}
-
-/// Why a look into a mailbox gave no message.
-#[derive(Clone, Copy)]
-enum Look {
-    /// None waits, as far as the mailbox has it.
-    Empty,
-    /// Nobody can put one any more.
-    Gone,
-    /// The log has no room for one.
-    LogFull,
 }
 
 /// After how many misses in a row a worker naps after each.
@@ -85,7 +73,7 @@ impl<'a, 'f, J: ExchangeIdentity, M: Mailboxes, G: Gate, R: Wait> Worker<'a, 'f,
 
     /// Drives desks until the run ends, and gives the tally back.
     pub(crate) fn work(mut self) -> Tally<J> {
-        let first = self.shared.lock_scheduler(self.rt).next();
+        let first = self.shared.lock_state(self.rt).scheduler.next();
         let mut in_hand = self.or_search(first);
         for _ in self.rt.forever() {
             let Some(desk) = in_hand else {
@@ -119,7 +107,7 @@ impl<'a, 'f, J: ExchangeIdentity, M: Mailboxes, G: Gate, R: Wait> Worker<'a, 'f,
 
     // Gives every answer that is due and takes the next offer, while there is one. The mailbox is looked into at first, and
     // the ledger asked where it gives nothing.
-    fn visit_resident(&mut self, agent: &mut BoundResident<J, M>, resident: ResidentNo) -> bool {
+    fn visit_resident(&mut self, agent: &mut ResidentDesk<J, M>, resident: ResidentNo) -> bool {
         let mut more = true;
         for _ in self.rt.forever() {
             if self.shared.is_ending() {
@@ -140,11 +128,7 @@ impl<'a, 'f, J: ExchangeIdentity, M: Mailboxes, G: Gate, R: Wait> Worker<'a, 'f,
 
     // Hears every answer that waits, and offers while there is a wish. Room that it was called for is used first: no
     // receipt may hold it up, since others wait for room behind it.
-    fn visit_programme(
-        &mut self,
-        agent: &mut BoundProgramme<J, M>,
-        programme: ProgrammeNo,
-    ) -> bool {
+    fn visit_programme(&mut self, agent: &mut ProgrammeDesk<J, M>, programme: ProgrammeNo) -> bool {
         let mut more = true;
         if agent.asks_first() {
             let (has_more, is_called) = self
@@ -179,7 +163,7 @@ impl<'a, 'f, J: ExchangeIdentity, M: Mailboxes, G: Gate, R: Wait> Worker<'a, 'f,
     // Gives the first answer that is due.
     fn answer(
         &mut self,
-        agent: &mut BoundResident<J, M>,
+        agent: &mut ResidentDesk<J, M>,
         resident: ResidentNo,
         programme: ProgrammeNo,
         kind: AnswerKind,
@@ -197,7 +181,7 @@ impl<'a, 'f, J: ExchangeIdentity, M: Mailboxes, G: Gate, R: Wait> Worker<'a, 'f,
     }
 
     // Offers to the next resident, if there is a wish.
-    fn offer_next(&mut self, agent: &mut BoundProgramme<J, M>, programme: ProgrammeNo) -> Step {
+    fn offer_next(&mut self, agent: &mut ProgrammeDesk<J, M>, programme: ProgrammeNo) -> Step {
         match agent.wish(self.inst) {
             Some(resident) => self.offer(agent, programme, resident),
             None => LEAVE,
@@ -207,7 +191,7 @@ impl<'a, 'f, J: ExchangeIdentity, M: Mailboxes, G: Gate, R: Wait> Worker<'a, 'f,
     // Offers to this resident, who is the next.
     fn offer(
         &mut self,
-        agent: &mut BoundProgramme<J, M>,
+        agent: &mut ProgrammeDesk<J, M>,
         programme: ProgrammeNo,
         resident: ResidentNo,
     ) -> Step
@@ -226,13 +210,13 @@ impl<'a, 'f, J: ExchangeIdentity, M: Mailboxes, G: Gate, R: Wait> Worker<'a, 'f,
     }
 
     // Takes an offer out of the mailbox, enters the take, and decides.
-    fn take(&mut self, agent: &mut BoundResident<J, M>, resident: ResidentNo) -> Step {
+    fn take(&mut self, agent: &mut ResidentDesk<J, M>, resident: ResidentNo) -> Step {
         let desk = Desk::Resident(resident);
         let again = desk;
         self.list_woken();
         let programme = match agent.take() {
             Heard::Got(note) => note.programme,
-            heard => return self.after_look(look_of(&heard), desk),
+            heard => return self.after_look(heard, desk),
         };
         self.pass(again);
         let entry = self
@@ -240,23 +224,17 @@ impl<'a, 'f, J: ExchangeIdentity, M: Mailboxes, G: Gate, R: Wait> Worker<'a, 'f,
             .lock_exchange(self.rt)
             .take(self.inst, &mut self.tally, resident, programme);
         agent.decide(self.inst);
-        self.after_receipt(
-            entry,
-            Event::Take {
-                resident,
-                programme,
-            },
-        )
+        self.after_receipt(entry)
     }
 
     // Takes an answer out of the mailbox, and enters the hear.
-    fn hear(&mut self, agent: &mut BoundProgramme<J, M>, programme: ProgrammeNo) -> Step {
+    fn hear(&mut self, agent: &mut ProgrammeDesk<J, M>, programme: ProgrammeNo) -> Step {
         let desk = Desk::Programme(programme);
         let again = desk;
         self.list_woken();
         let note = match agent.hear() {
             Heard::Got(note) => note,
-            heard => return self.after_look(look_of(&heard), desk),
+            heard => return self.after_look(heard, desk),
         };
         self.pass(again);
         let AnswerNote { resident, kind } = note;
@@ -264,14 +242,7 @@ impl<'a, 'f, J: ExchangeIdentity, M: Mailboxes, G: Gate, R: Wait> Worker<'a, 'f,
             .shared
             .lock_exchange(self.rt)
             .hear(self.inst, &mut self.tally, programme, resident, kind);
-        self.after_receipt(
-            entry,
-            Event::Hear {
-                programme,
-                resident,
-                kind,
-            },
-        )
+        self.after_receipt(entry)
     }
 
     // Lets the gate see a receipt, and ends the run on its word.
@@ -302,11 +273,11 @@ impl<'a, 'f, J: ExchangeIdentity, M: Mailboxes, G: Gate, R: Wait> Worker<'a, 'f,
 
     // What a receipt leaves at its desk.
     #[inline(always)]
-    fn after_receipt(&mut self, entry: Entry, receipt: Event) -> Step {
+    fn after_receipt(&mut self, entry: Entry) -> Step {
         match entry {
             Entry::Made { more, woken } => self.made(more, woken),
             Entry::Refused => {
-                self.shared.fail(self.rt, Trouble::OutOfStep(receipt));
+                self.shared.fail(self.rt, Trouble::OutOfStep);
                 LEAVE
             }
             Entry::Later | Entry::Missed | Entry::Ended | Entry::Gone => LEAVE,
@@ -315,8 +286,8 @@ impl<'a, 'f, J: ExchangeIdentity, M: Mailboxes, G: Gate, R: Wait> Worker<'a, 'f,
 
     // What a look into the mailbox leaves that gave no message: where none waits by the ledger, the desk does what else it
     // has to do.
-    fn after_look(&mut self, look: Look, desk: Desk) -> Step {
-        if let Look::Gone = look {
+    fn after_look<N: Drop>(&mut self, heard: Heard<N>, desk: Desk) -> Step {
+        if let Heard::Gone = heard {
             self.shared.fail(self.rt, Trouble::MailGone(desk));
             return LEAVE;
         }
@@ -328,13 +299,11 @@ impl<'a, 'f, J: ExchangeIdentity, M: Mailboxes, G: Gate, R: Wait> Worker<'a, 'f,
         if !waits {
             return Step::Stay { more: false };
         }
-        match look {
-            Look::Empty => self.miss(desk),
-            Look::Gone | Look::LogFull => {
-                self.shared.fail(self.rt, Trouble::Torn(desk));
-                LEAVE
-            }
+        if let Heard::LogFull = heard {
+            self.shared.fail(self.rt, Trouble::Torn(desk));
+            return LEAVE;
         }
+        self.miss(desk)
     }
 
     // A mailbox had nothing, or no room, against the journal: the desk is come back to, while there is patience.
@@ -346,7 +315,8 @@ impl<'a, 'f, J: ExchangeIdentity, M: Mailboxes, G: Gate, R: Wait> Worker<'a, 'f,
             return LEAVE;
         }
         if self.missed > MISSES {
-            self.shared.nap(self.rt, &mut Naps::for_work());
+            let mut naps = Naps::FOR_WORK;
+            self.shared.nap(self.rt, &mut naps);
         }
         Step::Leave { again: true }
     }
@@ -357,26 +327,37 @@ impl<'a, 'f, J: ExchangeIdentity, M: Mailboxes, G: Gate, R: Wait> Worker<'a, 'f,
     fn made(&mut self, more: bool, woken: Option<u32>) -> Step {
         self.missed = 0;
         if let Some(desk) = woken {
-            self.woken.push(desk);
-            if G::ENTERED_MAY_HOLD || self.woken.is_full() {
-                self.list_woken();
-            }
+            self.note(desk);
+        }
+        if G::ENTERED_MAY_HOLD {
+            self.list_woken();
         }
         self.gate.entered(self.number);
         Step::Stay { more }
     }
 
+    // Notes a desk that was woken. Where no more can be noted, those so far are listed before.
+    fn note(&mut self, desk: u32)
+        ensures { (self.new.woken ≡ self.old.woken ++ desk ∷ []) ⊎ (self.new.woken ≡ desk ∷ []) }
+    {
+        if self.woken.is_full() {
+            self.list_woken();
+        }
+        self.woken.note(desk);
+    }
+
     // Lists the desks that were woken, and wakes a worker that waits for one.
-    fn list_woken(&mut self) {
+    fn list_woken(&mut self)
+        ensures { self.new.woken ≡ [] }
+    {
         if self.woken.is_empty() {
             return;
         }
         let wakes = {
-            let mut scheduler = self.shared.lock_scheduler(self.rt);
-            scheduler.list_all(self.woken.desks());
-            scheduler.wakes_one()
+            let mut state = self.shared.lock_state(self.rt);
+            state.scheduler.list_all(&mut self.woken);
+            state.scheduler.wakes_one()
         };
-        self.woken.clear();
         if wakes {
             self.shared.news.notify_one();
         }
@@ -385,12 +366,11 @@ impl<'a, 'f, J: ExchangeIdentity, M: Mailboxes, G: Gate, R: Wait> Worker<'a, 'f,
     // Lets a desk go, lists what was woken, and takes the next desk.
     fn turn(&mut self, desk: u32, again: bool) -> Option<u32> {
         let (next, wakes) = {
-            let mut scheduler = self.shared.lock_scheduler(self.rt);
-            scheduler.list_all(self.woken.desks());
-            scheduler.let_go(desk, again);
-            (scheduler.next(), scheduler.wakes_one())
+            let mut state = self.shared.lock_state(self.rt);
+            state.scheduler.list_all(&mut self.woken);
+            state.scheduler.let_go(desk, again);
+            (state.scheduler.next(), state.scheduler.wakes_one())
         };
-        self.woken.clear();
         if wakes {
             self.shared.news.notify_one();
         }
@@ -439,14 +419,18 @@ impl<'a, 'f, J: ExchangeIdentity, M: Mailboxes, G: Gate, R: Wait> Worker<'a, 'f,
     // Takes this desk into a hand; where another worker has it, looks after each of some naps whether a desk is listed,
     // and then waits for news. Who naps needs no waking.
     fn claim_or_look(&self, desk: u32) -> Next {
-        let mut found = self.shared.lock_scheduler(self.rt).claim_or_next(desk);
-        let mut naps = Naps::for_work();
+        let mut found = self
+            .shared
+            .lock_state(self.rt)
+            .scheduler
+            .claim_or_next(desk);
+        let mut naps = Naps::FOR_WORK;
         for _ in 0..LOOKS {
             if found != Next::Nothing {
                 return found;
             }
             self.shared.nap(self.rt, &mut naps);
-            found = self.shared.lock_scheduler(self.rt).next();
+            found = self.shared.lock_state(self.rt).scheduler.next();
         }
         match found {
             Next::Nothing => self.wait(),
@@ -457,28 +441,19 @@ impl<'a, 'f, J: ExchangeIdentity, M: Mailboxes, G: Gate, R: Wait> Worker<'a, 'f,
     // Waits until a desk is listed or the run ends. Whoever lists desks wakes one worker, so one that wakes and leaves a
     // desk listed wakes the next.
     fn wait(&self) -> Next {
-        let mut scheduler = self.shared.lock_scheduler(self.rt);
-        scheduler.wait_begins();
-        let mut scheduler = self
+        let mut state = self.shared.lock_state(self.rt);
+        state.scheduler.wait_begins();
+        let mut state = self
             .shared
             .news
-            .wait_while(self.rt, scheduler, |scheduler| !scheduler.has_news());
-        scheduler.wait_ends();
-        let next = scheduler.next();
-        let wakes = scheduler.wakes_one();
-        drop(scheduler);
+            .wait_while(self.rt, state, |state| !state.scheduler.has_news());
+        state.scheduler.wait_ends();
+        let next = state.scheduler.next();
+        let wakes = state.scheduler.wakes_one();
+        drop(state);
         if wakes {
             self.shared.news.notify_one();
         }
         next
-    }
-}
-
-// Why a look into a mailbox that gave nothing did so.
-fn look_of<M>(heard: &Heard<M>) -> Look {
-    match heard {
-        Heard::Gone => Look::Gone,
-        Heard::LogFull => Look::LogFull,
-        Heard::Nothing | Heard::Got(_) => Look::Empty,
     }
 }

@@ -1,138 +1,63 @@
--- There is one first answer, and what is told of a programme's members decides between the last two.
-use Rattle.std.proofs.Common.{◌≡◌, ℕ, ◌+◌, ◌<◌, ◌≤◌, ◌⊎◌, inl, inr, List, [], ◌∷◌, length, take, drop, arith, refl, sym, ap, ◌∙◌, subst}
-use Rattle.std.specs.List.{count_by, filter}
-use Rattle.std.proofs.lemmas.List.{take-append-drop, length-take, length-take-le}
-use Rattle.std.proofs.lemmas.List.Sums.{length-filter, count_by-le-length}
+-- There is one first answer, and which one is told.
+use Rattle.std.proofs.Common.{◌≡◌, ℕ, ◌<◌, ◌≤◌, inl, inr, List, arith, refl, sym, ap, ◌∙◌, subst}
 use Rattle.std.specs.Prelude.{Option, Some, None}
 use Rattle.std.proofs.lemmas.Bool.{cases_lt}
 use Rattle.std.proofs.lemmas.Option.{same_Some}
-use Rattle.match_model.specs.Ranking.{place, IsListed, is_listed, IsBefore, HasNoRepeats}
-use Rattle.match_model.specs.Instance.{Instance, IsInstance, Acceptable, list_of_programme, list_of_resident, quota, rank}
-use Rattle.match_model.specs.Placement.{programme_of, IsMemberOf, member_count}
-use Rattle.match_model.proofs.Listed.{same_from_place, place-append, no_repeats_before}
-use Rattle.match_model.proofs.Instances.{acceptable_programme}
-use Rattle.settle_law.proofs.Places.{IsListed-nil, IsListed-cons, IsListed-cons_same, IsListed-cons_cases, IsListed-filter, HasNoRepeats-cons, HasNoRepeats-filter, listed_cases, place-append_other}
-use Rattle.settle_law.proofs.Counting.{different_among, different_pass}
-use Rattle.settle_law.proofs.Placements.{holds_true, same_from_holds, members_of, length-members_of, members_differ, member_listed, member_from_listed}
+use Rattle.match_model.specs.Ranking.{place, IsListed, IsBefore}
+use Rattle.match_model.specs.Instance.{Instance, IsInstance, IsResident, IsProgramme, Acceptable, list_of_programme, list_of_resident, quota, rank}
+use Rattle.match_model.specs.Placement.{programme_of, IsMemberOf}
+use Rattle.match_model.proofs.Listed.{same_from_place}
+use Rattle.settle_law.proofs.Places.{IsListed-nil}
 use Rattle.settle_law.specs.Stable.{Prefers, IsStable, HasRoomFor}
 use Rattle.match_reasons.proofs.Ranks.{ranked, place_unranked}
-use Rattle.match_reasons.proofs.Tallies.{is_of}
-use Rattle.match_reasons.specs.Reason.{HasWithdrawn, HasBetter, IsLastRank, Holds, turn, IsFirst, Wants, TellsFull, NamesProgramme, IsLastAhead, IsAhead}
-use Rattle.match_reasons.specs.declared.members.Ahead.{Ahead}
+use Rattle.match_reasons.proofs.Kept.{resident_before, programme_before, written_parts}
+use Rattle.match_reasons.specs.Reason.{AreWritten, HasWithdrawn, HasBetter, IsLastPlace, IsTaken, Holds, turn, IsFirst, Wants, Asks, TellsFull, GivesProgrammes, NamesOwn, NamesProgramme, HasRoomAt, StandsPast}
+use Rattle.match_reasons.specs.declared.taken.Taken.{Taken}
 use Rattle.match_reasons.specs.declared.reason.Why.{Why}
-use Rattle.match_reasons.specs.declared.reason.Why.TheVariants.{Withdrawn, NotAcceptable, Matched, PrefersOwn, Full, Blocking}
+use Rattle.match_reasons.specs.declared.reason.Why.TheVariants.{Withdrawn, NotListed, NotRanked, Matched, PrefersOwn, Full, Blocking}
 
--- a last rank is one
-same_last : (inst : Instance) (m : List (Option ℕ)) (p : ℕ) (a b : Option ℕ) → IsLastRank inst m p a → IsLastRank inst m p b → a ≡ b
-same_last inst m p None None h k = refl
-same_last inst m p None (Some b) h k = absurd (h k.0.0 k.0.1)
-same_last inst m p (Some a) None h k = absurd (k h.0.0 h.0.1)
-same_last inst m p (Some a) (Some b) h k =
+-- a last place is one
+same_last : (theirs : List ℕ) (m : List (Option ℕ)) (p : ℕ) (a b : Option ℕ) → IsLastPlace theirs m p a → IsLastPlace theirs m p b → a ≡ b
+same_last theirs m p None None h k = refl
+same_last theirs m p None (Some b) h k = absurd (h k.0.0 k.0.1)
+same_last theirs m p (Some a) None h k = absurd (k h.0.0 h.0.1)
+same_last theirs m p (Some a) (Some b) h k =
     let l = h.1 k.0.0 k.0.1 in let g = k.1 h.0.0 h.0.1 in let e = h.0.2 in let f = k.0.2 in
     ap Some (omega arith)
 
 -- two answers of one turn that hold are one
-same_holding : (inst : Instance) (m : List (Option ℕ)) (r p : ℕ) (a b : Why) → Holds inst m r p a → Holds inst m r p b → turn a ≡ turn b → a ≡ b
-same_holding inst m r p Withdrawn Withdrawn h k e = refl
-same_holding inst m r p Withdrawn NotAcceptable h k e = absurd (omega arith)
-same_holding inst m r p Withdrawn Matched h k e = absurd (omega arith)
-same_holding inst m r p Withdrawn (PrefersOwn o i j) h k e = absurd (omega arith)
-same_holding inst m r p Withdrawn (Full i l q) h k e = absurd (omega arith)
-same_holding inst m r p Withdrawn Blocking h k e = absurd (omega arith)
-same_holding inst m r p NotAcceptable Withdrawn h k e = absurd (omega arith)
-same_holding inst m r p NotAcceptable NotAcceptable h k e = refl
-same_holding inst m r p NotAcceptable Matched h k e = absurd (omega arith)
-same_holding inst m r p NotAcceptable (PrefersOwn o i j) h k e = absurd (omega arith)
-same_holding inst m r p NotAcceptable (Full i l q) h k e = absurd (omega arith)
-same_holding inst m r p NotAcceptable Blocking h k e = absurd (omega arith)
-same_holding inst m r p Matched Withdrawn h k e = absurd (omega arith)
-same_holding inst m r p Matched NotAcceptable h k e = absurd (omega arith)
-same_holding inst m r p Matched Matched h k e = refl
-same_holding inst m r p Matched (PrefersOwn o i j) h k e = absurd (omega arith)
-same_holding inst m r p Matched (Full i l q) h k e = absurd (omega arith)
-same_holding inst m r p Matched Blocking h k e = absurd (omega arith)
-same_holding inst m r p (PrefersOwn o i j) Withdrawn h k e = absurd (omega arith)
-same_holding inst m r p (PrefersOwn o i j) NotAcceptable h k e = absurd (omega arith)
-same_holding inst m r p (PrefersOwn o i j) Matched h k e = absurd (omega arith)
-same_holding inst m r p (PrefersOwn o i j) (PrefersOwn o' i' j') h k e =
+same_holding : (inst : Instance) (mine theirs : List ℕ) (m : List (Option ℕ)) (r p : ℕ) (a b : Why) →
+    Holds inst mine theirs m r p a → Holds inst mine theirs m r p b → turn a ≡ turn b → a ≡ b
+same_holding inst mine theirs m r p Withdrawn Withdrawn h k e = refl
+same_holding inst mine theirs m r p NotListed NotListed h k e = refl
+same_holding inst mine theirs m r p NotRanked NotRanked h k e = refl
+same_holding inst mine theirs m r p Matched Matched h k e = refl
+same_holding inst mine theirs m r p (PrefersOwn o i j) (PrefersOwn o' i' j') h k e =
     let f : o ≡ o' = same_Some o o' (sym h.has_own ∙ k.has_own) in
-    let x : i ≡ i' = same_Some i i' (sym h.own_ranked ∙ ap (rank (list_of_resident inst r)) f ∙ k.own_ranked) in
+    let x : i ≡ i' = same_Some i i' (sym h.own_ranked ∙ ap (rank mine) f ∙ k.own_ranked) in
     let y : j ≡ j' = same_Some j j' (sym h.ranked ∙ k.ranked) in cc
-same_holding inst m r p (PrefersOwn o i j) (Full i' l q) h k e = absurd (omega arith)
-same_holding inst m r p (PrefersOwn o i j) Blocking h k e = absurd (omega arith)
-same_holding inst m r p (Full i l q) Withdrawn h k e = absurd (omega arith)
-same_holding inst m r p (Full i l q) NotAcceptable h k e = absurd (omega arith)
-same_holding inst m r p (Full i l q) Matched h k e = absurd (omega arith)
-same_holding inst m r p (Full i l q) (PrefersOwn o i' j) h k e = absurd (omega arith)
-same_holding inst m r p (Full i l q) (Full i' l' q') h k e =
+same_holding inst mine theirs m r p (Full i l q) (Full i' l' q') h k e =
     let x : i ≡ i' = same_Some i i' (sym h.ranked ∙ k.ranked) in
-    let y : l ≡ l' = same_last inst m p l l' h.last k.last in
+    let y : l ≡ l' = same_last theirs m p l l' h.last k.last in
     let z : q ≡ q' = sym h.has_quota ∙ k.has_quota in cc
-same_holding inst m r p (Full i l q) Blocking h k e = absurd (omega arith)
-same_holding inst m r p Blocking Withdrawn h k e = absurd (omega arith)
-same_holding inst m r p Blocking NotAcceptable h k e = absurd (omega arith)
-same_holding inst m r p Blocking Matched h k e = absurd (omega arith)
-same_holding inst m r p Blocking (PrefersOwn o i j) h k e = absurd (omega arith)
-same_holding inst m r p Blocking (Full i l q) h k e = absurd (omega arith)
-same_holding inst m r p Blocking Blocking h k e = refl
+same_holding inst mine theirs m r p Blocking Blocking h k e = refl
+same_holding inst mine theirs m r p a b h k e = absurd (omega arith)
 
 -- there is one first answer
-pub one_first : (inst : Instance) (m : List (Option ℕ)) (r p : ℕ) (a b : Why) → IsFirst inst m r p a → IsFirst inst m r p b → a ≡ b
-one_first inst m r p a b h k = elim (cases_lt (turn a) (turn b)) [
+pub one_first : (inst : Instance) (mine theirs : List ℕ) (m : List (Option ℕ)) (r p : ℕ) (a b : Why) →
+    IsFirst inst mine theirs m r p a → IsFirst inst mine theirs m r p b → a ≡ b
+one_first inst mine theirs m r p a b h k = elim (cases_lt (turn a) (turn b)) [
   | inl c ↦ absurd (k.none_before a c h.holds)
   | inr c ↦ elim (cases_lt (turn b) (turn a)) [
     | inl d ↦ absurd (h.none_before b d k.holds)
-    | inr d ↦ same_holding inst m r p a b h.holds k.holds (omega arith)
+    | inr d ↦ same_holding inst mine theirs m r p a b h.holds k.holds (omega arith)
   ]
 ]
 
 -- the first answer over a stable placement isn't that the two block it
-pub never_blocking : (inst : Instance) (m : List (Option ℕ)) (r p : ℕ) (a : Why) → IsFirst inst m r p a → IsStable inst m → a ≡ Blocking → ⊥
-never_blocking inst m r p a h stable e = stable.nothing_blocks r p (subst (Holds inst m r p) e h.holds)
-
--- whoever would rather have the programme has none before it
-not_better : (inst : Instance) (m : List (Option ℕ)) (r p own i j : ℕ) → Wants inst m r p → HasBetter inst m r p own i j → ⊥
-not_better inst m r p own i j w h =
-    let list : List ℕ = list_of_resident inst r in
-    let before : IsBefore list p own = subst (Prefers list p) h.has_own w.would in
-    let x = ranked list own i (sym h.own_ranked) in
-    let y = ranked list p j (sym h.ranked) in
-    let l = h.before in omega arith
-
--- r would rather have p than a programme that stands no earlier
-pub wants_over : (inst : Instance) → IsInstance inst → (m : List (Option ℕ)) (r p own i j : ℕ) → Some i ≡ rank (list_of_resident inst r) own →
-    Some j ≡ rank (list_of_resident inst r) p → (IsMemberOf m r p → ⊥) → programme_of m r ≡ Some own → j ≤ i → Wants inst m r p
-wants_over inst is m r p own i j e f not has l =
-    let list : List ℕ = list_of_resident inst r in
-    let x = ranked list own i e in
-    let y = ranked list p j f in record {
-      acceptable = (is.both_rank p r).1 y.0;
-      not_placed = not;
-      would = subst (Prefers list p) (sym has) (before x y);
-    }
-  where
-    before : IsListed (list_of_resident inst r) own × (place (list_of_resident inst r) own ≡ i) → IsListed (list_of_resident inst r) p × (place (list_of_resident inst r) p ≡ j) →
-        IsBefore (list_of_resident inst r) p own
-    before x y = elim (cases_lt (place (list_of_resident inst r) p) (place (list_of_resident inst r) own)) [
-      | inl c ↦ c
-      | inr c ↦
-          let same : p ≡ own = same_from_place (list_of_resident inst r) p own y.0 (let a = x.1 in let b = y.1 in omega arith) in
-          absurd (not (has ∙ ap Some (sym same)))
-    ]
-
--- r would rather have p than nothing, or than a programme that it doesn't list
-pub wants_any : (inst : Instance) → IsInstance inst → (m : List (Option ℕ)) (r p j : ℕ) → Some j ≡ rank (list_of_resident inst r) p →
-    (IsMemberOf m r p → ⊥) → ((own : ℕ) → programme_of m r ≡ Some own → None ≡ rank (list_of_resident inst r) own) → Wants inst m r p
-wants_any inst is m r p j f not has =
-    let y = ranked (list_of_resident inst r) p j f in record {
-      acceptable = (is.both_rank p r).1 y.0;
-      not_placed = not;
-      would = would y.0 (programme_of m r) refl;
-    }
-  where
-    would : IsListed (list_of_resident inst r) p → (o : Option ℕ) → programme_of m r ≡ o → Prefers (list_of_resident inst r) p o
-    would l None e = tt
-    would l (Some own) e = let past = place_unranked (list_of_resident inst r) own (has own e) in omega arith
+pub never_blocking : (inst : Instance) (mine theirs : List ℕ) (m : List (Option ℕ)) (r p : ℕ) (a : Why) → IsFirst inst mine theirs m r p a →
+    IsStable inst m → a ≡ Blocking → ⊥
+never_blocking inst mine theirs m r p a h stable e = stable.nothing_blocks r p (subst (Holds inst mine theirs m r p) e h.holds)
 
 -- who is withdrawn is in no acceptable pair
 not_withdrawn : (inst : Instance) → IsInstance inst → (r p : ℕ) → Acceptable inst r p → HasWithdrawn inst r p → ⊥
@@ -141,150 +66,218 @@ not_withdrawn inst is r p a (inl c) =
 not_withdrawn inst is r p a (inr c) =
     IsListed-nil r (subst (λ (xs : List ℕ). IsListed xs r) (is.withdrawn_programmes_rank_nobody p c) a)
 
--- whoever would rather have the programme is told none of the first four
-pub wants_none : (inst : Instance) → IsInstance inst → (m : List (Option ℕ)) (r p : ℕ) (a : Why) → Wants inst m r p → turn a < 4 → Holds inst m r p a → ⊥
-wants_none inst is m r p Withdrawn w l h = not_withdrawn inst is r p w.acceptable h
-wants_none inst is m r p NotAcceptable w l h = h w.acceptable
-wants_none inst is m r p Matched w l h = w.not_placed h
-wants_none inst is m r p (PrefersOwn own i j) w l h = not_better inst m r p own i j w h
-wants_none inst is m r p (Full i k q) w l h = absurd (omega arith)
-wants_none inst is m r p Blocking w l h = absurd (omega arith)
+-- none of the first five answers holds of an acceptable pair that isn't placed, where r has nothing that stands before p
+none_of_five : (inst : Instance) → IsInstance inst → (mine theirs : List ℕ) (m : List (Option ℕ)) (r p : ℕ) → AreWritten inst r p mine theirs →
+    Acceptable inst r p → (IsMemberOf m r p → ⊥) → ((own : ℕ) → IsMemberOf m r own → IsBefore mine p own) →
+    (a : Why) → turn a < 5 → Holds inst mine theirs m r p a → ⊥
+none_of_five inst is mine theirs m r p w a not has Withdrawn l h = not_withdrawn inst is r p a h
+none_of_five inst is mine theirs m r p w a not has NotListed l h = h (written_parts inst r p mine theirs w a).0
+none_of_five inst is mine theirs m r p w a not has NotRanked l h = h (written_parts inst r p mine theirs w a).1
+none_of_five inst is mine theirs m r p w a not has Matched l h = not h
+none_of_five inst is mine theirs m r p w a not has (PrefersOwn own i j) l h =
+    let b = has own h.has_own in
+    let x = ranked mine own i (sym h.own_ranked) in
+    let y = ranked mine p j (sym h.ranked) in
+    let c = h.before in omega arith
+none_of_five inst is mine theirs m r p w a not has (Full i k q) l h = absurd (omega arith)
+none_of_five inst is mine theirs m r p w a not has Blocking l h = absurd (omega arith)
 
--- so over a stable placement they are told that all places were taken before them
-pub tells_full : (inst : Instance) → IsInstance inst → (m : List (Option ℕ)) (r p : ℕ) (a : Why) → IsFirst inst m r p a → IsStable inst m → Wants inst m r p → TellsFull a
-tells_full inst is m r p Withdrawn h stable w = absurd (wants_none inst is m r p Withdrawn w (omega arith) h.holds)
-tells_full inst is m r p NotAcceptable h stable w = absurd (wants_none inst is m r p NotAcceptable w (omega arith) h.holds)
-tells_full inst is m r p Matched h stable w = absurd (wants_none inst is m r p Matched w (omega arith) h.holds)
-tells_full inst is m r p (PrefersOwn own i j) h stable w = absurd (wants_none inst is m r p (PrefersOwn own i j) w (omega arith) h.holds)
-tells_full inst is m r p (Full i k q) h stable w = tt
-tells_full inst is m r p Blocking h stable w = absurd (stable.nothing_blocks r p h.holds)
-
--- the programme would rather have r, who would rather have it
-pub first_blocking : (inst : Instance) → IsInstance inst → (m : List (Option ℕ)) (r p : ℕ) → Wants inst m r p → HasRoomFor inst m p r → IsFirst inst m r p Blocking
-first_blocking inst is m r p w room = record {
-  holds = record { acceptable = w.acceptable; not_placed = w.not_placed; resident_would = w.would; programme_would = room };
-  none_before = λ other l h. before other l h;
+-- so r asks for p
+pub asks : (inst : Instance) → IsInstance inst → (mine theirs : List ℕ) (m : List (Option ℕ)) (r p : ℕ) → AreWritten inst r p mine theirs → IsResident inst r →
+    Acceptable inst r p → (IsMemberOf m r p → ⊥) → ((own : ℕ) → IsMemberOf m r own → IsBefore mine p own) → Asks inst mine theirs m r p
+asks inst is mine theirs m r p w within a not has = record {
+  wants = record { acceptable = a; not_placed = not; would = would (programme_of m r) refl };
+  none_yet = none_of_five inst is mine theirs m r p w a not has;
 }
   where
-    before : (other : Why) → turn other < 5 → Holds inst m r p other → ⊥
-    before Withdrawn l h = not_withdrawn inst is r p w.acceptable h
-    before NotAcceptable l h = h w.acceptable
-    before Matched l h = w.not_placed h
-    before (PrefersOwn own i j) l h = not_better inst m r p own i j w h
-    before (Full i k q) l h = elim room [
-      | inl free ↦ let taken = h.all_taken in omega arith
-      | inr (s, is, after) ↦ let b = h.all_before s is in omega arith
-    ]
-    before Blocking l h = absurd (omega arith)
+    would : (o : Option ℕ) → programme_of m r ≡ o → Prefers (list_of_resident inst r) p o
+    would None e = tt
+    would (Some own) e = resident_before inst r p mine theirs p own w within ((is.both_rank p r).0 a) (has own e)
 
--- the members that the list names before the i-th are no more than all, and one fewer where one doesn't stand there
-ahead_and_one : (m : List (Option ℕ)) (xs : List ℕ) (p i s : ℕ) → HasNoRepeats xs → IsMemberOf m s p → (IsListed (take i xs) s → ⊥) →
-    count_by (is_of m p) (take i xs) + 1 ≤ member_count m p
-ahead_and_one m xs p i s once is n =
-    let front : List ℕ = filter (is_of m p) (take i xs) in
-    let differ : HasNoRepeats (s ∷ front) = HasNoRepeats-cons s front (λ l. n (IsListed-filter (is_of m p) (take i xs) s l).0)
-    (HasNoRepeats-filter (is_of m p) (take i xs) (no_repeats_before (take i xs) (drop i xs) (subst HasNoRepeats (sym (take-append-drop i xs)) once))) in
-    let among = different_among (s ∷ front) (members_of m p) differ (λ x l. elim (IsListed-cons_cases s front x l) [
-      | inl e ↦ member_listed m p x (subst (λ z. IsMemberOf m z p) e is)
-      | inr c ↦ member_listed m p x (same_from_holds p (programme_of m x) (IsListed-filter (is_of m p) (take i xs) x c).1)
-    ]) in
-    let all = count_by-le-length (is_listed (s ∷ front)) (members_of m p) in
-    omega (arith, length-members_of m p, length-filter (is_of m p) (take i xs))
+-- r has nothing, or nothing that it lists
+pub before_none : (mine : List ℕ) (m : List (Option ℕ)) (r p : ℕ) → programme_of m r ≡ None → (own : ℕ) → IsMemberOf m r own → IsBefore mine p own
+before_none mine m r p none own is = absurd (cc)
 
--- of two lists without repeats the longer one has an item that the other doesn't have
-one_outside : (ys xs : List ℕ) → ((x : ℕ) → IsListed ys x → IsListed xs x) ⊎ ((x : ℕ) × IsListed ys x × (IsListed xs x → ⊥))
-one_outside [] xs = inl (λ x l. absurd (IsListed-nil x l))
-one_outside (y ∷ ys) xs = elim (listed_cases xs y) [
-  | inr n ↦ inr (y, IsListed-cons_same y ys, n)
-  | inl here ↦ elim (one_outside ys xs) [
-    | inr (x, l, n) ↦ inr (x, IsListed-cons y ys x l, n)
-    | inl rest ↦ inl (λ x l. elim (IsListed-cons_cases y ys x l) [
-      | inl e ↦ subst (IsListed xs) e here
-      | inr c ↦ rest x c
-    ])
-  ]
+pub before_unlisted : (mine : List ℕ) (m : List (Option ℕ)) (r p j o : ℕ) → Some j ≡ rank mine p → programme_of m r ≡ Some o → None ≡ rank mine o →
+    (own : ℕ) → IsMemberOf m r own → IsBefore mine p own
+before_unlisted mine m r p j o e has none own is =
+    let same : o ≡ own = same_Some o own (sym has ∙ is) in
+    let past = place_unranked mine o none in
+    let at = (ranked mine p j e).0 in
+    subst (IsBefore mine p) same (omega arith)
+
+-- r has another programme, which stands no earlier
+pub before_later : (mine : List ℕ) (m : List (Option ℕ)) (r p i j o : ℕ) → Some j ≡ rank mine p → programme_of m r ≡ Some o → Some i ≡ rank mine o → j ≤ i →
+    (IsMemberOf m r p → ⊥) → (own : ℕ) → IsMemberOf m r own → IsBefore mine p own
+before_later mine m r p i j o e has f l not own is = elim (cases_lt (place mine p) (place mine own)) [
+  | inl c ↦ c
+  | inr c ↦
+      let same : o ≡ own = same_Some o own (sym has ∙ is) in
+      let x = ranked mine o i f in
+      let y = ranked mine p j e in
+      let at = ap (place mine) same in
+      let alike : p ≡ own = same_from_place mine p own y.0 (let a = x.1 in let b = y.1 in omega arith) in
+      absurd (not (subst (IsMemberOf m r) (sym alike) is))
 ]
 
--- where fewer members than all stand before the i-th, one stands at it or after it
-member_past : (m : List (Option ℕ)) (xs : List ℕ) (p i : ℕ) → count_by (is_of m p) (take i xs) < member_count m p →
-    (s : ℕ) × IsMemberOf m s p × (IsListed (take i xs) s → ⊥)
-member_past m xs p i less = elim (one_outside (members_of m p) (take i xs)) [
-  | inr (s, l, n) ↦ (s, member_from_listed m p s l, n)
-  | inl within ↦
-      let pass = different_pass (members_of m p) (take i xs) (is_of m p) (members_differ m p)
-      (λ x l. (within x l, holds_true p (programme_of m x) (member_from_listed m p x l))) in
-      absurd (omega (arith, length-members_of m p))
+-- whoever would rather have p of a stable placement has nothing that stands before p
+stable_before : (inst : Instance) → IsInstance inst → (mine theirs : List ℕ) (m : List (Option ℕ)) (r p : ℕ) → AreWritten inst r p mine theirs → IsResident inst r →
+    IsStable inst m → Wants inst m r p → (own : ℕ) → IsMemberOf m r own → IsBefore mine p own
+stable_before inst is mine theirs m r p w within stable wants own has = elim (cases_lt (place mine p) (place mine own)) [
+  | inl c ↦ c
+  | inr c ↦
+      let list : List ℕ = list_of_resident inst r in
+      let would : IsBefore list p own = subst (Prefers list p) has wants.would in
+      let listed : IsListed list own = (is.both_rank own r).0 (stable.is_assignment.pairs_acceptable r own has) in
+      elim (cases_lt (place mine own) (place mine p)) [
+        | inl d ↦ let other = resident_before inst r p mine theirs own p w within listed d in absurd (omega arith)
+        | inr d ↦
+            let mine_p = (written_parts inst r p mine theirs w wants.acceptable).0 in
+            let same : p ≡ own = same_from_place mine p own mine_p (omega arith) in
+            absurd (wants.not_placed (subst (IsMemberOf m r) (sym same) has))
+      ]
 ]
 
--- who stands in the front of a list stands before its end
-front_place : (xs : List ℕ) (i x : ℕ) → IsListed (take i xs) x → place xs x < i
-front_place xs i x l =
-    let same = place-append (take i xs) (drop i xs) x l in
-    let whole = ap (λ (z : List ℕ). place z x) (take-append-drop i xs) in
-    let short = length-take i xs in
-    omega arith
+-- so they are told that all places were taken before them
+pub tells_full : (inst : Instance) → IsInstance inst → (mine theirs : List ℕ) (m : List (Option ℕ)) (r p : ℕ) (a : Why) → AreWritten inst r p mine theirs → IsResident inst r →
+    IsFirst inst mine theirs m r p a → IsStable inst m → Wants inst m r p → TellsFull a
+tells_full inst is mine theirs m r p a w within h stable wants =
+    go a h.holds (none_of_five inst is mine theirs m r p w wants.acceptable wants.not_placed (stable_before inst is mine theirs m r p w within stable wants) a)
+  where
+    go : (a : Why) → Holds inst mine theirs m r p a → (turn a < 5 → Holds inst mine theirs m r p a → ⊥) → TellsFull a
+    go Withdrawn k none = none (omega arith) k
+    go NotListed k none = none (omega arith) k
+    go NotRanked k none = none (omega arith) k
+    go Matched k none = none (omega arith) k
+    go (PrefersOwn own i j) k none = none (omega arith) k
+    go (Full i l q) k none = tt
+    go Blocking k none = stable.nothing_blocks r p k
 
--- and who stands before its end stands in it
-place_front : (xs : List ℕ) (i x : ℕ) → i ≤ length xs → (IsListed (take i xs) x → ⊥) → i ≤ place xs x
-place_front xs i x l n =
-    let past = place-append_other (take i xs) (drop i xs) x n in
-    let whole = ap (λ (z : List ℕ). place z x) (take-append-drop i xs) in
-    let long = length-take-le i xs l in
-    omega arith
+-- the first four answers, and the fifth
+module _ (inst : Instance) (mine theirs : List ℕ) (m : List (Option ℕ)) (r p : ℕ) where
+  pub first_withdrawn : HasWithdrawn inst r p → IsFirst inst mine theirs m r p Withdrawn
+  first_withdrawn h = record { holds = h; none_before = λ other l k. absurd (omega arith) }
+
+  pub first_unlisted : (HasWithdrawn inst r p → ⊥) → (IsListed mine p → ⊥) → IsFirst inst mine theirs m r p NotListed
+  first_unlisted here n = record { holds = n; none_before = none }
+    where
+      none : (other : Why) → turn other < 1 → Holds inst mine theirs m r p other → ⊥
+      none Withdrawn l k = here k
+      none other l k = absurd (omega arith)
+
+  pub first_unranked : (HasWithdrawn inst r p → ⊥) → IsListed mine p → (IsListed theirs r → ⊥) → IsFirst inst mine theirs m r p NotRanked
+  first_unranked here listed n = record { holds = n; none_before = none }
+    where
+      none : (other : Why) → turn other < 2 → Holds inst mine theirs m r p other → ⊥
+      none Withdrawn l k = here k
+      none NotListed l k = k listed
+      none other l k = absurd (omega arith)
+
+  pub first_matched : (HasWithdrawn inst r p → ⊥) → IsListed mine p → IsListed theirs r → IsMemberOf m r p → IsFirst inst mine theirs m r p Matched
+  first_matched here listed ranks is = record { holds = is; none_before = none }
+    where
+      none : (other : Why) → turn other < 3 → Holds inst mine theirs m r p other → ⊥
+      none Withdrawn l k = here k
+      none NotListed l k = k listed
+      none NotRanked l k = k ranks
+      none other l k = absurd (omega arith)
+
+  pub first_better : (HasWithdrawn inst r p → ⊥) → IsListed theirs r → (IsMemberOf m r p → ⊥) → (own i j : ℕ) → HasBetter mine m r p own i j →
+      IsFirst inst mine theirs m r p (PrefersOwn own i j)
+  first_better here ranks not own i j better = record { holds = better; none_before = none }
+    where
+      none : (other : Why) → turn other < 4 → Holds inst mine theirs m r p other → ⊥
+      none Withdrawn l k = here k
+      none NotListed l k = k (ranked mine p j (sym better.ranked)).0
+      none NotRanked l k = k ranks
+      none Matched l k = not k
+      none other l k = absurd (omega arith)
 
 -- the programme wouldn't: as many members as places, all of whom stand before r
-pub first_full : (inst : Instance) → IsInstance inst → (m : List (Option ℕ)) (r p : ℕ) (ahead : Ahead) → Wants inst m r p →
-    IsAhead m (list_of_programme inst p) r p ahead → quota inst p ≤ member_count m p → (ahead.count < member_count m p → ⊥) →
-    IsFirst inst m r p (Full ahead.rank ahead.last_rank (quota inst p))
-first_full inst is m r p ahead w h taken all = record {
+pub first_full : (inst : Instance) (mine theirs : List ℕ) (m : List (Option ℕ)) (r p rank_there : ℕ) (taken : Taken) → Asks inst mine theirs m r p →
+    Some rank_there ≡ rank theirs r → IsTaken theirs m p taken → (HasRoomAt taken (quota inst p) rank_there → ⊥) →
+    IsFirst inst mine theirs m r p (Full rank_there taken.last (quota inst p))
+first_full inst mine theirs m r p i taken h e t roomless = record {
   holds = record {
-    ranked = h.ranked;
-    last = last ahead.last_rank h.last;
+    ranked = sym e;
+    last = t.last;
     has_quota = refl;
-    all_taken = taken;
-    all_before = λ s k. let b = within s k in let at = ranked (list_of_programme inst p) r ahead.rank (sym h.ranked) in let e = at.1 in omega arith;
+    all_taken = elim (cases_lt taken.members (quota inst p)) [
+      | inl c ↦ absurd (roomless (inl c))
+      | inr c ↦ let all = t.members in omega arith
+    ];
+    all_before = λ s is. before taken.last t.last (λ k. roomless (inr k)) s is;
   };
-  none_before = λ other l k. wants_none inst is m r p other w l k;
+  none_before = h.none_yet;
 }
   where
-    within : (s : ℕ) → IsMemberOf m s p → place (list_of_programme inst p) s < ahead.rank
-    within s k = elim (listed_cases (take ahead.rank (list_of_programme inst p)) s) [
-      | inl c ↦ front_place (list_of_programme inst p) ahead.rank s c
-      | inr n ↦ absurd (all (let more = ahead_and_one m (list_of_programme inst p) p ahead.rank s (is.programmes_rank_strictly p) k n in let c = h.count in omega arith))
+    before : (o : Option ℕ) → IsLastPlace theirs m p o → (StandsPast o i → ⊥) → (s : ℕ) → IsMemberOf m s p → IsBefore theirs s r
+    before None l past s is = absurd (l s is)
+    before (Some k) l past s is = elim (cases_lt k i) [
+      | inl c ↦ let b = l.1 s is in let at = (ranked theirs r i e).1 in omega arith
+      | inr c ↦ absurd (past c)
     ]
 
-    last : (o : Option ℕ) → IsLastAhead m (list_of_programme inst p) p ahead.rank o → IsLastRank inst m p o
-    last None l = λ s k. let b = within s k in let c = l s k in absurd (omega arith)
-    last (Some k) l = ((l.0.0, l.0.1, l.0.2), λ s j. l.1 s j (within s j))
-
 -- and it would, with a free place or with a member who stands after r
-pub room_by_count : (inst : Instance) (m : List (Option ℕ)) (r p : ℕ) → member_count m p < quota inst p → HasRoomFor inst m p r
-room_by_count inst m r p l = inl l
+has_room : (inst : Instance) → IsInstance inst → (mine theirs : List ℕ) (m : List (Option ℕ)) (r p rank_there : ℕ) (taken : Taken) →
+    AreWritten inst r p mine theirs → IsProgramme inst p → Wants inst m r p → Some rank_there ≡ rank theirs r → IsTaken theirs m p taken →
+    HasRoomAt taken (quota inst p) rank_there → HasRoomFor inst m p r
+has_room inst is mine theirs m r p i taken w within wants e t (inl c) = inl (let all = t.members in omega arith)
+has_room inst is mine theirs m r p i taken w within wants e t (inr c) = inr (past taken.last t.last c)
+  where
+    past : (o : Option ℕ) → IsLastPlace theirs m p o → StandsPast o i → (s : ℕ) × IsMemberOf m s p × IsBefore (list_of_programme inst p) r s
+    past None l c = absurd c
+    past (Some k) l c =
+        let at = ranked theirs r i e in
+        let s : ℕ = l.0.0 in
+        let stands = l.0.2 in (
+          s,
+          l.0.1,
+          programme_before inst r p mine theirs r s w (let one = is.one_list_each in omega arith) wants.acceptable
+              (elim (cases_lt (place theirs r) (place theirs s)) [
+                | inl d ↦ d
+                | inr d ↦
+                    let here = at.1 in
+                    let same : r ≡ s = same_from_place theirs r s at.0 (omega arith) in
+                    absurd (wants.not_placed (subst (λ z. IsMemberOf m z p) (sym same) l.0.1))
+              ]),
+        )
 
-pub room_by_rank : (inst : Instance) (m : List (Option ℕ)) (r p : ℕ) (ahead : Ahead) → (IsMemberOf m r p → ⊥) →
-    IsAhead m (list_of_programme inst p) r p ahead → ahead.count < member_count m p → HasRoomFor inst m p r
-room_by_rank inst m r p ahead not h less =
-    let list : List ℕ = list_of_programme inst p in
-    let at = ranked list r ahead.rank (sym h.ranked) in
-    let past = member_past m list p ahead.rank (let c = h.count in omega arith) in
-    let after = place_front list ahead.rank past.0 (let e = at.1 in let l = at.0 in omega arith) past.2 in
-    inr (
-      past.0,
-      past.1,
-      elim (cases_lt (place list r) (place list past.0)) [
-        | inl c ↦ c
-        | inr c ↦
-            let same : r ≡ past.0 = same_from_place list r past.0 at.0 (let e = at.1 in omega arith) in
-            absurd (not (subst (λ z. IsMemberOf m z p) (sym same) past.1))
-      ],
-    )
+pub first_blocking : (inst : Instance) → IsInstance inst → (mine theirs : List ℕ) (m : List (Option ℕ)) (r p rank_there : ℕ) (taken : Taken) →
+    AreWritten inst r p mine theirs → IsProgramme inst p → Asks inst mine theirs m r p → Some rank_there ≡ rank theirs r → IsTaken theirs m p taken →
+    HasRoomAt taken (quota inst p) rank_there → IsFirst inst mine theirs m r p Blocking
+first_blocking inst is mine theirs m r p i taken w within h e t room = record {
+  holds = record {
+    acceptable = h.wants.acceptable;
+    not_placed = h.wants.not_placed;
+    resident_would = h.wants.would;
+    programme_would = has_room inst is mine theirs m r p i taken w within h.wants e t room;
+  };
+  none_before = λ other l k. none other l k;
+}
+  where
+    not_full : (o : Option ℕ) → IsLastPlace theirs m p o → StandsPast o i → ((s : ℕ) → IsMemberOf m s p → IsBefore theirs s r) → ⊥
+    not_full None l c all = c
+    not_full (Some k) l c all = let b = all l.0.0 l.0.1 in let at = (ranked theirs r i e).1 in let stands = l.0.2 in omega arith
 
--- whoever the first answer names is on r's list, and so a programme
-pub names_programme : (inst : Instance) → IsInstance inst → (m : List (Option ℕ)) (r p : ℕ) (a : Why) → IsFirst inst m r p a → NamesProgramme inst a
-names_programme inst is m r p Withdrawn h = tt
-names_programme inst is m r p NotAcceptable h = tt
-names_programme inst is m r p Matched h = tt
-names_programme inst is m r p (PrefersOwn own i j) h =
-    acceptable_programme inst is r own ((is.both_rank own r).1 (ranked (list_of_resident inst r) own i (sym h.holds.own_ranked)).0)
-names_programme inst is m r p (Full i k q) h = tt
-names_programme inst is m r p Blocking h = tt
+    none : (other : Why) → turn other < 6 → Holds inst mine theirs m r p other → ⊥
+    none (Full j k q) l full = elim room [
+      | inl c ↦ let all = t.members in let taken_all = full.all_taken in omega arith
+      | inr c ↦ not_full taken.last t.last c full.all_before
+    ]
+    none Blocking l k = absurd (omega arith)
+    none Withdrawn l k = h.none_yet Withdrawn (omega arith) k
+    none NotListed l k = h.none_yet NotListed (omega arith) k
+    none NotRanked l k = h.none_yet NotRanked (omega arith) k
+    none Matched l k = h.none_yet Matched (omega arith) k
+    none (PrefersOwn own a b) l k = h.none_yet (PrefersOwn own a b) (omega arith) k
+
+-- whomever the placement gives is a programme, so whoever is named is one
+pub names_programme : (inst : Instance) (m : List (Option ℕ)) (r : ℕ) (a : Why) → NamesOwn m r a → GivesProgrammes inst m → NamesProgramme inst a
+names_programme inst m r Withdrawn h gives = tt
+names_programme inst m r NotListed h gives = tt
+names_programme inst m r NotRanked h gives = tt
+names_programme inst m r Matched h gives = tt
+names_programme inst m r (PrefersOwn own i j) h gives = gives r own h
+names_programme inst m r (Full i k q) h gives = tt
+names_programme inst m r Blocking h gives = tt

@@ -1,3 +1,4 @@
 mod Ranks
+mod Kept
 mod Tallies
 mod Firsts

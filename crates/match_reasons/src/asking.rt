@@ -1,32 +1,97 @@
 //! Asking why.
-ghost use Rattle.std.specs.Prelude.{◌≡◌, ◌≢◌, ℕ, length, MatchOption};
-ghost use Rattle.match_model.specs.Instance.{IsInstance, IsProgramme, IsResident};
+ghost use Rattle.std.specs.Prelude.{◌≡◌, ◌≢◌, length, MatchOption, IfSome};
+ghost use Rattle.match_model.specs.Instance.{IsProgramme, IsResident};
 ghost use Rattle.settle_law.specs.Stable.{IsStable};
-ghost use Rattle.match_reasons.specs.Reason.{IsFirst, Wants, TellsFull, NamesProgramme};
+ghost use Rattle.match_reasons.specs.Reason.{AreWritten, Asks, GivesProgrammes, IsFirst, IsTaken, NamesOwn, NamesProgramme, TellsFull, Wants};
 
-use crate::members::{Ahead, is_member, members_ahead, members_of};
 use crate::reason::Why;
+use crate::taken::{Taken, is_member, rank_of_programme, rank_of_resident};
 use match_model::{Assignment, Instance, ProgrammeNo, ResidentNo};
 
-/// Why a placement doesn't give a programme to a resident, or that it does: the first answer that holds.
+/// Why a placement doesn't give a programme to a resident, or that it does: the first answer that holds, by the lists of
+/// the two as they were written.
 ///
-/// The two are members of the instance, and the placement has a place for each resident. Nobody who asks about a stable
-/// placement is told that they block it.
-pub fn why(inst: &Instance, sheet: &Assignment, resident: ResidentNo, programme: ProgrammeNo) -> Why
+/// The two are members of the instance, and the placement has a place for each resident. How the programme's places are
+/// taken is what `places_taken` says of the same placement and list. What is promised is promised where the instance was
+/// made of these very lists. Nobody who asks about a stable placement is told that they block it.
+pub fn why(
+    inst: &Instance,
+    sheet: &Assignment,
+    taken: &Taken,
+    resident: ResidentNo,
+    resident_list: &[ProgrammeNo],
+    programme: ProgrammeNo,
+    programme_list: &[ResidentNo],
+) -> Why
     requires resident { IsResident inst.now resident }
     requires programme { IsProgramme inst.now programme }
     requires one_place_each { length sheet.now ≡ length inst.now.resident_lists }
-    ensures first { IsFirst inst.now sheet.now resident programme result }
-    ensures only { (answer : Why) → IsFirst inst.now sheet.now resident programme answer → answer ≡ result }
-    ensures members { NamesProgramme inst.now result }
-    ensures never_blocking { IsStable inst.now sheet.now → result ≢ Why.Blocking }
-    ensures full { IsStable inst.now sheet.now → Wants inst.now sheet.now resident programme → TellsFull result }
+    requires taken { IsTaken programme_list.now sheet.now programme taken.now }
+    ensures first { AreWritten inst.now resident programme resident_list.now programme_list.now
+        → IsFirst inst.now resident_list.now programme_list.now sheet.now resident programme result }
+    ensures only { AreWritten inst.now resident programme resident_list.now programme_list.now → (answer : Why)
+        → IsFirst inst.now resident_list.now programme_list.now sheet.now resident programme answer → answer ≡ result }
+    ensures members { GivesProgrammes inst.now sheet.now → NamesProgramme inst.now result }
+    ensures never_blocking { AreWritten inst.now resident programme resident_list.now programme_list.now
+        → IsStable inst.now sheet.now → result ≢ Why.Blocking }
+    ensures full { AreWritten inst.now resident programme resident_list.now programme_list.now
+        → IsStable inst.now sheet.now → Wants inst.now sheet.now resident programme → TellsFull result }
 {
     // For the proof alone: the instance is one.
     let _residents = inst.residents();
-    match residents_reason(inst, sheet, resident, programme) {
-        Some(reason) => reason,
-        None => programmes_reason(inst, sheet, resident, programme),
+    first_reason(
+        inst,
+        sheet,
+        taken,
+        resident,
+        resident_list,
+        programme,
+        programme_list,
+    )
+}
+
+// The first answer that holds.
+fn first_reason(
+    inst: &Instance,
+    sheet: &Assignment,
+    taken: &Taken,
+    resident: ResidentNo,
+    resident_list: &[ProgrammeNo],
+    programme: ProgrammeNo,
+    programme_list: &[ResidentNo],
+) -> Why
+    requires resident { IsResident inst.now resident }
+    requires programme { IsProgramme inst.now programme }
+    requires one_place_each { length sheet.now ≡ length inst.now.resident_lists }
+    requires taken { IsTaken programme_list.now sheet.now programme taken.now }
+    ensures first { AreWritten inst.now resident programme resident_list.now programme_list.now
+        → IsFirst inst.now resident_list.now programme_list.now sheet.now resident programme result }
+    ensures own { NamesOwn sheet.now resident result }
+{
+    // For the proof alone: the instance is one.
+    let _residents = inst.residents();
+    let own = residents_reason(
+        inst,
+        sheet,
+        resident,
+        resident_list,
+        programme,
+        programme_list,
+    );
+    if let Some(reason) = own {
+        return reason;
+    }
+    let Some(rank) = rank_of_resident(programme_list, resident) else {
+        return Why::NotRanked;
+    };
+    let quota = inst.quota(programme);
+    if taken.has_room(quota, rank) {
+        return Why::Blocking;
+    }
+    Why::Full {
+        rank,
+        last_rank: taken.last,
+        quota,
     }
 }
 
@@ -35,20 +100,31 @@ fn residents_reason(
     inst: &Instance,
     sheet: &Assignment,
     resident: ResidentNo,
+    resident_list: &[ProgrammeNo],
     programme: ProgrammeNo,
+    programme_list: &[ResidentNo],
 ) -> Option<Why>
     requires resident { IsResident inst.now resident }
     requires programme { IsProgramme inst.now programme }
     requires one_place_each { length sheet.now ≡ length inst.now.resident_lists }
-    ensures { MatchOption result (Wants inst.now sheet.now resident programme) (IsFirst inst.now sheet.now resident programme) }
+    ensures first { MatchOption result
+        (AreWritten inst.now resident programme resident_list.now programme_list.now
+        → Asks inst.now resident_list.now programme_list.now sheet.now resident programme)
+        (λ answer. AreWritten inst.now resident programme resident_list.now programme_list.now
+        → IsFirst inst.now resident_list.now programme_list.now sheet.now resident programme answer) }
+    ensures own { IfSome result (NamesOwn sheet.now resident) }
 {
-    // For the proof alone: rankings are mutual.
+    // For the proof alone: the instance is one.
     let _residents = inst.residents();
     if inst.resident_withdrawn(resident) || inst.programme_withdrawn(programme) {
         return Some(Why::Withdrawn);
     }
-    let Some(rank) = inst.rank_at_resident(resident, programme) else {
-        return Some(Why::NotAcceptable);
+    let Some(rank) = rank_of_programme(resident_list, programme) else {
+        return Some(Why::NotListed);
+    };
+    // Where neither is withdrawn, and the resident listed the programme, a rank is wanting only if the programme didn't.
+    let Some(_) = inst.rank_at_resident(resident, programme) else {
+        return Some(Why::NotRanked);
     };
     if is_member(sheet, resident, programme) {
         return Some(Why::Matched);
@@ -56,7 +132,7 @@ fn residents_reason(
     let Some(own) = sheet.get(resident) else {
         return None;
     };
-    let Some(own_rank) = inst.rank_at_resident(resident, own) else {
+    let Some(own_rank) = rank_of_programme(resident_list, own) else {
         return None;
     };
     if own_rank < rank {
@@ -67,40 +143,5 @@ fn residents_reason(
         })
     } else {
         None
-    }
-}
-
-/// Why the programme wouldn't rather have a resident who would rather have it, or that the two block the placement.
-fn programmes_reason(
-    inst: &Instance,
-    sheet: &Assignment,
-    resident: ResidentNo,
-    programme: ProgrammeNo,
-) -> Why
-    requires instance { IsInstance inst.now }
-    requires programme { IsProgramme inst.now programme }
-    requires one_place_each { length sheet.now ≡ length inst.now.resident_lists }
-    requires wants { Wants inst.now sheet.now resident programme }
-    ensures { IsFirst inst.now sheet.now resident programme result }
-{
-    let Some(
-        Ahead {
-            rank,
-            count,
-            last_rank,
-        },
-    ) = members_ahead(inst, sheet, resident, programme)
-    else {
-        return Why::NotAcceptable;
-    };
-    let quota = inst.quota(programme);
-    let members = members_of(sheet, programme);
-    if members < quota || count < members {
-        return Why::Blocking;
-    }
-    Why::Full {
-        rank,
-        last_rank,
-        quota,
     }
 }

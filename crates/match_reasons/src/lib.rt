@@ -1,11 +1,11 @@
-//! Why a resident isn't with a programme, told from an instance and a placement alone.
-//!
-//! Ranks are places among those who rank one another, since an instance keeps no others.
+//! Why a resident isn't with a programme, told from an instance, the two members' lists as they were written, and a
+//! placement alone.
 #![tactic(auto)]
 
 mod asking;
-mod members;
 mod reason;
+mod taken;
 
 pub use asking::why;
 pub use reason::Why;
+pub use taken::{Taken, places_taken};

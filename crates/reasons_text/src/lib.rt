@@ -1,17 +1,29 @@
-//! Telling a resident why: a docket with a sheet is read, and plain sentences go to any writer.
+//! Telling residents why: a docket with a sheet is read, and plain sentences or rows go to any writer.
 //!
-//! The program is `tell_words` over the words and the streams that it is given. The sentences are shown by tests alone: a
-//! body that writes other ones keeps its contract.
+//! The program is `tell_words` over the words and the streams that it is given. The sentences, the rows and the names that
+//! are near an unknown one are shown by tests alone: a body that writes other ones keeps its contract.
 #![tactic(auto)]
 
 mod answering;
+mod answers;
 mod fault;
+mod key;
+mod line;
+mod lists;
 mod naming;
+mod near;
 mod program;
+mod question;
+mod recorder;
 mod sentences;
+mod status;
+mod table;
 #[cfg(test)]
 mod tests;
 
 pub use answering::serve_why;
 pub use fault::WhyFault;
-pub use program::tell_words;
+pub use line::{LineFault, read_line};
+pub use program::{UsageFault, tell_words};
+pub use question::{Asked, Question};
+pub use status::{exit_status, line_status};

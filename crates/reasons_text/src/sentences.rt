@@ -1,17 +1,15 @@
 //! The sentences.
-ghost use Rattle.std.specs.Prelude.{◌≡◌, length};
-ghost use Rattle.match_model.specs.Instance.{IsProgramme, IsResident};
-ghost use Rattle.match_reasons.specs.Reason.{NamesProgramme};
 
-use docket::Docket;
-use match_model::{Assignment, ProgrammeNo, ResidentNo};
-use match_reasons::{Why, why};
+use crate::answers::Tally;
+use crate::key::Names;
+use match_model::{ProgrammeNo, ResidentNo};
+use match_reasons::Why;
 use std::alloc::{AllocError, Global};
 use std::fmt;
 
 // A rank, which is counted from 0, as it is said: 1st, 2nd, 3rd.
 #[derive(Clone, Copy)]
-pub(crate) struct Place(pub(crate) u32);
+pub(crate) struct Place(pub(crate) usize);
 
 impl Place {
     // What follows the number.
@@ -28,138 +26,169 @@ impl Place {
 
 impl fmt::Display for Place {
     fn fmt<W: fmt::Write>(&self, f: &mut fmt::Formatter<W>) -> fmt::Result {
-        let number = self.0 as u64 + 1;
+        let number = (self.0 as u64).saturating_add(1);
         let ending = self.ending();
         write!(f, "{number}{ending}")
     }
 }
 
-// What a resident is told who has another programme, before this one on its list.
-fn better_sentence(
-    alloc: Global,
-    name: &str,
-    own: &str,
-    own_rank: u32,
-    rank: u32,
-) -> Result<String, AllocError> {
-    let own_place = Place(own_rank);
-    let place = Place(rank);
-    format!(in alloc;
-        "{name} is {place} on your list of those that ranked you too; you have the {own_place}, {own}.\n"
-    )
+// How many there are, in words where there are none.
+#[derive(Clone, Copy)]
+struct Count(usize);
+
+impl fmt::Display for Count {
+    fn fmt<W: fmt::Write>(&self, f: &mut fmt::Formatter<W>) -> fmt::Result {
+        match self.0 {
+            0 => f.write_str("none"),
+            number => write!(f, "{number}"),
+        }
+    }
 }
 
 // What a resident is told to whom others were preferred.
 fn full_sentence(
     alloc: Global,
-    name: &str,
-    rank: u32,
-    last_rank: Option<u32>,
+    rank: usize,
+    last_rank: Option<usize>,
     quota: u32,
+    without_ranks: bool,
 ) -> Result<String, AllocError> {
     let Some(last_rank) = last_rank else {
-        return format!(in alloc; "{name} has no places.\n");
+        return format!(in alloc; "it had no places.");
     };
+    if without_ranks {
+        return format!(in alloc; "its places went to residents it ranks above you.");
+    }
     let place = Place(rank);
     let last = Place(last_rank);
     if quota == 1 {
         return format!(in alloc;
-            "{name} has you {place} of those who ranked it too; its place went to the {last}.\n"
+            "it ranked you {place}. Its one place went to the resident it ranked {last}."
         );
     }
     format!(in alloc;
-        "{name} has you {place} of those who ranked it too; its {quota} places went to residents up to the {last}.\n"
+        "it ranked you {place}. Its {quota} places went to residents it ranked higher, the last of them {last}."
     )
 }
 
-// What is told where the programme or the resident is withdrawn.
+// What is told where the programme or the resident withdrew.
 fn withdrawn_sentence(
     alloc: Global,
-    docket: &Docket,
-    programme: ProgrammeNo,
-) -> Result<String, AllocError>
-    requires programme { IsProgramme docket.now.instance programme }
-{
-    if docket.instance().programme_withdrawn(programme) {
-        let name = docket.programme_name(programme);
-        return format!(in alloc; "{name} is withdrawn.\n");
+    names: &Names,
+    resident: ResidentNo,
+) -> Result<String, AllocError> {
+    if names.resident_withdrew(resident) {
+        format!(in alloc; "you withdrew from the match.")
+    } else {
+        format!(in alloc; "it withdrew from the match.")
     }
-    format!(in alloc; "you are withdrawn.\n")
 }
 
-// The sentence on a programme.
+// What is told of one programme.
 fn sentence(
     alloc: Global,
-    docket: &Docket,
-    programme: ProgrammeNo,
+    names: &Names,
+    resident: ResidentNo,
     reason: Why,
-) -> Result<String, AllocError>
-    requires programme { IsProgramme docket.now.instance programme }
-    requires named { NamesProgramme docket.now.instance reason }
-{
-    let name = docket.programme_name(programme);
+    without_ranks: bool,
+) -> Result<String, AllocError> {
     match reason {
-        Why::Withdrawn => withdrawn_sentence(alloc, docket, programme),
-        Why::NotAcceptable => format!(in alloc; "you and {name} don't rank one another.\n"),
-        Why::Matched => format!(in alloc; "{name} has a place for you: you are matched there.\n"),
+        Why::Withdrawn => withdrawn_sentence(alloc, names, resident),
+        Why::NotListed => format!(in alloc; "it is not on your list."),
+        Why::NotRanked => format!(in alloc; "it did not rank you."),
+        Why::Matched => format!(in alloc; "you are matched here."),
         Why::PrefersOwn {
             own,
             own_rank,
             rank,
-        } => better_sentence(alloc, name, docket.programme_name(own), own_rank, rank),
+        } => {
+            let own = names.programme(own);
+            let own_place = Place(own_rank);
+            let place = Place(rank);
+            format!(in alloc; "this was your {place} choice, and you have your {own_place}, {own}.")
+        }
         Why::Full {
             rank,
             last_rank,
             quota,
-        } => full_sentence(alloc, name, rank, last_rank, quota),
-        Why::Blocking => {
-            format!(in alloc;
-                "{name} and you would both rather have one another: the sheet isn't stable.\n"
-            )
-        }
+        } => full_sentence(alloc, rank, last_rank, quota, without_ranks),
+        Why::Blocking => format!(in alloc;
+            "you would rather be here, and it would rather have you. This sheet is not right: please tell the office."
+        ),
     }
 }
 
-/// Adds the sentence on one programme, and an end of line.
-pub(crate) fn push_sentence(
+/// Adds the line on one programme: its name, and what is told of it.
+pub(crate) fn push_line(
     alloc: Global,
     text: &mut String,
-    docket: &Docket,
-    sheet: &Assignment,
+    names: &Names,
     resident: ResidentNo,
     programme: ProgrammeNo,
-) -> Result<(), AllocError>
-    requires resident { IsResident docket.now.instance resident }
-    requires programme { IsProgramme docket.now.instance programme }
-    requires one_place_each { length sheet.now ≡ length docket.now.instance.resident_lists }
-{
-    let reason = why(docket.instance(), sheet, resident, programme);
-    text.push_str(sentence(alloc, docket, programme, reason)?.as_str())
+    reason: Why,
+    without_ranks: bool,
+) -> Result<(), AllocError> {
+    let said = sentence(alloc, names, resident, reason, without_ranks)?;
+    text.push_str(names.programme(programme))?;
+    text.push_str(": ")?;
+    text.push_str(said.as_str())?;
+    text.push_str("\n")
 }
 
-/// Adds the sentence on each programme of the resident's list, best first.
-pub(crate) fn push_all(
+// How the match ended for a resident: where it is matched, and as which choice.
+fn outcome(
+    alloc: Global,
+    names: &Names,
+    own: Option<ProgrammeNo>,
+    list: &[ProgrammeNo],
+) -> Result<String, AllocError> {
+    let Some(own) = own else {
+        return format!(in alloc; "You are not matched.");
+    };
+    let name = names.programme(own);
+    let listed = list.len();
+    match list.iter().position(|programme| *programme == own) {
+        Some(choice) => {
+            let place = Place(choice);
+            format!(in alloc; "You are matched with {name}, your {place} choice of {listed}.")
+        }
+        None => format!(in alloc; "You are matched with {name}, which is not on your list."),
+    }
+}
+
+/// Adds the first line: how the match ended for the resident, how many programmes it ranked, and how many of these ranked it
+/// or withdrew.
+pub(crate) fn push_first_line(
     alloc: Global,
     text: &mut String,
-    docket: &Docket,
-    sheet: &Assignment,
+    names: &Names,
     resident: ResidentNo,
-) -> Result<(), AllocError>
-    requires resident { IsResident docket.now.instance resident }
-    requires one_place_each { length sheet.now ≡ length docket.now.instance.resident_lists }
-{
-    let inst = docket.instance();
-    // For the proof alone: the instance is one.
-    let _residents = inst.residents();
-    let list = inst.list_of_resident(resident);
-    if inst.resident_withdrawn(resident) {
-        return text.push_str("you are withdrawn.\n");
-    }
-    if list.is_empty() {
-        return text.push_str("no programme that you rank ranks you too.\n");
-    }
-    for programme in list {
-        push_sentence(alloc, text, docket, sheet, resident, *programme)?;
-    }
-    Ok(())
+    own: Option<ProgrammeNo>,
+    list: &[ProgrammeNo],
+    tally: Tally,
+) -> Result<(), AllocError> {
+    let outcome = if names.resident_withdrew(resident) {
+        format!(in alloc; "You withdrew from the match.")?
+    } else {
+        outcome(alloc, names, own, list)?
+    };
+    text.push_str(outcome.as_str())?;
+    let listed = tally.listed;
+    let programmes = if listed == 1 {
+        "programme"
+    } else {
+        "programmes"
+    };
+    let ranked_back = Count(tally.ranked_back);
+    let withdrew = Count(tally.withdrew);
+    let ranked = if listed == 0 {
+        format!(in alloc; " You ranked no programme.\n")?
+    } else if names.resident_withdrew(resident) {
+        format!(in alloc; " You had ranked {listed} {programmes}.\n")?
+    } else {
+        format!(in alloc;
+            " You ranked {listed} {programmes}: {ranked_back} ranked you too, {withdrew} withdrew.\n"
+        )?
+    };
+    text.push_str(ranked.as_str())
 }

@@ -1,7 +1,8 @@
 -- The rows of workers, one after another.
 use Rattle.std.proofs.Common.{◌≡◌, ℕ, zero, suc, Option, ◌+◌, ◌<◌, List, [], ◌∷◌, ◌++◌, length, take, get_or, sym, ap, ◌∙◌, arith, append_assoc, append-nil}
-use Rattle.std.specs.Io.KnownBytes.{Appends}
-use Rattle.std.proofs.KnownBytes.{Appends-nil, Appends-trans}
+use Rattle.docket.specs.RowText.{Adds}
+use Rattle.docket.specs.declared.row_writer.RowWriter.{RowWriter}
+use Rattle.docket.proofs.RowTextFacts.{adds_none, adds_both}
 use Rattle.residency.specs.Answer.{worker_row, worker_rows}
 
 -- the rows of the first counts, and one more
@@ -18,14 +19,15 @@ worker_rows-more first (events ∷ counts) (suc k) lt =
     rw (longer, last) (ap (λ rest. worker_row first events ++ rest) (worker_rows-more (first + 1) counts k (omega arith))
     ∙ sym (append_assoc (worker_row first events) (worker_rows (first + 1) (take k counts)) (worker_row (first + 1 + k) (get_or counts k 0))))
 
-pub workers_none : (a : Option (List ℕ)) → Appends a a (worker_rows 0 [])
+pub workers_none : {W : Type 0} (contents : W → Option (List ℕ)) (a : RowWriter W) → Adds contents a a (worker_rows 0 [])
 unfolding worker_rows
-workers_none a = Appends-nil a
+workers_none contents a = adds_none contents a
 
-pub workers_next : (counts : List ℕ) (a b c : Option (List ℕ)) (k : ℕ) → k < length counts → Appends a b (worker_rows 0 (take k counts))
-    → Appends b c (worker_row k (get_or counts k 0)) → Appends a c (worker_rows 0 (take (k + 1) counts))
-workers_next counts a b c k lt h n =
+pub workers_next : {W : Type 0} (contents : W → Option (List ℕ)) (counts : List ℕ) (a b c : RowWriter W) (k : ℕ) → k < length counts
+    → Adds contents a b (worker_rows 0 (take k counts)) → Adds contents b c (worker_row k (get_or counts k 0))
+    → Adds contents a c (worker_rows 0 (take (k + 1) counts))
+workers_next contents counts a b c k lt h n =
     let here : 0 + k ≡ k = omega arith in
     let more : worker_rows 0 (take (k + 1) counts) ≡ worker_rows 0 (take k counts) ++ worker_row k (get_or counts k 0) =
     worker_rows-more 0 counts k lt ∙ ap (λ w. worker_rows 0 (take k counts) ++ worker_row w (get_or counts k 0)) here in
-    rw more (Appends-trans a b c _ _ h n)
+    rw more (adds_both contents a b c _ _ h n)

@@ -2,5 +2,4 @@ pub mod Outcomes
 pub mod Reports
 pub mod Audits
 mod CountRows
-mod Sending
 mod OnWords

@@ -2,10 +2,10 @@
 use Rattle.std.proofs.Common.{◌≡◌, ℕ, ◌==◌, ◌&&◌, Bool, true, false, List, [], ◌∷◌, Option, length, codes, refl, arith}
 use Rattle.std.specs.List.{flat_map}
 use Rattle.std.proofs.lemmas.Bool.{eqb-true}
-use Rattle.std.specs.Io.KnownBytes.{Appends}
-use Rattle.std.proofs.KnownBytes.{Appends-trans}
 use Rattle.docket.specs.Contents.{Contents}
-use Rattle.docket.specs.RowText.{row}
+use Rattle.docket.specs.RowText.{row, Adds}
+use Rattle.docket.specs.declared.row_writer.RowWriter.{RowWriter}
+use Rattle.docket.proofs.RowTextFacts.{adds_both}
 use Rattle.match_audit.specs.declared.report.AuditReport.{AuditReport}
 use Rattle.residency.specs.Report.{finds_nothing, stability_row, pair_row, over_row, report_text}
 
@@ -40,11 +40,11 @@ stability_row-unstable report h = by_test (finds_nothing report) refl
     by_test false e = rw e
 
 -- the report is its four parts
-pub report_text-rows : (d : Contents) (report : AuditReport) (none start unacceptable over whole : Option (List ℕ)) →
-    Appends none start (stability_row report) →
-    Appends start unacceptable (flat_map (pair_row d (codes "X")) report.unacceptable.items) →
-    Appends unacceptable over (flat_map (over_row d) report.over.items) →
-    Appends over whole (flat_map (pair_row d (codes "B")) report.blocking.items) → Appends none whole (report_text d report)
+pub report_text-rows : {W : Type 0} (contents : W → Option (List ℕ)) (d : Contents) (report : AuditReport)
+    (none start unacceptable over whole : RowWriter W) → Adds contents none start (stability_row report)
+    → Adds contents start unacceptable (flat_map (pair_row d (codes "X")) report.unacceptable.items)
+    → Adds contents unacceptable over (flat_map (over_row d) report.over.items)
+    → Adds contents over whole (flat_map (pair_row d (codes "B")) report.blocking.items) → Adds contents none whole (report_text d report)
 unfolding report_text
-report_text-rows d report none start unacceptable over whole b c e f =
-    Appends-trans none over whole _ _ (Appends-trans none unacceptable over _ _ (Appends-trans none start unacceptable _ _ b c) e) f
+report_text-rows contents d report none start unacceptable over whole b c e f =
+    adds_both contents none over whole _ _ (adds_both contents none unacceptable over _ _ (adds_both contents none start unacceptable _ _ b c) e) f

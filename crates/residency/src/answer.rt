@@ -5,7 +5,7 @@ ghost use Rattle.match_audit.specs.Replay.{NamesMember, RefusesMember, IsPending
 ghost use Rattle.residency.specs.Answer.{replay_text, answer_fields, worker_row, worker_rows, count_rows, refusal_word as word_of, pending_fields, refused_fields, pending_word as kind_of, pending_name as name_of, event_count as count_of, fault_fields, IsAnswerOf};
 ghost use Rattle.residency.specs.Serving.{IsWriteFault};
 
-use docket::{Docket, DocketFault, RowText};
+use docket::{Docket, DocketFault, RowWriter, WriteFailed, room_for_rows};
 use exchange_core::{Pending, Refused};
 use match_audit::{ReplayFault, Replayed};
 use std::alloc::Global;
@@ -67,150 +67,123 @@ fn event_count(docket: &Docket) -> usize
 
 // Adds the row of a fault that one word tells.
 fn push_word<W: Write>(
-    rows: &mut RowText,
-    writer: &mut W,
+    rows: &mut RowWriter<'_, W>,
     place: &[u8],
     word: &str,
-) -> Result<(), DocketFault>
-    ensures row { OnOk result (Adds W.contents writer.old rows.old writer.new rows.new (row (codes "N" ∷ place.now ∷ word.now ∷ []))) }
-    ensures err { IfErr result (λ fault. fault ≡ DocketFault.Write) }
+) -> Result<(), WriteFailed>
+    ensures { OnOk result (Adds W.contents rows.old rows.new (row (codes "N" ∷ place.now ∷ word.now ∷ []))) }
 {
-    rows.push(writer, &[b"N", place, word.as_bytes()])
+    rows.push(&[b"N", place, word.as_bytes()])
 }
 
 // Adds the row of a close that something pending kept from being accepted.
 fn push_pending<W: Write>(
-    rows: &mut RowText,
-    writer: &mut W,
+    rows: &mut RowWriter<'_, W>,
     place: &[u8],
     kind: &str,
     name: &str,
-) -> Result<(), DocketFault>
-    ensures row { OnOk result (Adds W.contents writer.old rows.old writer.new rows.new (row (pending_fields place.now kind.now name.now))) }
-    ensures err { IfErr result (λ fault. fault ≡ DocketFault.Write) }
+) -> Result<(), WriteFailed>
+    ensures { OnOk result (Adds W.contents rows.old rows.new (row (pending_fields place.now kind.now name.now))) }
 {
-    rows.push(
-        writer,
-        &[
-            b"N",
-            place,
-            b"still-pending",
-            kind.as_bytes(),
-            name.as_bytes(),
-        ],
-    )
+    rows.push(&[
+        b"N",
+        place,
+        b"still-pending",
+        kind.as_bytes(),
+        name.as_bytes(),
+    ])
 }
 
 // Adds the row of a refused event.
 fn push_refused<W: Write>(
-    rows: &mut RowText,
-    writer: &mut W,
+    rows: &mut RowWriter<'_, W>,
     docket: &Docket,
     place: &[u8],
     refused: &Refused,
-) -> Result<(), DocketFault>
+) -> Result<(), WriteFailed>
     requires member { RefusesMember docket.now.instance refused.now }
-    ensures row { OnOk result (Adds W.contents writer.old rows.old writer.new rows.new (row (refused_fields docket.now place.now refused.now))) }
-    ensures err { IfErr result (λ fault. fault ≡ DocketFault.Write) }
+    ensures { OnOk result (Adds W.contents rows.old rows.new (row (refused_fields docket.now place.now refused.now))) }
 {
     match refused {
         Refused::StillPending(what) => {
-            push_pending(
-                rows,
-                writer,
-                place,
-                pending_word(what),
-                pending_name(docket, what),
-            )
+            push_pending(rows, place, pending_word(what), pending_name(docket, what))
         }
-        _ => push_word(rows, writer, place, refusal_word(refused)),
+        _ => push_word(rows, place, refusal_word(refused)),
     }
 }
 
 // Adds the row of a fault.
 fn push_fault<W: Write>(
-    rows: &mut RowText,
-    writer: &mut W,
+    rows: &mut RowWriter<'_, W>,
     docket: &Docket,
     fault: &ReplayFault,
-) -> Result<(), DocketFault>
+) -> Result<(), WriteFailed>
     requires member { NamesMember docket.now.instance fault.now }
-    ensures row { OnOk result (Adds W.contents writer.old rows.old writer.new rows.new (row (fault_fields docket.now fault.now))) }
-    ensures err { IfErr result (λ fault. fault ≡ DocketFault.Write) }
+    ensures { OnOk result (Adds W.contents rows.old rows.new (row (fault_fields docket.now fault.now))) }
 {
     let mut room = itoa::Buffer::new();
     match fault {
-        ReplayFault::BadCapacity => push_word(rows, writer, b"0", "bad-capacity"),
-        ReplayFault::Memory => push_word(rows, writer, b"0", "memory"),
+        ReplayFault::BadCapacity => push_word(rows, b"0", "bad-capacity"),
+        ReplayFault::Memory => push_word(rows, b"0", "memory"),
         ReplayFault::At { place, refused } => {
             let place = room.format(*place).as_bytes();
-            push_refused(rows, writer, docket, place, refused)
+            push_refused(rows, docket, place, refused)
         }
         ReplayFault::NotClosed => {
             let place = room.format(event_count(docket) + 1).as_bytes();
-            push_word(rows, writer, place, "not-closed")
+            push_word(rows, place, "not-closed")
         }
         ReplayFault::SheetDiffers(resident) => {
-            rows.push(writer, &[b"D", docket.resident_name(*resident).as_bytes()])
+            rows.push(&[b"D", docket.resident_name(*resident).as_bytes()])
         }
     }
 }
 
 // Adds the row of a good replay.
-fn push_good<W: Write>(rows: &mut RowText, writer: &mut W, events: usize) -> Result<(), DocketFault>
-    ensures row { OnOk result (Adds W.contents writer.old rows.old writer.new rows.new (row (codes "G" ∷ decimal events ∷ []))) }
-    ensures err { IfErr result (λ fault. fault ≡ DocketFault.Write) }
+fn push_good<W: Write>(rows: &mut RowWriter<'_, W>, events: usize) -> Result<(), WriteFailed>
+    ensures { OnOk result (Adds W.contents rows.old rows.new (row (codes "G" ∷ decimal events ∷ []))) }
 {
     let mut room = itoa::Buffer::new();
     let events = room.format(events);
-    rows.push(writer, &[b"G", events.as_bytes()])
+    rows.push(&[b"G", events.as_bytes()])
 }
 
 // Adds the row of an answer.
 fn push_answer<W: Write>(
-    rows: &mut RowText,
-    writer: &mut W,
+    rows: &mut RowWriter<'_, W>,
     docket: &Docket,
     answer: &Result<Replayed, ReplayFault>,
-) -> Result<(), DocketFault>
+) -> Result<(), WriteFailed>
     requires member { IsAnswerOf docket.now answer.now }
-    ensures row { OnOk result (Adds W.contents writer.old rows.old writer.new rows.new (row (answer_fields docket.now answer.now))) }
-    ensures err { IfErr result (λ fault. fault ≡ DocketFault.Write) }
+    ensures { OnOk result (Adds W.contents rows.old rows.new (row (answer_fields docket.now answer.now))) }
 {
     match answer {
-        Ok(replayed) => push_good(rows, writer, replayed.events),
-        Err(fault) => push_fault(rows, writer, docket, fault),
+        Ok(replayed) => push_good(rows, replayed.events),
+        Err(fault) => push_fault(rows, docket, fault),
     }
 }
 
 // Adds the row of a worker.
 #[tactic(auto, unfolding(crate::specs::Answer::worker_row))]
 fn push_worker<W: Write>(
-    rows: &mut RowText,
-    writer: &mut W,
+    rows: &mut RowWriter<'_, W>,
     worker: usize,
     events: u64,
-) -> Result<(), DocketFault>
-    ensures row { OnOk result (Adds W.contents writer.old rows.old writer.new rows.new (worker_row worker events)) }
-    ensures err { IfErr result (λ fault. fault ≡ DocketFault.Write) }
+) -> Result<(), WriteFailed>
+    ensures { OnOk result (Adds W.contents rows.old rows.new (worker_row worker events)) }
 {
     let (mut first, mut second) = (itoa::Buffer::new(), itoa::Buffer::new());
     let worker = first.format(worker);
     let events = second.format(events);
-    rows.push(writer, &[b"K", worker.as_bytes(), events.as_bytes()])
+    rows.push(&[b"K", worker.as_bytes(), events.as_bytes()])
 }
 
 // Adds the row of each worker.
-fn push_workers<W: Write>(
-    rows: &mut RowText,
-    writer: &mut W,
-    counts: &[u64],
-) -> Result<(), DocketFault>
-    ensures rows { OnOk result (Adds W.contents writer.old rows.old writer.new rows.new (worker_rows 0 counts.now)) }
-    ensures err { IfErr result (λ fault. fault ≡ DocketFault.Write) }
+fn push_workers<W: Write>(rows: &mut RowWriter<'_, W>, counts: &[u64]) -> Result<(), WriteFailed>
+    ensures { OnOk result (Adds W.contents rows.old rows.new (worker_rows 0 counts.now)) }
 {
     for worker in 0..counts.len() {
-        push_worker(rows, writer, worker, counts[worker])?;
+        push_worker(rows, worker, counts[worker])?;
     }
     Ok(())
 }
@@ -218,18 +191,30 @@ fn push_workers<W: Write>(
 // Adds what follows the row of an answer.
 #[tactic(auto, unfolding(crate::specs::Answer::count_rows))]
 fn push_counts<W: Write>(
-    rows: &mut RowText,
-    writer: &mut W,
+    rows: &mut RowWriter<'_, W>,
     answer: &Result<Replayed, ReplayFault>,
     counts: Option<&[u64]>,
-) -> Result<(), DocketFault>
-    ensures rows { OnOk result (Adds W.contents writer.old rows.old writer.new rows.new (count_rows answer.now (option_copied counts.entry))) }
-    ensures err { IfErr result (λ fault. fault ≡ DocketFault.Write) }
+) -> Result<(), WriteFailed>
+    ensures { OnOk result (Adds W.contents rows.old rows.new (count_rows answer.now (option_copied counts.entry))) }
 {
     match (answer, counts) {
-        (Ok(_), Some(counts)) => push_workers(rows, writer, counts),
+        (Ok(_), Some(counts)) => push_workers(rows, counts),
         _ => Ok(()),
     }
+}
+
+// Adds the row of an answer, and what follows it.
+fn push_replay<W: Write>(
+    rows: &mut RowWriter<'_, W>,
+    docket: &Docket,
+    answer: &Result<Replayed, ReplayFault>,
+    counts: Option<&[u64]>,
+) -> Result<(), WriteFailed>
+    requires { IsAnswerOf docket.now answer.now }
+    ensures { OnOk result (Adds W.contents rows.old rows.new (replay_text docket.now answer.now (option_copied counts.entry))) }
+{
+    push_answer(rows, docket, answer)?;
+    push_counts(rows, answer, counts)
 }
 
 /// Writes what a replay of the docket's journal answered: one row, and where there are counts, after a good answer one row
@@ -248,8 +233,9 @@ pub fn write_replay<W: Write>(
     ensures fault { IfErr result IsWriteFault }
     ensures before { IfErr result (λ fault. fault ≢ DocketFault.Write → writer.new ≡ writer.old) }
 {
-    let mut rows = RowText::new(alloc)?;
-    push_answer(&mut rows, writer, docket, answer)?;
-    push_counts(&mut rows, writer, answer, counts)?;
-    rows.send(writer)
+    let mut room = room_for_rows(alloc)?;
+    let mut rows = RowWriter::new(writer, &mut room);
+    push_replay(&mut rows, docket, answer, counts)?;
+    rows.send()?;
+    Ok(())
 }

@@ -6,7 +6,7 @@ ghost use Rattle.docket.specs.RowText.{Adds, Writes};
 ghost use Rattle.residency.specs.Report.{report_text, stability_row, pair_row, over_row, IsPairOf, IsReportOf};
 ghost use Rattle.residency.specs.Serving.{IsWriteFault};
 
-use docket::{Docket, DocketFault, RowText};
+use docket::{Docket, DocketFault, RowWriter, WriteFailed, push_programme, room_for_rows};
 use match_audit::AuditReport;
 use match_model::{ProgrammeNo, ResidentNo};
 use std::alloc::Global;
@@ -14,71 +14,78 @@ use std::io::Write;
 
 // Adds the row of a resident and a programme.
 fn push_pair<W: Write>(
-    rows: &mut RowText,
-    writer: &mut W,
+    rows: &mut RowWriter<'_, W>,
     docket: &Docket,
     kind: &[u8],
     resident: ResidentNo,
     programme: ProgrammeNo,
-) -> Result<(), DocketFault>
+) -> Result<(), WriteFailed>
     requires members { IsPairOf docket.now (resident, programme) }
-    ensures row { OnOk result (Adds W.contents writer.old rows.old writer.new rows.new (pair_row docket.now kind.now (resident, programme))) }
-    ensures err { IfErr result (λ fault. fault ≡ DocketFault.Write) }
+    ensures { OnOk result (Adds W.contents rows.old rows.new (pair_row docket.now kind.now (resident, programme))) }
 {
     let resident = docket.resident_name(resident).as_bytes();
     let programme = docket.programme_name(programme).as_bytes();
-    rows.push(writer, &[kind, resident, programme])
+    rows.push(&[kind, resident, programme])
 }
 
 // Adds a row for each pair.
 fn push_pairs<W: Write>(
-    rows: &mut RowText,
-    writer: &mut W,
+    rows: &mut RowWriter<'_, W>,
     docket: &Docket,
     kind: &[u8],
     pairs: &[(ResidentNo, ProgrammeNo)],
-) -> Result<(), DocketFault>
+) -> Result<(), WriteFailed>
     requires members { All (IsPairOf docket.now) pairs.now }
-    ensures rows { OnOk result (Adds W.contents writer.old rows.old writer.new rows.new (flat_map (pair_row docket.now kind.now) pairs.now)) }
-    ensures err { IfErr result (λ fault. fault ≡ DocketFault.Write) }
+    ensures { OnOk result (Adds W.contents rows.old rows.new (flat_map (pair_row docket.now kind.now) pairs.now)) }
 {
     for (resident, programme) in pairs {
-        push_pair(rows, writer, docket, kind, *resident, *programme)?;
+        push_pair(rows, docket, kind, *resident, *programme)?;
     }
     Ok(())
 }
 
 // Adds a row for each programme over its quota.
 fn push_all_over<W: Write>(
-    rows: &mut RowText,
-    writer: &mut W,
+    rows: &mut RowWriter<'_, W>,
     docket: &Docket,
     all: &[(ProgrammeNo, u32)],
-) -> Result<(), DocketFault>
+) -> Result<(), WriteFailed>
     requires members { All (λ over. IsProgramme docket.now.instance over.0) all.now }
-    ensures rows { OnOk result (Adds W.contents writer.old rows.old writer.new rows.new (flat_map (over_row docket.now) all.now)) }
-    ensures err { IfErr result (λ fault. fault ≡ DocketFault.Write) }
+    ensures { OnOk result (Adds W.contents rows.old rows.new (flat_map (over_row docket.now) all.now)) }
 {
     for (programme, filled) in all {
-        rows.push_programme(writer, docket, b"O", *programme, *filled)?;
+        push_programme(rows, docket, b"O", *programme, *filled)?;
     }
     Ok(())
 }
 
 // Adds the answer's row.
 fn push_stability<W: Write>(
-    rows: &mut RowText,
-    writer: &mut W,
+    rows: &mut RowWriter<'_, W>,
     report: &AuditReport,
-) -> Result<(), DocketFault>
-    ensures row { OnOk result (Adds W.contents writer.old rows.old writer.new rows.new (stability_row report.now)) }
-    ensures err { IfErr result (λ fault. fault ≡ DocketFault.Write) }
+) -> Result<(), WriteFailed>
+    ensures { OnOk result (Adds W.contents rows.old rows.new (stability_row report.now)) }
 {
     if report.is_stable() {
-        rows.push(writer, &[b"S", b"stable"])
+        rows.push(&[b"S", b"stable"])
     } else {
-        rows.push(writer, &[b"S", b"unstable"])
+        rows.push(&[b"S", b"unstable"])
     }
+}
+
+// Adds the rows of a report.
+fn push_report<W: Write>(
+    rows: &mut RowWriter<'_, W>,
+    docket: &Docket,
+    report: &AuditReport,
+) -> Result<(), WriteFailed>
+    requires { IsReportOf docket.now report.now }
+    ensures { OnOk result (Adds W.contents rows.old rows.new (report_text docket.now report.now)) }
+{
+    push_stability(rows, report)?;
+    push_pairs(rows, docket, b"X", report.unacceptable.as_slice())?;
+    push_all_over(rows, docket, report.over.as_slice())?;
+    push_pairs(rows, docket, b"B", report.blocking.as_slice())
 }
 
 /// Writes what an audit found: whether the sheet is stable, the pairs that aren't acceptable, the programmes over their
@@ -96,16 +103,9 @@ pub fn write_report<W: Write>(
     ensures fault { IfErr result IsWriteFault }
     ensures before { IfErr result (λ fault. fault ≢ DocketFault.Write → writer.new ≡ writer.old) }
 {
-    let mut rows = RowText::new(alloc)?;
-    push_stability(&mut rows, writer, report)?;
-    push_pairs(
-        &mut rows,
-        writer,
-        docket,
-        b"X",
-        report.unacceptable.as_slice(),
-    )?;
-    push_all_over(&mut rows, writer, docket, report.over.as_slice())?;
-    push_pairs(&mut rows, writer, docket, b"B", report.blocking.as_slice())?;
-    rows.send(writer)
+    let mut room = room_for_rows(alloc)?;
+    let mut rows = RowWriter::new(writer, &mut room);
+    push_report(&mut rows, docket, report)?;
+    rows.send()?;
+    Ok(())
 }

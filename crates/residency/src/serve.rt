@@ -14,7 +14,8 @@ use crate::report::write_report;
 use crate::spent::Spent;
 use crate::status::Status;
 use docket::{
-    ByWorker, Docket, DocketFault, Journal, RowText, push_journal, push_sheet, read_docket,
+    ByWorker, Docket, DocketFault, Journal, RowWriter, WriteFailed, push_journal, push_sheet,
+    read_docket, room_for_rows,
 };
 use exchange_core::Event;
 use match_audit::{AuditFault, AuditReport, ReplayFault, audit, check, counts, replay};
@@ -29,24 +30,20 @@ use std::thread::Threads;
 
 // Adds the journal of an exchange in the form that is wanted.
 fn push_wanted<W: Write>(
-    rows: &mut RowText,
-    writer: &mut W,
+    rows: &mut RowWriter<'_, W>,
     docket: &Docket,
     journal: &[Event],
     by: &ByWorker,
     options: &MatchOptions,
-) -> Result<(), DocketFault>
+) -> Result<(), WriteFailed>
     requires journal { All (NamesMembers docket.now.instance) journal.now }
     requires by { IsByWorker journal.now by.now }
-    ensures rows { OnOk result (Adds W.contents writer.old rows.old writer.new rows.new (wanted_journal docket.now options.now journal.now by.now)) }
-    ensures err { IfErr result (λ fault. fault ≡ DocketFault.Write) }
+    ensures { OnOk result (Adds W.contents rows.old rows.new (wanted_journal docket.now options.now journal.now by.now)) }
 {
     match options.journal {
         JournalForm::Absent => Ok(()),
-        JournalForm::Plain => push_journal(rows, writer, docket, options.capacity, journal, None),
-        JournalForm::ByWorker => {
-            push_journal(rows, writer, docket, options.capacity, journal, Some(by))
-        }
+        JournalForm::Plain => push_journal(rows, docket, options.capacity, journal, None),
+        JournalForm::ByWorker => { push_journal(rows, docket, options.capacity, journal, Some(by)) }
     }
 }
 
@@ -68,10 +65,12 @@ fn write_match<W: Write>(
     ensures fault { IfErr result IsWriteFault }
     ensures before { IfErr result (λ fault. fault ≢ DocketFault.Write → writer.new ≡ writer.old) }
 {
-    let mut rows = RowText::new(alloc)?;
-    push_sheet(alloc, &mut rows, writer, docket, assignment)?;
-    push_wanted(&mut rows, writer, docket, journal, by, options)?;
-    rows.send(writer)
+    let mut room = room_for_rows(alloc)?;
+    let mut rows = RowWriter::new(writer, &mut room);
+    push_sheet(alloc, &mut rows, docket, assignment)?;
+    push_wanted(&mut rows, docket, journal, by, options)?;
+    rows.send()?;
+    Ok(())
 }
 
 // Runs the exchange over a docket to its close, and writes the sheet of what it gives, and its journal where that is wanted.

@@ -1,4 +1,4 @@
-//! The program that tells a resident why: its words name whom, and the docket with its sheet is on standard input.
+//! The program that tells residents why: its words say whom, and the docket with its sheet is on standard input.
 #![tactic(auto)]
 
 use reasons_text::tell_words;

@@ -5,4 +5,4 @@ use Rattle.docket.proofs.write.push_residents.Given as goal
 
 abbrev pub invariant-loop-r : goal.invariant-loop-r
 invariant-loop-r g l =
-    Adds g.W.Write.contents l.fn.writer l.fn.rows l.writer l.rows (flat_map (resident_row l.docket l.assignment) (range_with_len 0 l.r))
+    Adds g.W.Write.contents l.fn.rows l.rows (flat_map (resident_row l.docket l.assignment) (range_with_len 0 l.r))

@@ -2,6 +2,6 @@ use Rattle.std.proofs.Common.{sym}
 use Rattle.std.proofs.lemmas.Result.{on_ok_weaker}
 use Rattle.residency.proofs.answer.push_pending.Goals as goal
 
-pub returns-clause-row : goal.returns-clause-row
-returns-clause-row g c =
-    on_ok_weaker c.push.result (λ h. rw (sym c.as_bytes.ensures.value, sym c.as_bytes-2.ensures.value) h) c.push.ensures.row
+pub returns : goal.returns
+returns g c =
+    on_ok_weaker c.push.result (λ h. rw (sym c.as_bytes.ensures.value, sym c.as_bytes-2.ensures.value) h) c.push.ensures

@@ -6,4 +6,4 @@ use Rattle.residency.proofs.report.push_all_over.Given as goal
 
 abbrev pub invariant-loop-programme : goal.invariant-loop-programme
 invariant-loop-programme g l =
-    Adds g.W.Write.contents l.fn.writer l.fn.rows l.writer l.rows (flat_map (over_row l.docket) (take l.programme-index l.all))
+    Adds g.W.Write.contents l.fn.rows l.rows (flat_map (over_row l.docket) (take l.programme-index l.all))

@@ -3,9 +3,9 @@ use Rattle.std.proofs.lemmas.Result.{on_ok_weaker}
 use Rattle.residency.specs.Report.{pair_row}
 use Rattle.residency.proofs.report.push_pair.Goals as goal
 
-pub returns-clause-row : goal.returns-clause-row
+pub returns : goal.returns
 unfolding pair_row
-returns-clause-row g c =
+returns g c =
     let resident = sym (c.as_bytes-resident.ensures.value ∙ c.resident_name.ensures) in
     let programme = sym (c.as_bytes-programme.ensures.value ∙ c.programme_name.ensures) in
-    on_ok_weaker c.push.result (λ h. rw (resident, programme) h) c.push.ensures.row
+    on_ok_weaker c.push.result (λ h. rw (resident, programme) h) c.push.ensures

@@ -1,5 +1,3 @@
-use Rattle.std.proofs.Common.{◌∙◌, ap, sym, Some, length, arith}
-use Rattle.std.specs.Prelude.{slice_get}
 use Rattle.docket.proofs.NameFacts.{IsUtf8-is_name}
 use Rattle.docket.proofs.TextFacts.{name_there}
 use Rattle.docket.proofs.store.names.name_of.Goals as goal

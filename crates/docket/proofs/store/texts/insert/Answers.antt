@@ -1,4 +1,4 @@
-use Rattle.docket.proofs.TextFacts.{key_found, starts_same, starts_insert, short_insert}
+use Rattle.docket.proofs.TextFacts.{key_found, starts_insert, short_insert}
 use Rattle.docket.proofs.store.texts.insert.Goals as goal
 
 pub returns-clause-number : goal.returns-clause-number

@@ -20,8 +20,8 @@ invariant_of-self c =
     let h = index_within (shown_programme notes) seats c.args.self.now c.programme.inside.0 c.args.programme c.self.view_is c.programme.view_is c.requires in
     let ring = ring_at part shown_programme seats c.programme.inside.0 seat h c.index_mut-seat.ensures.value c.self.invariant.rings in
     record {
-      laid = laid_set part shown_programme seats (length notes) c.programme.inside.0 seat _ c.index_mut-seat.ensures.value (ap span c.pop-seat.ensures ∙ span_popped seat.part) c.self.invariant.laid;
-      rings = rings_set part shown_programme seats c.programme.inside.0 _ (subst IsRing (sym c.pop-seat.ensures) (ring_popped seat.part ring)) c.self.invariant.rings;
+      laid = laid_set part shown_programme seats (length notes) c.programme.inside.0 seat _ c.index_mut-seat.ensures.value (ap span c.pop.ensures ∙ span_popped seat.part) c.self.invariant.laid;
+      rings = rings_set part shown_programme seats c.programme.inside.0 _ (subst IsRing (sym c.pop.ensures) (ring_popped seat.part ring)) c.self.invariant.rings;
     }
 
 pub returns : goal.returns
@@ -32,9 +32,9 @@ returns c =
     let seat : ProgrammeSeat = c.index_mut-seat.result.now in
     let h = index_within (shown_programme notes) seats c.args.self.now c.programme.inside.0 c.args.programme c.self.view_is c.programme.view_is c.requires in
     let ring = ring_at part shown_programme seats c.programme.inside.0 seat h c.index_mut-seat.ensures.value c.self.invariant.rings in
-    let new : ProgrammeSeat = record { part = c.pop-seat.result; offered = seat.offered; out = c.out_after-seat.result; places = seat.places; listed = seat.listed } in
+    let new : ProgrammeSeat = record { part = c.pop.new.self; offered = seat.offered; out = c.out_after-seat.result; places = seat.places; listed = seat.listed } in
     changed (shown_programme notes) seats c.args.self.now c.programme.inside.0 c.args.programme seat new (λ (s : ProgrammeLeft). heard_answer s (c.args.resident, c.args.kind)) (opened_programme 0 0 0)
     c.self.view_is c.programme.view_is c.requires c.index_mut-seat.ensures.value
     (same_programme_left (shown_programme notes new) (heard_answer (shown_programme notes seat) (c.args.resident, c.args.kind)) refl c.out_after-seat.ensures
-    (ap (λ (p : Part). map answer_of (waiting_in notes p)) c.pop-seat.ensures ∙ ap (λ (xs : List ℕ). map answer_of xs) (waiting_popped notes seat.part ring) ∙ sym (drop-map answer_of 1 (waiting_in notes seat.part)))
-    (ap (λ (p : Part). (span p).1) c.pop-seat.ensures ∙ ap (λ (s : ℕ × ℕ). s.1) (span_popped seat.part)) refl refl)
+    (ap (λ (p : Part). map answer_of (waiting_in notes p)) c.pop.ensures ∙ ap (λ (xs : List ℕ). map answer_of xs) (waiting_popped notes seat.part ring) ∙ sym (drop-map answer_of 1 (waiting_in notes seat.part)))
+    (ap (λ (p : Part). (span p).1) c.pop.ensures ∙ ap (λ (s : ℕ × ℕ). s.1) (span_popped seat.part)) refl refl)

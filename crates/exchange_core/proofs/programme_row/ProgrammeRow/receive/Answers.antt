@@ -7,7 +7,7 @@ use Rattle.exchange_core.specs.Notes.{IsRing, AreLaid, waiting_in, place_in, spa
 use Rattle.exchange_core.specs.Rows.{shown_programme, programme_span, answer_of}
 use Rattle.exchange_core.specs.Seats.{opened_programme, sent_answer}
 use Rattle.exchange_core.proofs.Notes.{length-waiting, ring_pushed, waiting_pushed}
-use Rattle.exchange_core.proofs.Rows.{index_within, part_within, ring_at, laid_set, rings_set, shown_pushed, now_at, same_seat, updated}
+use Rattle.exchange_core.proofs.Rows.{index_within, part_within, ring_at, laid_set, rings_set, shown_pushed, now_at, updated}
 use Rattle.exchange_core.proofs.Steps.{same_programme_left}
 use Rattle.exchange_core.proofs.programme_row.ProgrammeRow.receive.Goals as goal
 use Rattle.exchange_core.specs.Mail.{Answered}
@@ -20,29 +20,29 @@ room_left notes seats rows i r seat view same member is few =
     let here = subst (λ (s : ProgrammeLeft). length s.waiting < s.room) (now_at (shown_programme notes) seats rows i r seat (opened_programme 0 0 0) view same member is) few in
     omega (arith, here, length-map (waiting_in notes seat.part) answer_of, length-waiting notes seat.part)
 
-pub push-part-requires-clause-within : goal.push-part-requires-clause-within
-push-part-requires-clause-within c =
+pub push-requires-clause-within : goal.push-requires-clause-within
+push-requires-clause-within c =
     let notes : List ℕ = c.self.inside.notes.items in
     let seats : List ProgrammeSeat = c.self.inside.seats.items in
     let h = index_within (shown_programme notes) seats c.args.self.now c.programme.inside.0 c.args.programme c.self.view_is c.programme.view_is c.requires.member in
-    part_within (λ (s : ProgrammeSeat). s.part) shown_programme seats (length notes) c.programme.inside.0 c.index.result.now h c.index.ensures c.self.invariant.laid
+    part_within (λ (s : ProgrammeSeat). s.part) shown_programme seats (length notes) c.programme.inside.0 c.index_mut-seat.result.now h c.index_mut-seat.ensures.value c.self.invariant.laid
 
-pub push-part-requires-clause-room : goal.push-part-requires-clause-room
-push-part-requires-clause-room c = room_left c.self.inside.notes.items c.self.inside.seats.items c.args.self.now c.programme.inside.0 c.args.programme c.index.result.now c.self.view_is c.programme.view_is c.requires.member c.index.ensures c.requires.room
+pub push-requires-clause-room : goal.push-requires-clause-room
+push-requires-clause-room c = room_left c.self.inside.notes.items c.self.inside.seats.items c.args.self.now c.programme.inside.0 c.args.programme c.index_mut-seat.result.now c.self.view_is c.programme.view_is c.requires.member c.index_mut-seat.ensures.value c.requires.room
 
 pub invariant_of-self : goal.invariant_of-self
 invariant_of-self c =
     let part : ProgrammeSeat → Part = λ s. s.part in
     let notes : List ℕ = c.self.inside.notes.items in
     let seats : List ProgrammeSeat = c.self.inside.seats.items in
-    let seat : ProgrammeSeat = c.index.result.now in
+    let seat : ProgrammeSeat = c.index_mut-seat.result.now in
     let h = index_within (shown_programme notes) seats c.args.self.now c.programme.inside.0 c.args.programme c.self.view_is c.programme.view_is c.requires.member in
-    let more = room_left notes seats c.args.self.now c.programme.inside.0 c.args.programme seat c.self.view_is c.programme.view_is c.requires.member c.index.ensures c.requires.room in
-    let ring = ring_at part shown_programme seats c.programme.inside.0 seat h c.index.ensures c.self.invariant.rings in
+    let more = room_left notes seats c.args.self.now c.programme.inside.0 c.args.programme seat c.self.view_is c.programme.view_is c.requires.member c.index_mut-seat.ensures.value c.requires.room in
+    let ring = ring_at part shown_programme seats c.programme.inside.0 seat h c.index_mut-seat.ensures.value c.self.invariant.rings in
     record {
-      laid = laid_set part shown_programme seats (length c.push-part.new.notes.items) c.programme.inside.0 seat _ c.index.ensures (ap span c.push-part.ensures.part)
-          (subst (λ (n : ℕ). AreLaid (map programme_span seats) n) (sym (ap (λ (xs : List ℕ). length xs) c.push-part.ensures.notes ∙ length-set notes (place_in seat.part seat.part.len) c.note_of.result)) c.self.invariant.laid);
-      rings = rings_set part shown_programme seats c.programme.inside.0 _ (subst IsRing (sym c.push-part.ensures.part) (ring_pushed seat.part ring more)) c.self.invariant.rings;
+      laid = laid_set part shown_programme seats (length c.push.new.notes.items) c.programme.inside.0 seat _ c.index_mut-seat.ensures.value (ap span c.push.ensures.part)
+          (subst (λ (n : ℕ). AreLaid (map programme_span seats) n) (sym (ap (λ (xs : List ℕ). length xs) c.push.ensures.notes ∙ length-set notes (place_in seat.part seat.part.len) c.note_of.result)) c.self.invariant.laid);
+      rings = rings_set part shown_programme seats c.programme.inside.0 _ (subst IsRing (sym c.push.ensures.part) (ring_pushed seat.part ring more)) c.self.invariant.rings;
     }
 
 pub returns : goal.returns
@@ -50,25 +50,24 @@ returns c =
     let part : ProgrammeSeat → Part = λ s. s.part in
     let notes : List ℕ = c.self.inside.notes.items in
     let seats : List ProgrammeSeat = c.self.inside.seats.items in
-    let seat : ProgrammeSeat = c.index.result.now in
+    let seat : ProgrammeSeat = c.index_mut-seat.result.now in
     let h = index_within (shown_programme notes) seats c.args.self.now c.programme.inside.0 c.args.programme c.self.view_is c.programme.view_is c.requires.member in
-    let more = room_left notes seats c.args.self.now c.programme.inside.0 c.args.programme seat c.self.view_is c.programme.view_is c.requires.member c.index.ensures c.requires.room in
-    let ring = ring_at part shown_programme seats c.programme.inside.0 seat h c.index.ensures c.self.invariant.rings in
-    let new : ProgrammeSeat = record { part = c.push-part.result; offered = c.index_mut.result.now.offered; out = c.index_mut.result.now.out; places = c.index_mut.result.now.places; listed = c.index_mut.result.now.listed } in
-    let again : c.index_mut.result.now ≡ seat = same_seat seats c.programme.inside.0 c.index_mut.result.now seat h c.index_mut.ensures.value c.index.ensures in
-    let first = now_at (shown_programme notes) seats (map (shown_programme notes) seats) c.programme.inside.0 c.programme.inside.0 seat (opened_programme 0 0 0) refl refl (omega (arith, h, length-map seats (shown_programme notes))) c.index.ensures in
+    let more = room_left notes seats c.args.self.now c.programme.inside.0 c.args.programme seat c.self.view_is c.programme.view_is c.requires.member c.index_mut-seat.ensures.value c.requires.room in
+    let ring = ring_at part shown_programme seats c.programme.inside.0 seat h c.index_mut-seat.ensures.value c.self.invariant.rings in
+    let new : ProgrammeSeat = record { part = c.push.new.self; offered = seat.offered; out = seat.out; places = seat.places; listed = seat.listed } in
+    let first = now_at (shown_programme notes) seats (map (shown_programme notes) seats) c.programme.inside.0 c.programme.inside.0 seat (opened_programme 0 0 0) refl refl (omega (arith, h, length-map seats (shown_programme notes))) c.index_mut-seat.ensures.value in
     let written : List ℕ = slice_set notes (place_in seat.part seat.part.len) c.note_of.result in
     let answer : Answered = (c.args.resident, c.args.kind) in
     let here : shown_programme written new ≡ sent_answer (shown_programme notes seat) answer =
     same_programme_left (shown_programme written new) (sent_answer (shown_programme notes seat) answer)
-    (ap (λ (s : ProgrammeSeat). s.offered) again) (ap (λ (s : ProgrammeSeat). s.out) again)
-    (ap (λ (p : Part). map answer_of (waiting_in written p)) c.push-part.ensures.part
-    ∙ ap (λ (xs : List ℕ). map answer_of xs) (waiting_pushed notes seat.part c.note_of.result ring more (part_within part shown_programme seats (length notes) c.programme.inside.0 seat h c.index.ensures c.self.invariant.laid))
+    refl refl
+    (ap (λ (p : Part). map answer_of (waiting_in written p)) c.push.ensures.part
+    ∙ ap (λ (xs : List ℕ). map answer_of xs) (waiting_pushed notes seat.part c.note_of.result ring more (part_within part shown_programme seats (length notes) c.programme.inside.0 seat h c.index_mut-seat.ensures.value c.self.invariant.laid))
     ∙ map_push answer_of (waiting_in notes seat.part) c.note_of.result
     ∙ ap (λ (a : Answered). map answer_of (waiting_in notes seat.part) ++ a ∷ []) (ap answer_of c.note_of.ensures ∙ answer_of_note c.args.resident c.args.kind))
-    (ap (λ (p : Part). p.room) c.push-part.ensures.part) (ap (λ (s : ProgrammeSeat). s.places) again) (ap (λ (s : ProgrammeSeat). s.listed) again) in
-    ap (λ (xs : List ℕ). map (shown_programme xs) (slice_set seats c.programme.inside.0 new)) c.push-part.ensures.notes
+    (ap (λ (p : Part). p.room) c.push.ensures.part) refl refl in
+    ap (λ (xs : List ℕ). map (shown_programme xs) (slice_set seats c.programme.inside.0 new)) c.push.ensures.notes
     ∙ shown_pushed part shown_programme (λ s a b e. same_programme_left (shown_programme a s) (shown_programme b s) refl refl (ap (λ (xs : List ℕ). map answer_of xs) e) refl refl refl)
-    seats notes c.programme.inside.0 c.note_of.result seat new (sent_answer (shown_programme notes seat) answer) h c.index.ensures c.self.invariant.laid c.self.invariant.rings more here
+    seats notes c.programme.inside.0 c.note_of.result seat new (sent_answer (shown_programme notes seat) answer) h c.index_mut-seat.ensures.value c.self.invariant.laid c.self.invariant.rings more here
     ∙ ap (λ (s : ProgrammeLeft). slice_set (map (shown_programme notes) seats) c.programme.inside.0 (sent_answer s answer)) (sym first)
     ∙ updated (map (shown_programme notes) seats) c.args.self.now c.programme.inside.0 c.args.programme (λ (s : ProgrammeLeft). sent_answer s answer) (opened_programme 0 0 0) c.self.view_is c.programme.view_is

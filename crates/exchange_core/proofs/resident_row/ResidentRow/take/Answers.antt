@@ -19,8 +19,8 @@ invariant_of-self c =
     let h = index_within (shown_resident c.self.inside.notes.items) seats c.args.self.now c.resident.inside.0 c.args.resident c.self.view_is c.resident.view_is c.requires.member in
     let ring = ring_at part shown_resident seats c.resident.inside.0 seat h c.index_mut-seat.ensures.value c.self.invariant.rings in
     record {
-      laid = laid_set part shown_resident seats (length c.self.inside.notes.items) c.resident.inside.0 seat _ c.index_mut-seat.ensures.value (ap span c.pop-seat.ensures ∙ span_popped seat.part) c.self.invariant.laid;
-      rings = rings_set part shown_resident seats c.resident.inside.0 _ (subst IsRing (sym c.pop-seat.ensures) (ring_popped seat.part ring)) c.self.invariant.rings;
+      laid = laid_set part shown_resident seats (length c.self.inside.notes.items) c.resident.inside.0 seat _ c.index_mut-seat.ensures.value (ap span c.pop.ensures ∙ span_popped seat.part) c.self.invariant.laid;
+      rings = rings_set part shown_resident seats c.resident.inside.0 _ (subst IsRing (sym c.pop.ensures) (ring_popped seat.part ring)) c.self.invariant.rings;
     }
 
 pub returns : goal.returns
@@ -29,11 +29,11 @@ returns c =
     let notes : List ℕ = c.self.inside.notes.items in
     let seats : List ResidentSeat = c.self.inside.seats.items in
     let seat : ResidentSeat = c.index_mut-seat.result.now in
-    let new : ResidentSeat = record { part = c.pop-seat.result; first_due = c.called_for-due.result.0; second_due = c.called_for-due.result.1; held = seat.held; taken_rank = c.args.rank; held_rank = seat.held_rank } in
+    let new : ResidentSeat = record { part = c.pop.new.self; first_due = c.called_for-due.result.0; second_due = c.called_for-due.result.1; held = seat.held; taken_rank = c.args.rank; held_rank = seat.held_rank } in
     let h = index_within (shown_resident notes) seats c.args.self.now c.resident.inside.0 c.args.resident c.self.view_is c.resident.view_is c.requires.member in
     let ring = ring_at part shown_resident seats c.resident.inside.0 seat h c.index_mut-seat.ensures.value c.self.invariant.rings in
     changed (shown_resident notes) seats c.args.self.now c.resident.inside.0 c.args.resident seat new (λ (s : ResidentLeft). took_offer s c.args.better c.args.programme) (opened_resident 0)
     c.self.view_is c.resident.view_is c.requires.member c.index_mut-seat.ensures.value
     (same_resident_left (shown_resident notes new) (took_offer (shown_resident notes seat) c.args.better c.args.programme)
-    (ap (λ (p : Part). map programme_of (waiting_in notes p)) c.pop-seat.ensures ∙ ap (λ (xs : List ℕ). map programme_of xs) (waiting_popped notes seat.part ring) ∙ sym (drop-map programme_of 1 (waiting_in notes seat.part))) c.called_for-due.ensures refl
-    (ap (λ (p : Part). (span p).1) c.pop-seat.ensures ∙ ap (λ (s : ℕ × ℕ). s.1) (span_popped seat.part)))
+    (ap (λ (p : Part). map programme_of (waiting_in notes p)) c.pop.ensures ∙ ap (λ (xs : List ℕ). map programme_of xs) (waiting_popped notes seat.part ring) ∙ sym (drop-map programme_of 1 (waiting_in notes seat.part))) c.called_for-due.ensures refl
+    (ap (λ (p : Part). (span p).1) c.pop.ensures ∙ ap (λ (s : ℕ × ℕ). s.1) (span_popped seat.part)))

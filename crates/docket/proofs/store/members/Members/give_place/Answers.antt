@@ -1,4 +1,4 @@
-use Rattle.std.proofs.Common.{rules, arith}
+use Rattle.std.proofs.Common.{rules}
 use Rattle.docket.proofs.MemberFacts.{found_more}
 use Rattle.docket.proofs.store.members.Members.give_place.Goals as goal
 

@@ -1,5 +1,4 @@
-use Rattle.std.proofs.Common.{ap, length, sym, ◌∙◌, arith}
-use Rattle.std.specs.Prelude.{slice_get}
+use Rattle.std.proofs.Common.{ap, length}
 use Rattle.docket.specs.Tables.{NamesBySide}
 use Rattle.docket.proofs.TextFacts.{place_of_number}
 use Rattle.docket.proofs.store.names.Names.resident_name.Goals as goal

@@ -1,0 +1,13 @@
+use Rattle.std.proofs.Common.{◌≡◌, ℕ, ◌-◌, ◌<◌, length}
+use Rattle.std.specs.List.{range_with_len}
+use Rattle.desk_scheduler.specs.declared.side.Place.TheVariants.{Idle}
+use Rattle.desk_scheduler.specs.Desks.{place_of}
+use Rattle.desk_scheduler.proofs.side.Side.ready.Given as goal
+
+-- the last ones are listed so far, the lowest on top
+abbrev pub invariant-loop-after : goal.invariant-loop-after
+invariant-loop-after l = record {
+  desks : length l.side.places ≡ l.desks;
+  ready : l.side.ready ≡ range_with_len (l.desks - l.after) l.after;
+  idle : (d : ℕ) → d < l.desks - l.after → place_of l.side d ≡ Idle;
+}

@@ -1,0 +1,4 @@
+pub mod Desks
+pub mod Schedule
+pub mod Turns
+pub mod Waits

@@ -1,0 +1,68 @@
+-- What a scheduler's calls do.
+use Rattle.std.specs.Prelude.{ℕ, ◌+◌, ◌-◌, Bool, true, false, List, [], ◌∷◌, length, slice_set, nat_lt, ◌||◌}
+use Rattle.desk_scheduler.specs.declared.scheduler.Next.{Next}
+use Rattle.desk_scheduler.specs.declared.scheduler.Next.TheVariants.{Desk, Nothing, Ended}
+use Rattle.desk_scheduler.specs.declared.side.Place.{Place}
+use Rattle.desk_scheduler.specs.declared.side.Place.TheVariants.{Idle, Listed, InHand, InHandAgain}
+use Rattle.desk_scheduler.specs.Desks.{Desks, place_of, moved}
+use Rattle.desk_scheduler.specs.Schedule.{Schedule}
+
+-- desks of one side change so
+abbrev pub at_side : (Desks → ℕ → Desks) → Schedule → ℕ → Bool → Bool → Schedule
+at_side change s d true b = record { residents = change s.residents d; programmes = s.programmes; waiting = s.waiting; ended = s.ended }
+at_side change s d false true = record { residents = s.residents; programmes = change s.programmes (d - length s.residents.places); waiting = s.waiting; ended = s.ended }
+at_side change s d false false = s
+
+-- the desk of this number changes so: residents' desks come first, and past the programmes' there is none
+abbrev pub at_desk : (Desks → ℕ → Desks) → Schedule → ℕ → Schedule
+at_desk change s d = at_side change s d (nat_lt d (length s.residents.places)) (nat_lt (d - length s.residents.places) (length s.programmes.places))
+
+-- the desk on top of a side, and the rest, comes into a hand
+abbrev pub taken : Desks → ℕ → List ℕ → Desks
+taken desks d rest = record { places = slice_set desks.places d InHand; ready = rest }
+
+-- the next desk comes into a hand: a resident's where one is listed, and none once the run ends
+abbrev pub next_from : Schedule → Bool → List ℕ → List ℕ → Next × Schedule
+next_from s true rs ps = (Ended, s)
+next_from s false (r ∷ rs) ps = (Desk r, record { residents = taken s.residents r rs; programmes = s.programmes; waiting = s.waiting; ended = s.ended })
+next_from s false [] (p ∷ ps) = (Desk (length s.residents.places + p), record { residents = s.residents; programmes = taken s.programmes p ps; waiting = s.waiting; ended = s.ended })
+next_from s false [] [] = (Nothing, s)
+
+abbrev pub next_of : Schedule → Next × Schedule
+next_of s = next_from s s.ended s.residents.ready s.programmes.ready
+
+-- where the desk of this number is; past the programmes' there is none, so that nobody finds it idle
+abbrev pub place_of_side : Schedule → ℕ → Bool → Bool → Place
+place_of_side s d true b = place_of s.residents d
+place_of_side s d false true = place_of s.programmes (d - length s.residents.places)
+place_of_side s d false false = InHand
+
+abbrev pub place_at : Schedule → ℕ → Place
+place_at s d = place_of_side s d (nat_lt d (length s.residents.places)) (nat_lt (d - length s.residents.places) (length s.programmes.places))
+
+-- a desk comes into a hand
+abbrev pub in_hand : Desks → ℕ → Desks
+in_hand desks d = moved desks d InHand
+
+-- whether some desk is listed
+abbrev pub any_ready : Schedule → Bool
+any_ready s = nat_lt 0 (length s.residents.ready) || nat_lt 0 (length s.programmes.ready)
+
+-- a desk at this place is claimed, if it is idle; else the one on top comes
+abbrev pub claimed_from : Schedule → ℕ → Bool → Place → Next × Schedule
+claimed_from s d true place = (Ended, s)
+claimed_from s d false Idle = (Desk d, at_desk in_hand s d)
+claimed_from s d false Listed = next_of s
+claimed_from s d false InHand = next_of s
+claimed_from s d false InHandAgain = next_of s
+
+abbrev pub claim_or_next_of : Schedule → ℕ → Next × Schedule
+claim_or_next_of s d = claimed_from s d s.ended (place_at s d)
+
+-- so many wait
+abbrev pub waiting_now : Schedule → ℕ → Schedule
+waiting_now s n = record { residents = s.residents; programmes = s.programmes; waiting = n; ended = s.ended }
+
+-- the run ends
+abbrev pub ended_now : Schedule → Schedule
+ended_now s = record { residents = s.residents; programmes = s.programmes; waiting = s.waiting; ended = true }

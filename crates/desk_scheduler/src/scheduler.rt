@@ -1,0 +1,187 @@
+//! Which desks are in a worker's hands, and which may have work.
+ghost use Rattle.std.specs.Prelude.{◌≡◌, ◌≢◌, ◌+◌, ◌-◌, ◌<◌, ◌^◌, ◌||◌, ◌&&◌, [], true, false, length, fold, nat_lt, replicate, cond, IfOk};
+ghost use Rattle.std.specs.List.{range_with_len};
+ghost use Rattle.desk_scheduler.specs.Desks.{listing, letting_go};
+ghost use Rattle.desk_scheduler.specs.Turns.{at_desk, in_hand, place_at, next_of, claim_or_next_of, waiting_now, ended_now, any_ready};
+ghost use Rattle.desk_scheduler.specs.declared.side.Place.TheVariants.{Idle};
+
+use crate::side::Side;
+use crate::woken::Woken;
+use std::alloc::{AllocError, Global};
+use std::marker::Model;
+
+/// What a worker finds that looks for a desk.
+#[derive(Clone, Copy, Debug, PartialEq, Eq)]
+pub enum Next {
+    /// This desk, which is in its hands now.
+    Desk(u32),
+    /// None is listed.
+    Nothing,
+    /// The run ends.
+    Ended,
+}
+
+/// The desks in hands and those that may have work, each listed at most once, by number: residents' desks before
+/// programmes'. Residents' are taken first, so that a programme hears many answers in a visit; and of each side the one
+/// listed last, of which most is still near.
+#[derive(Debug, Drop)]
+pub struct Scheduler {
+    residents: Side,
+    programmes: Side,
+    first_programme: u32,
+    waiting: usize,
+    ended: bool,
+}
+
+impl Model for Scheduler {
+    ghost use Rattle.desk_scheduler.specs.Schedule.{Schedule, IsNumbered};
+
+    ghost Value = { Schedule };
+
+    ghost view = { λ s. record { residents = s.residents; programmes = s.programmes; waiting = s.waiting; ended = s.ended } };
+
+    ghost invariant = { λ s. IsNumbered s.residents s.programmes s.first_programme };
+}
+
+impl Scheduler {
+    /// No desk is in a hand, and every programme's desk may have work, the first on top.
+    pub fn open(alloc: Global, residents: u32, programmes: u32) -> Result<Scheduler, AllocError>
+        requires { residents + programmes < 2 ^ 32 }
+        ensures residents { IfOk result (λ s. (s.residents.places ≡ replicate residents Idle)
+            × (s.residents.ready ≡ [])) }
+        ensures programmes { IfOk result (λ s. (length s.programmes.places ≡ programmes)
+            × (s.programmes.ready ≡ range_with_len 0 programmes)) }
+        ensures nobody { IfOk result (λ s. (s.waiting ≡ 0) × (s.ended ≡ false)) }
+    {
+        Ok(Scheduler {
+            residents: Side::idle(alloc, residents)?,
+            programmes: Side::ready(alloc, programmes)?,
+            first_programme: residents,
+            waiting: 0,
+            ended: false,
+        })
+    }
+
+    /// A desk may have work: one with nobody is listed, one in a hand is marked.
+    #[inline(always)]
+    pub fn list(&mut self, desk: u32)
+        ensures { self.new ≡ at_desk listing self.old desk }
+    {
+        if desk < self.first_programme {
+            self.residents.list(desk);
+        } else if self.programmes.has(desk - self.first_programme) {
+            self.programmes.list(desk - self.first_programme);
+        }
+    }
+
+    /// All these desks may have work. They are noted no more.
+    #[inline(always)]
+    pub fn list_all(&mut self, woken: &mut Woken)
+        ensures listed { self.new ≡ fold (at_desk listing) self.old woken.old }
+        ensures none_left { woken.new ≡ [] }
+    {
+        for desk in woken.desks() {
+            self.list(*desk);
+        }
+        woken.clear();
+    }
+
+    /// A desk leaves a hand; it is listed where it may have work again.
+    #[inline(always)]
+    pub fn let_go(&mut self, desk: u32, again: bool)
+        ensures { self.new ≡ at_desk (λ desks d. letting_go desks d again) self.old desk }
+    {
+        if desk < self.first_programme {
+            self.residents.let_go(desk, again);
+        } else if self.programmes.has(desk - self.first_programme) {
+            self.programmes.let_go(desk - self.first_programme, again);
+        }
+    }
+
+    /// The desk on top of the list comes into a hand, while the run goes on.
+    #[inline(always)]
+    pub fn next(&mut self) -> Next
+        ensures { (result, self.new) ≡ next_of self.old }
+    {
+        if self.ended {
+            return Next::Ended;
+        }
+        if let Some(resident) = self.residents.next() {
+            return Next::Desk(resident);
+        }
+        match self.programmes.next() {
+            Some(programme) => Next::Desk(self.first_programme + programme),
+            None => Next::Nothing,
+        }
+    }
+
+    /// This desk comes into a hand, if nobody has it and it isn't listed; else the one on top of the list.
+    pub fn claim_or_next(&mut self, desk: u32) -> Next
+        ensures { (result, self.new) ≡ claim_or_next_of self.old desk }
+    {
+        if self.ended {
+            return Next::Ended;
+        }
+        if self.claim(desk) {
+            return Next::Desk(desk);
+        }
+        self.next()
+    }
+
+    // A desk with nobody that isn't listed comes into a hand. Whether it does.
+    fn claim(&mut self, desk: u32) -> bool
+        ensures claimed { result ≡ true → (place_at self.old desk ≡ Idle) × (self.new ≡ at_desk in_hand self.old desk) }
+        ensures left { result ≡ false → (place_at self.old desk ≢ Idle) × (self.new ≡ self.old) }
+    {
+        if desk < self.first_programme {
+            return self.residents.claim(desk);
+        }
+        let programme = desk - self.first_programme;
+        self.programmes.has(programme) && self.programmes.claim(programme)
+    }
+
+    /// A worker begins to wait.
+    pub fn wait_begins(&mut self)
+        ensures waiting { self.old.waiting + 1 < 2 ^ 64 → self.new.waiting ≡ self.old.waiting + 1 }
+        ensures rest { self.new ≡ waiting_now self.old self.new.waiting }
+    {
+        self.waiting = self.waiting.saturating_add(1);
+    }
+
+    /// A worker waits no more.
+    pub fn wait_ends(&mut self)
+        ensures { self.new ≡ waiting_now self.old (self.old.waiting - 1) }
+    {
+        self.waiting = self.waiting.saturating_sub(1);
+    }
+
+    /// The run ends: no desk comes into a hand any more.
+    pub fn end(&mut self)
+        ensures { self.new ≡ ended_now self.old }
+    {
+        self.ended = true;
+    }
+
+    /// Whether a worker that waits has something to wake for.
+    #[inline(always)]
+    pub fn has_news(&self) -> bool
+        ensures { result ≡ (self.now.ended || any_ready self.now) }
+    {
+        self.ended || self.residents.is_ready() || self.programmes.is_ready()
+    }
+
+    /// Whether a worker waits for whom there is something to do.
+    #[inline(always)]
+    pub fn wakes_one(&self) -> bool
+        ensures { result ≡ (nat_lt 0 self.now.waiting && any_ready self.now) }
+    {
+        self.waiting > 0 && (self.residents.is_ready() || self.programmes.is_ready())
+    }
+
+    /// Whether the run ends.
+    pub fn is_ended(&self) -> bool
+        ensures { result ≡ self.now.ended }
+    {
+        self.ended
+    }
+}

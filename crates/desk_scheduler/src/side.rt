@@ -1,0 +1,144 @@
+//! The desks of one kind: where each is, and which may have work.
+ghost use Rattle.std.specs.Prelude.{◌≡◌, ◌≢◌, ◌<◌, ◌∷◌, [], true, false, length, replicate, slice_set, nat_lt, MatchOption, IfOk};
+ghost use Rattle.std.specs.List.{range_with_len};
+ghost use Rattle.desk_scheduler.specs.Desks.{listing, letting_go, moved, on_top, place_of, times};
+ghost use Rattle.desk_scheduler.specs.declared.side.Place.TheVariants.{Idle, InHand};
+
+use std::alloc::{AllocError, Global};
+use std::marker::Model;
+
+/// Where a desk is.
+#[derive(Clone, Copy, Debug, PartialEq, Eq)]
+pub(crate) enum Place {
+    /// With nobody, and not known to have work.
+    Idle,
+    /// In the list of desks that may have work.
+    Listed,
+    /// In a worker's hands.
+    InHand,
+    /// In a worker's hands, and to be listed when it is let go.
+    InHandAgain,
+}
+
+/// The desks of one kind, by number: where each is, and those that are listed, the one listed last on top.
+#[derive(Debug, Drop)]
+pub(crate) struct Side {
+    places: Vec<Place>,
+    listed: Vec<u32>,
+}
+
+impl Model for Side {
+    ghost use Rattle.std.specs.Prelude.{reverse, length, ◌≤◌, vec_capacity};
+    ghost use Rattle.desk_scheduler.specs.Desks.{Desks, AreListed};
+
+    ghost Value = { Desks };
+
+    ghost view = { λ s. record { places = s.places.items; ready = reverse s.listed.items } };
+
+    ghost invariant = { λ s. AreListed s.places.items s.listed.items (vec_capacity s.listed) };
+}
+
+impl Side {
+    /// Desks with nobody and with no work.
+    pub(crate) fn idle(alloc: Global, desks: u32) -> Result<Side, AllocError>
+        ensures { IfOk result (λ side. (side.places ≡ replicate desks Idle) × (side.ready ≡ [])) }
+    {
+        Ok(Side {
+            places: vec![in alloc; Place::Idle; desks as usize]?,
+            listed: Vec::with_capacity(alloc, desks as usize)?,
+        })
+    }
+
+    /// Desks that may all have work, the first on top.
+    pub(crate) fn ready(alloc: Global, desks: u32) -> Result<Side, AllocError>
+        ensures desks { IfOk result (λ side. length side.places ≡ desks) }
+        ensures all { IfOk result (λ side. side.ready ≡ range_with_len 0 desks) }
+    {
+        let mut side = Side::idle(alloc, desks)?;
+        for after in 0..desks {
+            side.list(desks - 1 - after);
+        }
+        Ok(side)
+    }
+
+    /// Whether there is a desk of this number.
+    #[inline(always)]
+    pub(crate) fn has(&self, desk: u32) -> bool
+        ensures { result ≡ nat_lt desk (length self.now.places) }
+    {
+        (desk as usize) < self.places.len()
+    }
+
+    /// Whether a desk is listed.
+    #[inline(always)]
+    pub(crate) fn is_ready(&self) -> bool
+        ensures { result ≡ nat_lt 0 (length self.now.ready) }
+    {
+        !self.listed.is_empty()
+    }
+
+    /// A desk may have work.
+    #[inline(always)]
+    pub(crate) fn list(&mut self, desk: u32)
+        requires { desk < length self.old.places }
+        ensures { self.new ≡ listing self.old desk }
+    {
+        match self.places[desk as usize] {
+            Place::Idle => self.put_on_top(desk),
+            Place::InHand => self.places[desk as usize] = Place::InHandAgain,
+            Place::Listed | Place::InHandAgain => {}
+        }
+    }
+
+    /// A desk leaves a hand; it is listed where it may have work again.
+    #[inline(always)]
+    pub(crate) fn let_go(&mut self, desk: u32, again: bool)
+        requires { desk < length self.old.places }
+        ensures { self.new ≡ letting_go self.old desk again }
+    {
+        match self.places[desk as usize] {
+            Place::InHand if !again => self.places[desk as usize] = Place::Idle,
+            Place::InHand | Place::InHandAgain => self.put_on_top(desk),
+            Place::Idle | Place::Listed => {}
+        }
+    }
+
+    // Lists a desk that isn't listed.
+    #[inline(always)]
+    fn put_on_top(&mut self, desk: u32)
+        requires within { desk < length self.old.places }
+        requires unlisted { times (place_of self.old desk) ≡ 0 }
+        ensures { self.new ≡ on_top self.old desk }
+    {
+        self.places[desk as usize] = Place::Listed;
+        self.listed.push_reserved(desk);
+    }
+
+    /// The desk that is listed on top comes into a hand.
+    #[inline(always)]
+    pub(crate) fn next(&mut self) -> Option<u32>
+        ensures { MatchOption result ((self.old.ready ≡ []) × (self.new ≡ self.old)) (λ desk.
+            (self.old.ready ≡ desk ∷ self.new.ready)
+            × (self.new.places ≡ slice_set self.old.places desk InHand)
+            × (desk < length self.old.places)) }
+    {
+        let desk = self.listed.pop()?;
+        self.places[desk as usize] = Place::InHand;
+        Some(desk)
+    }
+
+    /// A desk with nobody, and not known to have work, comes into a hand. Whether it does.
+    #[inline(always)]
+    pub(crate) fn claim(&mut self, desk: u32) -> bool
+        requires { desk < length self.old.places }
+        ensures taken { result ≡ true → (place_of self.old desk ≡ Idle)
+            × (self.new ≡ moved self.old desk InHand) }
+        ensures left { result ≡ false → (place_of self.old desk ≢ Idle) × (self.new ≡ self.old) }
+    {
+        if self.places[desk as usize] != Place::Idle {
+            return false;
+        }
+        self.places[desk as usize] = Place::InHand;
+        true
+    }
+}

@@ -1,0 +1,74 @@
+//! The desks that a worker's entries gave work, until they are listed.
+ghost use Rattle.std.specs.Prelude.{◌≡◌, ◌<◌, ◌↔◌, ◌++◌, ◌∷◌, [], true, false, length};
+
+use arrayvec::ArrayVec;
+use std::marker::Model;
+
+/// How many desks can be noted at once.
+const MOST: usize = 64;
+
+/// Desks by number, in the order in which they were noted. They leave by being listed alone.
+#[derive(Debug, Drop)]
+pub struct Woken {
+    desks: ArrayVec<u32, MOST>,
+}
+
+impl Model for Woken {
+    ghost use Rattle.std.specs.Prelude.{ℕ, List};
+
+    ghost Value = { List ℕ };
+
+    ghost view = { λ w. w.desks.items };
+}
+
+impl Woken {
+    /// None is noted.
+    pub fn new() -> Woken
+        ensures { result ≡ [] }
+    {
+        Woken {
+            desks: ArrayVec::new(),
+        }
+    }
+
+    /// Whether none is noted.
+    #[inline(always)]
+    pub fn is_empty(&self) -> bool
+        ensures { (result ≡ true) ↔ (self.now ≡ []) }
+    {
+        self.desks.is_empty()
+    }
+
+    /// Whether no more can be noted.
+    #[inline(always)]
+    pub fn is_full(&self) -> bool
+        ensures { (result ≡ false) ↔ (length self.now < 64) }
+    {
+        self.desks.is_full()
+    }
+
+    /// Notes a desk.
+    #[inline(always)]
+    pub fn note(&mut self, desk: u32)
+        requires { length self.old < 64 }
+        ensures { self.new ≡ self.old ++ desk ∷ [] }
+    {
+        self.desks.push(desk);
+    }
+
+    /// The desks, in their order.
+    #[inline(always)]
+    pub(crate) fn desks(&self) -> &[u32]
+        ensures { result.now ≡ self.now }
+    {
+        self.desks.as_slice()
+    }
+
+    /// None is noted any more.
+    #[inline(always)]
+    pub(crate) fn clear(&mut self)
+        ensures { self.new ≡ [] }
+    {
+        self.desks.clear();
+    }
+}

@@ -1,0 +1,7 @@
+use Rattle.growth_probe.proofs.ledger.opened_anew.Given as goal
+
+abbrev pub ghosts-opened_as-J-Ledger : goal.ghosts-opened_as-J-Ledger
+ghosts-opened_as-J-Ledger a = record { name = a.blank.name; parts = a.blank.parts }
+
+abbrev pub ghosts-opened_as-J-ExchangeIdentity : goal.ghosts-opened_as-J-ExchangeIdentity
+ghosts-opened_as-J-ExchangeIdentity a = record { inst = a.inst.now; cap = a.cap; workers = 2 }

@@ -1,0 +1,219 @@
+//! The calls of the audit and of the replay, and what is written of both.
+ghost use Rattle.std.specs.Prelude.{◌≡◌, length, IfOk, IfSome};
+ghost use Rattle.docket.specs.Whole.{IsByWorker};
+ghost use Rattle.residency.specs.Report.{IsReportOf};
+
+use crate::dockets::{SHEET, SMALL, docket_of, room};
+use crate::seen::{Seen, begin, end};
+use docket::{Docket, DocketFault, Journal};
+use match_audit::{AuditFault, AuditReport, ReplayFault, Replayed, audit, check, counts, replay};
+use match_model::{ProgrammeNo, ResidentNo};
+use residency::{write_replay, write_report};
+use std::alloc::{AllocError, Global};
+use std::io::Write;
+use test_support::events::{A, B, X, Y};
+
+// The small docket's other stable sheet, which is not its result.
+const OTHER_SHEET: &str = "M,x,b\nM,y,a\nF,a,1,1\nF,b,1,1\n";
+
+// The small docket's journal of nine events.
+const JOURNAL: &str =
+    "C,full\nE,offer,a,x\nE,offer,b,y\nE,take,x,a\nE,take,y,b\nE,answer,x,a,hold\nE,answer,y,b,hold\nE,hear,a,x,hold\nE,hear,b,y,hold\nE,close\n";
+
+// What is written of the report of that sheet.
+const UNSTABLE: &str = "S,unstable\nB,y,a\n";
+
+// A docket whose sheet has a blocking pair.
+const BLOCKED: &str = "Q,a,2\nP,a,x,y\nR,x,a\nR,y,a\nM,x,a\nU,y\nF,a,1,2\n";
+
+// Whether the second resident and the only programme block, and nothing else is wrong.
+fn is_blocked(report: &AuditReport) -> bool {
+    report.unacceptable.is_empty()
+        && report.over.is_empty()
+        && report.blocking.as_slice() == [(Y, A)].as_slice()
+        && !report.is_stable()
+}
+
+/// A sheet with a blocking pair is audited.
+pub(super) fn audited<W: Write>(alloc: Global, out: &mut W) -> Seen {
+    let Some(docket) = docket_of(alloc, &[BLOCKED]) else {
+        return Seen::Wrong;
+    };
+    let Some(sheet) = docket.sheet() else {
+        return Seen::Wrong;
+    };
+    begin(out);
+    let answer = audit(alloc, docket.instance(), sheet);
+    end(out);
+    match answer {
+        Ok(report) => Seen::at_once(is_blocked(&report)),
+        Err(AuditFault::Memory) => match audit(alloc, docket.instance(), sheet) {
+            Ok(report) => Seen::after_memory(is_blocked(&report)),
+            Err(_) => Seen::Wrong,
+        },
+        Err(_) => Seen::Wrong,
+    }
+}
+
+// The report of that sheet: the second resident and the only programme block.
+fn blocked_report(alloc: Global, docket: &Docket) -> Result<AuditReport, AllocError>
+    requires residents { length docket.now.instance.resident_lists ≡ 2 }
+    requires programmes { length docket.now.instance.quotas ≡ 1 }
+    ensures { IfOk result (IsReportOf docket.now) }
+{
+    let mut blocking = Vec::new(alloc);
+    blocking.push((ResidentNo(1), ProgrammeNo(0)))?;
+    Ok(AuditReport {
+        unacceptable: Vec::new(alloc),
+        over: Vec::new(alloc),
+        blocking,
+    })
+}
+
+/// The report of a sheet with a blocking pair is written.
+pub(super) fn report<W: Write>(alloc: Global, out: &mut W) -> Seen {
+    let (Some(docket), Ok(mut room)) = (docket_of(alloc, &[BLOCKED]), room(alloc)) else {
+        return Seen::Wrong;
+    };
+    let inst = docket.instance();
+    if inst.programmes() != 1 || inst.residents() != 2 {
+        return Seen::Wrong;
+    }
+    let Ok(report) = blocked_report(alloc, &docket) else {
+        return Seen::Wrong;
+    };
+    begin(out);
+    let answer = write_report(alloc, &docket, &report, &mut room);
+    end(out);
+    if answer == Err(DocketFault::Memory) {
+        let untouched = room.is_empty() && is_blocked(&report);
+        let again = write_report(alloc, &docket, &report, &mut room);
+        let is_whole = again == Ok(()) && room.as_slice() == UNSTABLE.as_bytes();
+        return Seen::after_memory(untouched && is_whole);
+    }
+    Seen::at_once(answer == Ok(()) && room.as_slice() == UNSTABLE.as_bytes())
+}
+
+// Whether nine events were good, and gave the small docket's result.
+fn is_good(answer: &Result<Replayed, ReplayFault>) -> bool {
+    match answer {
+        Ok(replayed) => {
+            replayed.events == 9
+                && replayed.assignment.len() == 2
+                && replayed.assignment.get(X) == Some(A)
+                && replayed.assignment.get(Y) == Some(B)
+        }
+        Err(_) => false,
+    }
+}
+
+// What a replay of the docket's journal answers, or of none.
+fn replay_of(alloc: Global, docket: &Docket) -> Result<Replayed, ReplayFault> {
+    let Some(journal) = docket.journal() else {
+        return Err(ReplayFault::NotClosed);
+    };
+    let events = journal.events.as_slice();
+    replay(alloc, docket.instance(), journal.capacity, events)
+}
+
+/// A journal is replayed.
+pub(super) fn replayed<W: Write>(alloc: Global, out: &mut W) -> Seen {
+    let Some(docket) = docket_of(alloc, &[SMALL, JOURNAL]) else {
+        return Seen::Wrong;
+    };
+    begin(out);
+    let answer = replay_of(alloc, &docket);
+    end(out);
+    if matches!(answer, Err(ReplayFault::Memory)) {
+        return Seen::after_memory(is_good(&replay_of(alloc, &docket)));
+    }
+    Seen::at_once(is_good(&answer))
+}
+
+/// A replay's answer is written.
+pub(super) fn answer<W: Write>(alloc: Global, out: &mut W) -> Seen {
+    let (Some(docket), Ok(mut room)) = (docket_of(alloc, &[SMALL, JOURNAL]), room(alloc)) else {
+        return Seen::Wrong;
+    };
+    let Ok(replayed) = replay_of(alloc, &docket) else {
+        return Seen::Wrong;
+    };
+    let good = Ok(replayed);
+    begin(out);
+    let answer = write_replay(alloc, &docket, &good, None, &mut room);
+    end(out);
+    if answer == Err(DocketFault::Memory) {
+        let untouched = room.is_empty() && is_good(&good);
+        let again = write_replay(alloc, &docket, &good, None, &mut room);
+        let is_whole = again == Ok(()) && room.as_slice() == b"G,9\n".as_slice();
+        return Seen::after_memory(untouched && is_whole);
+    }
+    Seen::at_once(answer == Ok(()) && room.as_slice() == b"G,9\n".as_slice())
+}
+
+// What a check of the docket's journal and sheet answers, or of none.
+fn check_of(alloc: Global, docket: &Docket) -> Result<Replayed, ReplayFault> {
+    let (Some(journal), Some(sheet)) = (docket.journal(), docket.sheet()) else {
+        return Err(ReplayFault::NotClosed);
+    };
+    let events = journal.events.as_slice();
+    check(alloc, docket.instance(), journal.capacity, events, sheet)
+}
+
+// Whether the sheet differs at the first resident.
+fn differs(answer: &Result<Replayed, ReplayFault>) -> bool {
+    matches!(answer, Err(ReplayFault::SheetDiffers(X)))
+}
+
+/// A journal is checked with another sheet than its own, and with its own.
+pub(super) fn checked<W: Write>(alloc: Global, out: &mut W) -> Seen {
+    let (Some(other), Some(own)) = (
+        docket_of(alloc, &[SMALL, JOURNAL, OTHER_SHEET]),
+        docket_of(alloc, &[SMALL, JOURNAL, SHEET]),
+    ) else {
+        return Seen::Wrong;
+    };
+    begin(out);
+    let answer = check_of(alloc, &other);
+    end(out);
+    let is_own_good = is_good(&check_of(alloc, &own));
+    if matches!(answer, Err(ReplayFault::Memory)) {
+        return Seen::after_memory(is_own_good && differs(&check_of(alloc, &other)));
+    }
+    Seen::at_once(is_own_good && differs(&answer))
+}
+
+// The same journal with the worker of each event, of two.
+const WORKED: &str =
+    "C,full,2\nE,offer,a,x,0\nE,offer,b,y,1\nE,take,x,a,0\nE,take,y,b,1\nE,answer,x,a,hold,0\nE,answer,y,b,hold,1\nE,hear,a,x,hold,0\nE,hear,b,y,hold,1\nE,close,0\n";
+
+// How many events each worker made, where the journal is by worker.
+fn counts_of(alloc: Global, journal: &Journal) -> Result<Vec<u64>, AuditFault>
+    requires { IfSome journal.now.by (IsByWorker journal.now.events) }
+{
+    match &journal.by {
+        Some(by) => counts(alloc, by.workers, by.who.as_slice()),
+        None => Err(AuditFault::WrongSize),
+    }
+}
+
+/// The events of two workers are counted.
+pub(super) fn counted<W: Write>(alloc: Global, out: &mut W) -> Seen {
+    let Some(docket) = docket_of(alloc, &[SMALL, WORKED]) else {
+        return Seen::Wrong;
+    };
+    let Some(journal) = docket.journal() else {
+        return Seen::Wrong;
+    };
+    begin(out);
+    let answer = counts_of(alloc, journal);
+    end(out);
+    match answer {
+        Ok(counts) => Seen::at_once(counts.as_slice() == [5, 4].as_slice()),
+        Err(AuditFault::Memory) => match counts_of(alloc, journal) {
+            Ok(counts) => Seen::after_memory(counts.as_slice() == [5, 4].as_slice()),
+            Err(_) => Seen::Wrong,
+        },
+        Err(_) => Seen::Wrong,
+    }
+}

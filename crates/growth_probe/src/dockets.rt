@@ -1,0 +1,100 @@
+//! The calls of the docket.
+use crate::seen::{Seen, begin, end};
+use docket::{Docket, DocketFault, read_docket, write_journal, write_sheet};
+use std::alloc::{AllocError, Global};
+use std::io::Write;
+use test_support::randomness::OneByte;
+
+/// Two programmes of one place and two residents, who rank them the other way round.
+pub(super) const SMALL: &str = "Q,a,1\nQ,b,1\nP,a,x,y\nP,b,y,x\nR,x,b,a\nR,y,a,b\n";
+
+/// The sheet that a match of it gives.
+pub(super) const SHEET: &str = "M,x,a\nM,y,b\nF,a,1,1\nF,b,1,1\n";
+
+/// Room for what is written, which is there before the first mark.
+pub(super) fn room(alloc: Global) -> Result<Vec<u8>, AllocError> {
+    Vec::with_capacity(alloc, 4_096)
+}
+
+/// These texts, one after another.
+pub(super) fn joined(alloc: Global, texts: &[&str]) -> Result<Vec<u8>, AllocError> {
+    let mut all = Vec::new(alloc);
+    for text in texts {
+        all.extend_from_slice(text.as_bytes())?;
+    }
+    Ok(all)
+}
+
+/// The docket of these texts, read with ample memory.
+pub(super) fn docket_of(alloc: Global, texts: &[&str]) -> Option<Docket> {
+    let text = joined(alloc, texts).ok()?;
+    read_docket(&OneByte(7), alloc, text.as_slice()).ok()
+}
+
+// Whether this is the small docket.
+fn is_small(docket: &Docket) -> bool {
+    let inst = docket.instance();
+    inst.programmes() == 2
+        && inst.residents() == 2
+        && inst.pairs() == 4
+        && docket.programme_name(test_support::events::B) == "b"
+        && docket.resident_name(test_support::events::Y) == "y"
+}
+
+/// A docket is read.
+pub(super) fn read<W: Write>(alloc: Global, out: &mut W) -> Seen {
+    begin(out);
+    let answer = read_docket(&OneByte(7), alloc, SMALL.as_bytes());
+    end(out);
+    match answer {
+        Ok(docket) => Seen::at_once(is_small(&docket)),
+        Err(DocketFault::Memory) => match read_docket(&OneByte(7), alloc, SMALL.as_bytes()) {
+            Ok(docket) => Seen::after_memory(is_small(&docket)),
+            Err(_) => Seen::Wrong,
+        },
+        Err(_) => Seen::Wrong,
+    }
+}
+
+/// A sheet is written.
+pub(super) fn sheet<W: Write>(alloc: Global, out: &mut W) -> Seen {
+    let (Some(docket), Ok(mut room)) = (docket_of(alloc, &[SMALL, SHEET]), room(alloc)) else {
+        return Seen::Wrong;
+    };
+    let Some(sheet) = docket.sheet() else {
+        return Seen::Wrong;
+    };
+    begin(out);
+    let answer = write_sheet(alloc, &docket, sheet, &mut room);
+    end(out);
+    if answer == Err(DocketFault::Memory) {
+        let untouched = room.is_empty() && is_small(&docket);
+        let again = write_sheet(alloc, &docket, sheet, &mut room);
+        let is_whole = again == Ok(()) && room.as_slice() == SHEET.as_bytes();
+        return Seen::after_memory(untouched && is_whole);
+    }
+    Seen::at_once(answer == Ok(()) && room.as_slice() == SHEET.as_bytes())
+}
+
+const CLOSED: &str = "C,full\nE,close\n";
+
+/// A journal is written.
+pub(super) fn journal<W: Write>(alloc: Global, out: &mut W) -> Seen {
+    let (Some(docket), Ok(mut room)) = (docket_of(alloc, &[CLOSED]), room(alloc)) else {
+        return Seen::Wrong;
+    };
+    let Some(journal) = docket.journal() else {
+        return Seen::Wrong;
+    };
+    let events = journal.events.as_slice();
+    begin(out);
+    let answer = write_journal(alloc, &docket, journal.capacity, events, None, &mut room);
+    end(out);
+    if answer == Err(DocketFault::Memory) {
+        let untouched = room.is_empty() && events.len() == 1;
+        let again = write_journal(alloc, &docket, journal.capacity, events, None, &mut room);
+        let is_whole = again == Ok(()) && room.as_slice() == CLOSED.as_bytes();
+        return Seen::after_memory(untouched && is_whole);
+    }
+    Seen::at_once(answer == Ok(()) && room.as_slice() == CLOSED.as_bytes())
+}

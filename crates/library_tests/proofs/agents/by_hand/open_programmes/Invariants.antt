@@ -1,0 +1,7 @@
+use Rattle.std.proofs.Common.{◌≡◌, []}
+use Rattle.std.specs.List.{All}
+use Rattle.library_tests.proofs.agents.by_hand.open_programmes.Given as goal
+
+-- no end has put anything yet
+abbrev pub invariant-loop-p : goal.invariant-loop-p
+invariant-loop-p g l = All (λ end. end.puts ≡ []) l.puts.items

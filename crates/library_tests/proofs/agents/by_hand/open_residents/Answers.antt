@@ -1,0 +1,6 @@
+use Rattle.std.proofs.Common.{◌≡◌, []}
+use Rattle.std.proofs.lemmas.List.Elements.{All-push}
+use Rattle.library_tests.proofs.agents.by_hand.open_residents.Goals as goal
+
+pub loop-r-preserved : goal.loop-r-preserved
+loop-r-preserved g c = rw c.in-Ok-Ok.ensures.items (All-push (λ end. end.puts ≡ []) c.loop-r.puts.items c.in_ok-put.put c.loop-r.invariant c.in_ok-put.ensures)

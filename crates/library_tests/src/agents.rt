@@ -1,0 +1,170 @@
+//! The agents of one docket over ends in memory, and over an end that nobody can put into.
+mod by_hand;
+mod desk;
+
+ghost use Rattle.std.specs.Prelude.{◌≡◌, []};
+ghost use Rattle.mailbox_rule.specs.Replies.{MatchTake};
+
+use crate::instances::{TWO_PLACES, made};
+use desk::{ProgrammeRun, ResidentRun};
+use exchange_core::{AnswerKind, AnswerNote, OfferNote};
+use mailbox_rule::{ListTake, TakeEnd, TakeReply};
+use match_agents::Heard;
+use match_model::{ProgrammeNo, ResidentNo};
+use std::alloc::Global;
+use std::test::Fail;
+use test_support::events::{A, B, HOLD, RELEASE, X, Y, Z};
+
+// What a resident's agent answers at a take, and then the two answers that it gives.
+type Taken = (
+    Option<Heard<OfferNote>>,
+    [Option<(ProgrammeNo, AnswerKind)>; 2],
+);
+
+const OF_A: OfferNote = OfferNote { programme: A };
+
+const OF_B: OfferNote = OfferNote { programme: B };
+
+const TAKEN: [Taken; 3] = [
+    (Some(Heard::Got(OF_A)), [Some((A, HOLD)), None]),
+    (
+        Some(Heard::Got(OF_B)),
+        [Some((B, HOLD)), Some((A, RELEASE))],
+    ),
+    (Some(Heard::LogFull), [None, None]),
+];
+
+// Whether the desk takes and gives so, and has this log then.
+fn takes_so<T: TakeEnd<OfferNote> + Drop>(
+    run: &mut ResidentRun<T>,
+    wanted: &[Taken],
+    log: &[OfferNote],
+) -> bool {
+    for (heard, given) in wanted {
+        if run.take() != *heard || run.give_two() != *given {
+            return false;
+        }
+    }
+    run.log() == log
+}
+
+// Opens the desk of X over this end, and tells whether it takes and gives so.
+fn resident_takes<T: TakeEnd<OfferNote> + Drop>(
+    alloc: Global,
+    end: T,
+    wanted: &[Taken],
+    log: &[OfferNote],
+) -> bool
+    requires { T.taken end ≡ [] }
+{
+    let Ok(inst) = made(alloc, TWO_PLACES) else {
+        return false;
+    };
+    match ResidentRun::open(alloc, inst, X, end) {
+        Some(mut run) => takes_so(&mut run, wanted, log),
+        None => false,
+    }
+}
+
+#[test]
+fn releases_the_one_before(rt: HostRuntime) -> Result<(), Fail> {
+    let log = [OF_A, OF_B];
+    let end = ListTake::of(log.to_vec(rt.alloc())?);
+    assert!(rt; resident_takes(rt.alloc(), end, &TAKEN, &log));
+    Ok(())
+}
+
+// The answers that wait for A.
+const ANSWERS: [AnswerNote; 3] = [
+    AnswerNote {
+        resident: Y,
+        kind: HOLD,
+    },
+    AnswerNote {
+        resident: X,
+        kind: HOLD,
+    },
+    AnswerNote {
+        resident: X,
+        kind: RELEASE,
+    },
+];
+
+// Whether the desk hears the answers, and then no more: so it says each time, and has this log then.
+fn hears_so<T: TakeEnd<AnswerNote> + Drop>(
+    run: &mut ProgrammeRun<T>,
+    answers: &[AnswerNote],
+    last: Heard<AnswerNote>,
+) -> bool {
+    for answer in answers {
+        if run.hear() != Heard::Got(*answer) {
+            return false;
+        }
+    }
+    run.hear() == last && run.log() == answers
+}
+
+// Whether the desk offers to these, one after another.
+fn offers_so<T: TakeEnd<AnswerNote> + Drop>(
+    run: &mut ProgrammeRun<T>,
+    wanted: &[Option<ResidentNo>],
+) -> bool {
+    for wish in wanted {
+        if run.offer() != *wish {
+            return false;
+        }
+    }
+    true
+}
+
+// Opens the desk of A over this end: whether it offers to X and Y, hears the answers and no more, and then offers to
+// these.
+fn programme_hears<T: TakeEnd<AnswerNote> + Drop>(
+    alloc: Global,
+    end: T,
+    answers: &[AnswerNote],
+    last: Heard<AnswerNote>,
+    after: &[Option<ResidentNo>],
+) -> bool
+    requires { T.taken end ≡ [] }
+{
+    let Ok(inst) = made(alloc, TWO_PLACES) else {
+        return false;
+    };
+    let Some(mut run) = ProgrammeRun::open(alloc, inst, A, end) else {
+        return false;
+    };
+    offers_so(&mut run, &[Some(X), Some(Y), None])
+        && hears_so(&mut run, answers, last)
+        && offers_so(&mut run, after)
+}
+
+#[test]
+fn wishes_where_a_place_is_free(rt: HostRuntime) -> Result<(), Fail> {
+    let end = ListTake::of(ANSWERS.to_vec(rt.alloc())?);
+    assert!(rt; programme_hears(rt.alloc(), end, &ANSWERS, Heard::Nothing, &[Some(Z)]));
+    Ok(())
+}
+
+// An end that nobody can put into any more.
+#[derive(Drop)]
+struct Deserted;
+
+impl<M> TakeEnd<M> for Deserted {
+    ghost taken = { λ _. [] };
+
+    ghost may_lack = { λ _. ⊥ };
+
+    ghost may_go = { λ _. Unit {0} };
+
+    fn take(&mut self) -> TakeReply<M> {
+        TakeReply::Gone
+    }
+}
+
+#[test]
+fn gone(rt: HostRuntime) {
+    let gone = [(Some(Heard::Gone), [None, None])];
+    assert!(rt; resident_takes(rt.alloc(), Deserted, &gone, &[]));
+    assert!(rt; programme_hears(rt.alloc(), Deserted, &[], Heard::Gone, &[None]));
+}

@@ -1,0 +1,68 @@
+//! A core beside its instance.
+ghost use Rattle.std.specs.Prelude.{◌≡◌, IfOk, length};
+ghost use Rattle.exchange_core.specs.Steps.{IsCoreOf};
+
+use exchange_core::{AnswerKind, Capacity, Core, CoreFault, Event, MailLeft, Pending, Refused};
+use match_model::{Assignment, Instance, ModelFault, ProgrammeNo, ResidentNo};
+use std::alloc::Global;
+
+/// A core beside its instance.
+#[derive(Drop)]
+pub(crate) struct Run {
+    pub(super) inst: Instance,
+    pub(super) core: Core,
+    ghost core_of: { IsCoreOf inst core },
+}
+
+/// What the core shows: what keeps it from rest, whom a programme would offer to, what a resident holds and what it
+/// owes first.
+pub(super) type Seen = (
+    Option<Pending>,
+    Option<ResidentNo>,
+    Option<ProgrammeNo>,
+    Option<(ProgrammeNo, AnswerKind)>,
+);
+
+impl Run {
+    pub(crate) fn new(alloc: Global, inst: Instance, cap: Capacity) -> Result<Run, CoreFault> {
+        let core = Core::new(alloc, &inst, cap)?;
+        Ok(Run { inst, core })
+    }
+
+    pub(crate) fn may(&self, event: Event) -> Result<(), Refused> {
+        self.core.may(&self.inst, event)
+    }
+
+    pub(crate) fn step(&mut self, event: Event) -> Result<(), Refused> {
+        self.core.step(&self.inst, event)
+    }
+
+    pub(super) fn step_and_tell(&mut self, event: Event) -> Result<MailLeft, Refused> {
+        self.core.step_and_tell(&self.inst, event)
+    }
+
+    pub(super) fn some_enabled(&self) -> Option<Event> {
+        self.core.some_enabled(&self.inst)
+    }
+
+    /// Nothing is seen of who is no member.
+    pub(super) fn seen(&self, programme: ProgrammeNo, resident: ResidentNo) -> Seen {
+        if programme.0 >= self.inst.programmes() || resident.0 >= self.inst.residents() {
+            return (None, None, None, None);
+        }
+        (
+            self.core.first_pending(&self.inst),
+            self.core.next_offer(&self.inst, programme),
+            self.core.held(resident),
+            self.core.next_answer(resident),
+        )
+    }
+
+    pub(super) fn given(&self, alloc: Global) -> Result<Assignment, ModelFault>
+        ensures { IfOk result (λ given. length given ≡ length self.now.inst.resident_lists) }
+    {
+        let mut given = Assignment::new(alloc, self.inst.residents())?;
+        self.core.assignment(&mut given);
+        Ok(given)
+    }
+}

@@ -1,0 +1,389 @@
+//! Two exchanges entered into a ledger, over lists in memory and over mailboxes.
+ghost use Rattle.std.specs.Prelude.{◌≡◌, ℕ, [], Some, slice_get, IfOk};
+ghost use Rattle.mailbox_rule.specs.Lists.{PutList};
+ghost use Rattle.mailbox_rule.specs.Mail.{PutSide};
+
+use crate::instances::{TWO_BY_TWO, TWO_PLACES, made};
+use exchange_core::{AnswerNote, Capacity, Event, OfferNote, Pending, Refused};
+use mailbox_rule::{ListPut, MailFault, PutEnd, RuledPut, RuledTake, mailbox};
+use match_model::Instance;
+use offer_ledger::{
+    EntryRefused, ExchangeIdentity, Ledger, LedgerFault, LedgerRefused, PARTS, PutRefusal, Tally,
+};
+use std::alloc::Global;
+use std::marker::Brand;
+use std::sync::Wait;
+use std::sync::ledger::Blank;
+use std::test::Fail;
+use test_support::events::{A, X, nine_events, nineteen_events};
+
+// Ends in memory, with room for so many notes each.
+#[tactic(auto, using(match_model::proofs::Prefixes::slice_get_push_parts))]
+fn lists<M: Drop>(alloc: Global, count: u32, room: u32) -> Result<Vec<ListPut<M>>, MailFault>
+    ensures { IfOk result (λ ends. (i : ℕ) (end : PutList M) → slice_get ends.items i ≡ Some end → end.puts ≡ []) }
+{
+    let mut ends = Vec::new(alloc);
+    for _ in 0..count {
+        let Ok(()) = ends.push(ListPut::with_room(alloc, room)?) else {
+            return Err(MailFault::Memory);
+        };
+    }
+    Ok(ends)
+}
+
+// Mailboxes with room for so many notes each.
+#[tactic(auto, using(match_model::proofs::Prefixes::slice_get_push_parts))]
+fn mailboxes<M: Copy + Eq + Drop, R: Wait + Copy + Drop>(
+    alloc: Global,
+    rt: R,
+    count: u32,
+    room: u32,
+) -> Result<(Vec<RuledPut<M, R>>, Vec<RuledTake<M, R>>), MailFault>
+    ensures { IfOk result (λ ends. (i : ℕ) (end : PutSide M) → slice_get ends.0.items i ≡ Some end → end.puts ≡ []) }
+{
+    let mut puts = Vec::new(alloc);
+    let mut takes = Vec::new(alloc);
+    for _ in 0..count {
+        let (put, take) = mailbox(alloc, rt, room)?;
+        let (Ok(()), Ok(())) = (puts.push(put), takes.push(take)) else {
+            return Err(MailFault::Memory);
+        };
+    }
+    Ok((puts, takes))
+}
+
+// Enters an event by the call of its kind.
+fn enter<J: ExchangeIdentity, P: PutEnd<OfferNote>, Q: PutEnd<AnswerNote>>(
+    ledger: &mut Ledger<J, P, Q>,
+    inst: &Instance,
+    tally: &mut Tally<J>,
+    event: Event,
+) -> Result<(), EntryRefused>
+    requires { inst.now ≡ J.inst }
+{
+    match event {
+        Event::Offer {
+            programme,
+            resident,
+        } => ledger.enter_offer(inst, tally, programme, resident),
+        Event::Take {
+            resident,
+            programme,
+        } => ledger.enter_take(inst, tally, resident, programme),
+        Event::Answer {
+            resident,
+            programme,
+            kind,
+        } => ledger.enter_answer(inst, tally, resident, programme, kind),
+        Event::Hear {
+            programme,
+            resident,
+            kind,
+        } => ledger.enter_hear(inst, tally, programme, resident, kind),
+        Event::Close => ledger.close(inst, tally),
+    }
+}
+
+// Whether each event is answered so.
+fn answers_each<J: ExchangeIdentity, P: PutEnd<OfferNote>, Q: PutEnd<AnswerNote>>(
+    ledger: &mut Ledger<J, P, Q>,
+    inst: &Instance,
+    tally: &mut Tally<J>,
+    events: &[Event],
+    wanted: Result<(), EntryRefused>,
+) -> bool
+    requires { inst.now ≡ J.inst }
+{
+    let mut are_right = true;
+    for event in events {
+        are_right = enter(ledger, inst, tally, *event) == wanted && are_right;
+    }
+    are_right
+}
+
+// Whether the journal is these events, and the tally of all parts counts them.
+fn shows<J: ExchangeIdentity, P: PutEnd<OfferNote>, Q: PutEnd<AnswerNote>>(
+    ledger: &mut Ledger<J, P, Q>,
+    tally: &mut Tally<J>,
+    events: &[Event],
+) -> bool {
+    ledger.journal() == events
+        && ledger.entered(tally) == events.len() as u64
+        && tally.entered() == events.len() as u64
+}
+
+// Whether the events are entered one after another, the ledger isn't closed once more, and they are its journal.
+fn enters_all<J: ExchangeIdentity, P: PutEnd<OfferNote> + Drop, Q: PutEnd<AnswerNote> + Drop>(
+    mut ledger: Ledger<J, P, Q>,
+    inst: &Instance,
+    mut tally: Tally<J>,
+    events: &[Event],
+) -> bool
+    requires { inst.now ≡ J.inst }
+{
+    let closed = Err(EntryRefused::Step(Refused::Closed));
+    let are_right = answers_each(&mut ledger, inst, &mut tally, events, Ok(()))
+        && ledger.close(inst, &mut tally) == closed
+        && shows(&mut ledger, &mut tally, events)
+        && ledger.core().is_closed();
+    let (journal, _core, _offer_ends, _answer_ends, who) = ledger.into_parts();
+    are_right && journal.as_slice() == events && who.iter().all(|worker| *worker == 0)
+}
+
+// Whether nothing is entered where the ends have no room.
+fn enters_nothing<J: ExchangeIdentity, P: PutEnd<OfferNote>, Q: PutEnd<AnswerNote>>(
+    ledger: &mut Ledger<J, P, Q>,
+    inst: &Instance,
+    tally: &mut Tally<J>,
+) -> bool
+    requires { inst.now ≡ J.inst }
+{
+    let full = EntryRefused::PutRefused(PutRefusal::Full);
+    let pending = EntryRefused::Step(Refused::StillPending(Pending::Wish(A)));
+    ledger.enter_offer(inst, tally, A, X) == Err(full)
+        && shows(ledger, tally, &[])
+        && ledger.close(inst, tally) == Err(pending)
+}
+
+// Whether the first of two tallies has all parts but the other's one.
+fn are_cut<J: ExchangeIdentity>(first: &Tally<J>, other: &Tally<J>) -> bool {
+    (first.worker(), first.parts(), first.entered()) == (0, PARTS - 1, 0)
+        && (other.worker(), other.parts(), other.entered()) == (1, 1, 0)
+}
+
+// Whether two workers' tallies count what is entered with them, and together all; and each event's worker is noted.
+fn counts_apart<J: ExchangeIdentity, P: PutEnd<OfferNote>, Q: PutEnd<AnswerNote>>(
+    ledger: &mut Ledger<J, P, Q>,
+    inst: &Instance,
+    tally: &mut Tally<J>,
+    other: Tally<J>,
+) -> bool
+    requires { inst.now ≡ J.inst }
+{
+    let mut other = other;
+    let all = nine_events();
+    let (first, rest) = all.split_at(5);
+    let are_right = are_cut(tally, &other)
+        && answers_each(ledger, inst, tally, first, Ok(()))
+        && answers_each(ledger, inst, &mut other, rest, Ok(()))
+        && tally.entered() == 5
+        && other.entered() == 4;
+    tally.join(other);
+    are_right
+        && shows(ledger, tally, &all)
+        && ledger.who() == [0, 0, 0, 0, 0, 1, 1, 1, 1].as_slice()
+        && tally.worker() == 0
+        && tally.parts() == PARTS
+}
+
+// Whether a spoiled ledger keeps its journal, and takes no more.
+fn keeps_its_journal<J: ExchangeIdentity, P: PutEnd<OfferNote>, Q: PutEnd<AnswerNote>>(
+    ledger: &mut Ledger<J, P, Q>,
+    inst: &Instance,
+    tally: &mut Tally<J>,
+) -> bool
+    requires { inst.now ≡ J.inst }
+{
+    let all = nine_events();
+    let five = &all[..5];
+    if !answers_each(ledger, inst, tally, five, Ok(())) {
+        return false;
+    }
+    ledger.spoil();
+    answers_each(ledger, inst, tally, &all, Err(EntryRefused::Spoiled))
+        && shows(ledger, tally, five)
+}
+
+// What is tried of a ledger over ends in memory.
+#[derive(Clone, Copy)]
+enum Trial {
+    All,
+    RefusedPut,
+    TwoWorkers,
+    Spoiled,
+}
+
+// Whether a ledger over two ends in memory for each side, with room for so many notes each, does as tried.
+fn does<J: ExchangeIdentity>(
+    alloc: Global,
+    blank: Blank,
+    inst: &Instance,
+    cap: Capacity,
+    workers: u32,
+    room: u32,
+    trial: Trial,
+) -> Result<bool, MailFault>
+    requires instance { inst.now ≡ J.inst }
+    requires capacity { cap ≡ J.cap }
+    requires workers { workers ≡ J.workers }
+    requires blank { (blank.name ≡ J.name) × (blank.parts ≡ J.parts) × (J.parts ≡ 8) }
+{
+    let offer_ends = lists::<OfferNote>(alloc, 2, room)?;
+    let answer_ends = lists::<AnswerNote>(alloc, 2, room)?;
+    let Ok((mut ledger, tallies)) = Ledger::<J, _, _>::open(
+        alloc,
+        blank,
+        inst,
+        cap,
+        workers,
+        offer_ends,
+        answer_ends,
+    ) else {
+        return Ok(false);
+    };
+    let mut tallies = tallies.into_iter();
+    let Some(mut tally) = tallies.next() else {
+        return Ok(false);
+    };
+    match trial {
+        Trial::All => Ok(enters_all(ledger, inst, tally, &nine_events())),
+        Trial::RefusedPut => Ok(enters_nothing(&mut ledger, inst, &mut tally)),
+        Trial::TwoWorkers => match tallies.next() {
+            Some(other) => Ok(counts_apart(&mut ledger, inst, &mut tally, other)),
+            None => Ok(false),
+        },
+        Trial::Spoiled => Ok(keeps_its_journal(&mut ledger, inst, &mut tally)),
+    }
+}
+
+// Whether a ledger of two by two does as tried, over ends with room for so many notes.
+fn small_does(alloc: Global, workers: u32, room: u32, trial: Trial) -> Result<bool, MailFault> {
+    let Ok(inst) = made(alloc, TWO_BY_TWO) else {
+        return Err(MailFault::Memory);
+    };
+    does::<Brand>(
+        alloc,
+        Blank::new(8),
+        &inst,
+        Capacity::Full,
+        workers,
+        room,
+        trial,
+    )
+}
+
+#[test]
+fn over_lists(rt: HostRuntime) -> Result<(), Fail> {
+    for (workers, room, trial) in [
+        (1, 4, Trial::All),
+        (8, 4, Trial::All),
+        (1, 0, Trial::RefusedPut),
+        (2, 4, Trial::TwoWorkers),
+        (1, 4, Trial::Spoiled),
+    ] {
+        assert!(rt; small_does(rt.alloc(), workers, room, trial)?);
+    }
+    Ok(())
+}
+
+// Whether the nineteen events are entered over mailboxes with four places.
+fn enters_posted<J: ExchangeIdentity, R: Wait + Copy + Drop>(
+    rt: R,
+    alloc: Global,
+    blank: Blank,
+    inst: &Instance,
+    cap: Capacity,
+) -> Result<bool, MailFault>
+    requires instance { inst.now ≡ J.inst }
+    requires capacity { cap ≡ J.cap }
+    requires workers { J.workers ≡ 1 }
+    requires blank { (blank.name ≡ J.name) × (blank.parts ≡ J.parts) × (J.parts ≡ 8) }
+{
+    let (offer_ends, _offers) = mailboxes::<OfferNote, R>(alloc, rt, 3, 4)?;
+    let (answer_ends, _answers) = mailboxes::<AnswerNote, R>(alloc, rt, 2, 4)?;
+    let Ok((ledger, mut tallies)) = Ledger::<J, _, _>::open(
+        alloc,
+        blank,
+        inst,
+        cap,
+        1,
+        offer_ends,
+        answer_ends,
+    ) else {
+        return Ok(false);
+    };
+    match tallies.pop() {
+        Some(tally) => Ok(enters_all(ledger, inst, tally, &nineteen_events())),
+        None => Ok(false),
+    }
+}
+
+#[test]
+fn over_mailboxes(rt: HostRuntime) -> Result<(), Fail> {
+    let alloc = rt.alloc();
+    let inst = made(alloc, TWO_PLACES)?;
+    let entered = enters_posted::<Brand, HostRuntime>(
+        rt,
+        alloc,
+        Blank::new(8),
+        &inst,
+        Capacity::Full,
+    );
+    assert!(rt; entered == Ok(true));
+    Ok(())
+}
+
+// Why no ledger is opened over so many ends for residents and two for programmes, and how many ends come back.
+fn not_opened<J: ExchangeIdentity>(
+    alloc: Global,
+    blank: Blank,
+    inst: &Instance,
+    cap: Capacity,
+    workers: u32,
+    residents: u32,
+) -> Result<Option<(LedgerFault, usize, usize)>, MailFault>
+    requires instance { inst.now ≡ J.inst }
+    requires capacity { cap ≡ J.cap }
+    requires workers { workers ≡ J.workers }
+    requires blank { (blank.name ≡ J.name) × (blank.parts ≡ J.parts) × (J.parts ≡ 8) }
+{
+    let offer_ends = lists::<OfferNote>(alloc, residents, 4)?;
+    let answer_ends = lists::<AnswerNote>(alloc, 2, 4)?;
+    match Ledger::<J, _, _>::open(alloc, blank, inst, cap, workers, offer_ends, answer_ends) {
+        Ok(_) => Ok(None),
+        Err(
+            LedgerRefused {
+                fault,
+                offer_ends,
+                answer_ends,
+            },
+        ) => Ok(Some((fault, offer_ends.len(), answer_ends.len()))),
+    }
+}
+
+#[test]
+fn refused_opening(rt: HostRuntime) -> Result<(), Fail> {
+    let alloc = rt.alloc();
+    let inst = made(alloc, TWO_BY_TWO)?;
+    for (residents, cap, workers, fault) in [
+        (1, Capacity::Full, 1, LedgerFault::WrongEnds),
+        (1, Capacity::Each(0), 0, LedgerFault::WrongEnds),
+        (2, Capacity::Each(0), 1, LedgerFault::BadCapacity),
+        (2, Capacity::Each(1_025), 0, LedgerFault::BadCapacity),
+        (2, Capacity::Full, 0, LedgerFault::BadWorkers),
+        (2, Capacity::Full, 9, LedgerFault::BadWorkers),
+    ] {
+        let refused = not_opened::<Brand>(alloc, Blank::new(8), &inst, cap, workers, residents);
+        assert!(rt;
+            refused == Ok(Some((fault, residents as usize, 2))),
+            "{cap:?}, {workers} workers"
+        );
+    }
+    Ok(())
+}
+
+#[test]
+fn texts(rt: HostRuntime) -> Result<(), Fail> {
+    for (fault, text) in [
+        (
+            LedgerFault::WrongEnds,
+            "a ledger needs one end for each desk",
+        ),
+        (LedgerFault::BadCapacity, "bad capacity"),
+        (LedgerFault::BadWorkers, "bad number of workers"),
+        (LedgerFault::Memory, "out of memory"),
+    ] {
+        assert!(rt; fault.to_string(rt.alloc())?.as_str() == text, "{text}");
+    }
+    Ok(())
+}

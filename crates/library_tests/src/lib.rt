@@ -1,0 +1,27 @@
+//! Worked instances and lists of events, and what the libraries answer to them.
+//!
+//! Each library has a module: `model`, `exchange`, `mailbox`, `ledger`, `agents`, `pool` and `audit` test `match_model`,
+//! `exchange_core`, `mailbox_rule`, `offer_ledger`, `match_agents`, `match_pool` and `match_audit`.
+//!
+//! A crate with tests is proved once with them and once without, so the tests of several crates stand in this one, which
+//! has nothing else. Those that go by the bytes of a docket stand in `program_tests`.
+#![tactic(auto)]
+
+#[cfg(test)]
+mod agents;
+#[cfg(test)]
+mod audit;
+#[cfg(test)]
+mod exchange;
+#[cfg(test)]
+mod instances;
+#[cfg(test)]
+mod ledger;
+#[cfg(test)]
+mod mailbox;
+#[cfg(test)]
+mod markets;
+#[cfg(test)]
+mod model;
+#[cfg(test)]
+mod pool;

@@ -1,0 +1,332 @@
+//! Instances and assignments by hand.
+use crate::markets::{TEN, all_residents, made_in_one_order};
+use match_model::{Assignment, Instance, InstanceBuilder, ModelFault, ProgrammeNo, ResidentNo};
+use std::alloc::Global;
+use std::test::Fail;
+use test_support::events::{A, B, X, Y, Z};
+use test_support::members::{is_programme, is_resident};
+
+// One programme with one place, and one resident.
+fn one_of_each(alloc: Global) -> Result<InstanceBuilder, ModelFault> {
+    let mut builder = InstanceBuilder::new(alloc);
+    builder.add_programme(1)?;
+    builder.add_resident()?;
+    Ok(builder)
+}
+
+#[test]
+fn heeds_the_quota(rt: HostRuntime) {
+    let mut builder = InstanceBuilder::new(rt.alloc());
+    for (quota, wanted) in [(10_001, Err(ModelFault::QuotaTooLarge)), (10_000, Ok(A))] {
+        assert!(rt; builder.add_programme(quota) == wanted, "{quota}");
+    }
+}
+
+#[test]
+fn refuses_in_order(rt: HostRuntime) -> Result<(), Fail> {
+    let mut builder = one_of_each(rt.alloc())?;
+    let of_programme: [(&[ResidentNo], Result<(), ModelFault>); 3] = [
+        (&[Y], Err(ModelFault::NoSuchMember)),
+        (&[X], Ok(())),
+        (&[X], Err(ModelFault::ListGivenTwice)),
+    ];
+    for (list, wanted) in of_programme {
+        assert!(rt; builder.programme_list(A, list) == wanted);
+    }
+    let of_resident: [(&[ProgrammeNo], Result<(), ModelFault>); 3] = [
+        (&[B], Err(ModelFault::NoSuchMember)),
+        (&[A, A], Err(ModelFault::ListedTwice)),
+        (&[A], Ok(())),
+    ];
+    for (list, wanted) in of_resident {
+        assert!(rt; builder.resident_list(X, list) == wanted);
+    }
+    assert!(rt; builder.resident_list(Y, &[]) == Err(ModelFault::NoSuchMember));
+    assert!(rt; has_pairs(builder, 1));
+    Ok(())
+}
+
+// Whether what is finished has so many pairs.
+fn has_pairs(builder: InstanceBuilder, pairs: u32) -> bool {
+    match builder.finish() {
+        Ok(instance) => instance.pairs() == pairs,
+        Err(_) => false,
+    }
+}
+
+// Two programmes, with 2 places and 1, and three residents.
+fn two_and_three(alloc: Global) -> Result<InstanceBuilder, ModelFault> {
+    let mut builder = InstanceBuilder::new(alloc);
+    for quota in [2, 1] {
+        builder.add_programme(quota)?;
+    }
+    for _ in 0..3 {
+        builder.add_resident()?;
+    }
+    Ok(builder)
+}
+
+// What is left of one list of a programme and those of two residents.
+fn mutual_parts(alloc: Global) -> Result<Instance, ModelFault> {
+    let mut builder = two_and_three(alloc)?;
+    builder.programme_list(A, &[Z, X, Y])?;
+    builder.resident_list(X, &[B, A])?;
+    builder.resident_list(Z, &[A])?;
+    builder.finish().map_err(|refused| refused.fault)
+}
+
+// Whether the two have these places in one another's lists.
+fn are_ranked(
+    instance: &Instance,
+    programme: ProgrammeNo,
+    resident: ResidentNo,
+    ranks: (Option<u32>, Option<u32>),
+) -> bool {
+    programme.0 < instance.programmes()
+        && resident.0 < instance.residents()
+        && instance.rank_at_programme(programme, resident) == ranks.0
+        && instance.rank_at_resident(resident, programme) == ranks.1
+}
+
+#[test]
+fn keeps_the_mutual_parts(rt: HostRuntime) -> Result<(), Fail> {
+    let instance = mutual_parts(rt.alloc())?;
+    let counts = [
+        instance.programmes(),
+        instance.residents(),
+        instance.pairs(),
+    ];
+    assert!(rt; counts == [2, 3, 2]);
+    assert!(rt; is_programme(&instance, A, 2, &[Z, X]));
+    assert!(rt; is_programme(&instance, B, 1, &[]));
+    assert!(rt; is_resident(&instance, X, &[A]));
+    for (resident, ranks) in [
+        (X, (Some(1), Some(0))),
+        (Y, (None, None)),
+        (Z, (Some(0), Some(0))),
+    ] {
+        assert!(rt; are_ranked(&instance, A, resident, ranks));
+    }
+    Ok(())
+}
+
+// Whom a programme lists at this place, with its own place in that resident's list.
+fn offer(instance: &Instance, programme: ProgrammeNo, place: u32) -> Option<(u32, u32)> {
+    if programme.0 >= instance.programmes() {
+        return None;
+    }
+    match instance.offer_at(programme, place) {
+        Some((resident, rank)) => Some((resident.0, rank)),
+        None => None,
+    }
+}
+
+#[test]
+fn tells_an_offer_with_its_rank(rt: HostRuntime) -> Result<(), Fail> {
+    let mut builder = two_and_three(rt.alloc())?;
+    builder.programme_list(A, &[Z, X])?;
+    builder.programme_list(B, &[X])?;
+    builder.resident_list(X, &[B, A])?;
+    builder.resident_list(Z, &[A])?;
+    let instance = builder.finish().map_err(|refused| refused.fault)?;
+    for (programme, place, resident_and_rank) in [
+        (A, 0, Some((Z.0, 0))),
+        (A, 1, Some((X.0, 1))),
+        (A, 2, None),
+        (B, 0, Some((X.0, 0))),
+    ] {
+        assert!(rt; offer(&instance, programme, place) == resident_and_rank);
+    }
+    for guess in 0..3 {
+        assert!(rt; X.0 < instance.residents() && instance.rank_by_guess(X, A, guess) == Some(1));
+    }
+    Ok(())
+}
+
+#[test]
+fn refuses_a_withdrawal_in_order(rt: HostRuntime) -> Result<(), Fail> {
+    let mut nobody = InstanceBuilder::new(rt.alloc());
+    assert!(rt; nobody.withdraw_resident(X) == Err(ModelFault::NoSuchMember));
+    assert!(rt; nobody.withdraw_programme(A) == Err(ModelFault::NoSuchMember));
+    let mut builder = one_of_each(rt.alloc())?;
+    for wanted in [Ok(()), Err(ModelFault::WithdrawnTwice)] {
+        assert!(rt; builder.withdraw_programme(A) == wanted);
+        assert!(rt; builder.withdraw_resident(X) == wanted);
+    }
+    assert!(rt; builder.withdraw_programme(B) == Err(ModelFault::NoSuchMember));
+    assert!(rt; has_pairs(builder, 0));
+    Ok(())
+}
+
+#[test]
+fn reads_the_list_of_whoever_is_withdrawn(rt: HostRuntime) -> Result<(), Fail> {
+    let mut builder = one_of_each(rt.alloc())?;
+    builder.withdraw_programme(A)?;
+    for (list, wanted) in [
+        ([X, Y], Err(ModelFault::NoSuchMember)),
+        ([X, X], Err(ModelFault::ListedTwice)),
+    ] {
+        assert!(rt; builder.programme_list(A, &list) == wanted);
+    }
+    assert!(rt; builder.programme_list(A, &[X]) == Ok(()));
+    assert!(rt; builder.programme_list(A, &[X]) == Err(ModelFault::ListGivenTwice));
+    assert!(rt; builder.resident_list(X, &[A]) == Ok(()));
+    assert!(rt; has_pairs(builder, 0));
+    Ok(())
+}
+
+// Two programmes and three residents with all their lists, of whom these are withdrawn, before or after the lists.
+fn without(
+    alloc: Global,
+    first: bool,
+    programmes: &[ProgrammeNo],
+    residents: &[ResidentNo],
+) -> Result<Instance, ModelFault> {
+    let mut builder = two_and_three(alloc)?;
+    if !first {
+        add_lists(&mut builder)?;
+    }
+    for programme in programmes {
+        builder.withdraw_programme(*programme)?;
+    }
+    for resident in residents {
+        builder.withdraw_resident(*resident)?;
+    }
+    if first {
+        add_lists(&mut builder)?;
+    }
+    builder.finish().map_err(|refused| refused.fault)
+}
+
+// The first programme and all three residents rank one another; the second ranks a resident whom it is ranked by, and
+// one whom it isn't.
+fn add_lists(builder: &mut InstanceBuilder) -> Result<(), ModelFault> {
+    builder.programme_list(A, &[X, Y, Z])?;
+    builder.programme_list(B, &[Z, X])?;
+    builder.resident_list(X, &[B, A])?;
+    builder.resident_list(Y, &[A])?;
+    builder.resident_list(Z, &[A])
+}
+
+// Whether these are withdrawn of two programmes and three residents, and so many pairs are left.
+fn is_left(instance: &Instance, pairs: u32, programmes: [bool; 2], residents: [bool; 3]) -> bool {
+    if instance.programmes() != 2 || instance.residents() != 3 {
+        return false;
+    }
+    let gone = [
+        instance.resident_withdrawn(X),
+        instance.resident_withdrawn(Y),
+        instance.resident_withdrawn(Z),
+    ];
+    instance.pairs() == pairs
+        && [
+            instance.programme_withdrawn(A),
+            instance.programme_withdrawn(B),
+        ] == programmes
+        && gone == residents
+}
+
+#[test]
+fn a_withdrawn_member_stands_on_no_list(rt: HostRuntime) -> Result<(), Fail> {
+    for first in [false, true] {
+        let programme = without(rt.alloc(), first, &[B], &[])?;
+        assert!(rt; is_left(&programme, 3, [false, true], [false; 3]));
+        assert!(rt; is_programme(&programme, B, 1, &[]));
+        assert!(rt; is_resident(&programme, X, &[A]));
+        let resident = without(rt.alloc(), first, &[], &[X])?;
+        assert!(rt; is_left(&resident, 2, [false; 2], [true, false, false]));
+        assert!(rt; is_programme(&resident, A, 2, &[Y, Z]));
+        assert!(rt; is_programme(&resident, B, 1, &[]));
+        assert!(rt; is_resident(&resident, X, &[]));
+        assert!(rt; are_ranked(&resident, A, Z, (Some(1), Some(0))));
+        assert!(rt; are_ranked(&resident, A, X, (None, None)));
+    }
+    let nobody = without(rt.alloc(), false, &[A, B], &[Z, X, Y])?;
+    assert!(rt; is_left(&nobody, 0, [true; 2], [true; 3]));
+    Ok(())
+}
+
+#[test]
+fn whom_nobody_lists_may_withdraw(rt: HostRuntime) -> Result<(), Fail> {
+    let mut builder = two_and_three(rt.alloc())?;
+    builder.programme_list(A, &[X])?;
+    builder.resident_list(X, &[A])?;
+    builder.withdraw_resident(Y)?;
+    builder.withdraw_programme(B)?;
+    assert!(rt; has_pairs(builder, 1));
+    Ok(())
+}
+
+#[test]
+fn takes_as_many_pairs_as_there_may_be(rt: HostRuntime) -> Result<(), Fail> {
+    let instance = made_in_one_order(rt.alloc())?;
+    let residents = all_residents(rt.alloc())?;
+    assert!(rt; instance.pairs() == 200_000);
+    assert!(rt; is_programme(&instance, ProgrammeNo(9), 2_000, residents.as_slice()));
+    assert!(rt; is_resident(&instance, ResidentNo(19_999), &TEN));
+    assert!(rt;
+        are_ranked(
+            &instance,
+            ProgrammeNo(9),
+            ResidentNo(19_999),
+            (Some(19_999), Some(9))
+        )
+    );
+    Ok(())
+}
+
+// Adds a resident and as many programmes as there may be, each of which ranks it.
+fn add_most(alloc: Global, builder: &mut InstanceBuilder) -> Result<Vec<ProgrammeNo>, ModelFault> {
+    builder.add_resident()?;
+    let mut programmes = Vec::new(alloc);
+    for _ in 0..2_000 {
+        let programme = builder.add_programme(1)?;
+        builder.programme_list(programme, &[X])?;
+        let Ok(()) = programmes.push(programme) else {
+            return Err(ModelFault::Memory);
+        };
+    }
+    Ok(programmes)
+}
+
+#[test]
+fn a_resident_ranks_as_many_as_there_may_be(rt: HostRuntime) -> Result<(), Fail> {
+    let mut builder = InstanceBuilder::new(rt.alloc());
+    let programmes = add_most(rt.alloc(), &mut builder)?;
+    assert!(rt; builder.resident_list(X, programmes.as_slice()) == Ok(()));
+    assert!(rt; has_pairs(builder, 2_000));
+    Ok(())
+}
+
+#[test]
+fn assigns(rt: HostRuntime) -> Result<(), Fail> {
+    let mut assignment = Assignment::new(rt.alloc(), 2)?;
+    assert!(rt; assignment.len() == 2);
+    assert_eq!(rt; assignment.get(Y), None);
+    assignment.set(Y, Some(ProgrammeNo(7)));
+    assert_eq!(rt; assignment.get(Y), Some(ProgrammeNo(7)));
+    assert_eq!(rt; assignment.get(X), None);
+    Ok(())
+}
+
+#[test]
+fn prints_its_faults(rt: HostRuntime) {
+    let faults = [
+        (ModelFault::TooManyProgrammes, "more than 2000 programmes"),
+        (ModelFault::TooManyResidents, "more than 20000 residents"),
+        (ModelFault::QuotaTooLarge, "quota over 10000"),
+        (ModelFault::NoSuchMember, "no such member"),
+        (ModelFault::ListGivenTwice, "a list was given twice"),
+        (ModelFault::ListedTwice, "a name is listed twice"),
+        (
+            ModelFault::TooManyPairs,
+            "more than 200000 acceptable pairs",
+        ),
+        (ModelFault::Memory, "out of memory"),
+        (ModelFault::WithdrawnTwice, "a member is withdrawn twice"),
+    ];
+    for (fault, text) in faults {
+        let printed = format!(in rt.alloc(); "{fault}").expect(&rt, "a text");
+        assert!(rt; printed.as_str() == text, "{printed}");
+    }
+}

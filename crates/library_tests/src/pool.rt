@@ -1,0 +1,8 @@
+//! The pool: what it does in runs, by its workers, at stops, through gates and in faults.
+mod faults;
+mod gates;
+mod rests;
+mod runs;
+mod slips;
+mod stops;
+mod workers;

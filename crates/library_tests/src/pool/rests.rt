@@ -1,0 +1,256 @@
+//! Runs in which all workers but one are held until nothing more happens: then whatever may happen is in the held hands.
+use super::runs::ran_on;
+use crate::exchange::run::Run;
+use crate::instances::{Members, TWO_PLACES, made};
+use exchange_core::{AnswerKind, Capacity, Desk, Event};
+use match_model::{Instance, InstanceBuilder, ModelFault, ProgrammeNo, ResidentNo};
+use match_pool::Ending;
+use std::alloc::Global;
+use std::sync::Wait;
+use std::test::Fail;
+use std::thread::Threads;
+use test_support::rests::{RestsAfterEntry, RestsInPass};
+
+// Two programmes of three and two places, over five residents who like the later one better.
+const FIVE: Members = (
+    &[(3, &[0, 1, 2, 3, 4]), (2, &[0, 1, 2])],
+    &[&[1, 0], &[1, 0], &[0, 1], &[0], &[0]],
+);
+
+// A programme of three places that loses the three residents of its first offers to another, and then makes three more at
+// once.
+const THREE_LOST: Members = (
+    &[(3, &[0, 1, 2, 3, 4, 5]), (3, &[0, 1, 2])],
+    &[&[1, 0], &[1, 0], &[1, 0], &[0], &[0], &[0]],
+);
+
+const KINDS: [AnswerKind; 3] = [AnswerKind::Hold, AnswerKind::Decline, AnswerKind::Release];
+
+// The events of one programme and one resident.
+fn events_of(programme: ProgrammeNo, resident: ResidentNo) -> [Event; 8] {
+    let answer = |kind| Event::Answer {
+        resident,
+        programme,
+        kind,
+    };
+    let hear = |kind| Event::Hear {
+        programme,
+        resident,
+        kind,
+    };
+    let [hold, decline, release] = KINDS;
+    [
+        Event::Offer {
+            programme,
+            resident,
+        },
+        Event::Take {
+            resident,
+            programme,
+        },
+        answer(hold),
+        answer(decline),
+        answer(release),
+        hear(hold),
+        hear(decline),
+        hear(release),
+    ]
+}
+
+// The desk that an event is of.
+fn desk_of(event: &Event) -> Option<Desk> {
+    match event {
+        Event::Take { resident, .. } | Event::Answer { resident, .. } => {
+            Some(Desk::Resident(*resident))
+        }
+        Event::Hear { programme, .. } | Event::Offer { programme, .. } => {
+            Some(Desk::Programme(*programme))
+        }
+        Event::Close => None,
+    }
+}
+
+// Whether a desk is held.
+fn is_among(held: &[Option<Desk>], desk: Option<Desk>) -> bool {
+    for other in held {
+        if *other == desk {
+            return true;
+        }
+    }
+    false
+}
+
+// After these events some event that may follow and is of no desk that is held.
+fn left_undone(
+    alloc: Global,
+    inst: Instance,
+    cap: Capacity,
+    events: &[Event],
+    held: &[Option<Desk>],
+) -> Result<Option<Event>, Fail> {
+    let (programmes, residents) = (inst.programmes(), inst.residents());
+    let Ok(mut run) = Run::new(alloc, inst, cap) else {
+        return Err(Fail::from("no core"));
+    };
+    for event in events {
+        if run.step(*event).is_err() {
+            return Err(Fail::from("a journal that isn't legal"));
+        }
+    }
+    for p in 0..programmes {
+        for r in 0..residents {
+            for event in events_of(ProgrammeNo(p), ResidentNo(r)) {
+                if !is_among(held, desk_of(&event)) && run.may(event).is_ok() {
+                    return Ok(Some(event));
+                }
+            }
+        }
+    }
+    Ok(None)
+}
+
+// What a run whose workers but one are held after this pass, of one desk or of all, leaves undone that is in nobody's hands,
+// and whether any was held until the run was at rest.
+fn rests_in_pass<R: Threads + Wait + Sync + Send + Copy>(
+    rt: R,
+    alloc: Global,
+    inst: Instance,
+    form: (Capacity, usize),
+    of: Option<Desk>,
+    place: u64,
+) -> Result<(Option<Event>, bool), Fail> {
+    let (cap, workers) = form;
+    let gate = RestsInPass::new(rt, of, place, (workers as u64).saturating_sub(1));
+    let Ok(told) = ran_on(rt, alloc, &inst, cap, workers, &gate) else {
+        return Err(Fail::from("a fault of the run"));
+    };
+    let Some(entered) = gate.entered() else {
+        return Ok((None, false));
+    };
+    let events = told.journal.get(..entered as usize).unwrap_or(&[]);
+    let left = left_undone(alloc, inst, cap, events, &gate.held())?;
+    Ok((left, true))
+}
+
+// The desk of the last of so many events that one worker made.
+fn last_desk(journal: &[Event], who: &[u8], worker: u8, own: u32) -> Option<Desk> {
+    let mut seen = 0_u32;
+    for (event, by) in journal.iter().zip(who) {
+        if *by == worker {
+            seen = seen.saturating_add(1);
+            if seen == own {
+                return desk_of(event);
+            }
+        }
+    }
+    None
+}
+
+// What a run whose worker is held once it has entered the event of this number leaves undone that is in nobody's hands, and
+// whether it was held until the run was at rest.
+fn rests_after_entry<R: Threads + Wait + Sync + Send + Copy>(
+    rt: R,
+    alloc: Global,
+    inst: Instance,
+    workers: usize,
+    place: u64,
+) -> Result<(Option<Event>, bool), Fail> {
+    let cap = Capacity::Full;
+    let gate = RestsAfterEntry::new(rt, place);
+    let Ok(told) = ran_on(rt, alloc, &inst, cap, workers, &gate) else {
+        return Err(Fail::from("a fault of the run"));
+    };
+    let Some(entered) = gate.entered() else {
+        return Ok((None, false));
+    };
+    let held = [
+        last_desk(&told.journal, &told.who, 0, gate.own(0)),
+        last_desk(&told.journal, &told.who, 1, gate.own(1)),
+        last_desk(&told.journal, &told.who, 2, gate.own(2)),
+    ];
+    let events = told.journal.get(..entered as usize).unwrap_or(&[]);
+    let left = left_undone(alloc, inst, cap, events, &held)?;
+    Ok((left, true))
+}
+
+#[test]
+fn no_work_is_left_while_workers_are_held_in_passes(rt: HostRuntime) -> Result<(), Fail> {
+    for members in [TWO_PLACES, FIVE] {
+        for cap in [Capacity::Full, Capacity::Each(1)] {
+            for workers in [2, 3] {
+                for place in 0..=4 {
+                    let inst = made(rt.alloc(), members)?;
+                    let (left, is_held) = rests_in_pass(
+                        rt,
+                        rt.alloc(),
+                        inst,
+                        (cap, workers),
+                        None,
+                        place,
+                    )?;
+                    assert!(rt;
+                        left.is_none() && (is_held || place > 0),
+                        "pass {place}, {cap:?}, {workers} workers: {left:?}"
+                    );
+                }
+            }
+        }
+    }
+    Ok(())
+}
+
+#[test]
+fn no_work_is_left_while_a_worker_is_told_of_an_entry(rt: HostRuntime) -> Result<(), Fail> {
+    for workers in [2, 3] {
+        for place in 1..=18 {
+            let inst = made(rt.alloc(), FIVE)?;
+            let (left, is_held) = rests_after_entry(rt, rt.alloc(), inst, workers, place)?;
+            assert!(rt;
+                left.is_none() && is_held,
+                "event {place}, {workers} workers: {left:?}"
+            );
+        }
+    }
+    Ok(())
+}
+
+#[test]
+fn each_that_sleeps_is_woken_for_what_one_visit_gave(rt: HostRuntime) -> Result<(), Fail> {
+    for workers in [2, 3] {
+        for place in 3..=6 {
+            let inst = made(rt.alloc(), THREE_LOST)?;
+            let first = Some(Desk::Programme(ProgrammeNo(0)));
+            let form = (Capacity::Full, workers);
+            let (left, _) = rests_in_pass(rt, rt.alloc(), inst, form, first, place)?;
+            assert!(rt;
+                left.is_none(),
+                "after {place}, {workers} workers: {left:?}"
+            );
+        }
+    }
+    Ok(())
+}
+
+// One programme that ranks seventy residents and has a place for each. The last is the best.
+fn made_crowd(alloc: Global) -> Result<Instance, ModelFault> {
+    let mut builder = InstanceBuilder::new(alloc);
+    let programme = builder.add_programme(70)?;
+    let mut list = Vec::new(alloc);
+    for r in 0..70 {
+        let resident = builder.add_resident()?;
+        builder.resident_list(resident, &[programme])?;
+        let Ok(()) = list.push(ResidentNo(69 - r)) else {
+            return Err(ModelFault::Memory);
+        };
+    }
+    builder.programme_list(programme, list.as_slice())?;
+    builder.finish().map_err(|refused| refused.fault)
+}
+
+#[test]
+fn a_visit_that_wakes_many_lists_them_all(rt: HostRuntime) -> Result<(), Fail> {
+    let inst = made_crowd(rt.alloc())?;
+    let (left, is_held) = rests_in_pass(rt, rt.alloc(), inst, (Capacity::Full, 2), None, 0)?;
+    assert!(rt; left.is_none() && is_held, "{left:?}");
+    Ok(())
+}

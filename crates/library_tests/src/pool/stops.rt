@@ -1,0 +1,210 @@
+//! Runs that are stopped at each pass: every desk's log and all that was put for it, beside the journal.
+use crate::markets::made_chain;
+use exchange_core::{AnswerNote, Capacity, Event, OfferNote};
+use mailbox_rule::{TakeEnd, TakeReply};
+use match_agents::{ProgrammeAgent, ResidentAgent};
+use match_audit::{ReplayFault, replay};
+use match_model::{Instance, ProgrammeNo, ResidentNo};
+use match_pool::{Done, Ending, Ends, Mailboxes, run};
+use std::alloc::{AllocError, Global};
+use std::sync::Wait;
+use std::test::Fail;
+use std::thread::Threads;
+use test_support::gates::StopsFrom;
+
+// By a journal, the offers that were sent to a resident, or those of them that it took.
+fn offers_of(
+    alloc: Global,
+    journal: &[Event],
+    whose: ResidentNo,
+    taken: bool,
+) -> Result<Vec<OfferNote>, AllocError> {
+    let mut offers = Vec::new(alloc);
+    for event in journal {
+        let programme = match *event {
+            Event::Offer {
+                programme,
+                resident,
+            } if !taken && resident == whose => programme,
+            Event::Take {
+                resident,
+                programme,
+            } if taken && resident == whose => programme,
+            _ => continue,
+        };
+        offers.push(OfferNote { programme })?;
+    }
+    Ok(offers)
+}
+
+// By a journal, the answers that were sent to a programme, or those of them that it heard.
+fn answers_of(
+    alloc: Global,
+    journal: &[Event],
+    whose: ProgrammeNo,
+    heard: bool,
+) -> Result<Vec<AnswerNote>, AllocError> {
+    let mut answers = Vec::new(alloc);
+    for event in journal {
+        let (resident, kind) = match *event {
+            Event::Answer {
+                resident,
+                programme,
+                kind,
+            } if !heard && programme == whose => (resident, kind),
+            Event::Hear {
+                programme,
+                resident,
+                kind,
+            } if heard && programme == whose => (resident, kind),
+            _ => continue,
+        };
+        answers.push(AnswerNote { resident, kind })?;
+    }
+    Ok(answers)
+}
+
+// Puts what still waits in a mailbox behind what was taken out of it; at most so many messages.
+fn take_the_rest<M: Copy, T: TakeEnd<M> + Drop>(
+    messages: &mut Vec<M>,
+    mut end: T,
+    most: usize,
+) -> Result<(), AllocError> {
+    for _ in 0..most {
+        let TakeReply::Got(message) = end.take() else {
+            break;
+        };
+        messages.push(message)?;
+    }
+    Ok(())
+}
+
+// Whether a resident's log is its takes in the journal, and what waits behind it the rest of the offers.
+fn is_residents_own<T: TakeEnd<OfferNote> + Drop>(
+    alloc: Global,
+    journal: &[Event],
+    resident: ResidentNo,
+    agent: ResidentAgent<T>,
+) -> Result<bool, AllocError> {
+    let mut messages = Vec::from_slice(alloc, agent.taken_log())?;
+    let is_log = messages == offers_of(alloc, journal, resident, true)?;
+    take_the_rest(&mut messages, agent.into_end(), journal.len())?;
+    Ok(is_log && messages == offers_of(alloc, journal, resident, false)?)
+}
+
+// Whether a programme's log is its hears in the journal, and what waits behind it the rest of the answers.
+fn is_programmes_own<T: TakeEnd<AnswerNote> + Drop>(
+    alloc: Global,
+    journal: &[Event],
+    programme: ProgrammeNo,
+    agent: ProgrammeAgent<T>,
+) -> Result<bool, AllocError> {
+    let mut messages = Vec::from_slice(alloc, agent.heard_log())?;
+    let is_log = messages == answers_of(alloc, journal, programme, true)?;
+    take_the_rest(&mut messages, agent.into_end(), journal.len())?;
+    Ok(is_log && messages == answers_of(alloc, journal, programme, false)?)
+}
+
+// Whether a replay of a run that ended so finds it closed, or else nothing at fault but that it isn't.
+fn is_found(
+    alloc: Global,
+    inst: &Instance,
+    cap: Capacity,
+    journal: &[Event],
+    ending: Ending,
+) -> bool {
+    match replay(alloc, inst, cap, journal) {
+        Ok(_) => ending == Ending::Closed,
+        Err(ReplayFault::NotClosed) => ending == Ending::Stopped,
+        Err(_) => false,
+    }
+}
+
+// Whether each resident's desk is the journal's.
+fn are_residents_own<T: TakeEnd<OfferNote> + Drop>(
+    alloc: Global,
+    journal: &[Event],
+    agents: Vec<ResidentAgent<T>>,
+) -> Result<bool, AllocError> {
+    let mut resident = ResidentNo(0);
+    for agent in agents {
+        if !is_residents_own(alloc, journal, resident, agent)? {
+            return Ok(false);
+        }
+        resident = ResidentNo(resident.0.saturating_add(1));
+    }
+    Ok(true)
+}
+
+// Whether each programme's desk is the journal's.
+fn are_programmes_own<T: TakeEnd<AnswerNote> + Drop>(
+    alloc: Global,
+    journal: &[Event],
+    agents: Vec<ProgrammeAgent<T>>,
+) -> Result<bool, AllocError> {
+    let mut programme = ProgrammeNo(0);
+    for agent in agents {
+        if !is_programmes_own(alloc, journal, programme, agent)? {
+            return Ok(false);
+        }
+        programme = ProgrammeNo(programme.0.saturating_add(1));
+    }
+    Ok(true)
+}
+
+// Whether what a run gave is its journal at each desk, and is found as it ended.
+fn is_its_journal<M: Mailboxes>(
+    alloc: Global,
+    inst: &Instance,
+    cap: Capacity,
+    done: Done<M>,
+) -> Result<bool, AllocError> {
+    let Done {
+        ending,
+        journal,
+        who: _,
+        assignment: _,
+        entered: _,
+        ends,
+    } = done;
+    let Ends {
+        offer_puts: _offer_puts,
+        residents,
+        answer_puts: _answer_puts,
+        programmes,
+    } = ends;
+    Ok(
+        is_found(alloc, inst, cap, &journal, ending)
+            && are_residents_own(alloc, &journal, residents)?
+            && are_programmes_own(alloc, &journal, programmes)?,
+    )
+}
+
+// The same of a run by two workers that is stopped from this pass on.
+fn stops_well<R: Threads + Wait + Sync + Send + Copy>(
+    rt: R,
+    alloc: Global,
+    inst: &Instance,
+    cap: Capacity,
+    first: u64,
+) -> bool {
+    match run(rt, alloc, inst, cap, 2, &StopsFrom::new(first)) {
+        Ok(done) => is_its_journal(alloc, inst, cap, done) == Ok(true),
+        Err(_) => false,
+    }
+}
+
+#[test]
+fn a_run_that_is_stopped_at_any_pass_is_its_journal(rt: HostRuntime) -> Result<(), Fail> {
+    // sixty pairs
+    let inst = made_chain(rt.alloc(), 30)?;
+    for first in 1..=160 {
+        for cap in [Capacity::Full, Capacity::Each(1)] {
+            assert!(rt;
+                stops_well(rt, rt.alloc(), &inst, cap, first),
+                "from {first} on, {cap:?}"
+            );
+        }
+    }
+    Ok(())
+}

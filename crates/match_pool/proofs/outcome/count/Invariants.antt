@@ -1,6 +1,0 @@
-use Rattle.match_pool.proofs.WorkerCounts.{AreSoFar}
-use Rattle.match_pool.proofs.outcome.count.Given as goal
-
--- the events so far are counted
-abbrev pub invariant-loop-worker : goal.invariant-loop-worker
-invariant-loop-worker g l = AreSoFar g.J.ExchangeIdentity.workers l.who l.entered.items l.worker-index

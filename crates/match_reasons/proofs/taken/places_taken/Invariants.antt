@@ -1,0 +1,5 @@
+use Rattle.match_reasons.proofs.Tallies.{IsSoFar}
+use Rattle.match_reasons.proofs.taken.places_taken.Given as goal
+
+abbrev pub invariant-loop-r : goal.invariant-loop-r
+invariant-loop-r l = IsSoFar l.list l.sheet l.programme l.r l.members l.last

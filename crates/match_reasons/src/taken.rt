@@ -1,0 +1,101 @@
+//! How a programme's places are taken in a placement, and where somebody stands in a list.
+ghost use Rattle.std.specs.Prelude.{◌≡◌, ◌<◌, ◌↔◌, length, IsTrue, max, unwrap_or};
+ghost use Rattle.match_model.specs.Ranking.{place};
+ghost use Rattle.match_model.specs.Instance.{rank};
+ghost use Rattle.match_model.specs.Placement.{IsMemberOf};
+ghost use Rattle.match_reasons.specs.Reason.{IsTaken, HasRoomAt};
+
+use match_model::{Assignment, ProgrammeNo, ResidentNo};
+
+/// How many members a programme has, and the last place that one of them has in its list as it was written. A member who
+/// isn't on that list counts as after all who are.
+#[derive(Clone, Copy, Debug, PartialEq, Eq)]
+pub struct Taken {
+    /// How many members there are.
+    pub members: u32,
+    /// The last of their places, if there are members.
+    pub last: Option<usize>,
+}
+
+impl Taken {
+    /// Whether there are fewer members than places, or one who stands no earlier than this place.
+    pub(crate) fn has_room(&self, quota: u32, rank: usize) -> bool
+        ensures { IsTrue result ↔ HasRoomAt self.now quota rank }
+    {
+        match self.last {
+            Some(last) => self.members < quota || rank <= last,
+            None => self.members < quota,
+        }
+    }
+}
+
+/// Whether a resident is one of the programme's members.
+pub(crate) fn is_member(sheet: &Assignment, resident: ResidentNo, programme: ProgrammeNo) -> bool
+    requires { resident < length sheet.now }
+    ensures { IsTrue result ↔ IsMemberOf sheet.now resident programme }
+{
+    match sheet.get(resident) {
+        Some(own) => own == programme,
+        None => false,
+    }
+}
+
+/// The rank of a programme in a resident's list, if it is listed.
+pub(crate) fn rank_of_programme(list: &[ProgrammeNo], programme: ProgrammeNo) -> Option<usize>
+    ensures { result ≡ rank list.now programme }
+{
+    for i in 0..list.len() {
+        if list[i] == programme {
+            return Some(i);
+        }
+    }
+    None
+}
+
+/// The rank of a resident in a programme's list, if it is listed.
+pub(crate) fn rank_of_resident(list: &[ResidentNo], resident: ResidentNo) -> Option<usize>
+    ensures { result ≡ rank list.now resident }
+{
+    for i in 0..list.len() {
+        if list[i] == resident {
+            return Some(i);
+        }
+    }
+    None
+}
+
+// The place of a resident in a programme's list, or the list's length.
+fn place_of_resident(list: &[ResidentNo], resident: ResidentNo) -> usize
+    ensures { result ≡ place list.now resident }
+{
+    match rank_of_resident(list, resident) {
+        Some(rank) => rank,
+        None => list.len(),
+    }
+}
+
+// The later of two places, of which the first may be none.
+fn later(last: Option<usize>, place: usize) -> usize
+    ensures { result ≡ max (unwrap_or last 0) place }
+{
+    match last {
+        Some(last) => last.max(place),
+        None => place,
+    }
+}
+
+/// How a programme's places are taken, by its list as it was written: one walk over the placement.
+pub fn places_taken(sheet: &Assignment, list: &[ResidentNo], programme: ProgrammeNo) -> Taken
+    ensures { IsTaken list.now sheet.now programme result }
+{
+    let mut members = 0;
+    let mut last = None;
+    for r in 0..sheet.len() {
+        let resident = ResidentNo(r);
+        if is_member(sheet, resident, programme) {
+            members += 1;
+            last = Some(later(last, place_of_resident(list, resident)));
+        }
+    }
+    Taken { members, last }
+}

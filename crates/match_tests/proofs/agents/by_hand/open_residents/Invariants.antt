@@ -1,7 +1,0 @@
-use Rattle.std.proofs.Common.{◌≡◌, []}
-use Rattle.std.specs.List.{All}
-use Rattle.match_tests.proofs.agents.by_hand.open_residents.Given as goal
-
--- no end has put anything yet
-abbrev pub invariant-loop-r : goal.invariant-loop-r
-invariant-loop-r g l = All (λ end. end.puts ≡ []) l.puts.items

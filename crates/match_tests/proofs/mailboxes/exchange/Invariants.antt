@@ -1,5 +1,0 @@
-use Rattle.std.proofs.Common.{◌≡◌}
-use Rattle.match_tests.proofs.mailboxes.exchange.Given as goal
-
-abbrev pub invariant-loop : goal.invariant-loop
-invariant-loop g l = (l.put.mailbox ≡ l.initial.put.mailbox) × (l.take.mailbox ≡ l.initial.take.mailbox)

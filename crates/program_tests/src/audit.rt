@@ -1,0 +1,98 @@
+//! Audits of sheets, and of sheets from before a withdrawal.
+use crate::commands::{serves, serves_both};
+use crate::texts::{
+    FULL, ONE_SIDED, OTHER_SHEET, QUOTAS, QUOTAS_SHEET, SMALL, SMALL_JOURNAL, SMALL_SHEET,
+    UNLISTED, VERSION_2,
+};
+use residency::{Order, Status};
+use std::test::Fail;
+
+#[test]
+fn audits(rt: HostRuntime) -> Result<(), Fail> {
+    let cases: [(&[&str], Status, &str, u8); 5] = [
+        (&[], Status::Stable, "S,stable\n", 0),
+        (
+            &[SMALL, FULL, SMALL_JOURNAL, OTHER_SHEET],
+            Status::Stable,
+            "S,stable\n",
+            0,
+        ),
+        (
+            &["Q,a,2\nP,a,x,y\nR,x,a\nR,y,a\nM,x,a\nU,y\nF,a,1,2\n"],
+            Status::Unstable,
+            "S,unstable\nB,y,a\n",
+            4,
+        ),
+        (
+            &[SMALL, "M,x,a\nM,y,a\nF,a,2,1\nF,b,0,1\n"],
+            Status::Unstable,
+            "S,unstable\nO,a,2,1\nB,x,b\n",
+            4,
+        ),
+        (
+            &[ONE_SIDED, "M,x,a\nF,a,1,1\n"],
+            Status::Unstable,
+            "S,unstable\nX,x,a\n",
+            4,
+        ),
+    ];
+    for (texts, status, report, exit) in cases {
+        let ending = (Ok(status), report, exit);
+        assert!(rt;
+            serves_both(rt, rt.alloc(), Order::Audit, texts, ending)?,
+            "{report}"
+        );
+    }
+    Ok(())
+}
+
+// Sheets from before a withdrawal, each with its report.
+const AUDITS: [(&[&str], Status, &str, u8); 4] = [
+    (
+        &[VERSION_2, SMALL, "W,R,x\n", SMALL_SHEET],
+        Status::Unstable,
+        "S,unstable\nX,x,a\nB,y,a\n",
+        4,
+    ),
+    (
+        &[VERSION_2, QUOTAS, "W,P,b\n", QUOTAS_SHEET],
+        Status::Unstable,
+        "S,unstable\nX,x,b\nB,x,a\n",
+        4,
+    ),
+    (
+        &[
+            VERSION_2,
+            SMALL,
+            SMALL_SHEET,
+            "U,z\nF,c,0,1\n",
+            UNLISTED,
+            "W,R,z\nW,P,c\n",
+        ],
+        Status::Stable,
+        "S,stable\n",
+        0,
+    ),
+    (
+        &[
+            VERSION_2,
+            QUOTAS,
+            "W,P,b\nM,x,a\nM,y,a\nU,z\nF,a,2,2\nF,b,0,1\n",
+        ],
+        Status::Stable,
+        "S,stable\n",
+        0,
+    ),
+];
+
+#[test]
+fn audits_of_old_sheets(rt: HostRuntime) -> Result<(), Fail> {
+    for (texts, status, report, exit) in AUDITS {
+        let ending = (Ok(status), report, exit);
+        assert!(rt;
+            serves(rt, rt.alloc(), Order::Audit, texts, ending)?,
+            "{report}"
+        );
+    }
+    Ok(())
+}

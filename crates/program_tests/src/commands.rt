@@ -1,0 +1,99 @@
+//! The program's commands over texts: what is asked for, and whether this is answered.
+use crate::texts::{VERSION_2, further, joined};
+use exchange_core::Capacity;
+use match_pool::OpenGate;
+use residency::{
+    JournalForm, MatchOptions, Order, ServeFault, Status, exit_status, serve_audit, serve_match,
+    serve_replay,
+};
+use std::alloc::{AllocError, Global};
+use std::io::{Read, Write};
+use std::random::RandomSource;
+use std::sync::Wait;
+use std::thread::Threads;
+
+pub(super) const MATCH: Order = Order::Match(MatchOptions {
+    workers: 2,
+    capacity: Capacity::Full,
+    journal: JournalForm::Absent,
+});
+
+pub(super) const NARROW: Order = Order::Match(MatchOptions {
+    workers: 2,
+    capacity: Capacity::Each(1),
+    journal: JournalForm::Absent,
+});
+
+pub(super) const NARROW_WITH_JOURNAL: Order = Order::Match(MatchOptions {
+    workers: 2,
+    capacity: Capacity::Each(1),
+    journal: JournalForm::Plain,
+});
+
+pub(super) const WITH_JOURNAL: Order = Order::Match(MatchOptions {
+    workers: 2,
+    capacity: Capacity::Full,
+    journal: JournalForm::Plain,
+});
+
+/// Does what is ordered over a reader and a writer.
+pub(super) fn serve<
+    R: Read + Drop,
+    W: Write,
+    H: Threads + Wait + RandomSource + Sync + Send + Copy,
+>(rt: H, alloc: Global, order: Order, reader: R, writer: &mut W) -> Result<Status, ServeFault> {
+    match order {
+        Order::Match(options) => serve_match(rt, alloc, reader, writer, &options, &OpenGate),
+        Order::Audit => serve_audit(&rt, alloc, reader, writer),
+        Order::Replay => serve_replay(&rt, alloc, reader, writer),
+    }
+}
+
+/// Whether an order over these texts answers this, writes this text, and ends with this exit status.
+pub(super) fn serves<H: Threads + Wait + RandomSource + Sync + Send + Copy>(
+    rt: H,
+    alloc: Global,
+    order: Order,
+    texts: &[&str],
+    ending: (Result<Status, ServeFault>, &str, u8),
+) -> Result<bool, AllocError> {
+    let (wanted, text, exit) = ending;
+    let input = joined(alloc, texts)?;
+    let mut output = Vec::new(alloc);
+    let answer = serve(rt, alloc, order, input.as_bytes(), &mut output);
+    Ok(answer == wanted && output.as_slice() == text.as_bytes() && exit_status(&answer) == exit)
+}
+
+// Whether an answer is the wanted one, where the record of a fault stands one further.
+fn is_further(
+    alloc: Global,
+    answer: &Result<Status, ServeFault>,
+    wanted: &Result<Status, ServeFault>,
+) -> Result<bool, AllocError> {
+    match (answer, wanted) {
+        (Err(fault), Err(first)) => {
+            let told = further(alloc, first.to_string(alloc)?.as_str())?;
+            Ok(fault.to_string(alloc)?.as_str() == told.as_str())
+        }
+        _ => Ok(answer == wanted),
+    }
+}
+
+/// Whether an order answers this over these texts, and over the same in a docket of version 2.
+pub(super) fn serves_both<H: Threads + Wait + RandomSource + Sync + Send + Copy>(
+    rt: H,
+    alloc: Global,
+    order: Order,
+    texts: &[&str],
+    ending: (Result<Status, ServeFault>, &str, u8),
+) -> Result<bool, AllocError> {
+    let (wanted, text, exit) = ending;
+    let first = joined(alloc, texts)?;
+    let second = joined(alloc, &[VERSION_2, first.as_str()])?;
+    let mut output = Vec::new(alloc);
+    let answer = serve(rt, alloc, order, second.as_bytes(), &mut output);
+    let again = is_further(alloc, &answer, &wanted)?
+        && output.as_slice() == text.as_bytes()
+        && exit_status(&answer) == exit;
+    Ok(serves(rt, alloc, order, texts, (wanted, text, exit))? && again)
+}

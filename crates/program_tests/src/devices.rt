@@ -1,0 +1,164 @@
+//! Readers that fail or are interrupted, and writers that fail: what the commands tell of them.
+pub(super) mod broken;
+
+use crate::commands::{MATCH, serve};
+use crate::texts::{FULL, SMALL, SMALL_JOURNAL, SMALL_SHEET, VERSION_2, joined};
+use broken::{CutReader, CutWriter, InterruptedReader};
+use docket::DocketFault;
+use residency::{Order, ServeFault, Status, exit_status, serve_audit};
+use std::alloc::Global;
+use std::random::RandomSource;
+use std::sync::Wait;
+use std::test::Fail;
+use std::thread::Threads;
+use test_support::randomness::OneByte;
+
+// Each order, with its status and what it writes for a docket with a settled sheet and a journal.
+const ORDERS: [(Order, Status, &str); 3] = [
+    (MATCH, Status::Closed, SMALL_SHEET),
+    (Order::Audit, Status::Stable, "S,stable\n"),
+    (Order::Replay, Status::ReplayGood, "G,9\n"),
+];
+
+// Whether a reader that fails after `cut` bytes is told of, at this record, with nothing written.
+fn tells_of_cut<H: Threads + Wait + RandomSource + Sync + Send + Copy>(
+    rt: H,
+    alloc: Global,
+    order: Order,
+    text: &str,
+    cut: usize,
+    place: u32,
+) -> bool {
+    let mut output = Vec::new(alloc);
+    let answer = serve(
+        rt,
+        alloc,
+        order,
+        CutReader::new(text.as_bytes(), cut),
+        &mut output,
+    );
+    answer == Err(ServeFault::Docket(DocketFault::Read { place }))
+        && output.is_empty()
+        && exit_status(&answer) == 1
+}
+
+// The first count of bytes, up to all, after which a reader fails and this isn't told.
+fn first_untold_cut<H: Threads + Wait + RandomSource + Sync + Send + Copy>(
+    rt: H,
+    alloc: Global,
+    order: Order,
+    text: &str,
+) -> Option<usize> {
+    let mut place = 1;
+    for (cut, byte) in text.as_bytes().iter().enumerate() {
+        if !tells_of_cut(rt, alloc, order, text, cut, place) {
+            return Some(cut);
+        }
+        if *byte == b'\n' {
+            place = place.saturating_add(1);
+        }
+    }
+    if tells_of_cut(rt, alloc, order, text, text.len(), place) {
+        None
+    } else {
+        Some(text.len())
+    }
+}
+
+#[test]
+fn tells_of_broken_readers(rt: HostRuntime) -> Result<(), Fail> {
+    let alloc = rt.alloc();
+    let first = joined(alloc, &[SMALL, FULL, SMALL_JOURNAL, SMALL_SHEET])?;
+    let second = joined(alloc, &[VERSION_2, first.as_str()])?;
+    for text in [first.as_str(), second.as_str()] {
+        for (order, status, _) in ORDERS {
+            assert!(rt; first_untold_cut(rt, alloc, order, text) == None);
+            let reader = CutReader::new(text.as_bytes(), usize::MAX);
+            let mut output = Vec::new(alloc);
+            assert!(rt; serve(rt, alloc, order, reader, &mut output) == Ok(status));
+        }
+    }
+    Ok(())
+}
+
+// Whether a writer that fails after `good` calls is told of, and got a part of the text.
+fn tells_of_cut_output<H: Threads + Wait + RandomSource + Sync + Send + Copy>(
+    rt: H,
+    alloc: Global,
+    order: Order,
+    input: &str,
+    text: &str,
+    good: usize,
+) -> bool {
+    let mut writer = CutWriter::new(Vec::new(alloc), good);
+    let answer = serve(rt, alloc, order, input.as_bytes(), &mut writer);
+    answer == Err(ServeFault::Docket(DocketFault::Write))
+        && exit_status(&answer) == 1
+        && text.as_bytes().starts_with(writer.got())
+}
+
+// Whether a writer that takes all has the text.
+fn writes_all<H: Threads + Wait + RandomSource + Sync + Send + Copy>(
+    rt: H,
+    alloc: Global,
+    order: Order,
+    input: &str,
+    text: &str,
+    wanted: Status,
+    good: usize,
+) -> bool {
+    let mut writer = CutWriter::new(Vec::new(alloc), good);
+    serve(rt, alloc, order, input.as_bytes(), &mut writer) == Ok(wanted)
+        && writer.got() == text.as_bytes()
+}
+
+#[test]
+fn tells_of_broken_writers(rt: HostRuntime) -> Result<(), Fail> {
+    let alloc = rt.alloc();
+    let input = joined(alloc, &[SMALL, FULL, SMALL_JOURNAL, SMALL_SHEET])?;
+    for (order, status, text) in ORDERS {
+        let calls = text.len().div_ceil(3);
+        for good in 0..calls {
+            assert!(rt;
+                tells_of_cut_output(rt, alloc, order, input.as_str(), text, good),
+                "{good}"
+            );
+        }
+        assert!(rt; writes_all(rt, alloc, order, input.as_str(), text, status, calls));
+    }
+    Ok(())
+}
+
+const UNKNOWN_KIND: &str = "Q,a,1\nZ,b\n";
+
+// Audits a docket that is interrupted before each so many bytes.
+fn audit(
+    alloc: Global,
+    text: &str,
+    every: usize,
+    output: &mut Vec<u8>,
+) -> Result<Status, ServeFault> {
+    let reader = InterruptedReader::new(text.as_bytes(), every);
+    serve_audit(&OneByte(7), alloc, reader, output)
+}
+
+#[test]
+fn reads_on_after_an_interruption(rt: HostRuntime) -> Result<(), Fail> {
+    let stable = joined(rt.alloc(), &[SMALL, SMALL_SHEET])?;
+    let unknown = ServeFault::Docket(DocketFault::UnknownKind { place: 2 });
+    let cases = [
+        (stable.as_str(), Ok(Status::Stable), "S,stable\n"),
+        (UNKNOWN_KIND, Err(unknown), ""),
+    ];
+    for (text, wanted, report) in cases {
+        for every in [1, 2, 7] {
+            let mut output = Vec::new(rt.alloc());
+            let answer = audit(rt.alloc(), text, every, &mut output);
+            assert!(rt;
+                answer == wanted && output.as_slice() == report.as_bytes(),
+                "{report}"
+            );
+        }
+    }
+    Ok(())
+}

@@ -1,0 +1,106 @@
+//! Readers that give a byte at a time and may fail or be interrupted, and a writer that may fail.
+use std::io;
+use std::io::{Read, Write};
+
+/// Gives its text byte by byte as far as `cut`, and then an error.
+#[derive(Drop)]
+pub(crate) struct CutReader<'a> {
+    text: &'a [u8],
+    at: usize,
+    cut: usize,
+}
+
+impl<'a> CutReader<'a> {
+    pub(crate) fn new(text: &'a [u8], cut: usize) -> CutReader<'a> {
+        CutReader { text, at: 0, cut }
+    }
+}
+
+impl<'a> Read for CutReader<'a> {
+    fn read(&mut self, buf: &mut [u8]) -> io::Result<usize> {
+        if self.at >= self.cut {
+            return Err(io::Error::from(io::ErrorKind::BrokenPipe));
+        }
+        match (self.text.get(self.at), buf.first_mut()) {
+            (Some(byte), Some(place)) => {
+                *place = *byte;
+                self.at = self.at.saturating_add(1);
+                Ok(1)
+            }
+            _ => Ok(0),
+        }
+    }
+}
+
+/// Gives its text byte by byte, and is interrupted once before each so many bytes.
+#[derive(Drop)]
+pub(crate) struct InterruptedReader<'a> {
+    text: &'a [u8],
+    at: usize,
+    every: usize,
+    // How many reads come before the next interruption.
+    left: usize,
+}
+
+impl<'a> InterruptedReader<'a> {
+    pub(crate) fn new(text: &'a [u8], every: usize) -> InterruptedReader<'a> {
+        InterruptedReader {
+            text,
+            at: 0,
+            every,
+            left: 0,
+        }
+    }
+}
+
+impl<'a> Read for InterruptedReader<'a> {
+    fn read(&mut self, buf: &mut [u8]) -> io::Result<usize> {
+        if self.left == 0 {
+            self.left = self.every;
+            return Err(io::Error::from(io::ErrorKind::Interrupted));
+        }
+        self.left -= 1;
+        match (self.text.get(self.at), buf.first_mut()) {
+            (Some(byte), Some(room)) => {
+                *room = *byte;
+                self.at = self.at.saturating_add(1);
+                Ok(1)
+            }
+            _ => Ok(0),
+        }
+    }
+}
+
+/// Takes three bytes a call, and fails at the call after `good`.
+#[derive(Drop)]
+pub(crate) struct CutWriter {
+    got: Vec<u8>,
+    good: usize,
+}
+
+impl CutWriter {
+    pub(crate) fn new(got: Vec<u8>, good: usize) -> CutWriter {
+        CutWriter { got, good }
+    }
+
+    /// What it took so far.
+    pub(crate) fn got(&self) -> &[u8] {
+        self.got.as_slice()
+    }
+}
+
+impl Write for CutWriter {
+    fn write(&mut self, buf: &[u8]) -> io::Result<usize> {
+        if self.good == 0 {
+            return Err(io::Error::from(io::ErrorKind::BrokenPipe));
+        }
+        self.good -= 1;
+        let most = buf.len().min(3);
+        self.got.extend_from_slice(&buf[..most])?;
+        Ok(most)
+    }
+
+    fn flush(&mut self) -> io::Result<()> {
+        Ok(())
+    }
+}

@@ -1,0 +1,110 @@
+//! Dockets by their bytes.
+mod faults;
+mod forms;
+mod limits;
+mod names;
+mod order;
+mod refused;
+mod versions;
+mod whole;
+mod writing;
+
+use crate::devices::broken::CutReader;
+use crate::texts::{further, joined};
+use docket::{Docket, DocketFault, capacity_of, read_docket};
+use exchange_core::Capacity;
+use std::alloc::{AllocError, Global};
+use test_support::randomness::OneByte;
+
+/// Reads a docket at once.
+fn read(alloc: Global, input: &str) -> Result<Docket, DocketFault> {
+    read_docket(&OneByte(7), alloc, input.as_bytes())
+}
+
+/// Reads a docket byte by byte, by a reader that fails after `cut` bytes.
+fn read_slowly(alloc: Global, input: &str, cut: usize) -> Result<Docket, DocketFault> {
+    read_docket(&OneByte(7), alloc, CutReader::new(input.as_bytes(), cut))
+}
+
+/// Whether this is told of what was read: its fault, or `read`.
+fn is_told(
+    alloc: Global,
+    answer: Result<Docket, DocketFault>,
+    wanted: &str,
+) -> Result<bool, AllocError> {
+    match answer {
+        Ok(_) => Ok(wanted == "read"),
+        Err(fault) => Ok(fault.to_string(alloc)?.as_str() == wanted),
+    }
+}
+
+/// Whether this is told of the docket of these texts, one after another.
+fn tells(alloc: Global, texts: &[&str], wanted: &str) -> Result<bool, AllocError> {
+    let text = joined(alloc, texts)?;
+    is_told(alloc, read(alloc, text.as_str()), wanted)
+}
+
+/// Whether this is told of the docket of these records, parted by spaces, by a reader that gives all at once and by a slow
+/// one.
+fn tells_both(alloc: Global, records: &str, wanted: &str) -> Result<bool, AllocError> {
+    let mut input = records.replace(alloc, " ", "\n")?;
+    input.push_str("\n")?;
+    let at_once = is_told(alloc, read(alloc, input.as_str()), wanted)?;
+    let slowly = is_told(
+        alloc,
+        read_slowly(alloc, input.as_str(), usize::MAX),
+        wanted,
+    )?;
+    Ok(at_once && slowly)
+}
+
+/// The first line of which something else is told than it says, by a reader that gives all at once or by a slow one.
+///
+/// In a line the records of a docket are parted by spaces, and what is told of it stands after ` = `.
+fn first_wrong<'a>(alloc: Global, lines: &'a str) -> Result<Option<&'a str>, AllocError> {
+    for line in lines.lines() {
+        let Some((records, wanted)) = line.split_once(" = ") else {
+            return Ok(Some(line));
+        };
+        if !tells_both(alloc, records, wanted)? {
+            return Ok(Some(line));
+        }
+    }
+    Ok(None)
+}
+
+/// The first line of which something else is told of a docket of version 2 with its records, each one further.
+fn first_wrong_of_version_2<'a>(
+    alloc: Global,
+    lines: &'a str,
+) -> Result<Option<&'a str>, AllocError> {
+    for line in lines.lines() {
+        let Some((records, wanted)) = line.split_once(" = ") else {
+            return Ok(Some(line));
+        };
+        let again = joined(alloc, &["V,2 ", records])?;
+        if !tells_both(alloc, again.as_str(), further(alloc, wanted)?.as_str())? {
+            return Ok(Some(line));
+        }
+    }
+    Ok(None)
+}
+
+#[test]
+fn capacities(rt: HostRuntime) {
+    let cases = [
+        ("full", Some(Capacity::Full)),
+        ("1", Some(Capacity::Each(1))),
+        ("0012", Some(Capacity::Each(12))),
+        ("000001024", Some(Capacity::Each(1024))),
+        ("0", None),
+        ("1025", None),
+        ("0000000001", None),
+        ("+5", None),
+        ("Full", None),
+        ("", None),
+    ];
+    for (text, capacity) in cases {
+        assert!(rt; capacity_of(text.as_bytes()) == capacity, "{text}");
+    }
+}

@@ -1,0 +1,143 @@
+//! One docket in many forms, fields that are no names, and a reader that fails.
+use super::{first_wrong, is_told, read, read_slowly};
+use crate::texts::SMALL;
+use docket::{Docket, DocketFault, read_docket};
+use match_model::{Instance, ProgrammeNo, ResidentNo};
+use std::test::Fail;
+use test_support::events::{A, B, X, Y};
+use test_support::members::{is_programme, is_resident};
+
+// Lines ended by CR and LF, a blank line, and quotes.
+const CR_AND_LF: &str = "Q,\"a\",1\r\nQ,b,1\r\n\r\nP,a,x,y\r\nP,b,y,x\r\nR,x,b,a\r\nR,y,a,b\r\n";
+
+// Lines ended by CR alone, and none at the end.
+const CR_ALONE: &str = "Q,a,1\rQ,b,1\rP,a,x,y\rP,b,y,x\rR,x,b,a\rR,y,a,b";
+
+// A byte order mark, and blank lines.
+const MARK_AND_BLANKS: &str =
+    "\u{feff}\n\nQ,a,1\nQ,b,1\n\r\n\nP,a,x,y\nP,b,y,x\n\r\rR,x,b,a\nR,y,a,b\n\n\n";
+
+const QUOTES: &str =
+    "\"Q\",\"a\",\"1\"\n\"Q\",b,\"1\"\n\"P\",a,x,\"y\"\nP,b,y,x\n\"R\",\"x\",b,a\nR,\"y\",a,b\n";
+
+// Leading zeros, and rows in another order.
+const ANOTHER_ORDER: &str = "R,x,b,a\nP,b,y,x\nQ,a,01\nR,y,a,b\nP,a,x,y\nQ,b,000000001\n";
+
+// Whether a programme of the docket has this name.
+fn is_programme_named(docket: &Docket, programme: ProgrammeNo, name: &str) -> bool {
+    programme.0 < docket.instance().programmes() && docket.programme_name(programme) == name
+}
+
+// Whether a resident of the docket has this name.
+fn is_resident_named(docket: &Docket, resident: ResidentNo, name: &str) -> bool {
+    resident.0 < docket.instance().residents() && docket.resident_name(resident) == name
+}
+
+// Whether the names are those of `SMALL`.
+fn has_small_names(docket: &Docket) -> bool {
+    is_programme_named(docket, A, "a")
+        && is_programme_named(docket, B, "b")
+        && is_resident_named(docket, X, "x")
+        && is_resident_named(docket, Y, "y")
+}
+
+// Whether the instance is that of `SMALL`.
+fn is_small_instance(instance: &Instance) -> bool {
+    instance.programmes() == 2
+        && instance.residents() == 2
+        && is_programme(instance, A, 1, &[X, Y])
+        && is_programme(instance, B, 1, &[Y, X])
+        && is_resident(instance, X, &[B, A])
+        && is_resident(instance, Y, &[A, B])
+}
+
+// Whether what was read is the docket of `SMALL`.
+fn is_small(answer: Result<Docket, DocketFault>) -> bool {
+    match answer {
+        Ok(docket) => has_small_names(&docket) && is_small_instance(docket.instance()),
+        Err(_) => false,
+    }
+}
+
+#[test]
+fn one_docket_in_many_forms(rt: HostRuntime) {
+    for form in [
+        SMALL,
+        CR_AND_LF,
+        CR_ALONE,
+        MARK_AND_BLANKS,
+        QUOTES,
+        ANOTHER_ORDER,
+    ] {
+        assert!(rt; is_small(read(rt.alloc(), form)), "{form}");
+        assert!(rt;
+            is_small(read_slowly(rt.alloc(), form, usize::MAX)),
+            "{form}"
+        );
+    }
+}
+
+// A NUL, bytes above 127, a tab, quotes within fields, lines ended within quotes, an empty field, blank lines, and a byte order mark.
+const FORMS: &str = "\
+Q,a\0,1 = record 1: bad name
+Q,a,1 R,\u{e9} = record 2: bad name
+Q,a\t,1 = record 1: bad name
+Q,\"a b\",1 = record 1: bad name
+Q,\"a\"\"b\",1 = record 1: bad name
+Q,a\"b\",1 = record 1: bad name
+Q,\"\",1 = record 1: bad name
+P,a, = record 1: bad name
+Q,a,1, = record 1: wrong number of fields
+Q,\"a,1 Q,b,1 = record 1: wrong number of fields
+Q,a,1 \0 = record 2: unknown kind of row
+\"\" = record 1: unknown kind of row
+Q,a,1\r\rZ = record 2: unknown kind of row
+  Q,a,1   Z   = record 2: unknown kind of row
+Q,a,1 \u{feff}Q,b,1 = record 2: unknown kind of row
+\u{feff}Z = record 1: unknown kind of row
+\u{feff} = read";
+
+// Bytes that are no text, and what is told of them.
+const BYTES: [(&[u8], &str); 5] = [
+    (b"Q,\xff,1\n", "record 1: bad name"),
+    (b"Q,\x80,1\n", "record 1: bad name"),
+    (b"Q, a,1\n", "record 1: bad name"),
+    (b" \n", "record 1: unknown kind of row"),
+    (b"", "read"),
+];
+
+#[test]
+fn fields_that_are_no_names(rt: HostRuntime) -> Result<(), Fail> {
+    assert!(rt; first_wrong(rt.alloc(), FORMS)? == None);
+    for (input, wanted) in BYTES {
+        assert!(rt;
+            is_told(rt.alloc(), read_docket(&rt, rt.alloc(), input), wanted)?,
+            "{wanted}"
+        );
+    }
+    Ok(())
+}
+
+// After how many bytes of `SMALL` a reader fails, and the record that these don't end.
+const CUTS: [(usize, u32); 9] = [
+    (0, 1),
+    (5, 1),
+    (6, 2),
+    (12, 3),
+    (20, 4),
+    (27, 4),
+    (28, 5),
+    (43, 6),
+    (44, 7),
+];
+
+#[test]
+fn a_reader_that_fails(rt: HostRuntime) {
+    for (cut, place) in CUTS {
+        let answer = read_slowly(rt.alloc(), SMALL, cut);
+        assert!(rt; answer.err() == Some(DocketFault::Read { place }), "{cut}");
+    }
+    // a fault in a record before the failure comes first
+    let answer = read_slowly(rt.alloc(), "Q,a,1\nZ\nQ,b,1\n", 9);
+    assert!(rt; answer.err() == Some(DocketFault::UnknownKind { place: 2 }));
+}

@@ -1,0 +1,169 @@
+//! Each limit, and one more.
+use super::{read, tells};
+use crate::commands::{MATCH, serves};
+use crate::markets::{push_all, push_lists};
+use docket::DocketFault;
+use match_model::ModelFault;
+use residency::ServeFault;
+use std::alloc::{AllocError, Global};
+use std::test::Fail;
+
+// The list of a resident who ranks all of ten programmes, last first.
+const TEN: &str = ",p9,p8,p7,p6,p5,p4,p3,p2,p1,p0\n";
+
+// A docket of numbered records.
+fn numbered(alloc: Global, start: &str, count: u32, end: &str) -> Result<String, AllocError> {
+    let mut text = String::new(alloc);
+    push_all(&mut text, alloc, start, count, end)?;
+    Ok(text)
+}
+
+// Ten programmes and 20,000 residents who all rank one another, the last of them in the records `last`.
+fn ranked(alloc: Global, last: &str) -> Result<String, AllocError> {
+    let mut text = numbered(alloc, "Q,p", 10, ",1\n")?;
+    push_lists(&mut text, alloc)?;
+    push_all(&mut text, alloc, "R,r", 19_999, TEN)?;
+    text.push_str(last)?;
+    Ok(text)
+}
+
+// A capacity and then the same event, in so many records.
+fn closes(alloc: Global, records: u32) -> Result<String, AllocError> {
+    let mut text = String::new(alloc);
+    text.push_str("C,full\n")?;
+    for _ in 1..records {
+        text.push_str("E,close\n")?;
+    }
+    Ok(text)
+}
+
+// As many programmes as there may be, and one more record.
+fn most_programmes_and(alloc: Global, last: &str) -> Result<String, AllocError> {
+    let mut text = numbered(alloc, "Q,p", 2_000, ",10000\n")?;
+    text.push_str(last)?;
+    Ok(text)
+}
+
+#[test]
+fn programmes(rt: HostRuntime) -> Result<(), Fail> {
+    // the quota is told of after the count of programmes, and a name declared twice before it
+    for (last, wanted) in [
+        ("", "read"),
+        ("Q,q,10001\n", "record 2001: more than 2000 programmes"),
+        ("Q,p0,10001\n", "record 2001: declared twice"),
+    ] {
+        let text = most_programmes_and(rt.alloc(), last)?;
+        assert!(rt; tells(rt.alloc(), &[text.as_str()], wanted)?, "{wanted}");
+    }
+    Ok(())
+}
+
+#[test]
+fn residents(rt: HostRuntime) -> Result<(), Fail> {
+    for (count, wanted) in [
+        (20_000, "read"),
+        (20_001, "record 20001: more than 20000 residents"),
+    ] {
+        let text = numbered(rt.alloc(), "R,r", count, "\n")?;
+        assert!(rt; tells(rt.alloc(), &[text.as_str()], wanted)?, "{wanted}");
+    }
+    Ok(())
+}
+
+// How many pairs are acceptable in a docket.
+fn pairs(alloc: Global, input: &str) -> Option<u32> {
+    match read(alloc, input) {
+        Ok(docket) => Some(docket.instance().pairs()),
+        Err(_) => None,
+    }
+}
+
+#[test]
+fn most_pairs(rt: HostRuntime) -> Result<(), Fail> {
+    let text = ranked(rt.alloc(), "R,r19999,p9,p8,p7,p6,p5,p4,p3,p2,p1,p0\n")?;
+    assert!(rt; pairs(rt.alloc(), text.as_str()) == Some(200_000));
+    Ok(())
+}
+
+// The records of the last resident and of an eleventh programme.
+const ELEVENTH: &str =
+    "R,r19999,p9,p8,p7,p6,p5,p4,p3,p2,p1,p0,p10\nQ,p10,0\nP,p10,r19999\nC,full\n";
+
+#[test]
+fn one_pair_too_many(rt: HostRuntime) -> Result<(), Fail> {
+    let text = ranked(rt.alloc(), ELEVENTH)?;
+    let wanted = "record 20023: more than 200000 acceptable pairs";
+    assert!(rt; tells(rt.alloc(), &[text.as_str()], wanted)?);
+    Ok(())
+}
+
+#[test]
+fn quotas(rt: HostRuntime) -> Result<(), Fail> {
+    for (input, wanted) in [
+        ("Q,a,10000\n", "read"),
+        ("Q,a,10001\n", "record 1: quota over 10000"),
+    ] {
+        assert!(rt; tells(rt.alloc(), &[input], wanted)?, "{wanted}");
+    }
+    Ok(())
+}
+
+#[test]
+fn most_records(rt: HostRuntime) -> Result<(), Fail> {
+    let text = closes(rt.alloc(), 2_000_000)?;
+    assert!(rt; tells(rt.alloc(), &[text.as_str()], "read")?);
+    Ok(())
+}
+
+#[test]
+fn one_record_too_many(rt: HostRuntime) -> Result<(), Fail> {
+    let text = closes(rt.alloc(), 2_000_001)?;
+    let wanted = "record 2000001: more than 2000000 records";
+    assert!(rt; tells(rt.alloc(), &[text.as_str()], wanted)?);
+    Ok(())
+}
+
+// What is told of the docket that is beyond each limit.
+const BEYOND: [DocketFault; 5] = [
+    DocketFault::Model {
+        place: 2_001,
+        fault: ModelFault::TooManyProgrammes,
+    },
+    DocketFault::Model {
+        place: 20_001,
+        fault: ModelFault::TooManyResidents,
+    },
+    DocketFault::Model {
+        place: 20_023,
+        fault: ModelFault::TooManyPairs,
+    },
+    DocketFault::Model {
+        place: 1,
+        fault: ModelFault::QuotaTooLarge,
+    },
+    DocketFault::TooManyRecords { place: 2_000_001 },
+];
+
+// The docket beyond a limit, by its place in `BEYOND`.
+fn beyond(alloc: Global, limit: usize) -> Result<String, AllocError> {
+    match limit {
+        0 => most_programmes_and(alloc, "Q,q,10000\n"),
+        1 => numbered(alloc, "R,r", 20_001, "\n"),
+        2 => ranked(alloc, ELEVENTH),
+        3 => numbered(alloc, "Q,q", 1, ",10001\n"),
+        _ => closes(alloc, 2_000_001),
+    }
+}
+
+#[test]
+fn none_is_matched_beyond(rt: HostRuntime) -> Result<(), Fail> {
+    for (limit, fault) in BEYOND.iter().enumerate() {
+        let text = beyond(rt.alloc(), limit)?;
+        let ending = (Err(ServeFault::Docket(*fault)), "", 3);
+        assert!(rt;
+            serves(rt, rt.alloc(), MATCH, &[text.as_str()], ending)?,
+            "{fault}"
+        );
+    }
+    Ok(())
+}

@@ -1,0 +1,117 @@
+//! Dockets that are at fault or lack something: each command tells it, and writes nothing.
+use crate::commands::{MATCH, serves, serves_both};
+use crate::texts::{CLOSE, FULL, SMALL, SMALL_SHEET, THREE, VERSION_2};
+use docket::DocketFault;
+use match_model::ModelFault;
+use residency::{Order, ServeFault, Status};
+use std::test::Fail;
+
+// Faults of each pass of reading; the last four are of the small docket, cut after 3, 20, 34 and 35 bytes.
+const FAULTS: [(&[&str], DocketFault); 17] = [
+    (&["Q,a,1\nQ,b,x\n"], DocketFault::BadQuota { place: 2 }),
+    (&["Q,a\n"], DocketFault::FieldCount { place: 1 }),
+    (&["Z,a\n"], DocketFault::UnknownKind { place: 1 }),
+    (&["Q,a/b,1\n"], DocketFault::BadName { place: 1 }),
+    (&["Q,a,\n"], DocketFault::BadQuota { place: 1 }),
+    (&["Q,a,1\nQ,a,2\n"], DocketFault::DeclaredTwice { place: 2 }),
+    (&["Q,a,1\nP,b\n"], DocketFault::UnknownName { place: 2 }),
+    (&["M,x,a\n"], DocketFault::UnknownName { place: 1 }),
+    (&[CLOSE], DocketFault::BadEvent { place: 1 }),
+    (
+        &["Q,a,1\nR,x,a\nF,a,0,1\n"],
+        DocketFault::BadSheet { place: 3 },
+    ),
+    (
+        &["Q,a,1\nP,a,x,x\nR,x,a\n"],
+        DocketFault::Model {
+            place: 2,
+            fault: ModelFault::ListedTwice,
+        },
+    ),
+    (
+        &[SMALL, "M,x,a\nM,y,b\nF,a,2,1\nF,b,1,1\n"],
+        DocketFault::BadSheet { place: 9 },
+    ),
+    (
+        &[SMALL, SMALL_SHEET, FULL, "E,offer,a,z\n"],
+        DocketFault::UnknownName { place: 12 },
+    ),
+    (&["Q,a"], DocketFault::FieldCount { place: 1 }),
+    (&[THREE], DocketFault::UnknownName { place: 3 }),
+    (
+        &[THREE, "P,b,y,x\nR,x,b,"],
+        DocketFault::BadName { place: 5 },
+    ),
+    (
+        &[THREE, "P,b,y,x\nR,x,b,a"],
+        DocketFault::UnknownName { place: 3 },
+    ),
+];
+
+#[test]
+fn tells_faults_of_reading(rt: HostRuntime) -> Result<(), Fail> {
+    for (texts, fault) in FAULTS {
+        for order in [MATCH, Order::Audit, Order::Replay] {
+            let ending = (Err(ServeFault::Docket(fault)), "", 3);
+            assert!(rt;
+                serves_both(rt, rt.alloc(), order, texts, ending)?,
+                "{fault}"
+            );
+        }
+    }
+    Ok(())
+}
+
+#[test]
+fn tells_what_a_docket_lacks(rt: HostRuntime) -> Result<(), Fail> {
+    for (order, fault) in [
+        (Order::Audit, ServeFault::NoSheet),
+        (Order::Replay, ServeFault::NoJournal),
+    ] {
+        assert!(rt; serves_both(rt, rt.alloc(), order, &[SMALL], (Err(fault), "", 3))?);
+    }
+    Ok(())
+}
+
+// The small docket of version 2 without one programme, cut where it is at fault.
+const CUTS: [(&[&str], DocketFault); 6] = [
+    (&["V"], DocketFault::FieldCount { place: 1 }),
+    (&["V,"], DocketFault::BadVersion { place: 1 }),
+    (
+        &[VERSION_2, SMALL, "W"],
+        DocketFault::FieldCount { place: 8 },
+    ),
+    (
+        &[VERSION_2, SMALL, "W,"],
+        DocketFault::FieldCount { place: 8 },
+    ),
+    (
+        &[VERSION_2, SMALL, "W,P"],
+        DocketFault::FieldCount { place: 8 },
+    ),
+    (
+        &[VERSION_2, SMALL, "W,P,"],
+        DocketFault::BadName { place: 8 },
+    ),
+];
+
+#[test]
+fn cuts_of_version_2(rt: HostRuntime) -> Result<(), Fail> {
+    for (texts, fault) in CUTS {
+        for order in [MATCH, Order::Audit, Order::Replay] {
+            let ending = (Err(ServeFault::Docket(fault)), "", 3);
+            assert!(rt; serves(rt, rt.alloc(), order, texts, ending)?, "{fault}");
+        }
+    }
+    for (texts, sheet) in [
+        (&["V,2"] as &[&str], ""),
+        (
+            &[VERSION_2, SMALL, "W,P,b"],
+            "M,x,a\nU,y\nF,a,1,1\nF,b,0,1\n",
+        ),
+    ] {
+        let ending = (Ok(Status::Closed), sheet, 0);
+        assert!(rt; serves(rt, rt.alloc(), MATCH, texts, ending)?, "{sheet}");
+    }
+    Ok(())
+}

@@ -1,0 +1,103 @@
+//! Dockets of version 2: their faults, and whom they withdraw.
+use super::{first_wrong, read};
+use crate::texts::{SMALL, VERSION_2, joined};
+use match_model::{Instance, ProgrammeNo, ResidentNo};
+use std::alloc::{AllocError, Global};
+use std::test::Fail;
+use test_support::events::{A, B, X, Y};
+
+const VERSIONS: &str = "\
+V,3 = record 1: unknown version
+V,x = record 1: unknown version
+V = record 1: wrong number of fields
+Q,a,1 V,2 = record 2: unknown kind of row
+V,2 = read
+V,2,2 = record 1: wrong number of fields
+V,02 = record 1: unknown version
+V, = record 1: unknown version
+V,3 Z = record 1: unknown version
+V,2 V,2 = record 2: unknown kind of row
+V,2 V,3 = record 2: unknown kind of row
+v,2 = record 1: unknown kind of row";
+
+const WITHDRAWALS: &str = "\
+W,P,a = record 1: unknown kind of row
+W = record 1: unknown kind of row
+W,x = record 1: unknown kind of row
+Q,a,1 W,P,a = record 2: unknown kind of row
+Q,a,1 W,Q,/ = record 2: unknown kind of row
+V,2 W,Q,a = record 2: bad withdrawal row
+V,2 W,P,a = record 2: unknown name
+V,2 Q,a,1 W,P,a W,P,a = record 4: declared twice
+V,2 W = record 2: wrong number of fields
+V,2 W,P = record 2: wrong number of fields
+V,2 W,Q,/,a = record 2: wrong number of fields
+V,2 W,Q,/ = record 2: bad withdrawal row
+V,2 W,,a = record 2: bad withdrawal row
+V,2 W,p,a = record 2: bad withdrawal row
+V,2 W,P, = record 2: bad name
+V,2 W,R,a/b = record 2: bad name
+V,2 R,x W,R,x W,R,x = record 4: declared twice";
+
+const AMONG_RECORDS: &str = "\
+V,2 W,P,a Q,a,1 = read
+V,2 W,R,x R,x = read
+V,2 Q,a,1 R,a W,P,a W,R,a = read
+V,2 R,x W,P,x = record 3: unknown name
+V,2 Q,a,1 W,R,a = record 3: unknown name
+V,2 W,P,a P,b = record 2: unknown name
+V,2 P,b W,P,a = record 2: unknown name
+V,2 W,P,a W,P,a Z = record 3: declared twice
+V,2 W,R,z M,x,a = record 2: unknown name
+V,2 W,R,z R,x,a,a = record 2: unknown name
+V,2 Q,a,1 R,x W,P,a P,a,x,x = record 5: a name is listed twice
+V,2 Q,a,1 R,x W,R,x P,a,x,x = record 5: a name is listed twice
+V,2 Q,a,1 R,x W,R,x U,x F,a,0,1 = read
+V,2 Q,a,1 R,x W,R,x F,a,0,1 = record 5: bad sheet";
+
+#[test]
+fn faults_of_version_2(rt: HostRuntime) -> Result<(), Fail> {
+    for lines in [VERSIONS, WITHDRAWALS, AMONG_RECORDS] {
+        assert!(rt; first_wrong(rt.alloc(), lines)? == None);
+    }
+    Ok(())
+}
+
+// Whether the instance says this of a programme.
+fn is_programme_gone(instance: &Instance, programme: ProgrammeNo, gone: bool) -> bool {
+    programme.0 < instance.programmes() && instance.programme_withdrawn(programme) == gone
+}
+
+// Whether the instance says this of a resident.
+fn is_resident_gone(instance: &Instance, resident: ResidentNo, gone: bool) -> bool {
+    resident.0 < instance.residents() && instance.resident_withdrawn(resident) == gone
+}
+
+// Whether these of the small docket's members are withdrawn, where these rows stand at its end.
+fn withdraws(alloc: Global, rows: &str, gone: [bool; 4]) -> Result<bool, AllocError> {
+    let text = joined(alloc, &[VERSION_2, SMALL, rows])?;
+    let [a, b, x, y] = gone;
+    match read(alloc, text.as_str()) {
+        Ok(docket) => Ok(
+            is_programme_gone(docket.instance(), A, a)
+                && is_programme_gone(docket.instance(), B, b)
+                && is_resident_gone(docket.instance(), X, x)
+                && is_resident_gone(docket.instance(), Y, y),
+        ),
+        Err(_) => Ok(false),
+    }
+}
+
+#[test]
+fn who_is_withdrawn(rt: HostRuntime) -> Result<(), Fail> {
+    for (rows, gone) in [
+        ("", [false, false, false, false]),
+        ("W,P,b\n", [false, true, false, false]),
+        ("W,R,x\n", [false, false, true, false]),
+        ("W,R,y\nW,P,a\n", [true, false, false, true]),
+        ("W,P,a\nW,P,b\nW,R,x\nW,R,y\n", [true, true, true, true]),
+    ] {
+        assert!(rt; withdraws(rt.alloc(), rows, gone)?, "{rows}");
+    }
+    Ok(())
+}

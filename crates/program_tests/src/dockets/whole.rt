@@ -1,0 +1,73 @@
+//! A docket read whole.
+use super::read;
+use crate::texts::{FULL, OTHER_SHEET, SMALL, SMALL_JOURNAL, joined};
+use docket::{Docket, Journal};
+use exchange_core::Capacity;
+use match_model::Assignment;
+use std::alloc::{AllocError, Global};
+use std::test::Fail;
+use test_support::events::{A, B, X, Y, nine_events};
+
+// Whether the sheet is that of `OTHER_SHEET`.
+fn is_right_sheet(sheet: &Assignment) -> bool {
+    sheet.len() == 2 && sheet.get(X) == Some(B) && sheet.get(Y) == Some(A)
+}
+
+// Whether the journal is that of `SMALL_JOURNAL`.
+fn is_right_journal(journal: &Journal) -> bool {
+    journal.capacity == Capacity::Full && journal.events.as_slice() == nine_events().as_slice()
+}
+
+// Whether each part of the docket is right.
+fn is_whole(docket: &Docket) -> bool {
+    let (Some(sheet), Some(journal)) = (docket.sheet(), docket.journal()) else {
+        return false;
+    };
+    docket.instance().pairs() == 4 && is_right_sheet(sheet) && is_right_journal(journal)
+}
+
+// Whether what is read of the texts, one after another, has each part.
+fn reads_whole(alloc: Global, texts: &[&str]) -> Result<bool, AllocError> {
+    let text = joined(alloc, texts)?;
+    match read(alloc, text.as_str()) {
+        Ok(docket) => Ok(is_whole(&docket)),
+        Err(_) => Ok(false),
+    }
+}
+
+// How many places the sheet has, if there is one, and whether there is a journal.
+fn parts(alloc: Global, input: &str) -> Option<(Option<u32>, bool)> {
+    match read(alloc, input) {
+        Ok(docket) => Some((
+            docket.sheet().map(|sheet| sheet.len()),
+            docket.journal().is_some(),
+        )),
+        Err(_) => None,
+    }
+}
+
+#[test]
+fn reads_a_docket_whole(rt: HostRuntime) -> Result<(), Fail> {
+    // the rows of the three parts in two orders
+    for texts in [
+        [SMALL, FULL, SMALL_JOURNAL, OTHER_SHEET],
+        [OTHER_SHEET, FULL, SMALL_JOURNAL, SMALL],
+    ] {
+        assert!(rt; reads_whole(rt.alloc(), texts.as_slice())?);
+    }
+    Ok(())
+}
+
+#[test]
+fn reads_what_a_docket_lacks(rt: HostRuntime) {
+    // where nobody is declared, the sheet is the one without rows
+    for (input, wanted) in [
+        (SMALL, (None, false)),
+        ("", (Some(0), false)),
+        ("C,7\n", (Some(0), true)),
+        ("Q,a,1\nC,7\n", (None, true)),
+        ("U,x\nR,x\n", (Some(1), false)),
+    ] {
+        assert!(rt; parts(rt.alloc(), input) == Some(wanted), "{input}");
+    }
+}

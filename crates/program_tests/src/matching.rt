@@ -1,0 +1,103 @@
+//! Matches: their sheets, of all members and of who is left, and their journals.
+mod journals;
+mod large;
+mod withdrawn;
+
+use crate::commands::{MATCH, NARROW, WITH_JOURNAL, serves, serves_both};
+use crate::texts::{
+    CHAIN, FULL, ONE_SIDED, OTHER_SHEET, QUOTAS, QUOTAS_SHEET, SMALL, SMALL_JOURNAL, SMALL_SHEET,
+    THREE,
+};
+use exchange_core::Capacity;
+use match_pool::RunFault;
+use residency::{JournalForm, MatchOptions, Order, ServeFault, Status};
+use std::test::Fail;
+
+#[test]
+fn matches(rt: HostRuntime) -> Result<(), Fail> {
+    let cases: [(&[&str], &str); 10] = [
+        (&[SMALL], SMALL_SHEET),
+        // the same without its last byte
+        (&[THREE, "P,b,y,x\nR,x,b,a\nR,y,a,b"], SMALL_SHEET),
+        (&[QUOTAS], QUOTAS_SHEET),
+        (&[], ""),
+        (
+            &["Q,a,0\nQ,b,1\nP,a,x\nP,b,x\nR,x,a,b\n"],
+            "M,x,b\nF,a,0,0\nF,b,1,1\n",
+        ),
+        (&[ONE_SIDED], "U,x\nF,a,0,1\n"),
+        (
+            &["Q,a,2\nQ,b,1\nP,a,x\nP,b,x,y\nR,x,b,a\nR,y,b\n"],
+            "M,x,b\nU,y\nF,a,0,2\nF,b,1,1\n",
+        ),
+        (&[SMALL, FULL, SMALL_JOURNAL, OTHER_SHEET], SMALL_SHEET),
+        (&[CHAIN], "M,x,d\nF,a,0,1\nF,b,0,1\nF,c,0,1\nF,d,1,1\n"),
+        (
+            &["Q,\"a\",1\r\nQ,b,1\r\n\r\nP,a,x,y\r\nP,b,y,x\r\nR,x,b,a\r\nR,y,a,b\r\n"],
+            SMALL_SHEET,
+        ),
+    ];
+    for (texts, sheet) in cases {
+        let ending = (Ok(Status::Closed), sheet, 0);
+        assert!(rt;
+            serves_both(rt, rt.alloc(), MATCH, texts, ending)?,
+            "{sheet}"
+        );
+    }
+    Ok(())
+}
+
+#[test]
+fn matches_through_narrow_mailboxes(rt: HostRuntime) -> Result<(), Fail> {
+    for (text, sheet) in [(QUOTAS, QUOTAS_SHEET), (SMALL, SMALL_SHEET)] {
+        let ending = (Ok(Status::Closed), sheet, 0);
+        assert!(rt;
+            serves_both(rt, rt.alloc(), NARROW, &[text], ending)?,
+            "{sheet}"
+        );
+    }
+    Ok(())
+}
+
+#[test]
+fn refuses_wrong_options(rt: HostRuntime) -> Result<(), Fail> {
+    let cases = [
+        (0, Capacity::Full, RunFault::BadWorkers),
+        (9, Capacity::Full, RunFault::BadWorkers),
+        (2, Capacity::Each(0), RunFault::BadCapacity),
+        (2, Capacity::Each(1025), RunFault::BadCapacity),
+    ];
+    for (workers, capacity, fault) in cases {
+        let order = Order::Match(MatchOptions {
+            workers,
+            capacity,
+            journal: JournalForm::Absent,
+        });
+        let ending = (Err(ServeFault::Run(fault)), "", 1);
+        assert!(rt;
+            serves(rt, rt.alloc(), order, &[SMALL], ending)?,
+            "{workers}"
+        );
+    }
+    Ok(())
+}
+
+#[test]
+fn writes_the_journal_of_nothing(rt: HostRuntime) -> Result<(), Fail> {
+    let ending = (Ok(Status::Closed), "C,full\nE,close\n", 0);
+    assert!(rt; serves_both(rt, rt.alloc(), WITH_JOURNAL, &[], ending)?);
+    Ok(())
+}
+
+const ALONE_BY_WORKER: Order = Order::Match(MatchOptions {
+    workers: 1,
+    capacity: Capacity::Full,
+    journal: JournalForm::ByWorker,
+});
+
+#[test]
+fn writes_the_journal_of_nothing_by_worker(rt: HostRuntime) -> Result<(), Fail> {
+    let ending = (Ok(Status::Closed), "C,full,1\nE,close,0\n", 0);
+    assert!(rt; serves(rt, rt.alloc(), ALONE_BY_WORKER, &[], ending)?);
+    Ok(())
+}

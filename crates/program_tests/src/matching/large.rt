@@ -1,0 +1,116 @@
+//! Matches that are held up on their way, and matches of dockets as large as there may be.
+use super::journals::{is_good, matched};
+use crate::commands::{MATCH, NARROW, serve};
+use crate::markets::{in_one_order, sheet_in_one_order, widest};
+use crate::texts::{SMALL, SMALL_SHEET, rows};
+use exchange_core::Capacity;
+use residency::{JournalForm, MatchOptions, Order, ServeFault, Status, serve_match};
+use std::alloc::{AllocError, Global};
+use std::random::RandomSource;
+use std::sync::Wait;
+use std::test::Fail;
+use std::thread::Threads;
+use test_support::gates::{Firm, Held};
+
+// Runs a match through a gate that holds a pass.
+fn matched_through<H: Threads + Wait + RandomSource + Sync + Send + Copy>(
+    rt: H,
+    alloc: Global,
+    text: &str,
+    firm: &Firm,
+    output: &mut Vec<u8>,
+) -> Result<Status, ServeFault> {
+    serve_match(
+        rt,
+        alloc,
+        text.as_bytes(),
+        output,
+        &MatchOptions::default(),
+        firm,
+    )
+}
+
+// How many events both workers have entered, where the gate held its pass and each has entered some.
+fn seen(held: &Held) -> Option<u64> {
+    let (first, second) = (held.count(0), held.count(1));
+    if held.has_held() && first > 0 && second > 0 {
+        Some(first.saturating_add(second))
+    } else {
+        None
+    }
+}
+
+#[test]
+fn two_at_once(rt: HostRuntime) {
+    let firm = Firm(Held::new(0));
+    let mut output = Vec::new(rt.alloc());
+    let status = matched_through(rt, rt.alloc(), SMALL, &firm, &mut output);
+    assert!(rt; status == Ok(Status::Closed));
+    assert!(rt; output.as_slice() == SMALL_SHEET.as_bytes());
+    assert!(rt; seen(&firm.0) == Some(9));
+}
+
+// Whether a sheet has a row for each of 20,000 residents and of 2,000 programmes, and no other.
+fn is_widest_sheet(sheet: &[u8]) -> bool {
+    let residents = rows(sheet, "M,").saturating_add(rows(sheet, "U,"));
+    residents == 20_000 && rows(sheet, "F,") == 2_000 && rows(sheet, "") == 22_000
+}
+
+// Whether a sheet that was written, appended to its docket, is read and stable.
+fn is_stable<H: Threads + Wait + RandomSource + Sync + Send + Copy>(
+    rt: H,
+    alloc: Global,
+    text: &str,
+    sheet: &[u8],
+) -> Result<bool, AllocError> {
+    let mut docket = text.as_bytes().to_vec(alloc)?;
+    docket.extend_from_slice(sheet)?;
+    let mut report = Vec::new(alloc);
+    let status = serve(rt, alloc, Order::Audit, docket.as_slice(), &mut report);
+    Ok(status == Ok(Status::Stable) && report.as_slice() == b"S,stable\n".as_slice())
+}
+
+#[test]
+fn the_widest_docket(rt: HostRuntime) -> Result<(), Fail> {
+    let text = widest(rt.alloc())?;
+    let firm = Firm(Held::new(9_999));
+    let mut output = Vec::new(rt.alloc());
+    let status = matched_through(rt, rt.alloc(), text.as_str(), &firm, &mut output);
+    assert!(rt; status == Ok(Status::Closed));
+    assert!(rt; seen(&firm.0).is_some());
+    assert!(rt; is_widest_sheet(output.as_slice()));
+    assert!(rt; is_stable(rt, rt.alloc(), text.as_str(), output.as_slice())?);
+    Ok(())
+}
+
+// A mailbox with as many places as there may be, and the journal.
+const ROOMY: Order = Order::Match(MatchOptions {
+    workers: 2,
+    capacity: Capacity::Each(1_024),
+    journal: JournalForm::Plain,
+});
+
+#[test]
+fn all_in_one_order(rt: HostRuntime) -> Result<(), Fail> {
+    let text = in_one_order(rt.alloc())?;
+    let sheet = sheet_in_one_order(rt.alloc())?;
+    for order in [MATCH, NARROW] {
+        let mut output = Vec::new(rt.alloc());
+        let status = serve(rt, rt.alloc(), order, text.as_bytes(), &mut output);
+        assert!(rt; status == Ok(Status::Closed));
+        assert!(rt; output.as_slice() == sheet.as_bytes());
+    }
+    Ok(())
+}
+
+#[test]
+fn the_journal_of_all_in_one_order(rt: HostRuntime) -> Result<(), Fail> {
+    let text = in_one_order(rt.alloc())?;
+    let sheet = sheet_in_one_order(rt.alloc())?;
+    let Some(written) = matched(rt, rt.alloc(), ROOMY, text.as_str()) else {
+        return Err(Fail::from("the match isn't closed"));
+    };
+    assert!(rt; written.as_slice().starts_with(sheet.as_bytes()));
+    assert!(rt; is_good(rt, rt.alloc(), text.as_str(), written.as_slice())?);
+    Ok(())
+}

@@ -1,0 +1,45 @@
+//! Matches of dockets that withdraw some of their members.
+use crate::commands::{MATCH, NARROW, serves};
+use crate::texts::{QUOTAS, SMALL, UNLISTED, VERSION_2};
+use residency::Status;
+use std::test::Fail;
+
+const MATCHES: [(&[&str], &str); 7] = [
+    (
+        &[VERSION_2, QUOTAS, "W,P,b\n"],
+        "M,x,a\nM,y,a\nU,z\nF,a,2,2\nF,b,0,1\n",
+    ),
+    (
+        &[VERSION_2, "W,P,b\n", QUOTAS],
+        "M,x,a\nM,y,a\nU,z\nF,a,2,2\nF,b,0,1\n",
+    ),
+    (
+        &[VERSION_2, QUOTAS, "W,R,x\n"],
+        "U,x\nM,y,a\nM,z,a\nF,a,2,2\nF,b,0,1\n",
+    ),
+    // everybody, and all of one side
+    (
+        &[VERSION_2, QUOTAS, "W,P,a\nW,P,b\nW,R,x\nW,R,y\nW,R,z\n"],
+        "U,x\nU,y\nU,z\nF,a,0,2\nF,b,0,1\n",
+    ),
+    (
+        &[VERSION_2, QUOTAS, "W,P,b\nW,P,a\n"],
+        "U,x\nU,y\nU,z\nF,a,0,2\nF,b,0,1\n",
+    ),
+    (
+        &[VERSION_2, SMALL, UNLISTED, "W,P,c\nW,R,z\n"],
+        "M,x,a\nM,y,b\nU,z\nF,a,1,1\nF,b,1,1\nF,c,0,1\n",
+    ),
+    (&[VERSION_2], ""),
+];
+
+#[test]
+fn matches_who_is_left(rt: HostRuntime) -> Result<(), Fail> {
+    for (texts, sheet) in MATCHES {
+        for order in [MATCH, NARROW] {
+            let ending = (Ok(Status::Closed), sheet, 0);
+            assert!(rt; serves(rt, rt.alloc(), order, texts, ending)?, "{sheet}");
+        }
+    }
+    Ok(())
+}

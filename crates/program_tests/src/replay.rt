@@ -1,0 +1,310 @@
+//! Replays of good, bad and forged journals, of those by worker, and of those from before a withdrawal.
+use crate::commands::{serves, serves_both};
+use crate::texts::{
+    CLOSE, EIGHT_BY_TWO, ELEVEN, FULL, OTHER_SHEET, QUOTAS, SMALL, SMALL_JOURNAL, SMALL_SHEET,
+    TO_EIGHTEEN, TO_THIRTEEN, UNLISTED, VERSION_2,
+};
+use docket::DocketFault;
+use residency::{Order, ServeFault, Status};
+use std::alloc::{AllocError, Global};
+use std::test::Fail;
+
+#[test]
+fn replays_good_journals(rt: HostRuntime) -> Result<(), Fail> {
+    let cases: [(&[&str], &str); 5] = [
+        (
+            &[QUOTAS, FULL, ELEVEN, TO_THIRTEEN, TO_EIGHTEEN, CLOSE],
+            "G,19\n",
+        ),
+        (
+            &[QUOTAS, "C,3\n", ELEVEN, TO_THIRTEEN, TO_EIGHTEEN, CLOSE],
+            "G,19\n",
+        ),
+        (&[SMALL, FULL, SMALL_JOURNAL, SMALL_SHEET], "G,9\n"),
+        (&[SMALL, "C,1\n", SMALL_JOURNAL, SMALL_SHEET], "G,9\n"),
+        (&[SMALL, "C,1024\n", SMALL_JOURNAL], "G,9\n"),
+    ];
+    for (texts, row) in cases {
+        let ending = (Ok(Status::ReplayGood), row, 0);
+        assert!(rt;
+            serves_both(rt, rt.alloc(), Order::Replay, texts, ending)?,
+            "{row}"
+        );
+    }
+    Ok(())
+}
+
+// Journals that are refused, each with what is told of it.
+const REFUSED: [(&[&str], &str); 15] = [
+    (&[QUOTAS, FULL, "E,take,x,a\n"], "N,1,nothing-waiting\n"),
+    (
+        &[QUOTAS, FULL, ELEVEN, TO_THIRTEEN, CLOSE],
+        "N,14,still-pending,answers,a\n",
+    ),
+    (
+        &[QUOTAS, FULL, ELEVEN, "E,hear,a,x,release\n"],
+        "N,12,wrong-front\n",
+    ),
+    (
+        &[
+            QUOTAS,
+            FULL,
+            ELEVEN,
+            TO_THIRTEEN,
+            TO_EIGHTEEN,
+            CLOSE,
+            "E,take,x,a\n",
+        ],
+        "N,20,closed\n",
+    ),
+    (
+        &[QUOTAS, "C,1\nE,offer,a,x\nE,offer,b,x\n"],
+        "N,2,mailbox-full\n",
+    ),
+    (&[QUOTAS, "C,2\n", ELEVEN], "N,10,mailbox-full\n"),
+    (
+        &[
+            QUOTAS,
+            FULL,
+            "E,offer,a,x\nE,offer,b,x\nE,take,x,a\nE,answer,x,a,hold\nE,take,x,b\nE,answer,x,b,decline\n",
+        ],
+        "N,6,not-due\n",
+    ),
+    (&[SMALL, FULL, SMALL_JOURNAL, OTHER_SHEET], "D,x\n"),
+    (
+        &[QUOTAS, FULL, ELEVEN, TO_THIRTEEN, TO_EIGHTEEN],
+        "N,19,not-closed\n",
+    ),
+    (&[QUOTAS, FULL, "E,offer,a,y\n"], "N,1,not-next\n"),
+    (
+        &[SMALL, FULL, "E,offer,a,x\nE,offer,a,y\n"],
+        "N,2,no-place\n",
+    ),
+    (
+        &[
+            QUOTAS,
+            FULL,
+            "E,offer,a,x\nE,offer,b,x\nE,take,x,a\nE,take,x,b\n",
+        ],
+        "N,4,answer-due\n",
+    ),
+    (&[SMALL, FULL, CLOSE], "N,1,still-pending,wish,a\n"),
+    (
+        &[SMALL, FULL, "E,offer,a,x\n", CLOSE],
+        "N,2,still-pending,offers,x\n",
+    ),
+    (
+        &[SMALL, FULL, "E,offer,a,x\nE,take,x,a\n", CLOSE],
+        "N,3,still-pending,due,x\n",
+    ),
+];
+
+#[test]
+fn replays_bad_journals(rt: HostRuntime) -> Result<(), Fail> {
+    for (texts, row) in REFUSED {
+        let ending = (Ok(Status::ReplayBad), row, 4);
+        assert!(rt;
+            serves_both(rt, rt.alloc(), Order::Replay, texts, ending)?,
+            "{row}"
+        );
+    }
+    Ok(())
+}
+
+// The events of a journal of the small docket.
+const NINE: [&str; 9] = [
+    "E,offer,a,x\n",
+    "E,offer,b,y\n",
+    "E,take,x,a\n",
+    "E,take,y,b\n",
+    "E,answer,x,a,hold\n",
+    "E,answer,y,b,hold\n",
+    "E,hear,a,x,hold\n",
+    "E,hear,b,y,hold\n",
+    "E,close\n",
+];
+
+// A journal that has these of the nine events, counted from 0, and for another number an event of no kind.
+fn journal_of(alloc: Global, events: &[usize]) -> Result<String, AllocError> {
+    let mut journal = FULL.to_string(alloc)?;
+    for event in events {
+        journal.push_str(NINE.get(*event).copied().unwrap_or("E,none\n"))?;
+    }
+    Ok(journal)
+}
+
+// Which events a journal of the small docket has, and what is told of it.
+const FORGED: [(&[usize], Status, &str, u8); 7] = [
+    (&[0, 1, 2, 3, 4, 5, 6, 7, 8], Status::ReplayGood, "G,9\n", 0),
+    (
+        &[0, 1, 2, 3, 4, 5, 6, 8],
+        Status::ReplayBad,
+        "N,8,still-pending,answers,b\n",
+        4,
+    ),
+    (
+        &[0, 1, 2, 3, 5, 6, 7, 8],
+        Status::ReplayBad,
+        "N,6,nothing-waiting\n",
+        4,
+    ),
+    (
+        &[0, 1, 2, 2, 3, 4, 5, 6, 7, 8],
+        Status::ReplayBad,
+        "N,4,answer-due\n",
+        4,
+    ),
+    (
+        &[0, 1, 4, 3, 2, 5, 6, 7, 8],
+        Status::ReplayBad,
+        "N,3,not-due\n",
+        4,
+    ),
+    (&[1, 0, 2, 3, 4, 5, 6, 7, 8], Status::ReplayGood, "G,9\n", 0),
+    (&[0, 1, 2, 3, 4], Status::ReplayBad, "N,6,not-closed\n", 4),
+];
+
+#[test]
+fn sees_forged_journals(rt: HostRuntime) -> Result<(), Fail> {
+    for (events, status, row, exit) in FORGED {
+        let journal = journal_of(rt.alloc(), events)?;
+        let texts = [SMALL, journal.as_str()];
+        let ending = (Ok(status), row, exit);
+        assert!(rt;
+            serves_both(rt, rt.alloc(), Order::Replay, &texts, ending)?,
+            "{row}"
+        );
+    }
+    Ok(())
+}
+
+#[test]
+fn replays_journals_by_worker(rt: HostRuntime) -> Result<(), Fail> {
+    let cases: [(&[&str], Status, &str, u8); 5] = [
+        (
+            &[SMALL, EIGHT_BY_TWO, "E,close,0\n"],
+            Status::ReplayGood,
+            "G,9\nK,0,5\nK,1,4\n",
+            0,
+        ),
+        (
+            &[SMALL, EIGHT_BY_TWO, "E,close,1\n", SMALL_SHEET],
+            Status::ReplayGood,
+            "G,9\nK,0,4\nK,1,5\n",
+            0,
+        ),
+        (
+            &["C,full,3\nE,close,1\n"],
+            Status::ReplayGood,
+            "G,1\nK,0,0\nK,1,1\nK,2,0\n",
+            0,
+        ),
+        (
+            &[SMALL, EIGHT_BY_TWO],
+            Status::ReplayBad,
+            "N,9,not-closed\n",
+            4,
+        ),
+        (
+            &[SMALL, EIGHT_BY_TWO, "E,close,0\n", OTHER_SHEET],
+            Status::ReplayBad,
+            "D,x\n",
+            4,
+        ),
+    ];
+    for (texts, status, rows, exit) in cases {
+        let ending = (Ok(status), rows, exit);
+        assert!(rt;
+            serves(rt, rt.alloc(), Order::Replay, texts, ending)?,
+            "{rows}"
+        );
+    }
+    Ok(())
+}
+
+#[test]
+fn refuses_wrong_workers(rt: HostRuntime) -> Result<(), Fail> {
+    let cases: [(&[&str], DocketFault); 4] = [
+        (
+            &[SMALL, EIGHT_BY_TWO, "E,close,2\n"],
+            DocketFault::BadEvent { place: 16 },
+        ),
+        (
+            &[SMALL, EIGHT_BY_TWO, "E,close\n"],
+            DocketFault::FieldCount { place: 16 },
+        ),
+        (
+            &[SMALL, EIGHT_BY_TWO, "E,close,0,0\n"],
+            DocketFault::FieldCount { place: 16 },
+        ),
+        (
+            &[SMALL, "C,full,9\n", "E,close,0\n"],
+            DocketFault::BadEvent { place: 7 },
+        ),
+    ];
+    for (texts, fault) in cases {
+        let ending = (Err(ServeFault::Docket(fault)), "", 3);
+        assert!(rt;
+            serves(rt, rt.alloc(), Order::Replay, texts, ending)?,
+            "{fault}"
+        );
+    }
+    Ok(())
+}
+
+// Journals from before a withdrawal: the first offer by or to whom is withdrawn is of nobody who is next.
+const REPLAYS: [(&[&str], Status, &str, u8); 3] = [
+    (
+        &[
+            VERSION_2,
+            QUOTAS,
+            "W,P,b\n",
+            FULL,
+            ELEVEN,
+            TO_THIRTEEN,
+            TO_EIGHTEEN,
+            CLOSE,
+        ],
+        Status::ReplayBad,
+        "N,7,not-next\n",
+        4,
+    ),
+    (
+        &[
+            VERSION_2,
+            SMALL,
+            "W,R,x\n",
+            FULL,
+            SMALL_JOURNAL,
+            SMALL_SHEET,
+        ],
+        Status::ReplayBad,
+        "N,1,not-next\n",
+        4,
+    ),
+    (
+        &[
+            VERSION_2,
+            SMALL,
+            UNLISTED,
+            FULL,
+            SMALL_JOURNAL,
+            "W,R,z\nW,P,c\n",
+        ],
+        Status::ReplayGood,
+        "G,9\n",
+        0,
+    ),
+];
+
+#[test]
+fn replays_of_old_journals(rt: HostRuntime) -> Result<(), Fail> {
+    for (texts, status, row, exit) in REPLAYS {
+        let ending = (Ok(status), row, exit);
+        assert!(rt;
+            serves(rt, rt.alloc(), Order::Replay, texts, ending)?,
+            "{row}"
+        );
+    }
+    Ok(())
+}

@@ -1,0 +1,217 @@
+//! The members' names as people know them.
+
+ghost use Rattle.std.specs.Prelude.{IfSome};
+ghost use Rattle.match_model.specs.Instance.{IsProgramme, IsResident};
+
+use crate::fault::WhyFault;
+use crate::lists::field;
+use crate::naming::MemberNumbers;
+use csv::{ByteRecord, Reader, ReaderBuilder};
+use docket::{Docket, DocketFault};
+use match_model::{ProgrammeNo, ResidentNo};
+use std::alloc::{AllocError, Global};
+
+/// By member the real name, which is empty where there is none.
+#[derive(Drop)]
+pub(crate) struct Key {
+    residents: Vec<String>,
+    programmes: Vec<String>,
+}
+
+// So many empty names.
+fn empty_names(alloc: Global, count: u32) -> Result<Vec<String>, AllocError> {
+    let mut names = Vec::new(alloc);
+    for _n in 0..count {
+        names.push(String::new(alloc))?;
+    }
+    Ok(names)
+}
+
+// Notes a name, if there is such a place.
+fn note(names: &mut Vec<String>, place: u32, name: String) {
+    if let Some(slot) = names.get_mut(place as usize) {
+        *slot = name;
+    }
+}
+
+// What parts the fields of a key: the one of comma, semicolon and tab that its first line with one has most often, outside
+// quotes.
+fn delimiter(bytes: &[u8]) -> u8 {
+    let mut commas = 0u64;
+    let mut semicolons = 0u64;
+    let mut tabs = 0u64;
+    let mut is_quoted = false;
+    for c in bytes {
+        match *c {
+            b'"' => is_quoted = !is_quoted,
+            _ if is_quoted => {}
+            b',' => commas = commas.saturating_add(1),
+            b';' => semicolons = semicolons.saturating_add(1),
+            b'\t' => tabs = tabs.saturating_add(1),
+            b'\n' if commas > 0 || semicolons > 0 || tabs > 0 => break,
+            _ => {}
+        }
+    }
+    if semicolons > commas && semicolons > tabs {
+        b';'
+    } else if tabs > commas {
+        b'\t'
+    } else {
+        b','
+    }
+}
+
+impl Key {
+    /// No real names.
+    pub(crate) fn none(alloc: Global) -> Key {
+        Key {
+            residents: Vec::new(alloc),
+            programmes: Vec::new(alloc),
+        }
+    }
+
+    /// The real names of a key's rows: `P,programme,name` and `R,resident,name`. Rows without a word are passed over, and
+    /// names that the docket doesn't have.
+    pub(crate) fn read(
+        alloc: Global,
+        docket: &Docket,
+        numbers: &MemberNumbers,
+        bytes: &[u8],
+    ) -> Result<Key, WhyFault> {
+        let mut key = Key {
+            residents: empty_names(alloc, docket.instance().residents())?,
+            programmes: empty_names(alloc, docket.instance().programmes())?,
+        };
+        let mut reader = ReaderBuilder::new()
+            .delimiter(delimiter(bytes))
+            .flexible(true)
+            .has_headers(false)
+            .from_reader(alloc, bytes);
+        key.add_all(alloc, docket, numbers, &mut reader)?;
+        Ok(key)
+    }
+
+    // Adds each row.
+    fn add_all(
+        &mut self,
+        alloc: Global,
+        docket: &Docket,
+        numbers: &MemberNumbers,
+        reader: &mut Reader<&[u8]>,
+    ) -> Result<(), WhyFault> {
+        let mut row = ByteRecord::new(alloc);
+        for place in 1..u32::MAX {
+            match reader.read_byte_record(&mut row) {
+                Ok(true) => self.add(alloc, docket, numbers, &row, place)?,
+                Ok(false) => break,
+                Err(_) => return Err(WhyFault::Docket(DocketFault::Memory)),
+            }
+        }
+        Ok(())
+    }
+
+    // Adds one row.
+    fn add(
+        &mut self,
+        alloc: Global,
+        docket: &Docket,
+        numbers: &MemberNumbers,
+        row: &ByteRecord,
+        place: u32,
+    ) -> Result<(), WhyFault> {
+        if row.iter().all(|text| text.is_empty()) {
+            return Ok(());
+        }
+        let Ok(name) = str::from_utf8(field(row, 2)) else {
+            return Err(WhyFault::BadKey { place });
+        };
+        if name.is_empty() || field(row, 1).is_empty() {
+            return Err(WhyFault::BadKey { place });
+        }
+        let name = String::from_str(alloc, name)?;
+        match field(row, 0) {
+            b"P" => {
+                if let Some(programme) = numbers.programme(docket, field(row, 1)) {
+                    note(&mut self.programmes, programme.0, name);
+                }
+                Ok(())
+            }
+            b"R" => {
+                if let Some(resident) = numbers.resident(docket, field(row, 1)) {
+                    note(&mut self.residents, resident.0, name);
+                }
+                Ok(())
+            }
+            _ => Err(WhyFault::BadKey { place }),
+        }
+    }
+}
+
+/// The members' names as they are shown: the key's, where it has one, and else the docket's.
+#[derive(Clone, Copy)]
+pub(crate) struct Names<'a> {
+    pub(crate) docket: &'a Docket,
+    pub(crate) key: &'a Key,
+}
+
+// The name in its place, if there is one.
+fn real_name(names: &[String], place: u32) -> Option<&str> {
+    match names.get(place as usize) {
+        Some(name) if !name.is_empty() => Some(name.as_str()),
+        _ => None,
+    }
+}
+
+impl Names<'_> {
+    /// The name of a resident, which is empty for a number that is nobody's.
+    pub(crate) fn resident(&self, resident: ResidentNo) -> &str {
+        match real_name(self.key.residents.as_slice(), resident.0) {
+            Some(name) => name,
+            None if resident.0 < self.docket.instance().residents() => self
+                .docket
+                .resident_name(resident),
+            None => "",
+        }
+    }
+
+    /// The name of a programme, which is empty for a number that is nobody's.
+    pub(crate) fn programme(&self, programme: ProgrammeNo) -> &str {
+        match real_name(self.key.programmes.as_slice(), programme.0) {
+            Some(name) => name,
+            None if programme.0 < self.docket.instance().programmes() => self
+                .docket
+                .programme_name(programme),
+            None => "",
+        }
+    }
+
+    /// Whether a resident withdrew.
+    pub(crate) fn resident_withdrew(&self, resident: ResidentNo) -> bool {
+        let inst = self.docket.instance();
+        resident.0 < inst.residents() && inst.resident_withdrawn(resident)
+    }
+
+    /// The resident of this name: a real one first, and else one of the docket.
+    pub(crate) fn find_resident(&self, numbers: &MemberNumbers, name: &str) -> Option<ResidentNo>
+        ensures { IfSome result (IsResident self.now.docket.now.instance) }
+    {
+        for r in 0..self.docket.instance().residents() {
+            if real_name(self.key.residents.as_slice(), r) == Some(name) {
+                return Some(ResidentNo(r));
+            }
+        }
+        numbers.resident(self.docket, name.as_bytes())
+    }
+
+    /// The programme of this name: a real one first, and else one of the docket.
+    pub(crate) fn find_programme(&self, numbers: &MemberNumbers, name: &str) -> Option<ProgrammeNo>
+        ensures { IfSome result (IsProgramme self.now.docket.now.instance) }
+    {
+        for p in 0..self.docket.instance().programmes() {
+            if real_name(self.key.programmes.as_slice(), p) == Some(name) {
+                return Some(ProgrammeNo(p));
+            }
+        }
+        numbers.programme(self.docket, name.as_bytes())
+    }
+}

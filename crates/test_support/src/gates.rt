@@ -1,0 +1,75 @@
+//! Gates that hold a run up, or stop it.
+mod counter;
+mod holding;
+mod resting;
+mod stopping;
+
+pub use counter::Counting;
+pub use holding::{AllButOne, Firm, Held, Loose, Order};
+pub use resting::{AfterAnother, Hold, HoldsEntered, HoldsVisit, Rested, Stalls};
+use std::sync::atomic::{AtomicU64, Ordering};
+use std::thread;
+pub use stopping::{StopsAtOnce, StopsFrom};
+
+/// How often a gate looks whether another worker has gone on.
+const TURNS: u32 = 10_000_000;
+
+/// How many turns a gate waits for others that may be done already.
+const LINGER: u32 = 100;
+
+/// How many events each of at most eight workers has entered, as a gate sees it.
+#[derive(Drop)]
+struct Counts([AtomicU64; 8]);
+
+impl Counts {
+    fn none() -> Counts {
+        Counts([
+            AtomicU64::new(0),
+            AtomicU64::new(0),
+            AtomicU64::new(0),
+            AtomicU64::new(0),
+            AtomicU64::new(0),
+            AtomicU64::new(0),
+            AtomicU64::new(0),
+            AtomicU64::new(0),
+        ])
+    }
+
+    fn add(&self, worker: usize) {
+        if let Some(count) = self.0.get(worker) {
+            count.fetch_add(1, Ordering::SeqCst);
+        }
+    }
+
+    fn of(&self, worker: usize) -> u64 {
+        match self.0.get(worker) {
+            Some(count) => count.load(Ordering::SeqCst),
+            None => 0,
+        }
+    }
+
+    fn of_all(&self) -> u64 {
+        let mut sum = 0_u64;
+        for count in &self.0 {
+            sum = sum.saturating_add(count.load(Ordering::SeqCst));
+        }
+        sum
+    }
+
+    // Waits until for long nobody has entered anything more. How many events are entered then.
+    fn at_rest(&self) -> u64 {
+        let mut seen = self.of_all();
+        let mut turns = 0;
+        for _ in 0..TURNS {
+            let now = self.of_all();
+            turns = if now == seen { turns } else { 0 };
+            seen = now;
+            if turns >= LINGER {
+                break;
+            }
+            turns = turns.saturating_add(1);
+            thread::yield_now();
+        }
+        seen
+    }
+}

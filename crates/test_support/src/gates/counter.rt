@@ -1,0 +1,45 @@
+//! A gate that counts what is entered.
+ghost use Rattle.std.specs.Prelude.{true, false};
+
+use super::Counts;
+use exchange_core::Desk;
+use match_pool::{Gate, Go};
+
+/// A gate that tells how often `entered` was called for each worker, and never stops the run.
+#[derive(Drop)]
+pub struct Counting {
+    counts: Counts,
+}
+
+impl Counting {
+    /// Nothing is seen yet.
+    pub fn new() -> Counting {
+        Counting {
+            counts: Counts::none(),
+        }
+    }
+
+    /// How many events this worker has entered.
+    pub fn count(&self, worker: usize) -> u64 {
+        self.counts.of(worker)
+    }
+
+    /// How many events the workers have entered together.
+    pub fn count_all(&self) -> u64 {
+        self.counts.of_all()
+    }
+}
+
+impl Gate for Counting {
+    ghost MAY_STOP = { false };
+
+    const MAY_STOP: bool = false;
+
+    fn pass(&self, _worker: usize, _desk: Desk) -> Go {
+        Go::On
+    }
+
+    fn entered(&self, worker: usize) {
+        self.counts.add(worker);
+    }
+}

@@ -1,0 +1,361 @@
+//! Gates that hold a worker until the others are at rest, or until one has gone on.
+ghost use Rattle.std.specs.Prelude.{true, false};
+
+use super::{Counts, LINGER, TURNS};
+use exchange_core::Desk;
+use match_model::{ProgrammeNo, ResidentNo};
+use match_pool::{Gate, Go};
+use std::sync::atomic::{AtomicBool, AtomicU32, AtomicU64, Ordering};
+use std::thread;
+
+/// Who was held in a pass, and what was entered when it began and when it ended.
+#[derive(Clone, Copy, Debug, PartialEq, Eq)]
+pub struct Hold {
+    /// The worker that was held.
+    pub worker: usize,
+    /// The desk whose receipt it had.
+    pub desk: Desk,
+    /// How many events this worker had entered.
+    pub own: u64,
+    /// How many events all workers had entered when the hold began.
+    pub from: u64,
+    /// How many they had entered when it ended.
+    pub to: u64,
+}
+
+/// A gate that holds the pass at one place until for long nobody has entered anything more, and tells of it.
+#[derive(Drop)]
+pub struct Stalls {
+    place: u64,
+    passed: AtomicU64,
+    worker: AtomicU64,
+    is_resident: AtomicBool,
+    number: AtomicU32,
+    own: AtomicU64,
+    from: AtomicU64,
+    to: AtomicU64,
+    held: AtomicBool,
+    counts: Counts,
+}
+
+impl Stalls {
+    /// Nothing is seen yet. The pass at this place is held, counted from 0.
+    pub fn new(place: u64) -> Stalls {
+        Stalls {
+            place,
+            passed: AtomicU64::new(0),
+            worker: AtomicU64::new(0),
+            is_resident: AtomicBool::new(false),
+            number: AtomicU32::new(0),
+            own: AtomicU64::new(0),
+            from: AtomicU64::new(0),
+            to: AtomicU64::new(0),
+            held: AtomicBool::new(false),
+            counts: Counts::none(),
+        }
+    }
+
+    /// How many events this worker has entered.
+    pub fn count(&self, worker: usize) -> u64 {
+        self.counts.of(worker)
+    }
+
+    /// The pass that was held, if there were so many.
+    pub fn hold(&self) -> Option<Hold> {
+        if !self.held.load(Ordering::SeqCst) {
+            return None;
+        }
+        let number = self.number.load(Ordering::SeqCst);
+        let desk = if self.is_resident.load(Ordering::SeqCst) {
+            Desk::Resident(ResidentNo(number))
+        } else {
+            Desk::Programme(ProgrammeNo(number))
+        };
+        Some(Hold {
+            worker: self.worker.load(Ordering::SeqCst) as usize,
+            desk,
+            own: self.own.load(Ordering::SeqCst),
+            from: self.from.load(Ordering::SeqCst),
+            to: self.to.load(Ordering::SeqCst),
+        })
+    }
+
+    // Notes whose pass is held.
+    fn note(&self, worker: usize, desk: Desk) {
+        self.worker.store(worker as u64, Ordering::SeqCst);
+        self.own.store(self.counts.of(worker), Ordering::SeqCst);
+        self.from.store(self.counts.of_all(), Ordering::SeqCst);
+        match desk {
+            Desk::Resident(resident) => {
+                self.is_resident.store(true, Ordering::SeqCst);
+                self.number.store(resident.0, Ordering::SeqCst);
+            }
+            Desk::Programme(programme) => self.number.store(programme.0, Ordering::SeqCst),
+        }
+    }
+}
+
+impl Gate for Stalls {
+    ghost MAY_STOP = { false };
+
+    const MAY_STOP: bool = false;
+
+    fn pass(&self, worker: usize, desk: Desk) -> Go {
+        if self.passed.fetch_add(1, Ordering::SeqCst) != self.place {
+            return Go::On;
+        }
+        self.note(worker, desk);
+        self.to.store(self.counts.at_rest(), Ordering::SeqCst);
+        self.held.store(true, Ordering::SeqCst);
+        Go::On
+    }
+
+    fn entered(&self, worker: usize) {
+        self.counts.add(worker);
+    }
+}
+
+/// A gate that holds the worker that has entered the event of this number, counted from 1, until another has entered one.
+#[derive(Drop)]
+pub struct HoldsEntered {
+    number: u64,
+    entered: AtomicU64,
+    held: AtomicBool,
+    counts: Counts,
+}
+
+impl HoldsEntered {
+    /// Nothing is seen yet.
+    pub fn new(number: u64) -> HoldsEntered {
+        HoldsEntered {
+            number,
+            entered: AtomicU64::new(0),
+            held: AtomicBool::new(false),
+            counts: Counts::none(),
+        }
+    }
+
+    /// How many events this worker has entered.
+    pub fn count(&self, worker: usize) -> u64 {
+        self.counts.of(worker)
+    }
+
+    /// Whether a worker was held, and another has entered an event meanwhile.
+    pub fn has_held(&self) -> bool {
+        self.held.load(Ordering::SeqCst)
+    }
+}
+
+impl Gate for HoldsEntered {
+    ghost MAY_STOP = { false };
+
+    const MAY_STOP: bool = false;
+
+    fn pass(&self, _worker: usize, _desk: Desk) -> Go {
+        Go::On
+    }
+
+    fn entered(&self, worker: usize) {
+        self.counts.add(worker);
+        let before = self
+            .entered
+            .fetch_add(1, Ordering::SeqCst)
+            .saturating_add(1);
+        if before != self.number {
+            return;
+        }
+        for _ in 0..TURNS {
+            if self.entered.load(Ordering::SeqCst) > before {
+                self.held.store(true, Ordering::SeqCst);
+                return;
+            }
+            thread::yield_now();
+        }
+    }
+}
+
+/// A gate that holds the worker that has entered the first event until others have entered two, or for long don't, and a
+/// while longer; and again once it has entered its next one, until another has entered one more.
+#[derive(Drop)]
+pub struct HoldsVisit {
+    has_begun: AtomicBool,
+    worker: AtomicU64,
+    held: AtomicBool,
+    counts: Counts,
+}
+
+impl HoldsVisit {
+    /// Nothing is seen yet.
+    pub fn new() -> HoldsVisit {
+        HoldsVisit {
+            has_begun: AtomicBool::new(false),
+            worker: AtomicU64::new(0),
+            held: AtomicBool::new(false),
+            counts: Counts::none(),
+        }
+    }
+
+    /// Whether the worker was held at its second event, and another has entered one meanwhile.
+    pub fn has_held(&self) -> bool {
+        self.held.load(Ordering::SeqCst)
+    }
+
+    // Waits until others than this worker have entered so many events. Whether they have.
+    fn wait_for_others(&self, worker: usize, count: u64) -> bool {
+        for _ in 0..TURNS {
+            if self.counts.of_all().saturating_sub(self.counts.of(worker)) >= count {
+                return true;
+            }
+            thread::yield_now();
+        }
+        false
+    }
+}
+
+impl Gate for HoldsVisit {
+    ghost MAY_STOP = { false };
+
+    const MAY_STOP: bool = false;
+
+    fn pass(&self, _worker: usize, _desk: Desk) -> Go {
+        Go::On
+    }
+
+    fn entered(&self, worker: usize) {
+        self.counts.add(worker);
+        if !self.has_begun.swap(true, Ordering::SeqCst) {
+            self.worker.store(worker as u64, Ordering::SeqCst);
+            self.wait_for_others(worker, 2);
+            for _ in 0..LINGER {
+                thread::yield_now();
+            }
+        } else if self.worker.load(Ordering::SeqCst) == worker as u64
+            && self.counts.of(worker) == 2
+            && self.wait_for_others(worker, 3)
+        {
+            self.held.store(true, Ordering::SeqCst);
+        }
+    }
+}
+
+/// A gate that holds the first pass until for long nobody has entered anything more, and the second until another worker has
+/// entered an event.
+#[derive(Drop)]
+pub struct Rested {
+    passed: AtomicU64,
+    held: AtomicBool,
+    counts: Counts,
+}
+
+impl Rested {
+    /// Nothing is seen yet.
+    pub fn new() -> Rested {
+        Rested {
+            passed: AtomicU64::new(0),
+            held: AtomicBool::new(false),
+            counts: Counts::none(),
+        }
+    }
+
+    /// Whether the second pass was held, and another worker has entered an event meanwhile.
+    pub fn has_held(&self) -> bool {
+        self.held.load(Ordering::SeqCst)
+    }
+
+    // Waits until another worker has entered an event.
+    fn hold(&self, worker: usize) {
+        let others = self.counts.of_all().saturating_sub(self.counts.of(worker));
+        for _ in 0..TURNS {
+            if self.counts.of_all().saturating_sub(self.counts.of(worker)) > others {
+                self.held.store(true, Ordering::SeqCst);
+                return;
+            }
+            thread::yield_now();
+        }
+    }
+}
+
+impl Gate for Rested {
+    ghost MAY_STOP = { false };
+
+    const MAY_STOP: bool = false;
+
+    fn pass(&self, worker: usize, _desk: Desk) -> Go {
+        match self.passed.fetch_add(1, Ordering::SeqCst) {
+            0 => {
+                self.counts.at_rest();
+            }
+            1 => self.hold(worker),
+            _ => {}
+        }
+        Go::On
+    }
+
+    fn entered(&self, worker: usize) {
+        self.counts.add(worker);
+    }
+}
+
+/// A gate that holds the first pass of another desk than this one until this desk has passed, and for long after it; and
+/// this desk's until another is held.
+#[derive(Drop)]
+pub struct AfterAnother {
+    desk: Desk,
+    waits: AtomicBool,
+    passed: AtomicBool,
+    held: AtomicBool,
+}
+
+impl AfterAnother {
+    /// Nothing is seen yet.
+    pub fn new(desk: Desk) -> AfterAnother {
+        AfterAnother {
+            desk,
+            waits: AtomicBool::new(false),
+            passed: AtomicBool::new(false),
+            held: AtomicBool::new(false),
+        }
+    }
+
+    /// Whether a pass was held, and this desk passed meanwhile.
+    pub fn has_held(&self) -> bool {
+        self.held.load(Ordering::SeqCst)
+    }
+}
+
+// Waits until this is so, or for long.
+fn wait_for(flag: &AtomicBool) -> bool {
+    for _ in 0..TURNS {
+        if flag.load(Ordering::SeqCst) {
+            return true;
+        }
+        thread::yield_now();
+    }
+    false
+}
+
+// Lets others go on for a while.
+fn linger() {
+    for _ in 0..20 * LINGER {
+        thread::yield_now();
+    }
+}
+
+impl Gate for AfterAnother {
+    ghost MAY_STOP = { false };
+
+    const MAY_STOP: bool = false;
+
+    fn pass(&self, _worker: usize, desk: Desk) -> Go {
+        if desk == self.desk {
+            wait_for(&self.waits);
+            self.passed.store(true, Ordering::SeqCst);
+        } else if !self.waits.swap(true, Ordering::SeqCst) && wait_for(&self.passed) {
+            linger();
+            self.held.store(true, Ordering::SeqCst);
+        }
+        Go::On
+    }
+
+    fn entered(&self, _worker: usize) {}
+}

@@ -1,0 +1,113 @@
+//! Gates that stop a run.
+ghost use Rattle.std.specs.Prelude.{true, false};
+
+use super::{Counts, LINGER};
+use exchange_core::Desk;
+use match_pool::{Gate, Go};
+use std::sync::atomic::{AtomicBool, AtomicU64, Ordering};
+use std::thread;
+
+/// A gate that stops the run at its first pass.
+#[derive(Drop)]
+pub struct StopsAtOnce;
+
+impl Gate for StopsAtOnce {
+    ghost MAY_STOP = { true };
+
+    const MAY_STOP: bool = true;
+
+    fn pass(&self, _worker: usize, _desk: Desk) -> Go {
+        Go::Stop
+    }
+
+    fn entered(&self, _worker: usize) {}
+}
+
+/// A gate that stops the run at its pass of this number, counted from 1, and at each after it. The first worker that has
+/// entered what it had begun then is held, until another has entered two events more or none comes for long.
+#[derive(Drop)]
+pub struct StopsFrom {
+    first: u64,
+    passed: AtomicU64,
+    stopped: [AtomicBool; 8],
+    is_over: AtomicBool,
+    counts: Counts,
+    later: Counts,
+}
+
+impl StopsFrom {
+    /// Nothing is seen yet.
+    pub fn new(first: u64) -> StopsFrom {
+        StopsFrom {
+            first,
+            passed: AtomicU64::new(0),
+            stopped: [
+                AtomicBool::new(false),
+                AtomicBool::new(false),
+                AtomicBool::new(false),
+                AtomicBool::new(false),
+                AtomicBool::new(false),
+                AtomicBool::new(false),
+                AtomicBool::new(false),
+                AtomicBool::new(false),
+            ],
+            is_over: AtomicBool::new(false),
+            counts: Counts::none(),
+            later: Counts::none(),
+        }
+    }
+
+    /// How many events this worker has entered.
+    pub fn count(&self, worker: usize) -> u64 {
+        self.counts.of(worker)
+    }
+
+    /// Whether each worker entered at most one event after one that was stopped had entered its own.
+    pub fn all_ended(&self) -> bool {
+        for worker in 0..8 {
+            if self.later.of(worker) > 1 {
+                return false;
+            }
+        }
+        true
+    }
+
+    fn is_stopped(&self, worker: usize) -> bool {
+        match self.stopped.get(worker) {
+            Some(stopped) => stopped.load(Ordering::SeqCst),
+            None => false,
+        }
+    }
+}
+
+impl Gate for StopsFrom {
+    ghost MAY_STOP = { true };
+
+    const MAY_STOP: bool = true;
+
+    fn pass(&self, worker: usize, _desk: Desk) -> Go {
+        if self.passed.fetch_add(1, Ordering::SeqCst).saturating_add(1) < self.first {
+            return Go::On;
+        }
+        if let Some(stopped) = self.stopped.get(worker) {
+            stopped.store(true, Ordering::SeqCst);
+        }
+        Go::Stop
+    }
+
+    fn entered(&self, worker: usize) {
+        self.counts.add(worker);
+        if self.is_over.load(Ordering::SeqCst) {
+            self.later.add(worker);
+            return;
+        }
+        if self.is_stopped(worker) && !self.is_over.swap(true, Ordering::SeqCst) {
+            for _ in 0..LINGER {
+                if !self.all_ended() {
+                    return;
+                }
+                thread::yield_now();
+            }
+        }
+    }
+}

@@ -1,0 +1,8 @@
+//! Members, lists of events, gates and sources of randomness that the tests of several crates share.
+#![tactic(auto)]
+
+pub mod events;
+pub mod gates;
+pub mod members;
+pub mod randomness;
+pub mod rests;

@@ -1,0 +1,255 @@
+//! Gates that hold workers until for long, by the clock, nobody has entered anything more.
+ghost use Rattle.std.specs.Prelude.{true, false};
+
+use exchange_core::Desk;
+use match_model::{ProgrammeNo, ResidentNo};
+use match_pool::{Gate, Go};
+use std::sync::Wait;
+use std::sync::atomic::{AtomicBool, AtomicU32, AtomicU64, Ordering};
+use std::time::Duration;
+
+/// How long a worker is held so that each other that finds nothing to do falls asleep.
+const UNTIL_ASLEEP: u64 = 80_000;
+
+/// How often, and after how many microseconds each, a gate looks whether anything more was entered.
+const LOOKS: u32 = 15;
+
+const PERIOD: u64 = 10_000;
+
+/// How often a gate looks at most.
+const MOST_LOOKS: u32 = 500;
+
+/// What a gate saw of a run when it was at rest: how many events were entered, and each worker that it held.
+#[derive(Drop)]
+struct Rest<R: Wait + Copy> {
+    rt: R,
+    clock: AtomicU64,
+    counts: [AtomicU32; 4],
+    begun: AtomicU64,
+    desks: [AtomicU32; 4],
+    entered: AtomicU64,
+    over: AtomicBool,
+}
+
+impl<R: Wait + Copy> Rest<R> {
+    fn new(rt: R) -> Rest<R> {
+        Rest {
+            rt,
+            clock: AtomicU64::new(0),
+            counts: none(),
+            begun: AtomicU64::new(0),
+            desks: none(),
+            entered: AtomicU64::new(0),
+            over: AtomicBool::new(false),
+        }
+    }
+
+    // How many events all workers have entered.
+    fn sum(&self) -> u64 {
+        let mut sum = 0_u64;
+        for count in &self.counts {
+            sum = sum.saturating_add(count.load(Ordering::SeqCst) as u64);
+        }
+        sum
+    }
+
+    fn sleep(&self, micros: u64) {
+        self.clock
+            .park_timeout(&self.rt, 0, Duration::from_micros(micros));
+    }
+
+    // Holds a worker that has this desk until nobody has entered or begun anything for long.
+    fn hold(&self, worker: usize, desk: u32) {
+        if self.over.load(Ordering::SeqCst) {
+            return;
+        }
+        if let Some(held) = self.desks.get(worker) {
+            held.store(desk, Ordering::SeqCst);
+        }
+        let mut seen = (0, 0);
+        let mut quiet = 0_u32;
+        for _ in 0..MOST_LOOKS {
+            if self.over.load(Ordering::SeqCst) {
+                return;
+            }
+            self.sleep(PERIOD);
+            let now = (self.sum(), self.begun.load(Ordering::SeqCst));
+            quiet = if now == seen {
+                quiet.saturating_add(1)
+            } else {
+                0
+            };
+            seen = now;
+            if quiet >= LOOKS {
+                break;
+            }
+        }
+        self.entered.store(seen.0, Ordering::SeqCst);
+        self.over.store(true, Ordering::SeqCst);
+    }
+
+    fn count(&self, worker: usize) {
+        if let Some(count) = self.counts.get(worker) {
+            count.fetch_add(1, Ordering::SeqCst);
+        }
+    }
+}
+
+fn none() -> [AtomicU32; 4] {
+    [
+        AtomicU32::new(0),
+        AtomicU32::new(0),
+        AtomicU32::new(0),
+        AtomicU32::new(0),
+    ]
+}
+
+// A number for each desk, from 1.
+fn number_of(desk: Desk) -> u32 {
+    match desk {
+        Desk::Resident(ResidentNo(r)) => r.saturating_mul(2).saturating_add(1),
+        Desk::Programme(ProgrammeNo(p)) => p.saturating_mul(2).saturating_add(2),
+    }
+}
+
+// The desk whose number is noted, if one is.
+fn desk_in(noted: &AtomicU32) -> Option<Desk> {
+    let number = noted.load(Ordering::SeqCst);
+    let half = number.saturating_sub(1) / 2;
+    match number {
+        0 => None,
+        _ if number % 2 == 1 => Some(Desk::Resident(ResidentNo(half))),
+        _ => Some(Desk::Programme(ProgrammeNo(half))),
+    }
+}
+
+/// A gate for up to four workers. The pass of one number lasts until each other worker has done what it can and has fallen
+/// asleep; the passes that begin after it are held, one for each worker but one, until the run is at rest.
+#[derive(Drop)]
+pub struct RestsInPass<R: Wait + Copy> {
+    rest: Rest<R>,
+    of: Option<Desk>,
+    place: u64,
+    passed: AtomicU64,
+    is_armed: AtomicBool,
+    most: u64,
+    held: AtomicU64,
+}
+
+impl<R: Wait + Copy> RestsInPass<R> {
+    /// Nothing is seen yet. The pass after which others are held is this of all, or of one desk, counted from 1; with 0 all are
+    /// held from the first on. So many are held at most.
+    pub fn new(rt: R, of: Option<Desk>, place: u64, most: u64) -> RestsInPass<R> {
+        RestsInPass {
+            rest: Rest::new(rt),
+            of,
+            place,
+            passed: AtomicU64::new(0),
+            is_armed: AtomicBool::new(place == 0),
+            most,
+            held: AtomicU64::new(0),
+        }
+    }
+
+    /// How many events were entered at rest, if a worker was held until then.
+    pub fn entered(&self) -> Option<u64> {
+        let is_over = self.rest.over.load(Ordering::SeqCst);
+        is_over.then_some(self.rest.entered.load(Ordering::SeqCst))
+    }
+
+    /// The desk that each worker had which was held.
+    pub fn held(&self) -> [Option<Desk>; 4] {
+        let [a, b, c, d] = &self.rest.desks;
+        [desk_in(a), desk_in(b), desk_in(c), desk_in(d)]
+    }
+
+    // Whether this is the pass after which others are held.
+    fn is_last_free(&self, desk: Desk) -> bool {
+        let is_counted = match self.of {
+            Some(of) => of == desk,
+            None => true,
+        };
+        is_counted && self.passed.fetch_add(1, Ordering::SeqCst).saturating_add(1) == self.place
+    }
+}
+
+impl<R: Wait + Copy + Sync> Gate for RestsInPass<R> {
+    ghost MAY_STOP = { false };
+
+    const MAY_STOP: bool = false;
+
+    const ENTERED_MAY_HOLD: bool = false;
+
+    fn pass(&self, worker: usize, desk: Desk) -> Go {
+        self.rest.begun.fetch_add(1, Ordering::SeqCst);
+        if self.is_armed.load(Ordering::SeqCst) {
+            if self.held.fetch_add(1, Ordering::SeqCst) < self.most {
+                self.rest.hold(worker, number_of(desk));
+            }
+        } else if self.is_last_free(desk) {
+            self.rest.sleep(UNTIL_ASLEEP);
+            self.is_armed.store(true, Ordering::SeqCst);
+        }
+        Go::On
+    }
+
+    fn entered(&self, worker: usize) {
+        self.rest.count(worker);
+    }
+}
+
+/// A gate for up to four workers that holds the one that enters the event of one number, counted from 1, until the run is at
+/// rest.
+#[derive(Drop)]
+pub struct RestsAfterEntry<R: Wait + Copy> {
+    rest: Rest<R>,
+    place: u64,
+}
+
+impl<R: Wait + Copy> RestsAfterEntry<R> {
+    /// Nothing is seen yet.
+    pub fn new(rt: R, place: u64) -> RestsAfterEntry<R> {
+        RestsAfterEntry {
+            rest: Rest::new(rt),
+            place,
+        }
+    }
+
+    /// How many events were entered at rest, if a worker was held.
+    pub fn entered(&self) -> Option<u64> {
+        let is_over = self.rest.over.load(Ordering::SeqCst);
+        is_over.then_some(self.rest.entered.load(Ordering::SeqCst))
+    }
+
+    /// How many events this worker had entered when it was held; none of one that wasn't.
+    pub fn own(&self, worker: usize) -> u32 {
+        match self.rest.desks.get(worker) {
+            Some(own) => own.load(Ordering::SeqCst),
+            None => 0,
+        }
+    }
+}
+
+impl<R: Wait + Copy + Sync> Gate for RestsAfterEntry<R> {
+    ghost MAY_STOP = { false };
+
+    const MAY_STOP: bool = false;
+
+    fn pass(&self, _worker: usize, _desk: Desk) -> Go {
+        Go::On
+    }
+
+    fn entered(&self, worker: usize) {
+        self.rest.count(worker);
+        let number = self
+            .rest
+            .begun
+            .fetch_add(1, Ordering::SeqCst)
+            .saturating_add(1);
+        if number == self.place {
+            if let Some(own) = self.rest.counts.get(worker) {
+                self.rest.hold(worker, own.load(Ordering::SeqCst));
+            }
+        }
+    }
+}
