@@ -1,5 +1,5 @@
 //! Members by number, and the lists of events of two exchanges.
-use exchange_core::{AnswerKind, Event};
+use exchange_core::{AnswerKind, Desk, Event};
 use match_model::{ProgrammeNo, ResidentNo};
 
 /// The first programme.
@@ -99,4 +99,17 @@ pub fn nineteen_events() -> [Event; 19] {
         hear(A, Z, HOLD),
         Event::Close,
     ]
+}
+
+/// The desk that an event is of; none of the close.
+pub fn desk_of(event: &Event) -> Option<Desk> {
+    match event {
+        Event::Take { resident, .. } | Event::Answer { resident, .. } => {
+            Some(Desk::Resident(*resident))
+        }
+        Event::Hear { programme, .. } | Event::Offer { programme, .. } => {
+            Some(Desk::Programme(*programme))
+        }
+        Event::Close => None,
+    }
 }

@@ -8,13 +8,14 @@ use std::sync::Wait;
 use std::sync::atomic::{AtomicBool, AtomicU32, AtomicU64, Ordering};
 use std::time::Duration;
 
-/// How long a worker is held so that each other that finds nothing to do falls asleep.
-const UNTIL_ASLEEP: u64 = 80_000;
-
-/// How often, and after how many microseconds each, a gate looks whether anything more was entered.
-const LOOKS: u32 = 15;
-
+/// After how many microseconds each a gate looks whether anything more was entered.
 const PERIOD: u64 = 10_000;
+
+/// How many looks in a row see nothing more when all others sleep, which nap for at most a hundred milliseconds.
+const UNTIL_ASLEEP: u32 = 15;
+
+/// How many do when the run is at rest.
+const AT_REST: u32 = 25;
 
 /// How often a gate looks at most.
 const MOST_LOOKS: u32 = 500;
@@ -53,26 +54,17 @@ impl<R: Wait + Copy> Rest<R> {
         sum
     }
 
-    fn sleep(&self, micros: u64) {
-        self.clock
-            .park_timeout(&self.rt, 0, Duration::from_micros(micros));
-    }
-
-    // Holds a worker that has this desk until nobody has entered or begun anything for long.
-    fn hold(&self, worker: usize, desk: u32) {
-        if self.over.load(Ordering::SeqCst) {
-            return;
-        }
-        if let Some(held) = self.desks.get(worker) {
-            held.store(desk, Ordering::SeqCst);
-        }
+    // Waits until so many looks in a row see that nobody has entered or begun anything more, or until the rest is over. How
+    // many events were entered then.
+    fn until_quiet(&self, looks: u32) -> u64 {
         let mut seen = (0, 0);
         let mut quiet = 0_u32;
         for _ in 0..MOST_LOOKS {
-            if self.over.load(Ordering::SeqCst) {
-                return;
+            if quiet >= looks || self.over.load(Ordering::SeqCst) {
+                break;
             }
-            self.sleep(PERIOD);
+            self.clock
+                .park_timeout(&self.rt, 0, Duration::from_micros(PERIOD));
             let now = (self.sum(), self.begun.load(Ordering::SeqCst));
             quiet = if now == seen {
                 quiet.saturating_add(1)
@@ -80,12 +72,22 @@ impl<R: Wait + Copy> Rest<R> {
                 0
             };
             seen = now;
-            if quiet >= LOOKS {
-                break;
-            }
         }
-        self.entered.store(seen.0, Ordering::SeqCst);
-        self.over.store(true, Ordering::SeqCst);
+        seen.0
+    }
+
+    // Holds a worker that has this desk until the run is at rest.
+    fn hold(&self, worker: usize, desk: u32) {
+        if self.over.load(Ordering::SeqCst) {
+            return;
+        }
+        if let Some(held) = self.desks.get(worker) {
+            held.store(desk, Ordering::SeqCst);
+        }
+        let entered = self.until_quiet(AT_REST);
+        if !self.over.swap(true, Ordering::SeqCst) {
+            self.entered.store(entered, Ordering::SeqCst);
+        }
     }
 
     fn count(&self, worker: usize) {
@@ -123,8 +125,9 @@ fn desk_in(noted: &AtomicU32) -> Option<Desk> {
     }
 }
 
-/// A gate for up to four workers. The pass of one number lasts until each other worker has done what it can and has fallen
-/// asleep; the passes that begin after it are held, one for each worker but one, until the run is at rest.
+/// A gate for up to four workers. The pass of one number, of one desk or of all, lasts until each other worker has done what it
+/// can and has fallen asleep. Of other desks the passes that begin after it are held, one for each worker but one, until the run
+/// is at rest.
 #[derive(Drop)]
 pub struct RestsInPass<R: Wait + Copy> {
     rest: Rest<R>,
@@ -165,11 +168,13 @@ impl<R: Wait + Copy> RestsInPass<R> {
 
     // Whether this is the pass after which others are held.
     fn is_last_free(&self, desk: Desk) -> bool {
-        let is_counted = match self.of {
-            Some(of) => of == desk,
-            None => true,
-        };
-        is_counted && self.passed.fetch_add(1, Ordering::SeqCst).saturating_add(1) == self.place
+        self.of.unwrap_or(desk) == desk
+            && self.passed.fetch_add(1, Ordering::SeqCst).saturating_add(1) == self.place
+    }
+
+    // Whether this pass is held, after the one of that number.
+    fn is_held(&self, desk: Desk) -> bool {
+        self.of != Some(desk) && self.held.fetch_add(1, Ordering::SeqCst) < self.most
     }
 }
 
@@ -183,11 +188,11 @@ impl<R: Wait + Copy + Sync> Gate for RestsInPass<R> {
     fn pass(&self, worker: usize, desk: Desk) -> Go {
         self.rest.begun.fetch_add(1, Ordering::SeqCst);
         if self.is_armed.load(Ordering::SeqCst) {
-            if self.held.fetch_add(1, Ordering::SeqCst) < self.most {
+            if self.is_held(desk) {
                 self.rest.hold(worker, number_of(desk));
             }
         } else if self.is_last_free(desk) {
-            self.rest.sleep(UNTIL_ASLEEP);
+            self.rest.until_quiet(UNTIL_ASLEEP);
             self.is_armed.store(true, Ordering::SeqCst);
         }
         Go::On

@@ -9,6 +9,7 @@ use std::alloc::Global;
 use std::sync::Wait;
 use std::test::Fail;
 use std::thread::Threads;
+use test_support::events::desk_of;
 use test_support::gates::{Hold, HoldsEntered, HoldsVisit, Rested, Stalls, StopsFrom};
 
 const CAPACITIES: [Capacity; 3] = [Capacity::Full, Capacity::Each(1), Capacity::Each(2)];
@@ -121,19 +122,6 @@ fn every_worker_heeds_a_stop(rt: HostRuntime) -> Result<(), Fail> {
         }
     }
     Ok(())
-}
-
-// The desk that an event is of.
-fn desk_of(event: &Event) -> Option<Desk> {
-    match event {
-        Event::Take { resident, .. } | Event::Answer { resident, .. } => {
-            Some(Desk::Resident(*resident))
-        }
-        Event::Hear { programme, .. } | Event::Offer { programme, .. } => {
-            Some(Desk::Programme(*programme))
-        }
-        Event::Close => None,
-    }
 }
 
 // The place in the journal of the event that a worker entered after so many of its own.

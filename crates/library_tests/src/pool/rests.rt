@@ -2,13 +2,14 @@
 use super::runs::ran_on;
 use crate::exchange::run::Run;
 use crate::instances::{Members, TWO_PLACES, made};
-use exchange_core::{AnswerKind, Capacity, Desk, Event};
+use exchange_core::{Capacity, Desk, Event};
 use match_model::{Instance, InstanceBuilder, ModelFault, ProgrammeNo, ResidentNo};
 use match_pool::Ending;
 use std::alloc::Global;
 use std::sync::Wait;
 use std::test::Fail;
 use std::thread::Threads;
+use test_support::events::{DECLINE, HOLD, RELEASE, answer, desk_of, hear, offer, take};
 use test_support::rests::{RestsAfterEntry, RestsInPass};
 
 // Two programmes of three and two places, over five residents who like the later one better.
@@ -17,57 +18,28 @@ const FIVE: Members = (
     &[&[1, 0], &[1, 0], &[0, 1], &[0], &[0]],
 );
 
-// A programme of three places that loses the three residents of its first offers to another, and then makes three more at
-// once.
+// A programme of three places that loses the three residents of its first offers to another. Where it hears of all three in
+// one visit, it then makes three more offers at once.
 const THREE_LOST: Members = (
     &[(3, &[0, 1, 2, 3, 4, 5]), (3, &[0, 1, 2])],
     &[&[1, 0], &[1, 0], &[1, 0], &[0], &[0], &[0]],
 );
 
-const KINDS: [AnswerKind; 3] = [AnswerKind::Hold, AnswerKind::Decline, AnswerKind::Release];
+// How often a test is run that can miss what it looks for.
+const TRIES: u32 = 4;
 
 // The events of one programme and one resident.
 fn events_of(programme: ProgrammeNo, resident: ResidentNo) -> [Event; 8] {
-    let answer = |kind| Event::Answer {
-        resident,
-        programme,
-        kind,
-    };
-    let hear = |kind| Event::Hear {
-        programme,
-        resident,
-        kind,
-    };
-    let [hold, decline, release] = KINDS;
     [
-        Event::Offer {
-            programme,
-            resident,
-        },
-        Event::Take {
-            resident,
-            programme,
-        },
-        answer(hold),
-        answer(decline),
-        answer(release),
-        hear(hold),
-        hear(decline),
-        hear(release),
+        offer(programme, resident),
+        take(resident, programme),
+        answer(resident, programme, HOLD),
+        answer(resident, programme, DECLINE),
+        answer(resident, programme, RELEASE),
+        hear(programme, resident, HOLD),
+        hear(programme, resident, DECLINE),
+        hear(programme, resident, RELEASE),
     ]
-}
-
-// The desk that an event is of.
-fn desk_of(event: &Event) -> Option<Desk> {
-    match event {
-        Event::Take { resident, .. } | Event::Answer { resident, .. } => {
-            Some(Desk::Resident(*resident))
-        }
-        Event::Hear { programme, .. } | Event::Offer { programme, .. } => {
-            Some(Desk::Programme(*programme))
-        }
-        Event::Close => None,
-    }
 }
 
 // Whether a desk is held.
@@ -216,16 +188,14 @@ fn no_work_is_left_while_a_worker_is_told_of_an_entry(rt: HostRuntime) -> Result
 
 #[test]
 fn each_that_sleeps_is_woken_for_what_one_visit_gave(rt: HostRuntime) -> Result<(), Fail> {
+    let first = Some(Desk::Programme(ProgrammeNo(0)));
     for workers in [2, 3] {
-        for place in 3..=6 {
+        for _ in 0..TRIES {
             let inst = made(rt.alloc(), THREE_LOST)?;
-            let first = Some(Desk::Programme(ProgrammeNo(0)));
             let form = (Capacity::Full, workers);
-            let (left, _) = rests_in_pass(rt, rt.alloc(), inst, form, first, place)?;
-            assert!(rt;
-                left.is_none(),
-                "after {place}, {workers} workers: {left:?}"
-            );
+            // the other programme's events are all made while the first one's first pass lasts
+            let (left, is_held) = rests_in_pass(rt, rt.alloc(), inst, form, first, 1)?;
+            assert!(rt; left.is_none() && is_held, "{workers} workers: {left:?}");
         }
     }
     Ok(())
