@@ -131,7 +131,7 @@ fn desk_in(noted: &AtomicU32) -> Option<Desk> {
 #[derive(Drop)]
 pub struct RestsInPass<R: Wait + Copy> {
     rest: Rest<R>,
-    of: Option<Desk>,
+    of: u32,
     place: u64,
     passed: AtomicU64,
     is_armed: AtomicBool,
@@ -145,7 +145,10 @@ impl<R: Wait + Copy> RestsInPass<R> {
     pub fn new(rt: R, of: Option<Desk>, place: u64, most: u64) -> RestsInPass<R> {
         RestsInPass {
             rest: Rest::new(rt),
-            of,
+            of: match of {
+                Some(desk) => number_of(desk),
+                None => 0,
+            },
             place,
             passed: AtomicU64::new(0),
             is_armed: AtomicBool::new(place == 0),
@@ -167,14 +170,14 @@ impl<R: Wait + Copy> RestsInPass<R> {
     }
 
     // Whether this is the pass after which others are held.
-    fn is_last_free(&self, desk: Desk) -> bool {
-        self.of.unwrap_or(desk) == desk
+    fn is_last_free(&self, desk: u32) -> bool {
+        (self.of == 0 || self.of == desk)
             && self.passed.fetch_add(1, Ordering::SeqCst).saturating_add(1) == self.place
     }
 
     // Whether this pass is held, after the one of that number.
-    fn is_held(&self, desk: Desk) -> bool {
-        self.of != Some(desk) && self.held.fetch_add(1, Ordering::SeqCst) < self.most
+    fn is_held(&self, desk: u32) -> bool {
+        self.of != desk && self.held.fetch_add(1, Ordering::SeqCst) < self.most
     }
 }
 
@@ -187,9 +190,10 @@ impl<R: Wait + Copy + Sync> Gate for RestsInPass<R> {
 
     fn pass(&self, worker: usize, desk: Desk) -> Go {
         self.rest.begun.fetch_add(1, Ordering::SeqCst);
+        let desk = number_of(desk);
         if self.is_armed.load(Ordering::SeqCst) {
             if self.is_held(desk) {
-                self.rest.hold(worker, number_of(desk));
+                self.rest.hold(worker, desk);
             }
         } else if self.is_last_free(desk) {
             self.rest.until_quiet(UNTIL_ASLEEP);
