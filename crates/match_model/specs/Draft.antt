@@ -9,7 +9,8 @@ use Rattle.match_model.specs.declared.fault.ModelFault.{ModelFault}
 use Rattle.match_model.specs.declared.fault.ModelFault.TheVariants.{TooManyProgrammes, TooManyResidents, QuotaTooLarge, NoSuchMember, ListGivenTwice, ListedTwice, TooManyPairs, Memory, WithdrawnTwice}
 use Rattle.match_model.specs.Fault.{Answers}
 
--- by programme its quota, by member the list that was given, if one was, and whether the member is withdrawn
+-- what a builder was handed: each programme's quota, and for each member its list, if one was given, and whether it is
+-- withdrawn
 pub record Draft : Type 0 where
   pub quotas : List ℕ
   pub programme_lists : List (Option (List ℕ))
@@ -21,25 +22,26 @@ pub record Draft : Type 0 where
 abbrev pub given_lists : List (Option (List ℕ)) → List (List ℕ)
 given_lists lists = map (λ list. unwrap_or list []) lists
 
--- each list, or an empty one where its owner is withdrawn
+-- each list, emptied where its owner is withdrawn
 abbrev pub remaining_lists : List (List ℕ) → List Bool → List (List ℕ)
 remaining_lists [] flags = []
 remaining_lists (list ∷ lists) [] = list ∷ lists
 remaining_lists (list ∷ lists) (flag ∷ flags) = (if flag then [] else list) ∷ remaining_lists lists flags
 
--- the lists of programmes, and of residents, that are not withdrawn, as they were given
+-- the lists of programmes and of residents as they were given, emptied where the owner is withdrawn
 abbrev pub programme_lists_left : Draft → List (List ℕ)
 programme_lists_left d = remaining_lists (given_lists d.programme_lists) d.programmes_withdrawn
 
 abbrev pub resident_lists_left : Draft → List (List ℕ)
 resident_lists_left d = remaining_lists (given_lists d.resident_lists) d.residents_withdrawn
 
--- each member's list, in its order, with only those who list that member
+-- each member's list in its order, with only those who list that member
 unfoldable pub mutual_lists : List (List ℕ) → List (List ℕ) → List (List ℕ)
 mutual_lists mine theirs =
     map (λ (owned : ℕ × List ℕ). filter (λ x. is_listed (list_at theirs x) owned.0) owned.1) (enumerate_from 0 mine)
 
--- the instance of what was handed in: the mutual part of each list, where whoever is withdrawn lists nobody
+-- the instance of what was handed in: each list keeps whoever lists its owner in turn, and a withdrawn member lists
+-- nobody
 abbrev pub instance_of : Draft → Instance
 instance_of d = record {
   quotas = d.quotas;
@@ -49,11 +51,11 @@ instance_of d = record {
   residents_withdrawn = d.residents_withdrawn;
 }
 
--- the draft with one programme more, which has no list yet
+-- the draft with one more programme, which has no list yet
 abbrev pub with_programme : Draft → ℕ → Draft
 with_programme d q = record d { quotas = d.quotas ++ q ∷ []; programme_lists = d.programme_lists ++ None ∷ []; programmes_withdrawn = d.programmes_withdrawn ++ false ∷ [] }
 
--- the draft with one resident more, who has no list yet
+-- the draft with one more resident, who has no list yet
 abbrev pub with_resident : Draft → Draft
 with_resident d = record d { resident_lists = d.resident_lists ++ None ∷ []; residents_withdrawn = d.residents_withdrawn ++ false ∷ [] }
 
@@ -73,12 +75,12 @@ with_programme_withdrawn d p = record d { programmes_withdrawn = slice_set d.pro
 abbrev pub with_resident_withdrawn : Draft → ℕ → Draft
 with_resident_withdrawn d r = record d { residents_withdrawn = slice_set d.residents_withdrawn r true }
 
--- the list that stands among the items from up to where the span says, if there is a span
+-- the items from the span's start up to its end, if there is a span
 abbrev pub list_in : List ℕ → Option (ℕ × ℕ) → Option (List ℕ)
 list_in items None = None
 list_in items (Some span) = Some (slice_range items span.0 span.1)
 
--- the span, if there is one, doesn't end before it starts, nor past n
+-- the span, if there is one, ends neither before it starts nor past n
 abbrev pub IsSpan : ℕ → Option (ℕ × ℕ) → Type 0
 IsSpan n None = Unit {0}
 IsSpan n (Some span) = (span.0 ≤ span.1) × (span.1 ≤ n)
@@ -93,11 +95,11 @@ draft_with quotas programmes residents programmes_gone residents_gone = record {
   residents_withdrawn = residents_gone;
 }
 
--- the lists that were given, without those whose owners are withdrawn
+-- the lists that were given, emptied where the owner is withdrawn
 abbrev pub lists_left : List (Option (List ℕ)) → List Bool → List (List ℕ)
 lists_left lists flags = remaining_lists (given_lists lists) flags
 
--- the mutual parts of the lists that were given, of mine as of theirs without those whose owners are withdrawn
+-- the mutual parts of my lists with theirs, on both sides without the lists of withdrawn owners
 abbrev pub mutual_left : List (Option (List ℕ)) → List Bool → List (Option (List ℕ)) → List Bool → List (List ℕ)
 mutual_left mine my_flags theirs their_flags = mutual_lists (lists_left mine my_flags) (lists_left theirs their_flags)
 
@@ -122,7 +124,7 @@ owner_fault lists owner =
     if nat_le (length lists) owner then Some NoSuchMember
     else (if is_some (slice_index_or lists owner None) then Some ListGivenTwice else None)
 
--- the first fault of a list's items: one isn't below `others`, or one is listed twice
+-- the first fault of a list's items: an item isn't below `others`, or is listed twice
 abbrev pub items_fault : ℕ → List ℕ → Option ModelFault
 items_fault others items =
     if not (list_all (λ x. nat_lt x others) items) then Some NoSuchMember
@@ -138,7 +140,7 @@ withdrawal_fault flags member =
     if nat_le (length flags) member then Some NoSuchMember
     else (if is_withdrawn flags member then Some WithdrawnTwice else None)
 
--- where there is a fault it is the answer; else the answer is Ok, or want of memory
+-- a fault is the answer; without one the answer is Ok or want of memory
 abbrev pub AnswersFirst : {T : Type 0} → Option ModelFault → Result T ModelFault → Type 0
 AnswersFirst (Some fault) r = r ≡ Err fault
 AnswersFirst None (Ok v) = Unit {0}
@@ -153,7 +155,8 @@ pub record AreLists (lists : List (Option (List ℕ))) (n : ℕ) : Type 0 where
   pub items_below : All (λ list. list_all (λ x. nat_lt x n) list ≡ true) (given_lists lists)
   pub no_repeats : All (λ list. has_no_repeats list ≡ true) (given_lists lists)
 
--- what a builder keeps: a list or none for each member, of members, without repeats, a flag for each, and the limits
+-- what a builder keeps: for each member a flag, and a list of other members without repeats, or none; all within the
+-- limits
 pub record IsDraft (d : Draft) : Type 0 where
   pub one_list_each : length d.programme_lists ≡ length d.quotas
   pub programmes_within : length d.quotas ≤ MAX_PROGRAMMES
@@ -168,11 +171,11 @@ pub record IsDraft (d : Draft) : Type 0 where
 abbrev pub IsFinishFault : Draft → ModelFault → Type 0
 IsFinishFault d fault = (fault ≡ Memory) ⊎ ((fault ≡ TooManyPairs) × (MAX_PAIRS < pair_count (instance_of d)))
 
--- whether so many items are more than the most that there may be, if there is a most
+-- whether so many items are more than the most, if there is a most
 abbrev pub are_over : Option ℕ → ℕ → Bool
 are_over None n = false
 are_over (Some most) n = nat_lt most n
 
--- why so many items are not gathered: want of memory, or they are more than there may be
+-- why so many items are not gathered: want of memory, or more items than the most
 abbrev pub IsGatherFault : Option ℕ → ℕ → ModelFault → Type 0
 IsGatherFault most n fault = (fault ≡ Memory) ⊎ ((fault ≡ TooManyPairs) × (are_over most n ≡ true))

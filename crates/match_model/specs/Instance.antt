@@ -4,8 +4,8 @@ use Rattle.std.specs.List.{sum_by}
 use Rattle.match_model.specs.Ranking.{place, is_listed, IsListed, HasNoRepeats}
 use Rattle.match_model.specs.declared.limits.TheConstants.{MAX_PROGRAMMES, MAX_RESIDENTS, MAX_PAIRS, MAX_QUOTA}
 
--- by programme its quota and its ranking of acceptable residents, by resident its ranking of acceptable programmes,
--- and by member whether it is withdrawn
+-- each programme's quota and each member's ranking of acceptable members, by number, and whether the member is
+-- withdrawn
 pub record Instance : Type 0 where
   pub quotas : List ℕ
   pub programme_lists : List (List ℕ)
@@ -72,8 +72,8 @@ offer_to inst p (Some r) = Some (r, place (list_of_resident inst r) p)
 abbrev pub offer_at : Instance → ℕ → ℕ → Option (ℕ × ℕ)
 offer_at inst p k = offer_to inst p (slice_get (list_of_programme inst p) k)
 
--- rankings without repeats, one for each member, in which p lists r exactly where r lists p, within the limits;
--- a flag for each member, and whoever is withdrawn ranks nobody
+-- Each member has a ranking without repeats, and a flag, within the limits. p ranks r exactly where r ranks p. Whoever
+-- is withdrawn ranks nobody.
 pub record IsInstance (inst : Instance) : Type 0 where
   pub one_list_each : length inst.programme_lists ≡ length inst.quotas
   pub programmes_rank_strictly : (p : ℕ) → HasNoRepeats (list_of_programme inst p)
@@ -88,7 +88,7 @@ pub record IsInstance (inst : Instance) : Type 0 where
   pub withdrawn_programmes_rank_nobody : (p : ℕ) → is_withdrawn inst.programmes_withdrawn p ≡ true → list_of_programme inst p ≡ []
   pub withdrawn_residents_rank_nobody : (r : ℕ) → is_withdrawn inst.residents_withdrawn r ≡ true → list_of_resident inst r ≡ []
 
--- what an instance keeps: its rankings are one, it counts its pairs, and no list is longer than there can be members
+-- what an instance keeps: it is one, it counts its pairs, and no list is longer than there can be members
 pub record IsWellFormed (inst : Instance) (pairs : ℕ) : Type 0 where
   pub is_instance : IsInstance inst
   pub pairs_counted : pairs ≡ pair_count inst

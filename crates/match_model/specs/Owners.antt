@@ -1,4 +1,4 @@
--- For each number the owners of the lists in which it stands.
+-- The owners of the lists in which a number stands, for each number.
 use Rattle.std.specs.Prelude.{◌≡◌, ℕ, ◌<◌, nat_lt, Bool, true, false, List, length, map, take, slice_index, slice_index_or}
 use Rattle.std.specs.List.{filter, range_with_len, enumerate_from, All, list_all}
 use Rattle.std.specs.List.Sorted.{IsNonDecreasing}
@@ -15,22 +15,22 @@ pub record AreOwners (count n : ℕ) (lists rows : List (List ℕ)) : Type 0 whe
   pub one_each : length rows ≡ count
   pub row : (x : ℕ) → x < count → list_at rows x ≡ owners_below n lists x
 
--- what a number's item becomes, where it is listed
+-- a number's item after one step, which is taken only where the number is listed
 abbrev pub stepped : {T : Type 0} → (T → T) → Bool → T → T
 stepped step true item = step item
 stepped step false item = item
 
--- the items of the numbers of a list are made one step further, and the others are as they were
+-- each item whose number is listed is taken one step further, and the others are as they were
 pub record AreStepped {T : Type 0} (none : T) (step : ℕ → T → T) (list : List ℕ) (before after : List T) : Type 0 where
   pub one_each : length after ≡ length before
   pub item : (x : ℕ) → x < length before → slice_index_or after x none ≡ stepped (step x) (is_listed list x) (slice_index_or before x none)
 
--- so many counts, each of the lists in which its number stands, of the owners below n
+-- for each number below the count, how many of the lists of owners below n have it
 pub record AreCounts (count n : ℕ) (lists : List (List ℕ)) (counts : List ℕ) : Type 0 where
   pub one_each : length counts ≡ count
   pub number : (x : ℕ) → x < count → slice_index counts x ≡ length (owners_below n lists x)
 
--- so many rows, each with room for the owners below all and begun by those below n, as many as are counted
+-- a row for each number, with room for all its owners, in which those below n are entered, as many as are counted
 pub record AreBegun (count all n : ℕ) (lists rows : List (List ℕ)) (counts : List ℕ) : Type 0 where
   pub one_each : length rows ≡ count
   pub counted : AreCounts count n lists counts
@@ -41,13 +41,13 @@ pub record AreBegun (count all n : ℕ) (lists rows : List (List ℕ)) (counts :
 unfoldable pub kept_lists : List (List ℕ) → List (List ℕ) → List (List ℕ)
 kept_lists lists rows = map (λ (owned : ℕ × List ℕ). filter (λ x. is_listed (list_at rows owned.0) x) owned.1) (enumerate_from 0 lists)
 
--- so many rows, each of numbers below n in rising order, none of which stands in it twice
+-- so many rows of numbers below n, each in rising order without repeats
 pub record AreRows (count n : ℕ) (rows : List (List ℕ)) : Type 0 where
   pub one_each : length rows ≡ count
   pub below : All (λ row. list_all (λ x. nat_lt x n) row ≡ true) rows
   pub distinct : All (λ row. has_no_repeats row ≡ true) rows
   pub rising : All IsNonDecreasing rows
 
--- the row in its place has each item of a list
+-- each row has every item of the list in the same place
 abbrev pub AreCovered : List (List ℕ) → List (List ℕ) → Type 0
 AreCovered lists rows = (i x : ℕ) → is_listed (list_at lists i) x ≡ true → is_listed (list_at rows i) x ≡ true

@@ -1,6 +1,6 @@
--- Tables of places: for a number where it stands in a list.
+-- Tables of places: where a number stands in a list.
 use Rattle.std.specs.Prelude.{◌≡◌, ℕ, ◌<◌, List, length, slice_index}
 
--- each item's place; what the table has for other numbers doesn't matter
+-- the table has each item's place, and anything for other numbers
 abbrev pub ArePlaces : List ℕ → List ℕ → Type 0
 ArePlaces list places = (k : ℕ) → k < length list → slice_index places (slice_index list k) ≡ k

@@ -19,15 +19,15 @@ pub record IsRankTable (list : List ℕ) (table : List (ℕ × ℕ)) : Type 0 wh
 pub record AreRankTables (lists : List (List ℕ)) (tables : List (List (ℕ × ℕ))) : Type 0 where
   pub each : AllZip IsRankTable lists tables
 
--- p's place in the list of each of these
+-- p's place in the list of each of these members
 abbrev pub ranks_of : List (List ℕ) → ℕ → List ℕ → List ℕ
 ranks_of theirs p list = map (λ r. place (list_at theirs r) p) list
 
--- whoever stands in p's list has p in its own
+-- whoever p lists has p in its own list
 pub record AreListedBack (theirs : List (List ℕ)) (p : ℕ) (list : List ℕ) : Type 0 where
   pub back : (r : ℕ) → is_listed list r ≡ true → is_listed (list_at theirs r) p ≡ true
 
--- for each place of each list p's place in the list of who stands there
+-- a row for each programme p: for each place of its list, p's place in the list of whoever stands there
 pub record AreOfferRanks (lists theirs ranks : List (List ℕ)) : Type 0 where
   pub one_row_each : length ranks ≡ length lists
   pub row : (p : ℕ) → p < length lists → list_at ranks p ≡ ranks_of theirs p (list_at lists p)

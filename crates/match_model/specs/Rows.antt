@@ -1,4 +1,4 @@
--- Rows of items one after another in one list, with a list of where each ends.
+-- Rows of items, one after another in one list, and a list of where each ends.
 use Rattle.std.specs.Prelude.{ℕ, ◌≤◌, List, [], ◌∷◌}
 use Rattle.std.specs.List.{slice_range}
 
@@ -17,7 +17,7 @@ abbrev pub last_end : ℕ → List ℕ → ℕ
 last_end start [] = start
 last_end start (end ∷ ends) = last_end end ends
 
--- none ends before it starts, nor past n
+-- no row ends before it starts, nor past n
 abbrev pub AreEnds : ℕ → List ℕ → ℕ → Type 0
 AreEnds start [] n = start ≤ n
 AreEnds start (end ∷ ends) n = (start ≤ end) × AreEnds end ends n

@@ -12,11 +12,11 @@ pub record ListOneAnother (d : Draft) (r p : ℕ) : Type 0 where
   pub programme_stays : is_withdrawn d.programmes_withdrawn p ≡ false
   pub resident_stays : is_withdrawn d.residents_withdrawn r ≡ false
 
--- the list without the numbers of whoever is withdrawn
+-- the list without the numbers of withdrawn members
 abbrev pub strike : List Bool → List ℕ → List ℕ
 strike flags list = filter (λ x. not (is_withdrawn flags x)) list
 
--- each list, empty where its owner is withdrawn, and without the numbers of the others who are
+-- each list without the numbers of withdrawn members, and empty where its owner is withdrawn
 abbrev pub struck_lists : List (Option (List ℕ)) → List Bool → List Bool → List (Option (List ℕ))
 struck_lists lists owners others = map (λ list. Some (strike others list)) (remaining_lists (given_lists lists) owners)
 
@@ -24,7 +24,7 @@ struck_lists lists owners others = map (λ list. Some (strike others list)) (rem
 abbrev pub none_withdrawn : List Bool → List Bool
 none_withdrawn flags = map (λ flag. false) flags
 
--- the draft in which nobody is withdrawn, the withdrawn members' lists are empty and their numbers struck from every
+-- the draft with nobody withdrawn, in which the withdrawn members' lists are empty and their numbers struck from every
 -- other list
 abbrev pub struck : Draft → Draft
 struck d = record d {
@@ -42,7 +42,7 @@ with_flags inst programmes residents = record inst { programmes_withdrawn = prog
 abbrev pub AreAllHere : List Bool → Type 0
 AreAllHere flags = (member : ℕ) → is_withdrawn flags member ≡ false
 
--- where nobody is withdrawn, these lists are the mutual parts of what was given to these
+-- where nobody is withdrawn, these lists are the mutual parts of the lists that were given
 abbrev pub AreMutualWhereAllHere : Draft → List (List ℕ) → List (Option (List ℕ)) → List (Option (List ℕ)) → Type 0
 AreMutualWhereAllHere d lists mine theirs =
     AreAllHere d.programmes_withdrawn → AreAllHere d.residents_withdrawn → lists ≡ mutual_lists (given_lists mine) (given_lists theirs)

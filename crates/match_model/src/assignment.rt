@@ -22,7 +22,7 @@ impl Model for Assignment {
 }
 
 impl Assignment {
-    /// Nobody is matched. The one error is `Memory`.
+    /// An assignment that matches nobody. The one error is `Memory`.
     pub fn new(alloc: Global, residents: u32) -> Result<Assignment, ModelFault>
         ensures nobody { IfOk result (λ a. a ≡ replicate residents None) }
         ensures err { IsOkUnless result ModelFault.Memory }

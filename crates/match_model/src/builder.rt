@@ -48,7 +48,7 @@ impl InstanceBuilder {
     ghost use Rattle.match_model.specs.Fault.{AnswersExactly};
     ghost use Rattle.match_model.specs.Draft.{Draft, AnswersFirst, AnswersOrWantsMemory, programme_fault, resident_fault, list_fault, owner_fault, withdrawal_fault, with_programme, with_resident, with_programme_list, with_resident_list, with_programme_withdrawn, with_resident_withdrawn, instance_of, IsFinishFault};
 
-    /// No members yet. The allocator serves all later growths.
+    /// A builder without members. The allocator serves all later growths.
     pub fn new(alloc: Global) -> InstanceBuilder
         ensures { result ≡ record { quotas = []; programme_lists = []; resident_lists = []; programmes_withdrawn = []; residents_withdrawn = [] } }
     {
@@ -149,8 +149,8 @@ impl InstanceBuilder {
         Ok(())
     }
 
-    /// Withdraws a programme, whose list may be given before or after: it keeps its number and quota, and is in no
-    /// acceptable pair. Refused as `NoSuchMember` or `WithdrawnTwice`. Takes no memory.
+    /// Withdraws a programme. It keeps its number and quota, and is in no acceptable pair. Its list may be given before
+    /// or after. Refused as `NoSuchMember` or `WithdrawnTwice`. Takes no memory.
     pub fn withdraw_programme(&mut self, programme: ProgrammeNo) -> Result<(), ModelFault>
         ensures withdrawn { OnOk result (self.new ≡ with_programme_withdrawn self.old programme) }
         ensures fault { AnswersExactly (withdrawal_fault self.old.programmes_withdrawn programme) result }
@@ -174,7 +174,8 @@ impl InstanceBuilder {
         Ok(())
     }
 
-    /// Makes the instance of the mutual parts of the lists, where whoever is withdrawn lists nobody. Refused as `TooManyPairs` or `Memory`, with the builder.
+    /// Makes the instance. Each list keeps whoever lists its owner in turn, and a withdrawn member lists nobody.
+    /// Refused as `TooManyPairs` or `Memory`, and the builder comes back as it was.
     pub fn finish(self) -> Result<Instance, FinishRefused>
         ensures made { IfOk result (λ inst. inst ≡ instance_of self) }
         ensures within { OnOk result (pair_count (instance_of self) ≤ MAX_PAIRS) }

@@ -8,7 +8,7 @@ use crate::ranking::test_items;
 use std::alloc::{AllocError, Global};
 use std::marker::Model;
 
-/// The items of all lists, and for each member from where up to where its list stands among them, if it has one.
+/// The items of all lists, and the span of each member's list among them, if it has one.
 #[derive(Debug, Drop)]
 pub(crate) struct GivenLists {
     items: Vec<u32>,
@@ -28,7 +28,6 @@ impl Model for GivenLists {
 }
 
 impl GivenLists {
-    /// No members yet.
     pub(crate) fn new(alloc: Global) -> GivenLists
         ensures { result ≡ [] }
     {
@@ -45,7 +44,7 @@ impl GivenLists {
         self.spans.len()
     }
 
-    /// One member more, which has no list yet.
+    /// Adds a member, which has no list yet.
     pub(crate) fn add_member(&mut self) -> Result<(), AllocError>
         ensures added { OnOk result (self.new ≡ self.old ++ None ∷ []) }
         ensures err { OnErr result (self.new ≡ self.old) }
@@ -65,7 +64,7 @@ impl GivenLists {
         }
     }
 
-    /// The items of a member's list, none where it has no list.
+    /// The items of a member's list; none where it has no list.
     pub(crate) fn items(&self, owner: usize) -> &[u32]
         requires { owner < length self.now }
         ensures { result.now ≡ unwrap_or (slice_index_or self.now owner None) [] }
@@ -76,7 +75,7 @@ impl GivenLists {
         }
     }
 
-    /// Gives a member the list of these residents, each of whom is below `others` and stands in it once.
+    /// Gives a member its list of residents. Each resident is below `others` and stands in the list once.
     pub(crate) fn give_residents(
         &mut self,
         owner: usize,
@@ -103,7 +102,7 @@ impl GivenLists {
         }
     }
 
-    /// Gives a member the list of these programmes, as `give_residents` does of residents.
+    /// Gives a member its list of programmes, as `give_residents` does with residents.
     pub(crate) fn give_programmes(
         &mut self,
         owner: usize,
@@ -131,7 +130,6 @@ impl GivenLists {
     }
 }
 
-/// Puts the numbers of these residents at the end of the items.
 fn push_residents(items: &mut Vec<u32>, residents: &[ResidentNo]) -> Result<(), AllocError>
     ensures pushed { OnOk result (items.new.items ≡ items.old.items ++ residents.now) }
     ensures err { OnErr result (items.new.items ≡ items.old.items) }
@@ -143,7 +141,6 @@ fn push_residents(items: &mut Vec<u32>, residents: &[ResidentNo]) -> Result<(), 
     Ok(())
 }
 
-/// Puts the numbers of these programmes at the end of the items.
 fn push_programmes(items: &mut Vec<u32>, programmes: &[ProgrammeNo]) -> Result<(), AllocError>
     ensures pushed { OnOk result (items.new.items ≡ items.old.items ++ programmes.now) }
     ensures err { OnErr result (items.new.items ≡ items.old.items) }

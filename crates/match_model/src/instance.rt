@@ -38,7 +38,7 @@ impl Model for Instance {
     } };
 }
 
-// As one call, so that whoever lets an instance go proves nothing of its parts.
+// One call, so that a caller that drops an instance proves nothing of its parts.
 impl Drop for Instance {
     fn drop(self) {
         let Instance {
@@ -117,7 +117,8 @@ impl Instance {
         self.programme_lists.row(programme.0 as usize)
     }
 
-    /// The resident at this place from 0 of a programme's list, if it is so long. The programme is a member.
+    /// The resident at this place of a programme's list, counted from 0. None past the list's end. The programme is a
+    /// member.
     #[inline(always)]
     pub fn listed_at(&self, programme: ProgrammeNo, place: u32) -> Option<ResidentNo>
         requires { IsProgramme self.now programme }
@@ -127,8 +128,8 @@ impl Instance {
         list.get(place as usize).copied()
     }
 
-    /// The resident at this place from 0 of a programme's list, if it is so long, and the programme's place from 0 in
-    /// that resident's list. The programme is a member.
+    /// The resident at this place of a programme's list, counted from 0, and the programme's place in that resident's
+    /// list. None past the list's end. The programme is a member.
     #[inline]
     pub fn offer_at(&self, programme: ProgrammeNo, place: u32) -> Option<(ResidentNo, u32)>
         requires { IsProgramme self.now programme }
@@ -173,7 +174,7 @@ impl Instance {
         rank_in(table, programme.0)
     }
 
-    /// What `rank_at_resident` gives, by a guess of it: the list is looked into there first. The resident is a member.
+    /// Answers as `rank_at_resident` does, and looks at the guessed place of the list first. The resident is a member.
     #[inline]
     pub fn rank_by_guess(
         &self,

@@ -1,10 +1,10 @@
 //! The model of a residency match: quotas, rankings, ranks and assignments.
 //!
-//! A builder takes quotas, lists and withdrawals as they were handed in; `finish` makes of them an instance, whose lists
-//! are the mutual parts of what was handed in, in order and without repeats, and without whoever is withdrawn.
+//! A builder takes quotas, lists and withdrawals as they were handed in, and `finish` makes an instance of them. Each
+//! list of the instance keeps, in order, whoever lists its owner in turn. It has no repeats, and nobody who is
+//! withdrawn.
 //!
-//! A body that prints nothing for a `ModelFault` would meet its contract, which says nothing of texts: a test shows
-//! them.
+//! Contracts say nothing of the text of a `ModelFault`: a test compares it.
 #![tactic(auto)]
 
 mod assignment;

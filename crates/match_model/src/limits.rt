@@ -13,7 +13,7 @@ pub const MAX_PAIRS: usize = 200_000;
 /// The largest quota of a programme.
 pub const MAX_QUOTA: u32 = 10_000;
 
-/// What definitions and contracts name by a constant is this, whatever the constant says.
+/// Each constant of this module is the number that definitions say in its place.
 pub fn law_limits()
     ensures programmes { MAX_PROGRAMMES ≡ 2000 }
     ensures residents { MAX_RESIDENTS ≡ 20000 }

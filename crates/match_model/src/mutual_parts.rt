@@ -1,4 +1,4 @@
-//! The mutual parts of lists, where for each owner a row says who lists it.
+//! The mutual parts of lists, by rows that say who lists each owner.
 ghost use Rattle.std.specs.Prelude.{◌≡◌, ℕ, ◌<◌, ◌^◌, nat_lt, List, [], length, map, true, false, ◌++◌, Some, OnOk, IfOk, IfErr};
 ghost use Rattle.std.specs.List.{All, list_all, filter, sum_by};
 ghost use Rattle.match_model.specs.Ranking.{is_listed};
@@ -18,8 +18,8 @@ use crate::ranking::remaining;
 use crate::rows::Rows;
 use std::alloc::{AllocError, Global};
 
-/// Puts the items of a list that stand in a row whose places are noted, in their order, into the row of `kept` that is
-/// begun.
+/// Appends to the begun row of `kept`, in their order, the items of a list that stand in another row. `places` has that
+/// row's places.
 fn keep(
     kept: &mut Rows<u32>,
     items: &[u32],
@@ -38,7 +38,7 @@ fn keep(
     Ok(())
 }
 
-/// Whether so many items are more than the most that there may be, if there is a most.
+/// Whether so many items are more than the most, if there is a most.
 fn is_over(most: Option<usize>, count: usize) -> bool
     ensures { result ≡ are_over most count }
 {
@@ -48,7 +48,7 @@ fn is_over(most: Option<usize>, count: usize) -> bool
     }
 }
 
-/// The items that each list keeps by these rows. They are refused as soon as they are more than there may be.
+/// The items that each list keeps by these rows. Refused as soon as they are more than the most.
 fn all_kept(
     alloc: Global,
     most: Option<usize>,
@@ -79,7 +79,8 @@ fn all_kept(
     Ok(kept)
 }
 
-/// What each list keeps by its owner's row, which names others of so many, and the table of the ranks of what is kept.
+/// The items that each list keeps by its owner's row, and the table of their ranks. The rows name members below a
+/// count.
 fn kept_with_ranks(
     alloc: Global,
     most: Option<usize>,
@@ -103,8 +104,8 @@ fn kept_with_ranks(
     Ok((kept, ranks))
 }
 
-/// Each member's list, in its order, with only those who list that member, and the table of their ranks. They are
-/// refused where they have more items than there may be pairs.
+/// Each member's list in its order, with only those who list that member, and the table of their ranks. Refused where
+/// they have more items than there may be pairs.
 pub(crate) fn mutual(
     alloc: Global,
     mine: &GivenLists,
@@ -133,8 +134,8 @@ pub(crate) fn mutual(
     )
 }
 
-/// Each member's list, in its order, with only those who list that member, and the table of their ranks, by the mutual
-/// lists of the other side, which are few and have whoever the member lists in turn.
+/// As `mutual`, by the mutual lists of the other side in place of all that were given. They are short, and have whoever
+/// a member lists in turn.
 pub(crate) fn mutual_in_turn(
     alloc: Global,
     mine: &GivenLists,

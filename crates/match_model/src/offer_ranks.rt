@@ -8,8 +8,8 @@ use crate::rank_table::rank_in;
 use crate::rows::Rows;
 use std::alloc::{AllocError, Global};
 
-/// The place of a number in the list whose table this is, if it stands there. Where the number has its entry is
-/// guessed, and looked for only where it stands elsewhere.
+/// The place of a number in the list of this table, if it stands there. The entry at the guess is tried first, and then
+/// the number is searched for.
 fn rank_by_guess(table: &[(u32, u32)], number: u32, guess: usize) -> Option<u32>
     ensures { (list : List ℕ) → IsRankTable list table.now → result ≡ rank list number }
 {
@@ -19,8 +19,8 @@ fn rank_by_guess(table: &[(u32, u32)], number: u32, guess: usize) -> Option<u32>
     }
 }
 
-/// Puts a programme's rank on the list of each whom it lists into the row that is begun. The tables are those of the
-/// ranks of their lists; how many entries of each were passed is the guess.
+/// Appends to the begun row a programme's rank on the list of each member that it lists. The tables have the ranks of
+/// those lists. The guess is how many entries of each table were passed.
 fn push_ranks(
     ranks: &mut Rows<u32>,
     passed: &mut [usize],
@@ -44,8 +44,8 @@ fn push_ranks(
     Ok(())
 }
 
-/// For each place of each programme's list the programme's rank on the list of who stands there, by the tables of the
-/// ranks of those lists.
+/// For each place of each programme's list, the programme's rank on the list of whoever stands there. The tables have
+/// the ranks of those lists.
 pub(crate) fn offer_ranks(
     alloc: Global,
     lists: &Rows<u32>,

@@ -11,7 +11,7 @@ use crate::places::{note_places, place_in};
 use crate::rows::Rows;
 use std::alloc::{AllocError, Global};
 
-/// The place of a number in the list whose table this is, if it stands there.
+/// The place of a number in the list of this table, if it stands there.
 #[inline(always)]
 pub(crate) fn rank_in(table: &[(u32, u32)], number: u32) -> Option<u32>
     ensures { (list : List ℕ) → IsRankTable list table.now → result ≡ rank list number }
@@ -22,8 +22,8 @@ pub(crate) fn rank_in(table: &[(u32, u32)], number: u32) -> Option<u32>
     }
 }
 
-/// Puts the numbers of a row that stand in a list, with their places there, which are noted, into the table that is
-/// begun. They are in the row's order.
+/// Appends to the begun table the numbers of a row that stand in a list, in the row's order, with their places in the
+/// list. `places` has them.
 fn enter_ranks(
     tables: &mut Rows<(u32, u32)>,
     list: &[u32],
@@ -43,7 +43,7 @@ fn enter_ranks(
     Ok(())
 }
 
-/// The table of each list, by a rising row in which all its items stand: so no table is sorted.
+/// The table of each list, by a rising row that has all its items. So no table has to be sorted.
 pub(crate) fn rank_tables(
     alloc: Global,
     lists: &Rows<u32>,

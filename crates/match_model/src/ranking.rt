@@ -1,4 +1,4 @@
-//! Tests on lists as they are handed in, and what is left of them.
+//! Tests on lists as they are handed in, and the lists that withdrawals leave.
 ghost use Rattle.std.specs.Prelude.{◌≡◌, ◌<◌, ◌≤◌, nat_lt, length, false, Some, vec_len, OnOk, IfOk};
 ghost use Rattle.std.specs.List.{list_all};
 ghost use Rattle.match_model.specs.Draft.{lists_left, items_fault, withdrawal_fault, has_no_repeats, AnswersOrWantsMemory};
@@ -22,7 +22,7 @@ pub(crate) fn test_withdrawal(withdrawn: &[bool], member: usize) -> Result<(), M
     }
 }
 
-/// Whether each item is below `others`, and none stands in the list twice. Whatever the table of places has will do.
+/// Whether each item is below `others` and stands in the list once. The table of places may have anything.
 pub(crate) fn test_items(
     places: &mut Vec<usize>,
     others: usize,

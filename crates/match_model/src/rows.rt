@@ -25,7 +25,7 @@ impl<T> Model for Rows<T> {
     ghost invariant = { λ r. AreEnds 0 r.ends.items (length r.items.items) };
 }
 
-// As one call, so that whoever lets rows go proves nothing of their parts.
+// One call, so that a caller that drops rows proves nothing of their parts.
 impl<T: Drop> Drop for Rows<T> {
     fn drop(self) {
         let Rows { items: _, ends: _ } = self;
@@ -33,7 +33,7 @@ impl<T: Drop> Drop for Rows<T> {
 }
 
 impl<T: Copy> Rows<T> {
-    /// No rows yet, with room for so many rows, and so many items in all.
+    /// No rows, with room for so many rows and so many items in all.
     pub(crate) fn with_capacity(
         alloc: Global,
         rows: usize,
@@ -46,7 +46,7 @@ impl<T: Copy> Rows<T> {
         Ok(Rows { items, ends })
     }
 
-    /// One item more in the row that is begun.
+    /// Appends an item to the row that is begun.
     #[inline]
     pub(crate) fn push(&mut self, item: T) -> Result<(), AllocError>
         ensures { OnOk result (self.new ≡ record self.old { begun = self.old.begun ++ item ∷ [] }) }
@@ -80,7 +80,7 @@ impl<T: Copy> Rows<T> {
         self.ends.len()
     }
 
-    /// How many items there are in all, those of the row that is begun among them.
+    /// How many items there are in all, with those of the row that is begun.
     pub(crate) fn item_count(&self) -> usize
         ensures { result ≡ sum_by length self.now.rows + length self.now.begun }
     {
@@ -98,7 +98,7 @@ impl<T: Copy> Rows<T> {
     }
 }
 
-/// Where a row starts, by where the rows end.
+/// Where a row starts, from the ends of the rows.
 #[inline(always)]
 fn start_of(ends: &[usize], place: usize) -> usize
     requires { place < length ends.now }
@@ -120,7 +120,7 @@ fn part<T>(items: &[T], start: usize, end: usize) -> &[T]
     &items[start..end]
 }
 
-/// How many items these are in all, which is only the room that is made for them.
+/// How many items these are in all. It is a hint for the room alone, so no contract speaks of it.
 fn total(lengths: &[usize]) -> usize {
     let mut total: usize = 0;
     for length in lengths {
@@ -142,7 +142,7 @@ impl Rows<u32> {
         Ok(rows)
     }
 
-    /// So many zeros more in the row that is begun.
+    /// Appends zeros to the row that is begun.
     fn push_zeros(&mut self, count: usize) -> Result<(), AllocError>
         ensures { OnOk result (self.new ≡ record self.old { begun = self.old.begun ++ replicate count 0 }) }
     {
