@@ -3,7 +3,7 @@ use Rattle.std.specs.Prelude.{ℕ, ◌+◌, ◌-◌, ◌≤◌, ◌<◌, nat_lt,
 use Rattle.std.specs.List.{range_with_len}
 use Rattle.exchange_core.specs.declared.part.Part.{Part}
 
--- past the last place of so many it goes on at the first
+-- the place after the last of so many is the first
 abbrev pub wrapped : ℕ → ℕ → ℕ
 wrapped room k = if nat_lt k room then k else k - room
 
@@ -24,11 +24,11 @@ pub record IsRing (part : Part) : Type 0 where
 abbrev pub opened : ℕ → ℕ → Part
 opened start room = record { start = start; room = room; front = 0; len = 0 }
 
--- one note more
+-- the part with one more note
 abbrev pub pushed : Part → Part
 pushed part = record part { len = part.len + 1 }
 
--- without the note in front, if one waits
+-- the part without the note in front, if one waits
 abbrev pub popped : Part → Part
 popped part = if nat_eq part.len 0 then part else record part { front = wrapped part.room (part.front + 1); len = part.len - 1 }
 

@@ -45,7 +45,7 @@ code_of Release = 2
 abbrev pub kind_of : ℕ → AnswerKind
 kind_of code = if nat_eq code 0 then Hold else (if nat_eq code 1 then Decline else Release)
 
--- an answer's note: the number of its resident four times, and of its kind
+-- an answer's note: four times its resident's number, and the number of its kind
 abbrev pub note_of : Answered → ℕ
 note_of answer = answer.0 * 4 + code_of answer.1
 

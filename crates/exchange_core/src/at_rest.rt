@@ -31,7 +31,7 @@ impl Core {
         self.residents.are_quiet() && self.programmes.are_content()
     }
 
-    /// The first resident's desk that isn't at rest: none is looked at where nothing waits and nothing is due.
+    /// The first resident's desk that isn't at rest. It looks at none where no offer waits and no answer is due.
     #[tactic(auto, using(crate::proofs::FirstBelow::first_below_found, crate::proofs::FirstBelow::first_below_more, crate::proofs::Quiet::quiet_residents))]
     fn pending_at_residents(&self, inst: &Instance) -> Option<Pending>
         requires { IsCoreOf inst.now self.now }
@@ -49,7 +49,8 @@ impl Core {
         None
     }
 
-    /// The first programme's desk that isn't at rest: none is looked at where nothing waits and nobody has a wish.
+    /// The first programme's desk that isn't at rest. It looks at none where no answer waits and no programme has a
+    /// wish.
     #[tactic(auto, using(crate::proofs::FirstBelow::first_below_found, crate::proofs::FirstBelow::first_below_more, crate::proofs::Quiet::content_programmes))]
     fn pending_at_programmes(&self, inst: &Instance) -> Option<Pending>
         requires { IsCoreOf inst.now self.now }

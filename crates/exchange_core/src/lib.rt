@@ -1,7 +1,6 @@
 //! The pure core of the exchange of offers: which event may follow, and what a list of events leaves.
 //!
-//! A body that prints nothing for a `CoreFault` would meet its contract, which says nothing of texts: a test shows
-//! them.
+//! Contracts say nothing of the text of a `CoreFault`: a test compares it.
 #![tactic(auto)]
 
 mod at_rest;

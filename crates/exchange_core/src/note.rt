@@ -40,10 +40,10 @@ impl Model for AnswerNote {
     ghost inverse = { λ n. record { resident = n.0; kind = n.1 } };
 }
 
-/// What an event leaves in the mailboxes of the two desks that it is between.
+/// What an event leaves in the two mailboxes at its ends.
 #[derive(Clone, Copy, Debug, PartialEq, Eq)]
 pub struct MailLeft {
-    /// Whether what was sent is the only message that waits at its receiver, so that the mailbox was empty before.
+    /// Whether the message that was sent waits alone, so that its mailbox was empty before.
     pub receiver_was_empty: bool,
     /// Whether messages wait in the mailbox of the desk whose event it is.
     pub sender_has_more: bool,

@@ -6,8 +6,8 @@ ghost use Rattle.exchange_core.specs.Notes.{IsRing, place_in, opened, pushed, po
 use crate::event::Capacity;
 use match_model::MAX_PAIRS;
 
-/// Where a desk's notes stand: the first of so many places of the row, the place of the note in front, counted from
-/// there, and how many notes wait. Past the last place the notes go on at the first.
+/// Where a desk's notes stand in the row: a ring of `room` places from `start` on. The note in front is counted from
+/// there, and so many notes wait.
 #[derive(Clone, Copy)]
 pub(crate) struct Part {
     pub(crate) start: usize,
@@ -58,7 +58,7 @@ impl Part {
         Some(notes[self.place(0)])
     }
 
-    /// One note more, at the end of those that wait.
+    /// Appends a note to those that wait.
     #[inline(always)]
     pub(crate) fn push(&mut self, notes: &mut Vec<u32>, note: u32)
         requires ring { IsRing self.old }
@@ -72,7 +72,7 @@ impl Part {
         self.len += 1;
     }
 
-    /// Without the note in front, if one waits.
+    /// Drops the note in front, if one waits.
     #[inline(always)]
     pub(crate) fn pop(&mut self)
         requires { IsRing self.old }
@@ -91,7 +91,7 @@ impl Part {
     }
 }
 
-/// How many messages can ever wait in a mailbox, where this many can ever be sent there.
+/// How many messages can ever wait in a mailbox, by the most that can ever be sent there.
 pub(crate) fn room(cap: Capacity, most: usize) -> u32
     requires { most ≤ 2 * MAX_PAIRS }
     ensures { result ≡ room_within cap most }

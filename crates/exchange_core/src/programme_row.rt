@@ -1,4 +1,4 @@
-//! What the core keeps of each programme's desk, with one row of notes for all their mailboxes.
+//! What the core keeps of each programme's desk, and one row of notes for all their mailboxes.
 ghost use Rattle.std.specs.Prelude.{◌≡◌, ◌+◌, ◌-◌, if◌then◌else◌, ◌*◌, ◌^◌, ◌<◌, [], length, map, slice_get, slice_set, IfOk, not, nat_lt};
 ghost use Rattle.exchange_core.specs.Calls.{is_rejection};
 ghost use Rattle.exchange_core.specs.Pending.{has_answers, has_wish};
@@ -11,8 +11,8 @@ use match_model::{Instance, ProgrammeNo, ResidentNo};
 use std::alloc::{AllocError, Global};
 use std::marker::Model;
 
-/// At a programme's desk: the part of the row where its answers wait, how many offers it made and has out, and how many
-/// places and how long a list it has.
+/// A programme's desk: its part of the row, where its answers wait, its offers made and out, its quota, and its list's
+/// length.
 #[derive(Clone, Copy)]
 pub(crate) struct ProgrammeSeat {
     part: Part,
@@ -86,7 +86,6 @@ impl ProgrammeRow {
         !(part.len < part.room)
     }
 
-    /// Whether answers wait.
     #[inline(always)]
     pub(crate) fn has_waiting(&self, programme: ProgrammeNo) -> bool
         requires { programme < length self.now }
@@ -108,7 +107,6 @@ impl ProgrammeRow {
         }
     }
 
-    /// How many offers were made.
     #[inline(always)]
     pub(crate) fn offered(&self, programme: ProgrammeNo) -> u32
         requires { programme < length self.now }
@@ -117,7 +115,6 @@ impl ProgrammeRow {
         self.seats[programme.0 as usize].offered
     }
 
-    /// Whether a programme has a free place.
     #[inline(always)]
     pub(crate) fn has_place(&self, programme: ProgrammeNo) -> bool
         requires { programme < length self.now }
@@ -137,7 +134,7 @@ impl ProgrammeRow {
         seat.out < seat.places && seat.offered < seat.listed
     }
 
-    /// One offer more is made, and is out.
+    /// Makes one more offer, which is out.
     #[inline(always)]
     pub(crate) fn offer(&mut self, programme: ProgrammeNo)
         requires member { programme < length self.old }
@@ -150,7 +147,6 @@ impl ProgrammeRow {
         seat.out = one_more(seat.out, seat.places);
     }
 
-    /// An answer comes in.
     #[inline(always)]
     pub(crate) fn receive(&mut self, programme: ProgrammeNo, resident: ResidentNo, kind: AnswerKind)
         requires member { programme < length self.old }
@@ -162,7 +158,7 @@ impl ProgrammeRow {
         seat.part.push(&mut self.notes, note_of(resident, kind));
     }
 
-    /// The answer in front, which is this one, is heard; a rejection frees its place.
+    /// Hears the answer in front, which is this one. A rejection frees its place.
     #[inline(always)]
     pub(crate) fn hear(&mut self, programme: ProgrammeNo, resident: ResidentNo, kind: AnswerKind)
         requires { programme < length self.old }
@@ -174,7 +170,7 @@ impl ProgrammeRow {
     }
 }
 
-/// How many offers are out after one more, where there is a free place.
+/// How many offers are out after one more, as long as a place is free.
 #[inline(always)]
 fn one_more(out: u32, places: u32) -> u32
     requires { out < places }
@@ -194,7 +190,6 @@ fn out_after(out: u32, _resident: ResidentNo, kind: AnswerKind) -> u32
     }
 }
 
-/// The note of an answer.
 #[inline(always)]
 fn note_of(resident: ResidentNo, kind: AnswerKind) -> u32
     requires { resident < 2 ^ 30 }
@@ -208,7 +203,6 @@ fn note_of(resident: ResidentNo, kind: AnswerKind) -> u32
     resident.0 * 4 + code
 }
 
-/// The answer of a note.
 #[inline(always)]
 fn answer_of(note: u32) -> (ResidentNo, AnswerKind)
     ensures { result ≡ answer_of note }

@@ -10,7 +10,7 @@ use match_model::{Instance, ProgrammeNo, ResidentNo};
 use std::alloc::{AllocError, Global};
 use std::marker::Model;
 
-/// A seat for each programme, and how many of them have answers waiting, and a wish.
+/// A seat for each programme, how many have answers waiting, and how many have a wish.
 #[derive(Drop)]
 pub(crate) struct ProgrammeDesks {
     row: ProgrammeRow,
@@ -58,7 +58,7 @@ impl ProgrammeDesks {
         })
     }
 
-    /// Whether no answer waits anywhere, and nobody has a wish.
+    /// Whether no answer waits anywhere and no programme has a wish.
     pub(crate) fn are_content(&self) -> bool
         ensures { result ≡ true → All IsContent self.now }
     {
@@ -74,7 +74,6 @@ impl ProgrammeDesks {
         self.row.is_full(programme)
     }
 
-    /// Whether answers wait.
     #[inline(always)]
     pub(crate) fn has_waiting(&self, programme: ProgrammeNo) -> bool
         requires { programme < length self.now }
@@ -92,7 +91,6 @@ impl ProgrammeDesks {
         self.row.first_waiting(programme)
     }
 
-    /// How many offers were made.
     #[inline(always)]
     pub(crate) fn offered(&self, programme: ProgrammeNo) -> u32
         requires { programme < length self.now }
@@ -101,7 +99,6 @@ impl ProgrammeDesks {
         self.row.offered(programme)
     }
 
-    /// Whether a programme has a free place.
     #[inline(always)]
     pub(crate) fn has_place(&self, programme: ProgrammeNo) -> bool
         requires { programme < length self.now }
@@ -119,7 +116,7 @@ impl ProgrammeDesks {
         self.row.has_wish(programme)
     }
 
-    /// One offer more is made, and is out.
+    /// Makes one more offer, which is out.
     #[inline(always)]
     pub(crate) fn offer(&mut self, programme: ProgrammeNo)
         requires member { programme < length self.old }
@@ -134,7 +131,6 @@ impl ProgrammeDesks {
         }
     }
 
-    /// An answer comes in.
     #[inline(always)]
     pub(crate) fn receive(&mut self, programme: ProgrammeNo, resident: ResidentNo, kind: AnswerKind)
         requires member { programme < length self.old }
@@ -148,7 +144,7 @@ impl ProgrammeDesks {
         self.row.receive(programme, resident, kind);
     }
 
-    /// The answer in front, which is this one, is heard; a rejection frees its place.
+    /// Hears the answer in front, which is this one. A rejection frees its place.
     #[inline(always)]
     pub(crate) fn hear(&mut self, programme: ProgrammeNo, resident: ResidentNo, kind: AnswerKind)
         requires { programme < length self.old }

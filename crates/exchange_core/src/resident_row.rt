@@ -1,4 +1,4 @@
-//! What the core keeps of each resident's desk, with one row of notes for all their mailboxes.
+//! What the core keeps of each resident's desk, and one row of notes for all their mailboxes.
 ghost use Rattle.std.specs.Prelude.{◌≡◌, ◌<◌, ◌%◌, ◌^◌, [], length, map, slice_get, slice_set, IfOk, not, nat_lt, drop, None};
 ghost use Rattle.std.specs.Option.{option_to_list};
 ghost use Rattle.exchange_core.specs.Pending.{has_offers};
@@ -12,8 +12,8 @@ use match_model::{Instance, ProgrammeNo, ResidentNo};
 use std::alloc::{AllocError, Global};
 use std::marker::Model;
 
-/// At a resident's desk: the part of the row where its offers wait, the answers that are due, of which an offer calls
-/// for two at most, and the programme held; and the ranks that came with the offer taken and with the one held.
+/// A resident's desk: its part of the row, where its offers wait, the answers due, and the programme held. The guessed
+/// ranks of the offer taken and of the one held stand beside. An offer calls for two answers at most.
 #[derive(Clone, Copy)]
 pub(crate) struct ResidentSeat {
     part: Part,
@@ -88,7 +88,6 @@ impl ResidentRow {
         !(part.len < part.room)
     }
 
-    /// Whether offers wait.
     #[inline(always)]
     pub(crate) fn has_waiting(&self, resident: ResidentNo) -> bool
         requires { resident < length self.now }
@@ -110,7 +109,6 @@ impl ResidentRow {
         }
     }
 
-    /// The first answer due.
     #[inline(always)]
     pub(crate) fn first_due(&self, resident: ResidentNo) -> Option<(ProgrammeNo, AnswerKind)>
         requires { resident < length self.now }
@@ -128,7 +126,7 @@ impl ResidentRow {
         self.seats[resident.0 as usize].held
     }
 
-    /// The ranks that came with the offer in front and with the one held. What they say is a guess.
+    /// The guessed ranks that came with the offer in front and with the one held.
     #[inline(always)]
     pub(crate) fn ranks(&self, resident: ResidentNo) -> (u32, u32)
         requires { resident < length self.now }
@@ -141,7 +139,6 @@ impl ResidentRow {
         }
     }
 
-    /// An offer comes in, with its programme's rank.
     #[inline(always)]
     pub(crate) fn receive(&mut self, resident: ResidentNo, programme: ProgrammeNo, rank: u32)
         requires member { resident < length self.old }
@@ -154,7 +151,7 @@ impl ResidentRow {
             .push(&mut self.notes, note_of_offer(programme, rank));
     }
 
-    /// The offer in front, which is this programme's and came with this rank, is taken, and calls for its answers.
+    /// Takes the offer in front, which is this programme's and came with this rank, and makes due what it calls for.
     #[inline(always)]
     pub(crate) fn take(
         &mut self,
@@ -175,7 +172,7 @@ impl ResidentRow {
         seat.taken_rank = rank;
     }
 
-    /// The first answer due, which is this one, is given.
+    /// Gives the first answer due, which is this one.
     #[inline(always)]
     pub(crate) fn answer(&mut self, resident: ResidentNo, programme: ProgrammeNo, kind: AnswerKind)
         requires { resident < length self.old }
@@ -189,10 +186,9 @@ impl ResidentRow {
     }
 }
 
-/// A note has its programme so many times, and its rank below that.
+/// A note is this many times its programme's number, and the rank.
 const RANKS: u32 = 2_048;
 
-/// The note of an offer.
 #[inline(always)]
 fn note_of_offer(programme: ProgrammeNo, rank: u32) -> u32
     requires { programme < 2 ^ 20 }
@@ -202,7 +198,6 @@ fn note_of_offer(programme: ProgrammeNo, rank: u32) -> u32
     programme.0 * RANKS + rank % RANKS
 }
 
-/// The programme of an offer's note.
 #[inline(always)]
 fn programme_of(note: u32) -> ProgrammeNo
     ensures { result ≡ programme_of note }
@@ -210,7 +205,6 @@ fn programme_of(note: u32) -> ProgrammeNo
     ProgrammeNo(note / RANKS)
 }
 
-/// The rank of an offer's note.
 #[inline(always)]
 fn rank_of(note: u32) -> u32
     ensures { result ≡ rank_of note }
@@ -229,7 +223,7 @@ fn rank_after(held: u32, taken: u32, kind: AnswerKind) -> u32
     }
 }
 
-/// What an offer calls for: where it is better a hold and then a release of the one held, else a decline.
+/// What an offer calls for: a hold and then a release of the one held where it is better, else a decline.
 #[inline(always)]
 fn called_for(
     better: bool,
@@ -262,7 +256,7 @@ fn held_after(
     }
 }
 
-/// What is due first after the first of these.
+/// What is due once the first of these was given.
 #[tactic(auto, using(crate::proofs::Seats::due_after_first))]
 #[inline(always)]
 fn due_next(

@@ -53,7 +53,7 @@ impl ResidentDesks {
         })
     }
 
-    /// Whether no offer waits anywhere, and no answer is due.
+    /// Whether no offer waits anywhere and no answer is due.
     pub(crate) fn are_quiet(&self) -> bool
         ensures { result ≡ true → All IsQuiet self.now }
     {
@@ -69,7 +69,6 @@ impl ResidentDesks {
         self.row.is_full(resident)
     }
 
-    /// Whether offers wait.
     #[inline(always)]
     pub(crate) fn has_waiting(&self, resident: ResidentNo) -> bool
         requires { resident < length self.now }
@@ -87,7 +86,6 @@ impl ResidentDesks {
         self.row.first_waiting(resident)
     }
 
-    /// The first answer due.
     #[inline(always)]
     pub(crate) fn first_due(&self, resident: ResidentNo) -> Option<(ProgrammeNo, AnswerKind)>
         requires { resident < length self.now }
@@ -105,7 +103,7 @@ impl ResidentDesks {
         self.row.held(resident)
     }
 
-    /// The ranks that came with the offer in front and with the one held. What they say is a guess.
+    /// The guessed ranks that came with the offer in front and with the one held.
     #[inline(always)]
     pub(crate) fn ranks(&self, resident: ResidentNo) -> (u32, u32)
         requires { resident < length self.now }
@@ -113,7 +111,6 @@ impl ResidentDesks {
         self.row.ranks(resident)
     }
 
-    /// An offer comes in, with its programme's rank.
     #[inline(always)]
     pub(crate) fn receive(&mut self, resident: ResidentNo, programme: ProgrammeNo, rank: u32)
         requires member { resident < length self.old }
@@ -127,7 +124,7 @@ impl ResidentDesks {
         self.row.receive(resident, programme, rank);
     }
 
-    /// The offer in front, which is this programme's and came with this rank, is taken, and calls for its answers.
+    /// Takes the offer in front, which is this programme's and came with this rank, and makes due what it calls for.
     #[inline(always)]
     pub(crate) fn take(
         &mut self,
@@ -148,7 +145,7 @@ impl ResidentDesks {
         self.with_due += 1;
     }
 
-    /// The first answer due, which is this one, is given.
+    /// Gives the first answer due, which is this one.
     #[inline(always)]
     pub(crate) fn answer(&mut self, resident: ResidentNo, programme: ProgrammeNo, kind: AnswerKind)
         requires { resident < length self.old }

@@ -11,7 +11,7 @@ use crate::exchange::{Core, is_strange};
 use match_model::{Instance, ProgrammeNo, ResidentNo};
 
 impl Core {
-    /// Some event that may follow; none only where a close was accepted. The instance is that of `new`.
+    /// Some event that may follow. None only where a close was accepted. The instance is that of `new`.
     pub fn some_enabled(&self, inst: &Instance) -> Option<Event>
         requires { IsCoreOf inst.now self.now }
         ensures { EnabledExactly inst.now self.now result }
@@ -37,7 +37,7 @@ impl Core {
         Some(Event::Close)
     }
 
-    /// The numbers of the last event's programme and resident, at whose desks work is most often left.
+    /// The programme and the resident of the last event: work is most often left at their desks.
     fn recent_desks(&self, inst: &Instance) -> Option<(u32, u32)>
         ensures { IfSome result (AreMembers inst.now) }
     {
@@ -62,7 +62,7 @@ impl Core {
         self.event_of_programme(inst, ProgrammeNo(programme))
     }
 
-    /// An event of some resident's desk that may follow, where these two desks have none.
+    /// An event of some resident's desk that may follow, where the two desks that were looked at have none.
     #[tactic(auto, using(crate::proofs::Quiet::quiet_events))]
     fn event_of_residents(&self, inst: &Instance, looked_at: Option<(u32, u32)>) -> Option<Event>
         requires core { IsCoreOf inst.now self.now }
@@ -84,7 +84,7 @@ impl Core {
         None
     }
 
-    /// An event of some programme's desk that may follow, where these two desks have none.
+    /// An event of some programme's desk that may follow, where the two desks that were looked at have none.
     fn event_of_programmes(&self, inst: &Instance, looked_at: Option<(u32, u32)>) -> Option<Event>
         requires core { IsCoreOf inst.now self.now }
         requires none { IfSome looked_at (HaveNoEvent inst.now self.now) }

@@ -19,7 +19,7 @@ BoundLaw =
     (inst : Instance) (cap : Capacity) (j : List Event) → IsLegal inst cap j →
     length j ≤ 6 * pair_count inst + 1
 
--- while a legal list isn't closed some event may follow
+-- as long as a legal list isn't closed, some event may follow
 abbrev pub NoJamLaw : Type 0
 NoJamLaw =
     (inst : Instance) (cap : Capacity) (j : List Event) →

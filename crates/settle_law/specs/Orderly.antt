@@ -7,7 +7,7 @@ use Rattle.exchange_core.specs.declared.event.Event.TheVariants.{Close}
 use Rattle.exchange_core.specs.Mail.{offers_of, offers_to, takes, answers_of, answers_to, hears}
 use Rattle.exchange_core.specs.Calls.{calls, rejections, out}
 
--- each list begins the one that it follows, and each programme's offers out are at least 0 and within its quota
+-- each list begins the one that it follows, and a programme's offers out are never below 0 nor above its quota
 pub record IsInOrder (inst : Instance) (j : List Event) : Type 0 where
   pub offers_follow_the_ranking : (p : ℕ) → IsPrefix (offers_of p j) (list_of_programme inst p)
   pub takes_follow_the_offers : (r : ℕ) → IsPrefix (takes r j) (offers_to r j)

@@ -15,7 +15,7 @@ use Rattle.settle_law.specs.Stable.{IsStable, IsAchievable, IsSettled}
 abbrev pub SparesAchievable : Instance → ℕ → Answered → Type 0
 SparesAchievable inst r answer = IsTrue (is_rejection answer) → ¬ IsAchievable inst r answer.0
 
--- in no legal list does what a resident took call for a rejection of a programme that is achievable for it
+-- in no legal list do a resident's takes call for a rejection of a programme that is achievable for it
 abbrev pub NeverRejectsLaw : Type 0
 NeverRejectsLaw =
     (inst : Instance) (cap : Capacity) (j : List Event) → IsInstance inst → IsLegal inst cap j → (r : ℕ) →
@@ -27,7 +27,7 @@ SettledLaw =
     (inst : Instance) (cap : Capacity) (j : List Event) → IsInstance inst → IsLegal inst cap j → IsClosed j →
     IsStable inst (given inst j) × IsSettled inst (given inst j)
 
--- every stable assignment has the same residents matched as what a closed legal list gives, and as many at each programme
+-- every stable assignment matches the residents that a closed legal list matches, and as many at each programme
 abbrev pub SameResidentsLaw : Type 0
 SameResidentsLaw =
     (inst : Instance) (cap : Capacity) (j : List Event) → IsInstance inst → IsLegal inst cap j → IsClosed j →

@@ -5,7 +5,7 @@ use Rattle.match_model.specs.Ranking.{IsBefore, HasNoRepeats}
 use Rattle.match_model.specs.Instance.{Instance, IsResident, Acceptable, quota, list_of_programme, list_of_resident}
 use Rattle.match_model.specs.Placement.{programme_of, IsMemberOf, member_count, IsAssignment}
 
--- who has this ranking would rather have p than what it has: it has none, or p stands before it
+-- whoever has this ranking would rather have p than what it has: it has nothing, or p stands before it
 abbrev pub Prefers : List ℕ → ℕ → Option ℕ → Type 0
 Prefers ranking p None = Unit {0}
 Prefers ranking p (Some q) = IsBefore ranking p q
@@ -15,7 +15,7 @@ abbrev pub HasRoomFor : Instance → List (Option ℕ) → ℕ → ℕ → Type 
 HasRoomFor inst m p r =
     (member_count m p < quota inst p) ⊎ ((s : ℕ) × IsMemberOf m s p × IsBefore (list_of_programme inst p) r s)
 
--- r and p rank one another, aren't placed with one another, and would each rather be
+-- r and p are a blocking pair: they rank one another, aren't placed with one another, and would each rather be
 pub record Blocks (inst : Instance) (m : List (Option ℕ)) (r p : ℕ) : Type 0 where
   pub acceptable : Acceptable inst r p
   pub not_placed : ¬ IsMemberOf m r p
@@ -38,18 +38,20 @@ pub record ComesFirst (inst : Instance) (p r s : ℕ) : Type 0 where
   pub before : IsBefore (list_of_programme inst p) s r
   pub achievable : IsAchievable inst s p
 
--- r is achievable for p, and no quota of different residents that are come before it: one of the first such, up to the quota
+-- r is achievable for p, and fewer different residents than p's quota are achievable for p and stand before r in its
+-- list
 pub record IsBest (inst : Instance) (p r : ℕ) : Type 0 where
   pub achievable : IsAchievable inst r p
   pub no_quota_first : (first : List ℕ) → HasNoRepeats first → length first ≡ quota inst p → ¬ All (ComesFirst inst p r) first
 
--- the last programme of r's list that is achievable for r, or none where there is none
+-- the last programme of r's list that is achievable for r, or none where none is
 abbrev pub IsWorst : Instance → ℕ → Option ℕ → Type 0
 IsWorst inst r None = (p : ℕ) → ¬ IsAchievable inst r p
 IsWorst inst r (Some p) =
     IsAchievable inst r p × ((q : ℕ) → IsAchievable inst r q → (q ≡ p) ⊎ IsBefore (list_of_resident inst r) q p)
 
--- each resident has a place in the list, each programme's members are its best, and each resident has its worst
+-- each resident has a place in the list, each programme's members are its best up to its quota, and each resident has
+-- its worst
 pub record IsSettled (inst : Instance) (m : List (Option ℕ)) : Type 0 where
   pub one_place_each : length m ≡ length inst.resident_lists
   pub members_are_best : (p r : ℕ) → IsMemberOf m r p ↔ IsBest inst p r

@@ -2,8 +2,9 @@
 
 ghost use Rattle.settle_law.specs.ListLaws.{OrderlyLaw, BoundLaw, NoJamLaw};
 
-/// Every legal list is orderly, and so is each of its fronts: offers go by the rankings, takes and hears by what was
-/// sent, answers by what was called for, no programme has more offers out than its quota, and nothing follows a close.
+/// Every legal list is orderly, and so is each of its fronts. Offers go down the rankings. Takes and hears go by what
+/// was sent, answers by what was called for. No programme has more offers out than its quota, and nothing follows a
+/// close.
 pub fn law_orderly()
     ensures { OrderlyLaw }
 {}
@@ -13,7 +14,7 @@ pub fn law_bound()
     ensures { BoundLaw }
 {}
 
-/// While a legal list isn't closed some event may follow, for every capacity that is admitted.
+/// As long as a legal list isn't closed, some event may follow, for every admitted capacity. So no legal list is stuck.
 pub fn law_no_jam()
     ensures { NoJamLaw }
 {}

@@ -7,14 +7,13 @@ pub fn law_never_rejects()
     ensures { NeverRejectsLaw }
 {}
 
-/// What a closed legal list gives is stable, and settled: each programme has its best achievable residents up to its
-/// quota, and each resident its worst achievable programme.
+/// A closed legal list gives a stable and settled placement. Each programme has its best achievable residents, up to
+/// its quota. Each resident has its worst achievable programme.
 pub fn law_settled()
     ensures { SettledLaw }
 {}
 
-/// Every stable assignment has the same residents matched as what a closed legal list gives, and as many at each
-/// programme.
+/// Every stable assignment matches the residents that a closed legal list matches, and as many at each programme.
 pub fn law_same_residents()
     ensures { SameResidentsLaw }
 {}
