@@ -8,7 +8,8 @@ module _ {M : Type 0} where
   abbrev pub known : Bool → Bool → ℕ → List M → List M → Known M
   known may_put may_take room puts taken = record { may_put = may_put; may_take = may_take; room = room; puts = puts; taken = taken }
 
-  -- only the pass `putter` may put, and it knows the capacity and what was put; only the pass `taker` may take, and it knows what was taken
+  -- Only the pass `putter` may put, and it knows the capacity and what was put. Only the pass `taker` may take, and it
+  -- knows what was taken.
   abbrev pub Fits : ℕ → ℕ → ℕ → List M → List M → ℕ → Known M → Type 0
   Fits putter taker room puts taken pass h =
       (h.may_put ≡ true → (pass ≡ putter) × (h.room ≡ room) × (h.puts ≡ puts)) × (h.may_take ≡ true → (pass ≡ taker) × (h.taken ≡ taken))

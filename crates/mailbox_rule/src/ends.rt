@@ -32,7 +32,7 @@ pub trait PutEnd<M> {
     // Where a put may find no room.
     ghost may_fill: { Self → Type 0 };
 
-    // Where a put may find that nobody can take.
+    // When a put may find that nobody can take any more.
     ghost may_go: { Self → Type 0 };
 
     /// Puts a message, or hands it back and changes nothing.
@@ -51,7 +51,7 @@ pub trait TakeEnd<M> {
     // Where a take may find no message.
     ghost may_lack: { Self → Type 0 };
 
-    // Where a take may find that nobody can put.
+    // When a take may find that nobody can put any more.
     ghost may_go: { Self → Type 0 };
 
     /// Takes the oldest message, or changes nothing.

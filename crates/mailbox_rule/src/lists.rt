@@ -7,7 +7,7 @@ use crate::fault::MailFault;
 use std::alloc::Global;
 use std::marker::Model;
 
-/// Takes in as many messages as it has room for, and then answers `Full`. It never answers `Gone`.
+/// A sending end that takes in as many messages as it has room for, and then answers `Full`. It never answers `Gone`.
 #[derive(Drop)]
 pub struct ListPut<M> {
     messages: Vec<M>,
@@ -58,7 +58,7 @@ impl<M> PutEnd<M> for ListPut<M> {
     }
 }
 
-/// Gives the messages of a list in order, and then answers `Nothing`. It never answers `Gone`.
+/// A receiving end that gives the messages of a list in order, and then answers `Nothing`. It never answers `Gone`.
 #[derive(Drop)]
 pub struct ListTake<M: Copy> {
     messages: Vec<M>,

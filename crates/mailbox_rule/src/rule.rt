@@ -1,5 +1,5 @@
-//! The rule of a mailbox: what was put is what was taken, followed by the queue, which is no longer than the capacity.
-//! No value of these types is made. They say what a proof knows.
+//! The rule of a mailbox: what was put is what was taken, followed by the queue, and the queue is no longer than the
+//! capacity. No value of these types is ever made: they say what a proof knows.
 ghost use Rattle.std.specs.Prelude.{◌≡◌, ◌≤◌, true, false, [], ◌∷◌, ◌++◌, length};
 ghost use Rattle.mailbox_rule.specs.Rule.{known, IsInOrder};
 

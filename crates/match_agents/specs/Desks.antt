@@ -2,7 +2,7 @@
 use Rattle.std.specs.Prelude.{ℕ, Bool, Option, List}
 use Rattle.exchange_core.specs.Mail.{Answered}
 
--- a programme's desk: whose it is, its end, the answers heard, how many there is room for, and how many offers were made
+-- a programme's desk: whose it is, its end, the answers heard, how many there is room for, and how many offers it made
 pub record ProgrammeDesk (T : Type 0) : Type 0 where
   pub programme : ℕ
   pub end : T
@@ -10,8 +10,8 @@ pub record ProgrammeDesk (T : Type 0) : Type 0 where
   pub room : ℕ
   pub offered : ℕ
 
--- a resident's desk: whose it is, its end, the offers taken, how many there is room for, whether the last one isn't
--- decided yet, the answers due, and the best offer decided so far, with its place in the resident's list
+-- A resident's desk: whose it is, its end, the offers taken, and how many there is room for. `undecided` says that the
+-- last of them waits for its decision. `due` has the answers due, and `best` the best offer decided, with its rank.
 pub record ResidentDesk (T : Type 0) : Type 0 where
   pub resident : ℕ
   pub end : T

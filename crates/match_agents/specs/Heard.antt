@@ -3,7 +3,8 @@ use Rattle.match_agents.specs.declared.heard.Heard.{Heard}
 use Rattle.match_agents.specs.declared.heard.Heard.TheVariants as heard
 
 module _ {M : Type 0} where
-  -- a fact of the message that was taken, for a mailbox with none, for one that nobody can put into, and for a full log
+  -- a fact for each answer: of the message that was taken, where there is none, where nobody can put, and where the log
+  -- is full
   abbrev pub MatchHeard : Heard M → (M → Type 0) → Type 0 → Type 0 → Type 0 → Type 0
   MatchHeard (heard.Got m) got nothing gone full = got m
   MatchHeard heard.Nothing got nothing gone full = nothing

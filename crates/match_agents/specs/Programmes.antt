@@ -13,22 +13,24 @@ module _ {T : Type 0} where
   abbrev pub opened_programme : Instance → ℕ → T → ProgrammeDesk T
   opened_programme inst p end = record { programme = p; end = end; heard = []; room = 2 * length (list_of_programme inst p); offered = 0 }
 
-  -- one answer more is heard, from an end that is then this one
+  -- the desk that has heard one more answer, from an end that is now this one
   abbrev pub heard_answer : ProgrammeDesk T → T → Answered → ProgrammeDesk T
   heard_answer desk end answer = record desk { end = end; heard = desk.heard ++ answer ∷ [] }
 
-  -- the next of the list, where fewer offers are out than the quota
+  -- the next resident of the list, where fewer offers are out than the quota
   abbrev pub wish_of : Instance → ProgrammeDesk T → Option ℕ
   wish_of inst desk =
       if nat_lt (desk.offered - rejections desk.heard) (quota inst desk.programme) then slice_get (list_of_programme inst desk.programme) desk.offered
       else None
 
-  -- a wish is the next offer after each list that isn't closed and has what the desk heard and as many offers of its own
+  -- the wish is the next offer after every list that isn't closed and has the desk's hears and as many offers as the
+  -- desk made
   abbrev pub IsNextOffer : Instance → ProgrammeDesk T → Option ℕ → Type 0
   IsNextOffer inst desk wish = (j : List Event) → is_closed j ≡ false → desk.heard ≡ hears desk.programme j
       → desk.offered ≡ length (offers_of desk.programme j) → wish ≡ next_offer inst j desk.programme
 
-  -- the desk of a programme of the instance, with room for all answers that it can be called for, and no offers but down its list
+  -- the desk is a programme's of the instance, has room for all answers that can ever come, and has offered down its
+  -- list alone
   pub record IsProgrammeAgentOf (inst : Instance) (desk : ProgrammeDesk T) : Type 0 where
     pub member : IsProgramme inst desk.programme
     pub room_for_all : desk.room ≡ 2 * length (list_of_programme inst desk.programme)

@@ -16,11 +16,11 @@ IsSuffix xs ys = drop (length ys - length xs) ys ≡ xs
 abbrev pub without_last : {X : Type 0} → List X → List X
 without_last xs = take (length xs - 1) xs
 
--- what is due is what the offers call for beyond what all but the last of them call for
+-- the answers due are what all offers call for, beyond what all but the last of them call for
 abbrev pub IsCalledByLast : List ℕ → List ℕ → List Answered → Type 0
 IsCalledByLast ranking offers due = calls ranking offers ≡ calls ranking (without_last offers) ++ due
 
--- the answers due: the first one, and after it a release
+-- the answers due: the first one, and then a release
 abbrev pub due_list : Option Answered → Option ℕ → List Answered
 due_list None release = []
 due_list (Some answer) release = answer ∷ release_of release
@@ -35,18 +35,18 @@ abbrev pub programme_in : Option (ℕ × ℕ) → Option ℕ
 programme_in None = None
 programme_in (Some (p, place)) = Some p
 
--- the place of an offer that is before the best so far, if it is
+-- the place of an offer, if it is before the best so far
 abbrev pub better_place : Option ℕ → Option (ℕ × ℕ) → Option ℕ
 better_place None best = None
 better_place (Some place) None = Some place
 better_place (Some place) (Some (p, best)) = if nat_lt place best then Some place else None
 
--- what an offer by p calls for: where it has a place before the best so far a hold, and then a release of that one, else a decline
+-- what an offer by p calls for: a hold and then a release of the best so far, where p is better; else a decline
 abbrev pub called_for : ℕ → Option ℕ → Option (ℕ × ℕ) → List Answered
 called_for p None best = (p, Decline) ∷ []
 called_for p (Some place) best = (p, Hold) ∷ release_of (programme_in best)
 
--- the best with p's offer, where that has a place before the best so far
+-- the best offer after p's, which is p's where it has a better place
 abbrev pub best_with : ℕ → Option ℕ → Option (ℕ × ℕ) → Option (ℕ × ℕ)
 best_with p None best = best
 best_with p (Some place) best = Some (p, place)
@@ -68,7 +68,7 @@ module _ {T : Type 0} where
   abbrev pub is_ready : ResidentDesk T → Bool
   is_ready desk = not desk.undecided && is_nil desk.due
 
-  -- one offer more is taken and isn't decided yet, from an end that is then this one
+  -- the desk that has taken one more offer, not decided yet, from an end that is now this one
   abbrev pub took_offer : ResidentDesk T → T → ℕ → ResidentDesk T
   took_offer desk end p = record desk { end = end; taken = desk.taken ++ p ∷ []; undecided = true }
 
@@ -80,12 +80,12 @@ module _ {T : Type 0} where
   abbrev pub gave_answer : ResidentDesk T → ResidentDesk T
   gave_answer desk = record desk { due = drop 1 desk.due }
 
-  -- the offers taken, without the last one where it isn't decided
+  -- the offers taken, without the last one if it isn't decided
   abbrev pub decided : ResidentDesk T → List ℕ
   decided desk = if desk.undecided then without_last desk.taken else desk.taken
 
-  -- the desk of a resident of the instance, with room for all offers that it can be sent, whose best offer is that of those
-  -- decided, and which owes the last answers that these call for, two at most
+  -- The desk is a resident's of the instance, and has room for all offers that can ever come. Its best offer is that of
+  -- those decided. It owes the last answers that these call for, two at most.
   pub record IsResidentAgentOf (inst : Instance) (desk : ResidentDesk T) : Type 0 where
     pub member : IsResident inst desk.resident
     pub room_for_all : desk.room ≡ length (list_of_resident inst desk.resident)

@@ -9,11 +9,11 @@ pub enum Heard<M> {
     Nothing,
     /// No message, and nobody can put one any more.
     Gone,
-    /// The log has no room left, and so nothing was taken from the mailbox.
+    /// The log has no room left, so nothing was taken from the mailbox.
     LogFull,
 }
 
-/// Memory for an agent's log was refused. The end comes back as it was.
+/// An agent was refused memory for its log. The end comes back as it was.
 #[derive(Debug, Drop)]
 pub struct AgentRefused<T> {
     /// The end that the agent was to have.

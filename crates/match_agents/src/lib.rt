@@ -1,4 +1,4 @@
-//! The agents: what a desk took out of its mailbox, and what it owes or wishes. A log is what the desk's end took.
+//! The agents of residents and programmes: a log of what a desk took out of its mailbox, and what it owes or wishes.
 #![tactic(auto)]
 
 mod heard;
