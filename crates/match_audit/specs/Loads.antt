@@ -5,7 +5,7 @@ use Rattle.match_model.specs.Instance.{Instance, list_of_programme}
 use Rattle.match_model.specs.Placement.{IsMemberOf, member_count}
 use Rattle.match_audit.specs.declared.load.Load.{Load}
 
--- how many members p has, and the last place that one of them has in p's list
+-- how many members p has, and the last place that any of them has in p's list
 pub record IsLoadOf (inst : Instance) (m : List (Option ℕ)) (p : ℕ) (load : Load) : Type 0 where
   pub members : load.members ≡ member_count m p
   pub worst : (k : ℕ) → (k < load.worst) ↔ ((s : ℕ) × IsMemberOf m s p × (k < place (list_of_programme inst p) s))

@@ -39,8 +39,8 @@ impl From<AllocError> for AuditFault {
     }
 }
 
-/// Finds the pairs that aren't acceptable, the programmes over their quota and the blocking pairs. For a pair that
-/// isn't acceptable, the member outside a list ranks below every listed one. A programme's number may be any.
+/// Finds the pairs that aren't acceptable, the programmes over their quota and the blocking pairs. A member that isn't
+/// listed ranks below every listed one. The placement may have any number for a programme.
 pub fn audit(
     alloc: Global,
     inst: &Instance,

@@ -33,7 +33,7 @@ pub(crate) fn unacceptable_pairs(
     Ok(pairs)
 }
 
-/// Whether the two rank one another, told by the resident's table, which is mostly the shorter one.
+/// Whether the two rank one another. The resident's table is looked into, since it is mostly the shorter one.
 fn is_acceptable(inst: &Instance, resident: ResidentNo, programme: ProgrammeNo) -> bool
     requires { IsResident inst.now resident }
     ensures { IsTrue result ↔ Acceptable inst.now resident programme }
@@ -83,7 +83,7 @@ pub(crate) fn blocking_pairs(
     Ok(pairs)
 }
 
-/// The pairs of a resident with these programmes go to the end of the list.
+/// Appends the pairs of a resident with these programmes.
 fn append_pairs(
     pairs: &mut Vec<(ResidentNo, ProgrammeNo)>,
     resident: ResidentNo,
@@ -121,7 +121,8 @@ fn blocking_programmes(
     Ok(programmes)
 }
 
-/// The front of a resident's list: what it would rather have than the programme held, or all where that isn't listed.
+/// The front of a resident's list that it would rather have than the programme held; the whole list where that isn't
+/// listed.
 fn preferred(inst: &Instance, resident: ResidentNo, held: Option<ProgrammeNo>) -> &[ProgrammeNo]
     requires instance { IsInstance inst.now }
     requires member { IsResident inst.now resident }

@@ -1,7 +1,8 @@
-//! The auditor: what keeps a placement from being stable, and whether a list of events is a good exchange.
+//! The auditor, which finds what keeps a placement from being stable, and the replay, which tells whether a list of
+//! events is a good exchange.
 //!
-//! Neither asks who made the placement or the list: all is found again from the instance. The texts of faults are shown by
-//! tests alone: a `Display` that writes nothing keeps its contract.
+//! Neither asks who made the placement or the list: both find everything again from the instance. Contracts say nothing
+//! of the texts of faults: tests compare them.
 #![tactic(auto)]
 
 mod auditor;

@@ -15,7 +15,7 @@ pub(crate) struct Load {
 }
 
 impl Load {
-    /// One member more, which has this place in the list.
+    /// Counts a member that has this place in the list.
     pub(crate) fn add(&mut self, place: u32)
         requires { self.old.members + 1 < 2 ^ 32 }
         ensures { self.new ≡ record { members = self.old.members + 1; worst = max self.old.worst place } }

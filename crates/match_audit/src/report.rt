@@ -2,7 +2,7 @@
 
 use match_model::{ProgrammeNo, ResidentNo};
 
-/// What keeps a placement from being stable: all of each kind, and nothing else.
+/// Everything that keeps a placement from being stable, and nothing else.
 #[derive(Debug, Drop)]
 pub struct AuditReport {
     /// The pairs that don't rank one another, by resident.

@@ -32,14 +32,14 @@ pending_word (Due r) = codes "due"
 pending_word (Answers p) = codes "answers"
 pending_word (Wish p) = codes "wish"
 
--- the name of the desk where it is pending
+-- the name of the desk where something is pending
 abbrev pub pending_name : Contents → Pending → List ℕ
 pending_name d (Offers r) = resident_name d r
 pending_name d (Due r) = resident_name d r
 pending_name d (Answers p) = programme_name d p
 pending_name d (Wish p) = programme_name d p
 
--- what follows the word of a refusal: of a close, what is pending
+-- what follows the word of a refusal: what is pending, where it refuses a close
 abbrev pub refusal_fields : Contents → Refused → List (List ℕ)
 refusal_fields d Closed = []
 refusal_fields d NoSuchDesk = []
@@ -52,7 +52,7 @@ refusal_fields d NotDue = []
 refusal_fields d MailboxFull = []
 refusal_fields d (StillPending what) = pending_word what ∷ pending_name d what ∷ []
 
--- the fields of the row of a close that something pending of this kind and name kept from being accepted
+-- the fields of the row of a close that was refused, since something of this kind is pending at the desk of this name
 abbrev pub pending_fields : List ℕ → List ℕ → List ℕ → List (List ℕ)
 pending_fields place kind name = codes "N" ∷ place ∷ codes "still-pending" ∷ kind ∷ name ∷ []
 
@@ -65,7 +65,7 @@ abbrev pub event_count : Option JournalParts → ℕ
 event_count (Some journal) = length journal.events
 event_count None = 0
 
--- the fields of a fault's row: of a refused event its place from 1, of an open list the place after its last event
+-- the fields of a fault's row; the place is that of a refused event, from 1, or the one after the last event
 abbrev pub fault_fields : Contents → ReplayFault → List (List ℕ)
 fault_fields d BadCapacity = codes "N" ∷ codes "0" ∷ codes "bad-capacity" ∷ []
 fault_fields d Memory = codes "N" ∷ codes "0" ∷ codes "memory" ∷ []
@@ -82,12 +82,12 @@ answer_fields d (Err fault) = fault_fields d fault
 unfoldable pub worker_row : ℕ → ℕ → List ℕ
 worker_row worker events = row (codes "K" ∷ decimal worker ∷ decimal events ∷ [])
 
--- the row of each worker from this number on, one for each count
+-- a row for each count: the worker, from this number on, and its count
 unfoldable pub worker_rows : ℕ → List ℕ → List ℕ
 worker_rows first [] = []
 worker_rows first (events ∷ counts) = worker_row first events ++ worker_rows (first + 1) counts
 
--- what follows the row of an answer: where there are counts, after a good one the row of each worker
+-- what follows the row of an answer: after a good one each worker's row, where there are counts
 unfoldable pub count_rows : Result Replayed ReplayFault → Option (List ℕ) → List ℕ
 count_rows (Ok replayed) None = []
 count_rows (Ok replayed) (Some counts) = worker_rows 0 counts

@@ -17,7 +17,7 @@ use Rattle.residency.specs.declared.options.MatchOptions.{MatchOptions}
 use Rattle.residency.specs.declared.options.Order.{Order}
 use Rattle.residency.specs.declared.options.Order.TheVariants.{Match, Audit, Replay}
 
--- an option with a value, which is this where it isn't given
+-- an option with a value, and the value where it isn't given
 abbrev pub valued_rule : Text → Text → Rule
 valued_rule id value = record (new_rule id) { long = Some id; value_names = 1; defaults = value ∷ [] }
 
@@ -34,7 +34,7 @@ abbrev pub match_app : App
 match_app = with_rule (with_rule (with_rule (with_rule (new_app (codes "match")) workers_rule)
     (valued_rule (codes "capacity") (codes "full"))) (flag_rule (codes "journal"))) (flag_rule (codes "journal-by-worker"))
 
--- the program, without its commands: no name of the program comes before the words
+-- the program, without its commands; its own name isn't among the words
 abbrev pub program_app : App
 program_app = on_top (λ s. record s { no_binary_name = true; has_version = true; subcommand_required = true }) (new_app (codes "residency"))
 
@@ -55,7 +55,7 @@ IsFlagged id rows = one_of id rows ≡ Some (codes "true")
 abbrev pub IsUnflagged : Text → List Row → Type 0
 IsUnflagged id rows = one_of id rows ≡ Some (codes "false")
 
--- the values give the number of workers where they have one from 1 to 8
+-- the values give this number of workers, if they have one from 1 to 8
 abbrev pub GivesWorkers : List Row → ℕ → Type 0
 GivesWorkers rows workers = (n : ℕ) → 1 ≤ n → n ≤ 8 → one_of (codes "workers") rows ≡ Some (decimal n) → workers ≡ n
 
@@ -63,7 +63,7 @@ GivesWorkers rows workers = (n : ℕ) → 1 ≤ n → n ≤ 8 → one_of (codes 
 abbrev pub GivesRoom : List Row → Capacity → Type 0
 GivesRoom rows room = (text : Text) → first_of (codes "capacity") rows ≡ Some text → capacity_of text ≡ Some room
 
--- the values give the journal by workers where that is asked for, or else the plain one where that is, or else none
+-- the values ask for this form of the journal: by worker comes first, then plain, then none
 pub record GivesJournal (rows : List Row) (form : JournalForm) : Type 0 where
   pub by_worker : IsFlagged (codes "journal-by-worker") rows → form ≡ ByWorker
   pub plain : IsUnflagged (codes "journal-by-worker") rows → IsFlagged (codes "journal") rows → form ≡ Plain
@@ -91,7 +91,7 @@ pub record IsNamed (found : Option (Text × List Row)) (order : Order) : Type 0 
 abbrev pub Orders : List Text → Order → Type 0
 Orders words = IsNamed (subcommand_of commands_app words)
 
--- a match was found, and the room of its mailboxes is no capacity
+-- a match was found, with a room of its mailboxes that is no capacity
 pub record HasBadRoom (found : Option (Text × List Row)) : Type 0 where
   pub rows : List Row
   pub command : found ≡ Some (codes "match", rows)
@@ -109,7 +109,8 @@ IsErrorOf P Memory = Unit {0}
 IsErrorOf P BadCapacity = ⊥
 IsErrorOf P (Line error) = P (kind_of error)
 
--- the words give no order: memory failed, the parser refuses them, they name no command, or the capacity is bad
+-- the words give no order, for this fault: memory failed, the parser refuses them, they name no command, or the
+-- capacity is bad
 abbrev pub Refuses : List Text → LineFault → Type 0
 Refuses words fault = IsErrorOf (λ kind. IsAmong kind (fault_of commands_app words)) fault
     ⊎ ((NamesNone (subcommand_of commands_app words) × IsErrorOf (λ kind. kind ≡ MissingSubcommand) fault)

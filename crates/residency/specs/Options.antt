@@ -5,7 +5,7 @@ use Rattle.residency.specs.declared.options.MatchOptions.{MatchOptions}
 use Rattle.residency.specs.declared.options.Order.{Order}
 use Rattle.residency.specs.declared.options.Order.TheVariants.{Match, Audit, Replay}
 
--- 1 to 8 workers, and mailboxes that are full or have from 1 to 1,024 places
+-- there are 1 to 8 workers, and each mailbox is full or has from 1 to 1,024 places
 pub record IsWithinLimits (o : MatchOptions) : Type 0 where
   pub some_worker : 1 ≤ o.workers
   pub few_workers : o.workers ≤ 8

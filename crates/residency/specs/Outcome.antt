@@ -1,4 +1,4 @@
--- What an exchange gives that was run to its close.
+-- What an exchange gives once it has closed.
 use Rattle.std.specs.Prelude.{◌≡◌, ℕ, Option, List}
 use Rattle.match_model.specs.Instance.{Instance}
 use Rattle.exchange_core.specs.declared.event.Event.{Event}
@@ -19,7 +19,7 @@ pub record IsTheSettled (inst : Instance) (m : List (Option ℕ)) : Type 0 where
   pub settled : IsSettled inst m
   pub alone : (other : List (Option ℕ)) → IsSettled inst other → other ≡ m
 
--- an exchange gives the placement, which is stable and the one settled placement
+-- some closed exchange gives the placement, which is stable and the one settled placement
 pub record IsOutcome (inst : Instance) (cap : Capacity) (m : List (Option ℕ)) : Type 0 where
   pub exchanged : IsGiven inst cap m
   pub stable : IsStable inst m

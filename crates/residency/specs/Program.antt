@@ -13,7 +13,7 @@ use Rattle.residency.specs.Options.{IsOrder}
 use Rattle.residency.specs.Serving.{IsAnswerTo}
 use Rattle.residency.specs.Status.{exit_status_of, line_status_of}
 
--- an order was served over an input whose bytes are these, where they are known, and the status is that of the answer
+-- an order was served over an input of these bytes, if they are known, and the status is that of the answer
 pub record EndsServing (order : Order) (input old new : Option (List ℕ)) (status : ℕ) : Type 0 where
   pub answer : Result Status ServeFault
   pub answers : (bytes : List ℕ) → input ≡ Some bytes → IsAnswerTo order bytes old new answer
@@ -24,7 +24,8 @@ abbrev pub unordered_status_of : UsageFault → ℕ
 unordered_status_of NoText = 2
 unordered_status_of (Line fault) = line_status_of fault
 
--- the status after words that order nothing: that of their fault, or 1 where help or the version was asked for and couldn't be written
+-- the status after words that order nothing: that of their fault, or 1 where the text of help or the version couldn't
+-- be written
 abbrev pub IsRefusedStatus : UsageFault → ℕ → Type 0
 IsRefusedStatus fault status =
     (status ≡ unordered_status_of fault) ⊎ ((unordered_status_of fault ≡ 0) × (status ≡ 1))
@@ -33,7 +34,7 @@ IsRefusedStatus fault status =
 abbrev pub IsOrderOf : {A E : Type 0} → Result (Vec (String A)) E → Order → Type 0
 IsOrderOf words order = IsOkAnd words (λ texts. Orders (map string_bytes texts.items) order)
 
--- why the words order nothing: as texts they are refused; or one is no text, or memory failed before they were read
+-- why the words order nothing: they are refused, one of them is no text, or memory failed before they were read
 abbrev pub IsUsageFaultOf : {A E : Type 0} → Result (Vec (String A)) E → UsageFault → Type 0
 IsUsageFaultOf (Ok texts) NoText = ⊥
 IsUsageFaultOf (Ok texts) (Line fault) = Refuses (map string_bytes texts.items) fault
@@ -46,7 +47,7 @@ pub record EndsRefused {A E : Type 0} (words : Result (Vec (String A)) E) (old n
   pub nothing : new ≡ old
   pub tells : IsRefusedStatus fault status
 
--- the words order nothing, or what they order was served
+-- the words order nothing, or their order was served
 abbrev pub Ends : {A E : Type 0} → Result (Vec (String A)) E → Option (List ℕ) → Option (List ℕ) → Option (List ℕ) → ℕ → Type 0
 Ends words input old new status = EndsRefused words old new status
     ⊎ ((order : Order) × IsOrderOf words order × IsOrder order × EndsServing order input old new status)

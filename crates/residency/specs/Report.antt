@@ -17,7 +17,7 @@ finds_nothing report =
 unfoldable pub stability_row : AuditReport → List ℕ
 stability_row report = row (codes "S" ∷ (if finds_nothing report then codes "stable" else codes "unstable") ∷ [])
 
--- a resident and a programme, after the kind of row
+-- the row of a kind, a resident and a programme
 unfoldable pub pair_row : Contents → List ℕ → ℕ × ℕ → List ℕ
 pair_row d kind pair = row (kind ∷ resident_name d pair.0 ∷ programme_name d pair.1 ∷ [])
 
@@ -25,7 +25,8 @@ pair_row d kind pair = row (kind ∷ resident_name d pair.0 ∷ programme_name d
 abbrev pub over_row : Contents → ℕ × ℕ → List ℕ
 over_row d over = programme_row d (codes "O") over.0 over.1
 
--- the answer, the pairs that aren't acceptable, the programmes over their quota, and the blocking pairs
+-- the rows of a report: the answer, the pairs that aren't acceptable, the programmes over their quota, and the blocking
+-- pairs
 unfoldable pub report_text : Contents → AuditReport → List ℕ
 report_text d report =
     stability_row report

@@ -1,4 +1,4 @@
--- What a call wrote, and why another wrote nothing.
+-- What a call wrote, and why a call wrote nothing.
 use Rattle.std.specs.Prelude.{◌≡◌, ◌≢◌, ◌⊎◌, ◌↔◌, ℕ, ◌++◌, Option, Some, None, Result, Ok, Err, List, [], IsSome, option_map}
 use Rattle.std.specs.Io.KnownBytes.{Appends}
 use Rattle.match_model.specs.Instance.{Instance}
@@ -33,7 +33,7 @@ use Rattle.residency.specs.Outcome.{IsOutcome}
 use Rattle.residency.specs.Report.{report_text}
 use Rattle.residency.specs.Answer.{replay_text}
 
--- the journal in the form that is wanted: none, its events, or its events with their workers
+-- the journal in the form that is wanted: nothing, its events, or its events with their workers
 abbrev pub wanted_text : Contents → Capacity → JournalForm → List Event → ByWorkerParts → List ℕ
 wanted_text d cap Absent j by = []
 wanted_text d cap Plain j by = journal_text d cap j None
@@ -51,8 +51,8 @@ wanted_journal d o j by = wanted_text d o.capacity o.journal j by
 abbrev pub wanted_match : Contents → MatchOptions → List (Option ℕ) → List Event → ByWorkerParts → List ℕ
 wanted_match d o m j by = match_text d o.capacity o.journal m j by
 
--- an exchange over the docket that was run to its close within the limits: what it gives is the one settled assignment, and
--- each event of its journal has some number below the number of workers
+-- a closed exchange over the docket within the limits, which gives the one settled placement; each event has one of so
+-- many workers
 pub record ClosedRun (d : Contents) (o : MatchOptions) : Type 0 where
   pub limits : IsWithinLimits o
   pub assignment : List (Option ℕ)
@@ -61,8 +61,8 @@ pub record ClosedRun (d : Contents) (o : MatchOptions) : Type 0 where
   pub workers : by.workers ≡ o.workers
   pub by_worker : IsByWorker outcome.exchanged.journal by
 
--- what was appended, where it is known, is the sheet of what one closed run over the docket gives, and the journal of this
--- run in the form that is wanted
+-- what was appended, if it is known, is the sheet that a closed run over the docket gives, and the wanted form of its
+-- journal
 pub record WritesMatch (d : Contents) (o : MatchOptions) (old new : Option (List ℕ)) : Type 0 where
   pub run : ClosedRun d o
   pub appended : Appends old new (match_text d o.capacity o.journal run.assignment run.outcome.exchanged.journal run.by)
@@ -79,13 +79,13 @@ pub record SheetReport (d : Contents) : Type 0 where
   pub report : AuditReport
   pub reports : Reports d.instance sheet report
 
--- what was appended, where it is known, is the report on the docket's sheet
+-- what was appended, if it is known, is the report on the docket's sheet
 pub record WritesReport (d : Contents) (status : Status) (old new : Option (List ℕ)) : Type 0 where
   pub audit : SheetReport d
   pub tells : TellsStable d.instance audit.sheet status
   pub appended : Appends old new (report_text d audit.report)
 
--- this is the answer of a replay, or of a check where there is a sheet, and it isn't want of memory
+-- the answer is that of a replay, or of a check where there is a sheet, and it isn't want of memory
 abbrev pub IsReplayAnswer : Instance → JournalParts → Option (List (Option ℕ)) → Result Replayed ReplayFault → Type 0
 IsReplayAnswer inst j None (Ok replayed) = IsGood inst j.capacity j.events × IsReplayOf inst j.events replayed
 IsReplayAnswer inst j None (Err fault) = IsListFault inst j.capacity j.events fault
@@ -109,8 +109,8 @@ pub record JournalAnswer (d : Contents) : Type 0 where
   pub answer : Result Replayed ReplayFault
   pub answers : IsReplayAnswer d.instance journal d.sheet answer
 
--- what was appended, where it is known, is the row of the answer on the docket's journal, and after a good one of a journal
--- by worker how many events each made
+-- What was appended, if it is known, is the row of the answer on the docket's journal. Each worker's count follows
+-- where the answer is good and the journal is by worker.
 pub record WritesReplay (d : Contents) (status : Status) (old new : Option (List ℕ)) : Type 0 where
   pub replay : JournalAnswer d
   pub tells : status ≡ replay_status replay.answer
@@ -120,7 +120,7 @@ pub record WritesReplay (d : Contents) (status : Status) (old new : Option (List
 abbrev pub IsWriteFault : DocketFault → Type 0
 IsWriteFault fault = (fault ≡ docket.Memory) ⊎ (fault ≡ docket.Write)
 
--- why a match of the docket wrote no whole sheet: memory or the writer failed after a closed run, or the run gave none
+-- why a match wrote no whole sheet: memory or the writer failed after a closed run, or the run gave none
 abbrev pub IsMatchFault : MatchOptions → Contents → ServeFault → Type 0
 IsMatchFault o d (Docket fault) = ClosedRun d o × IsWriteFault fault
 IsMatchFault o d NoSheet = ⊥
@@ -128,8 +128,8 @@ IsMatchFault o d NoJournal = ⊥
 IsMatchFault o d (Run fault) = IsRunFault d.instance o.capacity o.workers fault
 IsMatchFault o d Memory = ⊥
 
--- why an audit of the docket wrote no whole report: memory or the writer failed after the report was made, there is no sheet,
--- or there was no memory for a report
+-- why an audit wrote no whole report: memory or the writer failed after it was made, there is no sheet, or memory
+-- failed before
 abbrev pub IsAuditFault : Contents → ServeFault → Type 0
 IsAuditFault d (Docket fault) = SheetReport d × IsWriteFault fault
 IsAuditFault d NoSheet = d.sheet ≡ None
@@ -137,8 +137,8 @@ IsAuditFault d NoJournal = ⊥
 IsAuditFault d (Run fault) = ⊥
 IsAuditFault d Memory = IsSome d.sheet
 
--- why a replay of the docket wrote no whole answer: memory or the writer failed after the answer was found, there is no
--- journal, or there was no memory for an answer
+-- why a replay wrote no whole answer: memory or the writer failed after it was found, there is no journal, or memory
+-- failed before
 abbrev pub IsReplayFault : Contents → ServeFault → Type 0
 IsReplayFault d (Docket fault) = JournalAnswer d × IsWriteFault fault
 IsReplayFault d NoSheet = ⊥
@@ -150,7 +150,7 @@ IsReplayFault d Memory = IsSome d.journal
 abbrev pub AreDocket : (Contents → Type 0) → List ℕ → Type 0
 AreDocket P bytes = (first_fault bytes ≡ None) × P (docket_of bytes)
 
--- the fault is of memory or the reader, or the first fault of the bytes
+-- the fault is want of memory, the reader's, or the first fault of the bytes
 abbrev pub IsReadFault : List ℕ → ServeFault → Type 0
 IsReadFault bytes (Docket fault) = (fault ≡ docket.Memory) ⊎ (((place : ℕ) × (fault ≡ docket.Read place)) ⊎ (first_fault bytes ≡ Some fault))
 IsReadFault bytes NoSheet = ⊥
@@ -158,11 +158,11 @@ IsReadFault bytes NoJournal = ⊥
 IsReadFault bytes (Run fault) = ⊥
 IsReadFault bytes Memory = ⊥
 
--- the fault came in reading the bytes, or they are a docket of which it is a fault
+-- the fault came in reading the bytes, or they are a docket with this fault
 abbrev pub IsFaultOf : (Contents → ServeFault → Type 0) → List ℕ → ServeFault → Type 0
 IsFaultOf IsFault bytes fault = IsReadFault bytes fault ⊎ AreDocket (λ d. IsFault d fault) bytes
 
--- whether this fault is known to have come before anything was written: it isn't the writer's
+-- a fault before which nothing was written: any but the writer's
 abbrev pub IsBeforeWriting : ServeFault → Type 0
 IsBeforeWriting (Docket fault) = fault ≢ docket.Write
 IsBeforeWriting NoSheet = Unit {0}
@@ -170,7 +170,7 @@ IsBeforeWriting NoJournal = Unit {0}
 IsBeforeWriting (Run fault) = Unit {0}
 IsBeforeWriting Memory = Unit {0}
 
--- what was served of an order over a docket, with which status, and what was appended
+-- an order was served over a docket, with this status, and this was appended
 abbrev pub Serves : Order → Contents → Status → Option (List ℕ) → Option (List ℕ) → Type 0
 Serves (Match o) d status old new = (status ≡ Closed) × WritesMatch d o old new
 Serves Audit d status old new = WritesReport d status old new
@@ -182,7 +182,8 @@ IsOrderFault (Match o) = IsMatchFault o
 IsOrderFault Audit = IsAuditFault
 IsOrderFault Replay = IsReplayFault
 
--- the answer to an order over these bytes: what was served of their docket, or why not, and then mostly that nothing was written
+-- the answer to an order over these bytes: their docket was served, or this is why not; then nothing was written,
+-- unless the writer failed
 abbrev pub IsAnswerTo : Order → List ℕ → Option (List ℕ) → Option (List ℕ) → Result Status ServeFault → Type 0
 IsAnswerTo order bytes old new (Ok status) = AreDocket (λ d. Serves order d status old new) bytes
 IsAnswerTo order bytes old new (Err fault) = IsFaultOf (IsOrderFault order) bytes fault × (IsBeforeWriting fault → new ≡ old)

@@ -65,7 +65,7 @@ fn event_count(docket: &Docket) -> usize
     }
 }
 
-// Adds the row of a fault that one word tells.
+// Adds the row of a fault that is told by one word.
 fn push_word<W: Write>(
     rows: &mut RowWriter<'_, W>,
     place: &[u8],
@@ -76,7 +76,7 @@ fn push_word<W: Write>(
     rows.push(&[b"N", place, word.as_bytes()])
 }
 
-// Adds the row of a close that something pending kept from being accepted.
+// Adds the row of a close that was refused, since something is pending.
 fn push_pending<W: Write>(
     rows: &mut RowWriter<'_, W>,
     place: &[u8],
@@ -217,8 +217,8 @@ fn push_replay<W: Write>(
     push_counts(rows, answer, counts)
 }
 
-/// Writes what a replay of the docket's journal answered: one row, and where there are counts, after a good answer one row
-/// for each worker, with how many events it made.
+/// Writes what a replay of the docket's journal answered, in one row. After a good answer with counts, a row for each
+/// worker says how many events it made.
 ///
 /// Whoever the answer names is a member of the docket. Before a fault other than the writer's nothing was written.
 pub fn write_replay<W: Write>(

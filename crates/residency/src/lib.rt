@@ -1,8 +1,9 @@
 //! From bytes to bytes: a docket from any reader is matched, audited or replayed, and the answer goes to any writer.
 //!
-//! The program is `serve_words` over the words and the streams that it is given.
+//! The program is `serve_words`, over the words and the streams that it is given.
 //!
-//! What only tests refuse: other texts of faults, of help and of the version, and another number of workers than `+1` says.
+//! Contracts say nothing of the texts of faults, help and version, nor of a number of workers written `+1`: tests
+//! compare them.
 #![tactic(auto)]
 
 mod answer;

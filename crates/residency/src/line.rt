@@ -19,12 +19,12 @@ use std::convert::AsStr;
 use thiserror::Error;
 use version::VERSION;
 
-// What the help of each command says of what it reads and writes, of the exit status, and of an example.
+// The help of each command: what it reads and writes, its exit status, and an example.
 const MATCH_HELP: &str =
     "Reads a docket on standard input: Q, P and R records, and W records where V,2 is the first.
 A sheet or a journal in it is not used.
-Writes the sheet on standard output, and after it the journal where --journal asks for it, or with
---journal-by-worker the journal with the worker of each event.
+Writes the sheet on standard output. With --journal the journal of its events follows, and with
+--journal-by-worker each event has its worker.
 
 Exit status: 0 for a sheet; 1 where memory, a worker, reading or writing failed; 2 for a wrong
 command line; 3 for a docket at fault, whose record is named on standard error.
@@ -43,9 +43,9 @@ Example: cat examples/market.csv result.csv | residency audit";
 
 const REPLAY_HELP: &str =
     "Reads a docket with a journal on standard input: C and E records beside its own, and maybe a sheet.
-Writes G and the number of events, and of a journal by worker K, each worker and how many events it
-made; or N and the first event that may not follow and why, or D and the first resident at whom the
-sheet differs.
+Writes G and the number of events for a good journal. If it is by worker, a row K follows for each
+worker, with the number of its events. Else it writes N, the first event that may not follow, and
+why; or D and the first resident at whom the sheet differs.
 
 Exit status: 0 for a good journal; 4 for a bad one; 3 for a docket at fault or without a journal;
 2 for a wrong command line; 1 where memory, reading or writing failed.
@@ -85,7 +85,7 @@ fn line_fault(error: clap::Error) -> LineFault
     }
 }
 
-// A command with how it is called and what its help says of it.
+// A command, with its usage and its help.
 fn described<'a>(
     alloc: Global,
     name: &'a str,
@@ -177,7 +177,7 @@ fn replay_command<'a>(alloc: Global) -> Command<'a>
     described(alloc, "replay", call, about, REPLAY_HELP)
 }
 
-// The program, without its commands. Its commands are named after it.
+// The program, without its commands, which are named after it.
 fn program<'a>(alloc: Global) -> Result<Command<'a>, AllocError>
     ensures { IfOk result (λ command. app_of command ≡ program_app) }
 {
@@ -210,7 +210,7 @@ fn commands<'a>(alloc: Global) -> Result<Command<'a>, AllocError>
     with_command(auditing, replay_command(alloc))
 }
 
-// The number of workers, which its option admits from 1 to 8, and 2 where there is none.
+// The number of workers: from 1 to 8, as its option admits, and 2 where none is given.
 fn workers_of(matches: &ArgMatches) -> usize
     ensures some { 1 ≤ result }
     ensures few { result ≤ 8 }
@@ -222,7 +222,7 @@ fn workers_of(matches: &ArgMatches) -> usize
     }
 }
 
-// The room of each mailbox, which is full where there is none.
+// The room of each mailbox: full where none is given.
 fn room_of(matches: &ArgMatches) -> Result<Capacity, LineFault>
     ensures admitted { IfOk result (λ room. is_capacity room ≡ true) }
     ensures given { IfOk result (GivesRoom (rows_of (found_of matches.now))) }
@@ -307,7 +307,7 @@ fn nothing_named(commands: &mut Command) -> LineFault
     }
 }
 
-/// The order that the words give, the program's own name left out.
+/// The order that the words give. The program's own name isn't among them.
 pub fn read_line<'a, S: AsStr>(alloc: Global, words: &'a [S]) -> Result<Order, LineFault>
     ensures order { IfOk result (Orders (map S.text words.entry.now)) }
     ensures limits { IfOk result IsOrder }

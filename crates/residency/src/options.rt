@@ -16,7 +16,7 @@ pub enum JournalForm {
 /// How a match is run.
 #[derive(Clone, Copy, Debug, PartialEq, Eq)]
 pub struct MatchOptions {
-    /// How many threads work on it: 1 to 8.
+    /// How many threads work on the match: 1 to 8.
     pub workers: usize,
     /// The capacity of the mailboxes.
     pub capacity: Capacity,

@@ -1,4 +1,4 @@
-//! The program, over any streams: it serves what its words order, and its exit status tells how that ended.
+//! The program, over any streams: it serves the order of its words, and its exit status tells how that ended.
 ghost use Rattle.std.specs.Prelude.{◌≡◌, IfOk, IfErr};
 ghost use Rattle.std.specs.Process.{exit_status as exit_status_in};
 ghost use Rattle.residency.specs.Options.{IsOrder};
@@ -30,7 +30,7 @@ pub enum UsageFault {
     Line(LineFault),
 }
 
-// What the words order, the program's own name left out.
+// The order of the words. The program's own name isn't among them.
 fn order_of(alloc: Global, words: io::Result<Vec<String>>) -> Result<Order, UsageFault>
     ensures order { IfOk result (IsOrderOf words) }
     ensures limits { IfOk result IsOrder }
@@ -58,7 +58,8 @@ fn unordered_status(fault: &UsageFault) -> u8
     }
 }
 
-// Tells why the words order nothing. Help and the version are an answer, so a text of them that can't be written is a fault.
+// Tells why the words order nothing. Help and the version are an answer, so it is a fault if their text can't be
+// written.
 fn refuse<T: Print + Eprint>(told: &T, fault: &UsageFault) -> ExitCode
     ensures { IsRefusedStatus fault.now (exit_status_in result) }
 {
@@ -74,7 +75,7 @@ fn refuse<T: Print + Eprint>(told: &T, fault: &UsageFault) -> ExitCode
     ExitCode::from(status)
 }
 
-// Serves an order, and tells why it couldn't. A text that can't be written changes no exit status.
+// Serves an order, or tells why it couldn't. No exit status depends on whether that text could be written.
 fn serve_and_tell<R, W, T, H>(
     rt: H,
     alloc: Global,
@@ -97,10 +98,11 @@ where
     ExitCode::from(exit_status(&answer))
 }
 
-/// Serves what the words order over a reader and a writer, and gives the exit status.
+/// Serves the order of the words over a reader and a writer, and gives the exit status.
 ///
-/// The words are those after the program's own name. What help and version say goes to standard output, and why
-/// nothing, or not all, was served to standard error. The handle starts the threads of a match, and gives the randomness by which a docket is read.
+/// The words are those after the program's own name. Help and the version go to standard output, and why nothing, or
+/// not all, was served goes to standard error. The handle starts the threads of a match, and gives the randomness with
+/// which a docket is read.
 pub fn serve_words<R, W, T, H>(
     rt: H,
     alloc: Global,

@@ -47,8 +47,8 @@ fn push_wanted<W: Write>(
     }
 }
 
-// Writes the sheet of what a closed exchange over the docket gave, and its journal where that is wanted. Both go through one
-// buffer, which is made before the first byte is written, so that want of memory leaves nothing half written.
+// Writes the sheet that a closed exchange over the docket gave, and its journal if it is wanted. Both go through one
+// buffer, which is made before the first byte is written. So want of memory leaves nothing half written.
 fn write_match<W: Write>(
     alloc: Global,
     docket: &Docket,
@@ -73,7 +73,7 @@ fn write_match<W: Write>(
     Ok(())
 }
 
-// Runs the exchange over a docket to its close, and writes the sheet of what it gives, and its journal where that is wanted.
+// Runs the exchange over a docket to its close, and writes its sheet, and its journal if it is wanted.
 fn match_docket<W, G, H>(
     rt: H,
     alloc: Global,
@@ -124,7 +124,7 @@ where
     }
 }
 
-// What an audit of a docket's sheet reports. An error is want of memory.
+// The report of an audit of the docket's sheet. An error is want of memory.
 fn report_of(alloc: Global, docket: &Docket, sheet: &Assignment) -> Result<AuditReport, ServeFault>
     requires { length sheet.now ≡ length docket.now.instance.resident_lists }
     ensures report { IfOk result (Reports docket.now.instance sheet.now) }
@@ -185,7 +185,7 @@ fn lent(counts: &Option<Vec<u64>>) -> Option<&[u64]>
     }
 }
 
-// Writes whether a docket's journal is a good exchange and, where the docket has a sheet, whether the exchange gives it.
+// Writes whether a docket's journal is a good exchange, and whether it gives the docket's sheet, if there is one.
 fn replay_docket<W: Write>(
     alloc: Global,
     docket: &Docket,
@@ -214,8 +214,8 @@ fn replay_docket<W: Write>(
     }
 }
 
-// Reads a docket and does what `serve_match` promises. The docket, and the mailboxes and agents of its run, are given back
-// or left to the system, as `spent` says.
+// Does what `serve_match` promises. `spent` says whether the docket, the mailboxes and the agents are given back or
+// left to the system.
 fn match_read<R, W, G, H>(
     rt: H,
     alloc: Global,
@@ -246,8 +246,8 @@ where
     answer
 }
 
-/// Reads a docket, runs its exchange to the close by threads, and writes the sheet of what it gives and, where the
-/// options want it, the journal of this very run. The gate never stops a run.
+/// Reads a docket, runs its exchange to the close by threads, and writes its sheet. If the options want it, the journal
+/// of this very run follows. The gate never stops a run.
 ///
 /// A sheet or a journal in the docket is read and must be well formed, and isn't used. Nothing is written before the
 /// exchange has closed.
@@ -294,8 +294,8 @@ pub fn serve_audit<R: Read + Drop, W: Write, H: RandomSource>(
     }
 }
 
-/// Reads a docket, and writes whether its journal is a good exchange and, where it has a sheet, whether the exchange
-/// gives that sheet.
+/// Reads a docket, and writes whether its journal is a good exchange. If it has a sheet, it also writes whether the
+/// exchange gives that sheet.
 pub fn serve_replay<R: Read + Drop, W: Write, H: RandomSource>(
     rt: &H,
     alloc: Global,
@@ -314,7 +314,7 @@ pub fn serve_replay<R: Read + Drop, W: Write, H: RandomSource>(
 }
 
 /// Serves an order for a program that ends right after it. A match doesn't give back what it used piece by piece: the
-/// system takes it back faster when the program ends. The gate never stops a run.
+/// system takes it back faster. The gate never stops a run.
 pub fn serve<R, W, G, H>(
     rt: H,
     alloc: Global,

@@ -2,7 +2,8 @@
 
 use std::mem;
 
-/// Whether what is used up is given back piece by piece, or left to the system by a program that is about to end.
+/// What happens to used memory: it is given back piece by piece, or left to the system by a program that is about to
+/// end.
 #[derive(Clone, Copy, Debug)]
 pub(crate) enum Spent {
     GivenBack,

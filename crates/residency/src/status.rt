@@ -7,7 +7,7 @@ use crate::line::LineFault;
 use clap::error::ErrorKind;
 use docket::DocketFault;
 
-/// How a call ended that wrote all it was asked for.
+/// How a call ended that wrote its whole answer.
 #[derive(Clone, Copy, Debug, PartialEq, Eq)]
 pub enum Status {
     /// The exchange closed, and its sheet was written.

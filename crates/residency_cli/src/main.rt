@@ -1,4 +1,4 @@
-//! The program: its words say what is done with the docket on standard input, and its answer goes to standard output.
+//! The program. Its words say what is done with the docket on standard input, and the answer goes to standard output.
 #![tactic(auto)]
 
 use residency::serve_words;
