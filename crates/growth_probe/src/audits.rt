@@ -107,7 +107,7 @@ fn is_good(answer: &Result<Replayed, ReplayFault>) -> bool {
     }
 }
 
-// What a replay of the docket's journal answers, or of none.
+// What a replay of the docket's journal answers; `NotClosed` where there is no journal.
 fn replay_of(alloc: Global, docket: &Docket) -> Result<Replayed, ReplayFault> {
     let Some(journal) = docket.journal() else {
         return Err(ReplayFault::NotClosed);
@@ -151,7 +151,7 @@ pub(super) fn answer<W: Write>(alloc: Global, out: &mut W) -> Seen {
     Seen::at_once(answer == Ok(()) && room.as_slice() == b"G,9\n".as_slice())
 }
 
-// What a check of the docket's journal and sheet answers, or of none.
+// What a check of the docket's journal and sheet answers; `NotClosed` where one of them is missing.
 fn check_of(alloc: Global, docket: &Docket) -> Result<Replayed, ReplayFault> {
     let (Some(journal), Some(sheet)) = (docket.journal(), docket.sheet()) else {
         return Err(ReplayFault::NotClosed);

@@ -11,7 +11,7 @@ pub(super) const SMALL: &str = "Q,a,1\nQ,b,1\nP,a,x,y\nP,b,y,x\nR,x,b,a\nR,y,a,b
 /// The sheet that a match of it gives.
 pub(super) const SHEET: &str = "M,x,a\nM,y,b\nF,a,1,1\nF,b,1,1\n";
 
-/// Room for what is written, which is there before the first mark.
+/// Room for what is written. It is there before the first mark.
 pub(super) fn room(alloc: Global) -> Result<Vec<u8>, AllocError> {
     Vec::with_capacity(alloc, 4_096)
 }

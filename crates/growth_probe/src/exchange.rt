@@ -180,7 +180,7 @@ pub(super) fn resident_agent<W: Write>(alloc: Global, out: &mut W) -> Seen {
     }
 }
 
-// What a run of the three residents ends with: whether it is closed with each where it should be, or its fault.
+// How a run of the three residents ends: whether it is closed with each in its place, or its fault.
 fn closes<R: Threads + Wait + Sync + Send + Copy>(
     rt: R,
     alloc: Global,

@@ -43,7 +43,7 @@ fn enters_nothing<J: ExchangeIdentity, P: PutEnd<OfferNote>, Q: PutEnd<AnswerNot
     ledger.enter_offer(inst, tally, A, X) == full && ledger.journal().is_empty()
 }
 
-// Opens a ledger over these ends: whether it is empty and takes nothing, or its fault with the ends.
+// Opens a ledger over these ends. Whether it is empty and takes nothing, or its fault with the ends.
 fn opened_as<J: ExchangeIdentity>(
     alloc: Global,
     blank: Blank,

@@ -1,6 +1,6 @@
-//! Makes one call of the libraries, or each in turn where no word says which, and tells what it did. Where a growth is
-//! refused meanwhile, the call has to answer Memory, to leave what it was lent as it was, and to give its right answer when
-//! it is made again.
+//! Makes one call of the libraries, or each in turn if no word names one, and tells what it did. If a growth is refused
+//! meanwhile, the call has to answer Memory and leave what it was lent as it was. Made again, it has to give its right
+//! answer.
 #![tactic(auto)]
 
 mod audits;

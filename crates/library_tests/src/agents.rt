@@ -15,7 +15,7 @@ use std::alloc::Global;
 use std::test::Fail;
 use test_support::events::{A, B, HOLD, RELEASE, X, Y, Z};
 
-// What a resident's agent answers at a take, and then the two answers that it gives.
+// What a resident's agent answers to a take, and then the two answers that it gives.
 type Taken = (
     Option<Heard<OfferNote>>,
     [Option<(ProgrammeNo, AnswerKind)>; 2],
@@ -90,7 +90,7 @@ const ANSWERS: [AnswerNote; 3] = [
     },
 ];
 
-// Whether the desk hears the answers, and then no more: so it says each time, and has this log then.
+// Whether the desk hears the answers and then no more, says so each time, and has this log then.
 fn hears_so<T: TakeEnd<AnswerNote> + Drop>(
     run: &mut ProgrammeRun<T>,
     answers: &[AnswerNote],
@@ -117,7 +117,7 @@ fn offers_so<T: TakeEnd<AnswerNote> + Drop>(
     true
 }
 
-// Opens the desk of A over this end: whether it offers to X and Y, hears the answers and no more, and then offers to
+// Opens the desk of A over this end. Whether it offers to X and Y, hears the answers and no more, and then offers to
 // these.
 fn programme_hears<T: TakeEnd<AnswerNote> + Drop>(
     alloc: Global,

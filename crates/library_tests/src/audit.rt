@@ -291,7 +291,7 @@ fn checks_sheets(rt: HostRuntime) {
     assert!(rt; checked(rt.alloc(), TWO_PLACES, &nineteen_events(), &settled) == Ok(19));
 }
 
-// Whether these workers, who are as many as there are wanted counts, made so many events each.
+// Whether these workers made so many events each. There are as many workers as wanted counts.
 fn counts_are(alloc: Global, who: &[u8], wanted: &[u64]) -> bool {
     let Ok(workers) = u32::try_from(wanted.len()) else {
         return false;

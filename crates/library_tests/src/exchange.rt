@@ -53,7 +53,7 @@ fn refuses_last(run: &mut Run, events: &[Event], last: Event, why: Refused) -> b
     run.may(last) == Err(why) && run.step(again) == Err(cause)
 }
 
-// Whether that is so of a core at the beginning.
+// Whether a core at the beginning accepts and refuses so.
 fn refuses(
     alloc: Global,
     start: (Members, Capacity),
@@ -193,7 +193,7 @@ fn shows_what_is_left(rt: HostRuntime) {
     assert!(rt; is_right);
 }
 
-// How many turns the exchange takes that does any event that may follow, if each is accepted and the last closes it.
+// How many turns an exchange takes that does any event that may follow, if each is accepted and the last closes it.
 fn turns(run: &mut Run) -> Option<u32> {
     for turn in 0..=25 {
         let Some(event) = run.some_enabled() else {

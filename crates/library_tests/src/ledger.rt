@@ -112,7 +112,7 @@ fn shows<J: ExchangeIdentity, P: PutEnd<OfferNote>, Q: PutEnd<AnswerNote>>(
         && tally.entered() == events.len() as u64
 }
 
-// Whether the events are entered one after another, the ledger isn't closed once more, and they are its journal.
+// Whether the ledger enters the events one after another, refuses a second close, and has them as its journal.
 fn enters_all<J: ExchangeIdentity, P: PutEnd<OfferNote> + Drop, Q: PutEnd<AnswerNote> + Drop>(
     mut ledger: Ledger<J, P, Q>,
     inst: &Instance,
@@ -151,7 +151,7 @@ fn are_cut<J: ExchangeIdentity>(first: &Tally<J>, other: &Tally<J>) -> bool {
         && (other.worker(), other.parts(), other.entered()) == (1, 1, 0)
 }
 
-// Whether two workers' tallies count what is entered with them, and together all; and each event's worker is noted.
+// Whether two workers' tallies count their own entries, and together all, and each event's worker is noted.
 fn counts_apart<J: ExchangeIdentity, P: PutEnd<OfferNote>, Q: PutEnd<AnswerNote>>(
     ledger: &mut Ledger<J, P, Q>,
     inst: &Instance,
@@ -194,7 +194,7 @@ fn keeps_its_journal<J: ExchangeIdentity, P: PutEnd<OfferNote>, Q: PutEnd<Answer
         && shows(ledger, tally, five)
 }
 
-// What is tried of a ledger over ends in memory.
+// What is tried with a ledger over ends in memory.
 #[derive(Clone, Copy)]
 enum Trial {
     All,
@@ -203,7 +203,7 @@ enum Trial {
     Spoiled,
 }
 
-// Whether a ledger over two ends in memory for each side, with room for so many notes each, does as tried.
+// Whether a ledger does as tried, over two ends in memory for each side, with room for so many notes each.
 fn does<J: ExchangeIdentity>(
     alloc: Global,
     blank: Blank,
@@ -323,7 +323,7 @@ fn over_mailboxes(rt: HostRuntime) -> Result<(), Fail> {
     Ok(())
 }
 
-// Why no ledger is opened over so many ends for residents and two for programmes, and how many ends come back.
+// Why a ledger over so many ends for residents and two for programmes isn't opened, and how many ends come back.
 fn not_opened<J: ExchangeIdentity>(
     alloc: Global,
     blank: Blank,

@@ -3,7 +3,7 @@
 //! Each library has a module: `model`, `exchange`, `mailbox`, `ledger`, `agents`, `pool` and `audit` test `match_model`,
 //! `exchange_core`, `mailbox_rule`, `offer_ledger`, `match_agents`, `match_pool` and `match_audit`.
 //!
-//! A crate with tests is proved once with them and once without, so the tests of several crates stand in this one, which
+//! A crate with tests is proved twice, with them and without. So the tests of several crates stand in this one, which
 //! has nothing else. Those that go by the bytes of a docket stand in `program_tests`.
 #![tactic(auto)]
 

@@ -55,7 +55,7 @@ fn two_places_in_memory(rt: HostRuntime) -> Result<(), Fail> {
 
 #[test]
 fn capacities(rt: HostRuntime) {
-    // twice as many as there are pairs at most is what can be sent to one desk
+    // at most twice as many messages as there are pairs can be sent to one desk
     for (capacity, wanted) in [(0, Some(MailFault::NoCapacity)), (1, None), (400_000, None)] {
         let fault = mailbox::<u32, HostRuntime>(rt.alloc(), rt, capacity).err();
         assert!(rt; fault == wanted, "{capacity}");
@@ -275,7 +275,7 @@ fn relay_one_by_one(rt: HostRuntime) -> Result<(), Fail> {
     Ok(())
 }
 
-// The numbers that went through one mailbox to another thread, and came back through another.
+// The numbers that went to another thread through one mailbox, and came back through another.
 fn returned<R: Threads + Wait + Sync + Send + Copy>(
     rt: R,
     alloc: Global,

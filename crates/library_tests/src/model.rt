@@ -66,7 +66,7 @@ fn two_and_three(alloc: Global) -> Result<InstanceBuilder, ModelFault> {
     Ok(builder)
 }
 
-// What is left of one list of a programme and those of two residents.
+// The mutual parts of one list of a programme and those of two residents.
 fn mutual_parts(alloc: Global) -> Result<Instance, ModelFault> {
     let mut builder = two_and_three(alloc)?;
     builder.programme_list(A, &[Z, X, Y])?;
@@ -175,7 +175,7 @@ fn reads_the_list_of_whoever_is_withdrawn(rt: HostRuntime) -> Result<(), Fail> {
     Ok(())
 }
 
-// Two programmes and three residents with all their lists, of whom these are withdrawn, before or after the lists.
+// Two programmes and three residents with all their lists, some of them withdrawn before or after the lists.
 fn without(
     alloc: Global,
     first: bool,
@@ -198,8 +198,8 @@ fn without(
     builder.finish().map_err(|refused| refused.fault)
 }
 
-// The first programme and all three residents rank one another; the second ranks a resident whom it is ranked by, and
-// one whom it isn't.
+// The first programme and all three residents rank one another. The second ranks two residents, and only one of them
+// ranks it.
 fn add_lists(builder: &mut InstanceBuilder) -> Result<(), ModelFault> {
     builder.programme_list(A, &[X, Y, Z])?;
     builder.programme_list(B, &[Z, X])?;
@@ -208,7 +208,7 @@ fn add_lists(builder: &mut InstanceBuilder) -> Result<(), ModelFault> {
     builder.resident_list(Z, &[A])
 }
 
-// Whether these are withdrawn of two programmes and three residents, and so many pairs are left.
+// Whether, of two programmes and three residents, these are withdrawn, and so many pairs are left.
 fn is_left(instance: &Instance, pairs: u32, programmes: [bool; 2], residents: [bool; 3]) -> bool {
     if instance.programmes() != 2 || instance.residents() != 3 {
         return false;

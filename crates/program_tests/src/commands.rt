@@ -1,4 +1,4 @@
-//! The program's commands over texts: what is asked for, and whether this is answered.
+//! The program's commands over texts, and what they answer.
 use crate::texts::{VERSION_2, further, joined};
 use exchange_core::Capacity;
 use match_pool::OpenGate;
@@ -64,7 +64,7 @@ pub(super) fn serves<H: Threads + Wait + RandomSource + Sync + Send + Copy>(
     Ok(answer == wanted && output.as_slice() == text.as_bytes() && exit_status(&answer) == exit)
 }
 
-// Whether an answer is the wanted one, where the record of a fault stands one further.
+// Whether an answer is the wanted one, with the record of a fault one further.
 fn is_further(
     alloc: Global,
     answer: &Result<Status, ServeFault>,

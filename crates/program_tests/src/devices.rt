@@ -20,7 +20,7 @@ const ORDERS: [(Order, Status, &str); 3] = [
     (Order::Replay, Status::ReplayGood, "G,9\n"),
 ];
 
-// Whether a reader that fails after `cut` bytes is told of, at this record, with nothing written.
+// Whether a command tells of a reader that fails after `cut` bytes, at this record, and writes nothing.
 fn tells_of_cut<H: Threads + Wait + RandomSource + Sync + Send + Copy>(
     rt: H,
     alloc: Global,
@@ -42,7 +42,7 @@ fn tells_of_cut<H: Threads + Wait + RandomSource + Sync + Send + Copy>(
         && exit_status(&answer) == 1
 }
 
-// The first count of bytes, up to all, after which a reader fails and this isn't told.
+// The first number of bytes after which a reader fails and a command doesn't tell so.
 fn first_untold_cut<H: Threads + Wait + RandomSource + Sync + Send + Copy>(
     rt: H,
     alloc: Global,
@@ -81,7 +81,7 @@ fn tells_of_broken_readers(rt: HostRuntime) -> Result<(), Fail> {
     Ok(())
 }
 
-// Whether a writer that fails after `good` calls is told of, and got a part of the text.
+// Whether a command tells of a writer that fails after `good` calls, which got a part of the text.
 fn tells_of_cut_output<H: Threads + Wait + RandomSource + Sync + Send + Copy>(
     rt: H,
     alloc: Global,
@@ -131,7 +131,7 @@ fn tells_of_broken_writers(rt: HostRuntime) -> Result<(), Fail> {
 
 const UNKNOWN_KIND: &str = "Q,a,1\nZ,b\n";
 
-// Audits a docket that is interrupted before each so many bytes.
+// Audits a docket whose reader is interrupted each time after so many bytes.
 fn audit(
     alloc: Global,
     text: &str,

@@ -44,8 +44,7 @@ fn tells(alloc: Global, texts: &[&str], wanted: &str) -> Result<bool, AllocError
     is_told(alloc, read(alloc, text.as_str()), wanted)
 }
 
-/// Whether this is told of the docket of these records, parted by spaces, by a reader that gives all at once and by a slow
-/// one.
+/// Whether both a reader that gives all at once and a slow one lead to this. Spaces part the records of the docket.
 fn tells_both(alloc: Global, records: &str, wanted: &str) -> Result<bool, AllocError> {
     let mut input = records.replace(alloc, " ", "\n")?;
     input.push_str("\n")?;
@@ -58,9 +57,10 @@ fn tells_both(alloc: Global, records: &str, wanted: &str) -> Result<bool, AllocE
     Ok(at_once && slowly)
 }
 
-/// The first line of which something else is told than it says, by a reader that gives all at once or by a slow one.
+/// The first line whose docket leads to something else than the line says, by a reader that gives all at once or a slow
+/// one.
 ///
-/// In a line the records of a docket are parted by spaces, and what is told of it stands after ` = `.
+/// Spaces part the records in a line, and what is told of them stands after ` = `.
 fn first_wrong<'a>(alloc: Global, lines: &'a str) -> Result<Option<&'a str>, AllocError> {
     for line in lines.lines() {
         let Some((records, wanted)) = line.split_once(" = ") else {
@@ -73,7 +73,7 @@ fn first_wrong<'a>(alloc: Global, lines: &'a str) -> Result<Option<&'a str>, All
     Ok(None)
 }
 
-/// The first line of which something else is told of a docket of version 2 with its records, each one further.
+/// As `first_wrong`, for dockets of version 2 with the same records, each one further.
 fn first_wrong_of_version_2<'a>(
     alloc: Global,
     lines: &'a str,

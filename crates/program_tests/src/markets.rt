@@ -41,7 +41,7 @@ pub(super) fn push_lists(text: &mut String, alloc: Global) -> Result<(), AllocEr
 // A step, taken this often around so many numbers.
 type Round = (u32, u32, u32);
 
-// Adds a comma, a letter and a number, for each number that the round reaches from `first`, and for each `base` more.
+// Adds a comma, a letter and a number for each number that the round reaches from `first`, plus `base`.
 fn push_round(
     text: &mut String,
     alloc: Global,
@@ -80,8 +80,8 @@ fn push_hundreds_resident(text: &mut String, alloc: Global, r: u32) -> Result<()
     text.push_str("\n")
 }
 
-/// Twelve programmes with one to four places, each of which ranks all forty residents, and residents who rank ten
-/// programmes each: 400 pairs, and thirty places.
+/// Twelve programmes with one to four places, each of which ranks all forty residents. Each resident ranks ten
+/// programmes: 400 pairs, and thirty places.
 pub(super) fn hundreds(alloc: Global) -> Result<String, AllocError> {
     let mut text = String::new(alloc);
     for p in 0..12u32 {
@@ -102,8 +102,8 @@ fn push_widest_list(text: &mut String, alloc: Global, p: u32) -> Result<(), Allo
     text.push_str("\n")
 }
 
-/// As many programmes, residents and pairs as there may be: each of 2,000 programmes has ten places and ranks a hundred
-/// residents, each of 20,000 residents ranks ten programmes, and whoever ranks another is ranked by it.
+/// As many programmes, residents and pairs as there may be. Each of 2,000 programmes has ten places and ranks a hundred
+/// residents. Each of 20,000 residents ranks ten programmes, and all ranks are mutual.
 pub(super) fn widest(alloc: Global) -> Result<String, AllocError> {
     let mut text = String::new(alloc);
     push_all(&mut text, alloc, "Q,p", 2_000, ",10\n")?;

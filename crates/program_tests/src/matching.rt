@@ -1,4 +1,4 @@
-//! Matches: their sheets, of all members and of who is left, and their journals.
+//! Matches: their sheets, of all members and of those who are left, and their journals.
 mod journals;
 mod large;
 mod withdrawn;

@@ -124,7 +124,7 @@ const NINE: [&str; 9] = [
     "E,close\n",
 ];
 
-// A journal that has these of the nine events, counted from 0, and for another number an event of no kind.
+// A journal of these of the nine events, counted from 0. Any other number stands for an event of no kind.
 fn journal_of(alloc: Global, events: &[usize]) -> Result<String, AllocError> {
     let mut journal = FULL.to_string(alloc)?;
     for event in events {
@@ -252,7 +252,7 @@ fn refuses_wrong_workers(rt: HostRuntime) -> Result<(), Fail> {
     Ok(())
 }
 
-// Journals from before a withdrawal: the first offer by or to whom is withdrawn is of nobody who is next.
+// Journals from before a withdrawal. The first offer by or to a withdrawn member is to nobody who is next.
 const REPLAYS: [(&[&str], Status, &str, u8); 3] = [
     (
         &[

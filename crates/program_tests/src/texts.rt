@@ -30,8 +30,8 @@ pub(super) const QUOTAS_SHEET: &str = "M,x,b\nM,y,a\nM,z,a\nF,a,2,2\nF,b,1,1\n";
 /// One listed by one side alone.
 pub(super) const ONE_SIDED: &str = "Q,a,1\nP,a,x\nR,x\n";
 
-/// Each programme offers to the one resident, who likes each later one better: an exchange of twenty-three events, of the
-/// twenty-five that four pairs allow.
+/// Each programme offers to the one resident, who likes each later one better. The exchange has 23 events, of the 25
+/// that four pairs allow.
 pub(super) const CHAIN: &str =
     "Q,a,1\nQ,b,1\nQ,c,1\nQ,d,1\nP,a,x\nP,b,x\nP,c,x\nP,d,x\nR,x,d,c,b,a\n";
 
@@ -57,7 +57,7 @@ pub(super) const CLOSE: &str = "E,close\n";
 /// The first record of a docket that may withdraw members.
 pub(super) const VERSION_2: &str = "V,2\n";
 
-/// What is told of a record, as it is told of the same record where one more stands before it.
+/// What is told of a record, as if one more record stood before it.
 pub(super) fn further(alloc: Global, told: &str) -> Result<String, AllocError> {
     let Some((number, cause)) = told
         .strip_prefix("record ")

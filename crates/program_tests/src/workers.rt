@@ -23,7 +23,7 @@ fn rows_between(text: &[u8], start: &str, end: &str) -> u64 {
     count
 }
 
-// Adds the row that a replay has for each worker, and tells whether the journal names each as often as the gate was told.
+// Adds the row that a replay has for each worker. Whether the journal names each worker as often as the gate was told.
 fn is_named(
     alloc: Global,
     journal: &[u8],
@@ -41,7 +41,7 @@ fn is_named(
     Ok(same)
 }
 
-// Whether a match whose first receipt waits until another worker has made two events names the worker of each event.
+// Whether a match names the worker of each event, if its first receipt waits until another worker has made two.
 fn names_its_workers<H: Threads + Wait + RandomSource + Sync + Send + Copy>(
     rt: H,
     alloc: Global,

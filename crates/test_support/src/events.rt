@@ -75,8 +75,8 @@ pub fn nine_events() -> [Event; 9] {
     ]
 }
 
-/// The events of an exchange in which `B` displaces `X` from `A`, which has two places. `Y` takes before `X`, to whom an
-/// offer was sent first.
+/// The events of an exchange in which `B` displaces `X` from `A`, which has two places. `Y` takes before `X`, though
+/// `X` was sent an offer first.
 pub fn nineteen_events() -> [Event; 19] {
     [
         offer(A, X),

@@ -56,7 +56,7 @@ impl Counts {
         sum
     }
 
-    // Waits until for long nobody has entered anything more. How many events are entered then.
+    // Waits until nobody has entered anything for long. How many events are entered then.
     fn at_rest(&self) -> u64 {
         let mut seen = self.of_all();
         let mut turns = 0;

@@ -1,4 +1,4 @@
-//! Gates that hold workers until for long, by the clock, nobody has entered anything more.
+//! Gates that hold workers until, by the clock, nobody has entered anything for long.
 ghost use Rattle.std.specs.Prelude.{true, false};
 
 use exchange_core::Desk;
@@ -8,13 +8,13 @@ use std::sync::Wait;
 use std::sync::atomic::{AtomicBool, AtomicU32, AtomicU64, Ordering};
 use std::time::Duration;
 
-/// After how many microseconds each a gate looks whether anything more was entered.
+/// The microseconds between two looks of a gate whether anything more was entered.
 const PERIOD: u64 = 10_000;
 
 /// How many looks in a row see nothing more when all others sleep, which nap for at most a hundred milliseconds.
 const UNTIL_ASLEEP: u32 = 15;
 
-/// How many do when the run is at rest.
+/// How many looks in a row see nothing more when the run is at rest.
 const AT_REST: u32 = 25;
 
 /// How often a gate looks at most.
@@ -125,9 +125,8 @@ fn desk_in(noted: &AtomicU32) -> Option<Desk> {
     }
 }
 
-/// A gate for up to four workers. The pass of one number, of one desk or of all, lasts until each other worker has done what it
-/// can and has fallen asleep. Of other desks the passes that begin after it are held, one for each worker but one, until the run
-/// is at rest.
+/// A gate for up to four workers. The pass of one number, of one desk or of all, lasts until each other worker has done
+/// what it can and sleeps. Later passes of other desks are held until the run is at rest, one for each worker but one.
 #[derive(Drop)]
 pub struct RestsInPass<R: Wait + Copy> {
     rest: Rest<R>,
@@ -140,8 +139,8 @@ pub struct RestsInPass<R: Wait + Copy> {
 }
 
 impl<R: Wait + Copy> RestsInPass<R> {
-    /// Nothing is seen yet. The pass after which others are held is this of all, or of one desk, counted from 1; with 0 all are
-    /// held from the first on. So many are held at most.
+    /// A gate that has seen nothing. `place` is the number, from 1, of the last pass that isn't held, among all passes
+    /// or those of one desk. With 0 all passes are held. At most `most` are held.
     pub fn new(rt: R, of: Option<Desk>, place: u64, most: u64) -> RestsInPass<R> {
         RestsInPass {
             rest: Rest::new(rt),
@@ -163,7 +162,7 @@ impl<R: Wait + Copy> RestsInPass<R> {
         is_over.then_some(self.rest.entered.load(Ordering::SeqCst))
     }
 
-    /// The desk that each worker had which was held.
+    /// The desk of each worker that was held.
     pub fn held(&self) -> [Option<Desk>; 4] {
         let [a, b, c, d] = &self.rest.desks;
         [desk_in(a), desk_in(b), desk_in(c), desk_in(d)]
@@ -175,7 +174,7 @@ impl<R: Wait + Copy> RestsInPass<R> {
             && self.passed.fetch_add(1, Ordering::SeqCst).saturating_add(1) == self.place
     }
 
-    // Whether this pass is held, after the one of that number.
+    // Whether this pass is held, since it begins after the one of that number.
     fn is_held(&self, desk: u32) -> bool {
         self.of != desk && self.held.fetch_add(1, Ordering::SeqCst) < self.most
     }
@@ -207,7 +206,7 @@ impl<R: Wait + Copy + Sync> Gate for RestsInPass<R> {
     }
 }
 
-/// A gate for up to four workers that holds the one that enters the event of one number, counted from 1, until the run is at
+/// A gate for up to four workers. It holds the worker that enters the event of one number, from 1, until the run is at
 /// rest.
 #[derive(Drop)]
 pub struct RestsAfterEntry<R: Wait + Copy> {
@@ -230,7 +229,7 @@ impl<R: Wait + Copy> RestsAfterEntry<R> {
         is_over.then_some(self.rest.entered.load(Ordering::SeqCst))
     }
 
-    /// How many events this worker had entered when it was held; none of one that wasn't.
+    /// How many events this worker had entered when it was held; none if it wasn't.
     pub fn own(&self, worker: usize) -> u32 {
         match self.rest.desks.get(worker) {
             Some(own) => own.load(Ordering::SeqCst),

@@ -271,7 +271,7 @@ fn serve_to_close<
     ledger.close(inst, tally)
 }
 
-/// How many events an exchange from its beginning to its close has, in which each desk's log is its list of the journal.
+/// How many events an exchange has from its beginning to its close, if each desk's log is its list of the journal.
 fn exchange<J: ExchangeIdentity, R: Wait + Copy>(
     rt: R,
     alloc: Global,

@@ -26,8 +26,8 @@ const BOTH: MailLeft = MailLeft {
     sender_has_more: true,
 };
 
-// What is left after each of the nineteen events: an offer or answer finds its receiver's mailbox empty or not, and a
-// hear of a's leaves the answers that came later.
+// What each of the nineteen events leaves. An offer or answer finds its receiver's mailbox empty or not. A hear of a's
+// leaves the answers that came later.
 const AFTER_NINETEEN: [MailLeft; 19] = [
     WAS_EMPTY, WAS_EMPTY, NOTHING, NOTHING, WAS_EMPTY, NOTHING, WAS_EMPTY, NOTHING, WAS_EMPTY,
     NOTHING, MORE, MORE, NOTHING, NOTHING, WAS_EMPTY, NOTHING, WAS_EMPTY, NOTHING, NOTHING,
@@ -43,7 +43,7 @@ fn tells_each(run: &mut Run, events: &[Event], wanted: &[MailLeft]) -> bool {
     true
 }
 
-// Whether a core at the beginning tells so of these events, and then refuses to let y take b's offer, for this cause.
+// Whether a core at the beginning tells this of these events, and then refuses a take of b's offer by y for this cause.
 fn tells_all(alloc: Global, events: &[Event], wanted: &[MailLeft], why: Refused) -> bool {
     match begin(alloc, TWO_PLACES, Capacity::Full) {
         Ok(mut run) => {

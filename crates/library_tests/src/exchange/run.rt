@@ -14,8 +14,7 @@ pub(crate) struct Run {
     ghost core_of: { IsCoreOf inst core },
 }
 
-/// What the core shows: what keeps it from rest, whom a programme would offer to, what a resident holds and what it
-/// owes first.
+/// What the core shows: what keeps it from rest, a programme's next offer, and what a resident holds and owes first.
 pub(super) type Seen = (
     Option<Pending>,
     Option<ResidentNo>,

@@ -107,7 +107,7 @@ fn place(ranking: &[ProgrammeNo], p: u32) -> usize {
     found.unwrap_or(ranking.len())
 }
 
-/// Where the best programme stands that the resident took an offer of, or the ranking's length.
+/// The place of the best programme whose offer the resident took, or the ranking's length.
 fn best_place(ranking: &[ProgrammeNo], r: ResidentNo, j: &[Event]) -> usize {
     let mut best = ranking.len();
     for event in j {

@@ -11,7 +11,7 @@ const PROGRAMMES: u32 = 3;
 
 const RESIDENTS: u32 = 5;
 
-/// Random numbers, each made of the last by shifts and exclusive ors.
+/// Random numbers, each made from the last by shifts and exclusive ors.
 #[derive(Drop)]
 struct Numbers {
     last: u32,
@@ -122,7 +122,7 @@ fn next_event(numbers: &mut Numbers, run: &Run) -> Event {
     run.some_enabled().unwrap_or(Event::Close)
 }
 
-/// Whether the core and the filters agree on an event, which is done and added to the list where it may follow.
+/// Whether the core and the filters agree on an event. If it may follow, it is done and added to the list.
 fn agrees_once(run: &mut Run, cap: Capacity, list: &mut Vec<Event>, event: Event) -> bool {
     let again = event;
     let more = event;

@@ -1,4 +1,4 @@
-//! Faults of a run that have a real cause: mailboxes that slip.
+//! Faults of a run with a real cause: mailboxes that slip.
 use super::slips::{PutSlip, Slip, Slipping, TakeSlip};
 use crate::instances::{Members, TWO_BY_TWO, TWO_PLACES, has_places, made};
 use exchange_core::{AnswerKind, AnswerNote, Capacity, Desk, Event, OfferNote};
@@ -10,8 +10,8 @@ use std::thread::Threads;
 use test_support::events::{A, B, DECLINE, HOLD, RELEASE, X, Y, Z, hear, take};
 use test_support::gates::{AfterAnother, Counting};
 
-// What a run over mailboxes of which one slips tells, by so many workers: its fault, or else whether it is closed and the
-// residents hold these places.
+// What a run by so many workers tells if one mailbox slips: its fault, or whether it is closed and each resident holds
+// its place.
 fn told_by<G: Gate + Sync, R: Threads + Wait + Sync + Send + Copy>(
     rt: R,
     alloc: Global,
@@ -39,7 +39,7 @@ const LARGER: (Members, &[Option<u32>]) = (TWO_PLACES, &[Some(1), Some(0), Some(
 // A programme that there isn't.
 const STRANGE: ProgrammeNo = ProgrammeNo(7);
 
-// Slips after which a run goes on: what was refused as full is put again, and what wasn't there is looked for again.
+// Slips after which a run goes on. What was refused as full is put again, and what wasn't there is looked for again.
 const PASSING: [Slip; 8] = [
     Slip::Offer(X, 0, PutSlip::Full),
     Slip::Offer(X, 1, PutSlip::Full),
@@ -103,8 +103,8 @@ fn tells_whose_mailbox_is_gone(rt: HostRuntime) {
     }
 }
 
-// Slips that last, so that a desk stays pending, and which: a programme whose offer finds no room, a resident whose answer
-// finds none, and a resident or a programme in whose mailbox there is nothing though a message waits.
+// Slips that last, and the desk that stays pending. An offer of a programme or an answer of a resident finds no room.
+// Or a desk finds nothing in its mailbox, though a message waits.
 fn lasting() -> [(Slip, Desk); 8] {
     [
         (Slip::Offer(Y, 0, PutSlip::AlwaysFull), Desk::Programme(A)),
@@ -168,7 +168,7 @@ fn answer_of(
     )
 }
 
-// Messages that were never put, or aren't the oldest whenever they are given, and the receipts.
+// Messages that were never put, or that are given before older ones, and the receipts.
 fn out_of_step() -> [(Slip, Event); 8] {
     [
         offer_of(X, STRANGE),
@@ -182,7 +182,7 @@ fn out_of_step() -> [(Slip, Event); 8] {
     ]
 }
 
-// Whether a run is out of step at this receipt, after as many events as were entered, with no close.
+// Whether a run is out of step at this receipt, with as many events in its journal as were entered, and no close.
 fn is_out_of_step(told: &Result<bool, RunFault>, gate: &Counting, receipt: &Event) -> bool {
     match told {
         Err(RunFault::OutOfStep { journal, event }) => {
@@ -240,10 +240,10 @@ fn takes_no_message_twice(rt: HostRuntime) {
     }
 }
 
-// How often a test is run that can miss what it looks for.
+// How often a test runs that can miss what it looks for.
 const TRIES: u32 = 5;
 
-// Whether nothing is entered after a receipt that was out of step, though a worker has another.
+// Whether nothing is entered after a receipt that was out of step, though a worker has another one.
 fn is_spoiled<R: Threads + Wait + Sync + Send + Copy>(rt: R, alloc: Global) -> bool {
     for _ in 0..TRIES {
         let gate = AfterAnother::new(Desk::Resident(X));

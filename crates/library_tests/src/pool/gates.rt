@@ -14,7 +14,7 @@ use test_support::gates::{Hold, HoldsEntered, HoldsVisit, Rested, Stalls, StopsF
 
 const CAPACITIES: [Capacity; 3] = [Capacity::Full, Capacity::Each(1), Capacity::Each(2)];
 
-// How often a test is run that can miss what it looks for.
+// How often a test runs that can miss what it looks for.
 const TRIES: u32 = 10;
 
 // Two small instances, a hundred pairs, and a chain of forty links.
@@ -38,7 +38,7 @@ fn receipts_of(journal: &[Event]) -> u64 {
     count
 }
 
-// Whether each worker entered as many events as the gate was told of, and all together the journal's.
+// Whether each worker entered as many events as the gate was told of, and the journal has all of them.
 fn is_told(told: &Told, counts: &[u64]) -> bool {
     let mut sum = 0_u64;
     for (entered, count) in told.entered.iter().zip(counts) {
@@ -65,7 +65,7 @@ fn is_stopped_from(told: &Told, gate: &StopsFrom, first: u64, workers: usize) ->
         && is_told(told, &counts)
 }
 
-// How a run ended that was stopped from this pass on, where it ended as it is to.
+// How a run that was stopped from this pass on ended, if it ended as it is to.
 fn stopped_from<R: Threads + Wait + Sync + Send + Copy>(
     rt: R,
     alloc: Global,
@@ -138,7 +138,7 @@ fn place_of(told: &Told, worker: usize, own: u64) -> Option<usize> {
     None
 }
 
-// Whether a receipt whose pass was held was entered after all that was entered meanwhile, and its desk wasn't visited.
+// Whether a held receipt was entered after all that was entered meanwhile, and its desk wasn't visited.
 fn is_entered_after(told: &Told, hold: &Hold, workers: usize) -> bool {
     let Some(place) = place_of(told, hold.worker, hold.own) else {
         return false;
@@ -163,7 +163,7 @@ fn is_late_enough(told: &Told, gate: &Stalls, workers: usize) -> bool {
     }
 }
 
-// Whether a run whose pass at this place was held ended as it is to, and whether any was.
+// Whether a run whose pass at this place is held ends as it is to, and whether any pass was held.
 fn is_held<R: Threads + Wait + Sync + Send + Copy>(
     rt: R,
     alloc: Global,
@@ -202,7 +202,7 @@ fn a_receipt_passes_before_it_is_entered(rt: HostRuntime) -> Result<(), Fail> {
     Ok(())
 }
 
-// Whether another worker went on while one was held that had entered the event of this number.
+// Whether another worker went on while the one that entered the event of this number was held.
 fn goes_on<R: Threads + Wait + Sync + Send + Copy>(
     rt: R,
     alloc: Global,
@@ -241,7 +241,7 @@ const ONE_FOR_TEN: Members = (
     &[&[0], &[0], &[0], &[0], &[0], &[0], &[0], &[0], &[0], &[0]],
 );
 
-// Whether another worker went on with what an offer gave work to, while its worker was held once it had entered it.
+// Whether another worker did what an offer gave work to, while the worker that entered it was held.
 fn goes_on_beside<R: Threads + Wait + Sync + Send + Copy>(
     rt: R,
     alloc: Global,
@@ -264,7 +264,8 @@ fn what_an_entry_woke_is_listed_before_its_worker_is_held(rt: HostRuntime) {
 // Two programmes that offer to one resident, who prefers the second.
 const RIVALS: Members = (&[(1, &[0]), (1, &[0])], &[&[1, 0]]);
 
-// Whether a worker that found nothing to do was woken for what was listed, while another stayed at the desk that it saw.
+// Whether a worker that found nothing to do was woken for what was listed, while another stayed at the desk that it
+// saw.
 fn is_woken<R: Threads + Wait + Sync + Send + Copy>(rt: R, alloc: Global, cap: Capacity) -> bool {
     let gate = Rested::new();
     let told = ran(rt, alloc, RIVALS, cap, 2, &gate);

@@ -1,4 +1,5 @@
-//! Runs in which all workers but one are held until nothing more happens: then whatever may happen is in the held hands.
+//! Runs in which all workers but one are held until nothing more happens. Then whatever may happen is in the held
+//! hands.
 use super::runs::ran_on;
 use crate::exchange::run::Run;
 use crate::instances::{Members, TWO_PLACES, made};
@@ -12,14 +13,14 @@ use std::thread::Threads;
 use test_support::events::{DECLINE, HOLD, RELEASE, answer, desk_of, hear, offer, take};
 use test_support::rests::{RestsAfterEntry, RestsInPass};
 
-// Two programmes of three and two places, over five residents who like the later one better.
+// Two programmes of three and two places, and five residents who like the later one better.
 const FIVE: Members = (
     &[(3, &[0, 1, 2, 3, 4]), (2, &[0, 1, 2])],
     &[&[1, 0], &[1, 0], &[0, 1], &[0], &[0]],
 );
 
-// A programme of three places that loses the three residents of its first offers to another. Where it hears of all three in
-// one visit, it then makes three more offers at once.
+// A programme of three places that loses its first three residents to another. If it hears of all three in one visit,
+// it then makes three offers at once.
 const THREE_LOST: Members = (
     &[(3, &[0, 1, 2, 3, 4, 5]), (3, &[0, 1, 2])],
     &[&[1, 0], &[1, 0], &[1, 0], &[0], &[0], &[0]],
@@ -52,7 +53,7 @@ fn is_among(held: &[Option<Desk>], desk: Option<Desk>) -> bool {
     false
 }
 
-// After these events some event that may follow and is of no desk that is held.
+// Some event that may follow these, of a desk that isn't held.
 fn left_undone(
     alloc: Global,
     inst: Instance,
@@ -81,8 +82,8 @@ fn left_undone(
     Ok(None)
 }
 
-// What a run whose workers but one are held after this pass, of one desk or of all, leaves undone that is in nobody's hands,
-// and whether any was held until the run was at rest.
+// What a run leaves undone that is in nobody's hands, while all workers but one are held after one pass. The pass is
+// that of one desk or of all. And whether any was held until the run was at rest.
 fn rests_in_pass<R: Threads + Wait + Sync + Send + Copy>(
     rt: R,
     alloc: Global,
@@ -118,8 +119,8 @@ fn last_desk(journal: &[Event], who: &[u8], worker: u8, own: u32) -> Option<Desk
     None
 }
 
-// What a run whose worker is held once it has entered the event of this number leaves undone that is in nobody's hands, and
-// whether it was held until the run was at rest.
+// What a run leaves undone that is in nobody's hands, while the worker that enters the event of this number is held.
+// And whether it was held until the run was at rest.
 fn rests_after_entry<R: Threads + Wait + Sync + Send + Copy>(
     rt: R,
     alloc: Global,

@@ -11,7 +11,7 @@ use std::thread::Threads;
 use test_support::events::{A, B, X};
 use test_support::gates::{Firm, Held, Loose, StopsAtOnce};
 
-// What is told of a run, its ends and agents aside.
+// What is told of a run, without its ends and agents.
 #[derive(Drop)]
 pub(super) struct Told {
     pub(super) ending: Ending,
@@ -72,9 +72,8 @@ fn ends_with<R: Threads + Wait + Sync + Send + Copy>(
     }
 }
 
-// Markets, and which programme each resident holds at the end: among them one with no place, one where nobody ranks
-// anybody, one in which a place and a resident are left, and three in which all rank all, whose placements a plain
-// deferred acceptance gave.
+// Markets, and each resident's programme at the end. One has no place, one nobody who ranks anybody, and one leaves a
+// place and a resident. In three of them all rank all, and plain deferred acceptance gave their placements.
 const MARKETS: [(Members, &[Option<u32>]); 8] = [
     (TWO_BY_TWO, &[Some(0), Some(1)]),
     (TWO_PLACES, &[Some(1), Some(0), Some(0)]),
@@ -182,8 +181,7 @@ fn refuses_a_bad_number_of_workers_or_capacity(rt: HostRuntime) {
     }
 }
 
-// Whether a run was held and is closed, each worker entered as many events as the gate saw, all together the journal's,
-// and two of them some.
+// Whether a run was held and is closed, and each worker entered as many events as the gate saw, two of them some.
 fn is_seen(told: &Told, held: &Held) -> bool {
     let mut busy = 0_usize;
     for (worker, entered) in told.entered.iter().enumerate() {

@@ -1,4 +1,4 @@
-//! Mailboxes one end of which does what its contract allows and a good mailbox never does.
+//! Mailboxes with an end that does what its contract allows and a good mailbox never does.
 ghost use Rattle.std.specs.Prelude.{◌≡◌, ◌≢◌, ◌≤◌, [], vec_capacity, IfOk, IfErr};
 
 use exchange_core::{AnswerNote, OfferNote};
@@ -118,7 +118,7 @@ impl<M: Copy, R: Wait + Copy> TakeEnd<M> for SlippingTake<M, R> {
 }
 
 impl<M: Copy, R: Wait + Copy> SlippingTake<M, R> {
-    // What a slip gives in place of a take: but for two kinds, once.
+    // What a slip gives in place of a take, once; two kinds last.
     fn slipped(&mut self, slip: TakeSlip<M>) -> TakeReply<M>
         ensures { self.new ≡ self.old }
     {

@@ -1,4 +1,4 @@
-//! Runs that are stopped at each pass: every desk's log and all that was put for it, beside the journal.
+//! Runs that are stopped at each pass: each desk's log, and all that was put for it, beside the journal.
 use crate::markets::made_chain;
 use exchange_core::{AnswerNote, Capacity, Event, OfferNote};
 use mailbox_rule::{TakeEnd, TakeReply};
@@ -64,7 +64,7 @@ fn answers_of(
     Ok(answers)
 }
 
-// Puts what still waits in a mailbox behind what was taken out of it; at most so many messages.
+// Appends what still waits in a mailbox to what was taken out of it, at most so many messages.
 fn take_the_rest<M: Copy, T: TakeEnd<M> + Drop>(
     messages: &mut Vec<M>,
     mut end: T,
@@ -105,7 +105,7 @@ fn is_programmes_own<T: TakeEnd<AnswerNote> + Drop>(
     Ok(is_log && messages == answers_of(alloc, journal, programme, false)?)
 }
 
-// Whether a replay of a run that ended so finds it closed, or else nothing at fault but that it isn't.
+// Whether a replay of a run finds it closed if it ended so, and otherwise no fault but that it isn't closed.
 fn is_found(
     alloc: Global,
     inst: &Instance,
@@ -152,7 +152,7 @@ fn are_programmes_own<T: TakeEnd<AnswerNote> + Drop>(
     Ok(true)
 }
 
-// Whether what a run gave is its journal at each desk, and is found as it ended.
+// Whether a run gave its journal at each desk, and a replay finds it as it ended.
 fn is_its_journal<M: Mailboxes>(
     alloc: Global,
     inst: &Instance,
@@ -180,7 +180,7 @@ fn is_its_journal<M: Mailboxes>(
     )
 }
 
-// The same of a run by two workers that is stopped from this pass on.
+// Whether a run by two workers that is stopped from this pass on does so.
 fn stops_well<R: Threads + Wait + Sync + Send + Copy>(
     rt: R,
     alloc: Global,

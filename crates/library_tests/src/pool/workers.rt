@@ -9,7 +9,7 @@ use std::test::Fail;
 use std::thread::Threads;
 use test_support::gates::{AllButOne, Order};
 
-// Whether each event of a run has a worker, and each worker as many as are told.
+// Whether each event of a run has a worker, and each worker as many events as are told.
 fn is_counted(told: &Told, workers: usize) -> bool {
     for (worker, entered) in told.entered.iter().enumerate() {
         let mut events = 0_u64;
@@ -85,7 +85,7 @@ const PAIRS: Members = (
     ],
 );
 
-// Whether all workers but one were held, in this order let go, and the run is closed after four events for each pair.
+// Whether all workers but one were held and let go in this order, and the run closed after four events for each pair.
 fn goes_on<R: Threads + Wait + Sync + Send + Copy>(
     rt: R,
     alloc: Global,

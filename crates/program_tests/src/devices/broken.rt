@@ -32,7 +32,7 @@ impl<'a> Read for CutReader<'a> {
     }
 }
 
-/// Gives its text byte by byte, and is interrupted once before each so many bytes.
+/// Gives its text byte by byte, and is interrupted once each time before so many bytes.
 #[derive(Drop)]
 pub(crate) struct InterruptedReader<'a> {
     text: &'a [u8],

@@ -77,7 +77,8 @@ fn one_docket_in_many_forms(rt: HostRuntime) {
     }
 }
 
-// A NUL, bytes above 127, a tab, quotes within fields, lines ended within quotes, an empty field, blank lines, and a byte order mark.
+// A NUL, bytes above 127, a tab, quotes within fields, line ends within quotes, an empty field, blank lines, and a byte
+// order mark.
 const FORMS: &str = "\
 Q,a\0,1 = record 1: bad name
 Q,a,1 R,\u{e9} = record 2: bad name
@@ -118,7 +119,7 @@ fn fields_that_are_no_names(rt: HostRuntime) -> Result<(), Fail> {
     Ok(())
 }
 
-// After how many bytes of `SMALL` a reader fails, and the record that these don't end.
+// The bytes of `SMALL` after which a reader fails, and the record that they don't end.
 const CUTS: [(usize, u32); 9] = [
     (0, 1),
     (5, 1),

@@ -46,7 +46,7 @@ fn most_programmes_and(alloc: Global, last: &str) -> Result<String, AllocError> 
 
 #[test]
 fn programmes(rt: HostRuntime) -> Result<(), Fail> {
-    // the quota is told of after the count of programmes, and a name declared twice before it
+    // the quota comes after the count of programmes, and a name declared twice before it
     for (last, wanted) in [
         ("", "read"),
         ("Q,q,10001\n", "record 2001: more than 2000 programmes"),

@@ -1,11 +1,11 @@
-//! Names that are alike in front, and a machine that has no randomness to hash names by.
+//! Names that begin alike, and a machine without randomness to hash names by.
 use super::{is_told, tells};
 use crate::texts::SMALL;
 use docket::read_docket;
 use std::test::Fail;
 use test_support::randomness::NoRandomness;
 
-// Each name has the one before in front, or differs from it in its last byte alone.
+// Each name begins with the one before, or differs from it in its last byte alone.
 const ALIKE: &str =
     "R,abcdefg\nR,abcdefgh\nR,abcdefgi\nR,abcdefghi\nR,abcdefghj\nR,abcdefghijklmnop\nR,abcdefghijklmnoq\nR,abcdefghijklmnopq\nR,abcdefghijklmnopqrstuvwxyz01234\nR,abcdefghijklmnopqrstuvwxyz012345\nR,abcdefghijklmnopqrstuvwxyz012346\n";
 

@@ -2,8 +2,8 @@
 use super::{first_wrong, first_wrong_of_version_2};
 use std::test::Fail;
 
-// Both in one record: the count of its fields before a name, that before a number or the kind of an answer, that before a
-// name declared twice, and that before a limit; a name that isn't declared before one listed twice or a second row.
+// Both faults in one record. Its count of fields comes first, then a name, then a number or the kind of an answer. A
+// name declared twice follows, then a limit. An undeclared name comes before one listed twice or a second row.
 const ONE_RECORD: &str = "\
 Q,/,1,1 = record 1: wrong number of fields
 Q,/,x = record 1: bad name
@@ -32,7 +32,7 @@ R,x U,x U,y U,x = record 3: unknown name
 Q,a,1 Q,b,1 F,b,1,1 F,a,1,1 = record 3: bad sheet
 C,full E,close E,offer,a,x E,take,x,a = record 3: unknown name";
 
-// In a later record, of an earlier pass: the first, the second, and then the third by each of its walks.
+// One fault in a later record, of an earlier pass: the first, the second, and the third by each of its walks.
 const EARLIER_PASS: &str = "\
 Q,a,1 P,b Z = record 3: unknown kind of row
 Q,a,1 P,b Q,c,10001 = record 3: quota over 10000
@@ -47,7 +47,8 @@ C,full E,take,y,a R,x U,x U,x R,z = record 5: bad sheet
 C,full E,take,y,a R,x R,z U,x = record 5: bad sheet
 C,full E,take,y,a Q,a,1 F,a,1,1 = record 4: bad sheet";
 
-// In the walks of a sheet: a row that is unknown or second, a member without a row, places that aren't right.
+// Both faults in the walks of a sheet: a row that is unknown or second, a member without a row, places that aren't
+// right.
 const WALKS: &str = "\
 R,x R,y U,x U,x C,full = record 4: bad sheet
 R,x R,y U,x U,z C,full = record 4: unknown name

@@ -1,4 +1,4 @@
-//! Dockets that are at fault or lack something: each command tells it, and writes nothing.
+//! Dockets that are at fault or lack something: each command tells so, and writes nothing.
 use crate::commands::{MATCH, serves, serves_both};
 use crate::texts::{CLOSE, FULL, SMALL, SMALL_SHEET, THREE, VERSION_2};
 use docket::DocketFault;

@@ -73,7 +73,7 @@ fn is_resident_gone(instance: &Instance, resident: ResidentNo, gone: bool) -> bo
     resident.0 < instance.residents() && instance.resident_withdrawn(resident) == gone
 }
 
-// Whether these of the small docket's members are withdrawn, where these rows stand at its end.
+// Whether these members of the small docket are withdrawn, with these rows at its end.
 fn withdraws(alloc: Global, rows: &str, gone: [bool; 4]) -> Result<bool, AllocError> {
     let text = joined(alloc, &[VERSION_2, SMALL, rows])?;
     let [a, b, x, y] = gone;

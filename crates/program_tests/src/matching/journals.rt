@@ -1,4 +1,4 @@
-//! What a match with its journal writes: appended to its docket it is stable, and replayed whole.
+//! What a match with its journal writes: appended to its docket it is stable, and its replay is good.
 use crate::commands::{NARROW_WITH_JOURNAL, WITH_JOURNAL, serve};
 use crate::markets::hundreds;
 use crate::texts::{
@@ -39,7 +39,7 @@ fn tells<H: Threads + Wait + RandomSource + Sync + Send + Copy>(
     status == Ok(wanted) && output.as_slice() == text.as_bytes()
 }
 
-/// Whether a sheet and a journal that were written, appended to these members, are stable and replayed whole.
+/// Whether a sheet and a journal that were written, appended to these members, are stable and give a good replay.
 pub(super) fn is_good<H: Threads + Wait + RandomSource + Sync + Send + Copy>(
     rt: H,
     alloc: Global,

@@ -30,7 +30,7 @@ fn matched_through<H: Threads + Wait + RandomSource + Sync + Send + Copy>(
     )
 }
 
-// How many events both workers have entered, where the gate held its pass and each has entered some.
+// How many events both workers entered, if the gate held its pass and each entered some.
 fn seen(held: &Held) -> Option<u64> {
     let (first, second) = (held.count(0), held.count(1));
     if held.has_held() && first > 0 && second > 0 {

@@ -17,7 +17,7 @@ pub struct Held {
 }
 
 impl Held {
-    /// Nothing is seen yet. The pass at this place is held, counted from 0.
+    /// A gate that has seen nothing. It holds the pass at this place, counted from 0.
     pub fn new(place: u64) -> Held {
         Held {
             place,
@@ -27,7 +27,7 @@ impl Held {
         }
     }
 
-    /// Whether the pass was held, and the gate didn't give up.
+    /// Whether the gate held the pass and didn't give up.
     pub fn has_held(&self) -> bool {
         self.held.load(Ordering::SeqCst)
     }
@@ -105,7 +105,7 @@ impl Gate for Loose {
     }
 }
 
-/// In which order a gate lets go the workers that it holds.
+/// The order in which a gate lets the workers go that it holds.
 #[derive(Clone, Copy, Debug, PartialEq, Eq)]
 pub enum Order {
     /// As they came.
@@ -116,9 +116,11 @@ pub enum Order {
     EveryOther,
 }
 
-/// A gate for a market of pairs, each of a programme with one place and of a resident, who rank one another alone. It
-/// holds all workers but the last that comes, each in a pass of its own, until all is entered that doesn't need the
-/// held; and then lets one after another go, each once all is entered again that doesn't need those it still holds.
+/// A gate for a market of pairs: a programme with one place and a resident, who rank one another alone.
+///
+/// It holds all workers but the last that comes, each in a pass of its own. Once all is entered that doesn't need a
+/// held worker, it lets the first go. Each later one follows when again all is entered that doesn't need those still
+/// held.
 #[derive(Drop)]
 pub struct AllButOne {
     pairs: u64,
@@ -133,7 +135,7 @@ pub struct AllButOne {
 }
 
 impl AllButOne {
-    /// Nothing is seen yet of a run of so many pairs, of which so many workers are to be held.
+    /// A gate that has seen nothing of a run of so many pairs. It holds this many workers.
     pub fn new(pairs: u64, held: u64, order: Order) -> AllButOne {
         AllButOne {
             pairs,
@@ -148,12 +150,12 @@ impl AllButOne {
         }
     }
 
-    /// Whether each of these workers was held and let go, and the gate gave none of them up.
+    /// Whether the gate held each of these workers and let it go, and gave none up.
     pub fn has_held_all(&self) -> bool {
         self.gone.load(Ordering::SeqCst) == self.held && !self.gave_up.load(Ordering::SeqCst)
     }
 
-    // The place in the order of letting go of the worker that came at this one.
+    // When the worker that came at this place is let go, as a place in the order.
     fn place_of(&self, came: u64) -> u64 {
         match self.order {
             Order::FirstFirst => came,
@@ -163,7 +165,8 @@ impl AllButOne {
         }
     }
 
-    // Whether all workers are held that are to be, so many of them were let go, and all is entered that can be.
+    // Whether it is the turn of this place. All workers to hold came, those before it were let go, and all is entered
+    // that can be.
     fn is_turn_of(&self, place: u64) -> bool {
         let entered = self.counts.of_all();
         let blocked = self.blocked.load(Ordering::SeqCst);
@@ -172,7 +175,7 @@ impl AllButOne {
             && entered.saturating_add(blocked) >= self.pairs.saturating_mul(4)
     }
 
-    // Holds a worker before so many events that need it.
+    // Holds a worker that this many events need.
     fn hold(&self, came: u64, events: u64) {
         self.blocked.fetch_add(events, Ordering::SeqCst);
         self.is_held.fetch_add(1, Ordering::SeqCst);

@@ -8,7 +8,7 @@ use match_pool::{Gate, Go};
 use std::sync::atomic::{AtomicBool, AtomicU32, AtomicU64, Ordering};
 use std::thread;
 
-/// Who was held in a pass, and what was entered when it began and when it ended.
+/// Which worker a pass held, and how many events were entered when the hold began and ended.
 #[derive(Clone, Copy, Debug, PartialEq, Eq)]
 pub struct Hold {
     /// The worker that was held.
@@ -23,7 +23,7 @@ pub struct Hold {
     pub to: u64,
 }
 
-/// A gate that holds the pass at one place until for long nobody has entered anything more, and tells of it.
+/// A gate that holds the pass at one place until nobody has entered anything for long, and tells of it.
 #[derive(Drop)]
 pub struct Stalls {
     place: u64,
@@ -39,7 +39,7 @@ pub struct Stalls {
 }
 
 impl Stalls {
-    /// Nothing is seen yet. The pass at this place is held, counted from 0.
+    /// A gate that has seen nothing. It holds the pass at this place, counted from 0.
     pub fn new(place: u64) -> Stalls {
         Stalls {
             place,
@@ -60,7 +60,7 @@ impl Stalls {
         self.counts.of(worker)
     }
 
-    /// The pass that was held, if there were so many.
+    /// The hold, if the run had so many passes.
     pub fn hold(&self) -> Option<Hold> {
         if !self.held.load(Ordering::SeqCst) {
             return None;
@@ -115,7 +115,7 @@ impl Gate for Stalls {
     }
 }
 
-/// A gate that holds the worker that has entered the event of this number, counted from 1, until another has entered one.
+/// A gate that holds the worker that entered the event of one number, counted from 1, until another has entered one.
 #[derive(Drop)]
 pub struct HoldsEntered {
     number: u64,
@@ -140,7 +140,7 @@ impl HoldsEntered {
         self.counts.of(worker)
     }
 
-    /// Whether a worker was held, and another has entered an event meanwhile.
+    /// Whether a worker was held, and another entered an event meanwhile.
     pub fn has_held(&self) -> bool {
         self.held.load(Ordering::SeqCst)
     }
@@ -174,8 +174,8 @@ impl Gate for HoldsEntered {
     }
 }
 
-/// A gate that holds the worker that has entered the first event until others have entered two, or for long don't, and a
-/// while longer; and again once it has entered its next one, until another has entered one more.
+/// A gate that holds the worker that entered the first event until others have entered two, or for long don't, and a
+/// while longer. It holds it again at its next event, until another has entered one more.
 #[derive(Drop)]
 pub struct HoldsVisit {
     has_begun: AtomicBool,
@@ -195,12 +195,12 @@ impl HoldsVisit {
         }
     }
 
-    /// Whether the worker was held at its second event, and another has entered one meanwhile.
+    /// Whether the worker was held at its second event, and another entered one meanwhile.
     pub fn has_held(&self) -> bool {
         self.held.load(Ordering::SeqCst)
     }
 
-    // Waits until others than this worker have entered so many events. Whether they have.
+    // Waits until other workers have entered so many events. Whether they have.
     fn wait_for_others(&self, worker: usize, count: u64) -> bool {
         for _ in 0..TURNS {
             if self.counts.of_all().saturating_sub(self.counts.of(worker)) >= count {
@@ -238,7 +238,7 @@ impl Gate for HoldsVisit {
     }
 }
 
-/// A gate that holds the first pass until for long nobody has entered anything more, and the second until another worker has
+/// A gate that holds the first pass until nobody has entered anything for long, and the second until another worker has
 /// entered an event.
 #[derive(Drop)]
 pub struct Rested {
@@ -257,7 +257,7 @@ impl Rested {
         }
     }
 
-    /// Whether the second pass was held, and another worker has entered an event meanwhile.
+    /// Whether the second pass was held, and another worker entered an event meanwhile.
     pub fn has_held(&self) -> bool {
         self.held.load(Ordering::SeqCst)
     }
@@ -296,8 +296,8 @@ impl Gate for Rested {
     }
 }
 
-/// A gate that holds the first pass of another desk than this one until this desk has passed, and for long after it; and
-/// this desk's until another is held.
+/// A gate that holds the first pass of another desk until this desk has passed, and for long after it. It holds this
+/// desk's pass until another is held.
 #[derive(Drop)]
 pub struct AfterAnother {
     desk: Desk,
