@@ -41,16 +41,8 @@ pending_name d (Wish p) = programme_name d p
 
 -- what follows the word of a refusal: what is pending, where it refuses a close
 abbrev pub refusal_fields : Contents → Refused → List (List ℕ)
-refusal_fields d Closed = []
-refusal_fields d NoSuchDesk = []
-refusal_fields d NoPlace = []
-refusal_fields d NotNext = []
-refusal_fields d AnswerDue = []
-refusal_fields d NothingWaiting = []
-refusal_fields d WrongFront = []
-refusal_fields d NotDue = []
-refusal_fields d MailboxFull = []
 refusal_fields d (StillPending what) = pending_word what ∷ pending_name d what ∷ []
+refusal_fields d refused = []
 
 -- the fields of the row of a close that was refused, since something of this kind is pending at the desk of this name
 abbrev pub pending_fields : List ℕ → List ℕ → List ℕ → List (List ℕ)
@@ -89,9 +81,8 @@ worker_rows first (events ∷ counts) = worker_row first events ++ worker_rows (
 
 -- what follows the row of an answer: after a good one each worker's row, where there are counts
 unfoldable pub count_rows : Result Replayed ReplayFault → Option (List ℕ) → List ℕ
-count_rows (Ok replayed) None = []
 count_rows (Ok replayed) (Some counts) = worker_rows 0 counts
-count_rows (Err fault) counts = []
+count_rows answer counts = []
 
 -- the rows of an answer
 unfoldable pub replay_text : Contents → Result Replayed ReplayFault → Option (List ℕ) → List ℕ

@@ -123,28 +123,24 @@ IsWriteFault fault = (fault ≡ docket.Memory) ⊎ (fault ≡ docket.Write)
 -- why a match wrote no whole sheet: memory or the writer failed after a closed run, or the run gave none
 abbrev pub IsMatchFault : MatchOptions → Contents → ServeFault → Type 0
 IsMatchFault o d (Docket fault) = ClosedRun d o × IsWriteFault fault
-IsMatchFault o d NoSheet = ⊥
-IsMatchFault o d NoJournal = ⊥
 IsMatchFault o d (Run fault) = IsRunFault d.instance o.capacity o.workers fault
-IsMatchFault o d Memory = ⊥
+IsMatchFault o d fault = ⊥
 
 -- why an audit wrote no whole report: memory or the writer failed after it was made, there is no sheet, or memory
 -- failed before
 abbrev pub IsAuditFault : Contents → ServeFault → Type 0
 IsAuditFault d (Docket fault) = SheetReport d × IsWriteFault fault
 IsAuditFault d NoSheet = d.sheet ≡ None
-IsAuditFault d NoJournal = ⊥
-IsAuditFault d (Run fault) = ⊥
 IsAuditFault d Memory = IsSome d.sheet
+IsAuditFault d fault = ⊥
 
 -- why a replay wrote no whole answer: memory or the writer failed after it was found, there is no journal, or memory
 -- failed before
 abbrev pub IsReplayFault : Contents → ServeFault → Type 0
 IsReplayFault d (Docket fault) = JournalAnswer d × IsWriteFault fault
-IsReplayFault d NoSheet = ⊥
 IsReplayFault d NoJournal = d.journal ≡ None
-IsReplayFault d (Run fault) = ⊥
 IsReplayFault d Memory = IsSome d.journal
+IsReplayFault d fault = ⊥
 
 -- the bytes are a docket of which P holds
 abbrev pub AreDocket : (Contents → Type 0) → List ℕ → Type 0
@@ -153,10 +149,7 @@ AreDocket P bytes = (first_fault bytes ≡ None) × P (docket_of bytes)
 -- the fault is want of memory, the reader's, or the first fault of the bytes
 abbrev pub IsReadFault : List ℕ → ServeFault → Type 0
 IsReadFault bytes (Docket fault) = (fault ≡ docket.Memory) ⊎ (((place : ℕ) × (fault ≡ docket.Read place)) ⊎ (first_fault bytes ≡ Some fault))
-IsReadFault bytes NoSheet = ⊥
-IsReadFault bytes NoJournal = ⊥
-IsReadFault bytes (Run fault) = ⊥
-IsReadFault bytes Memory = ⊥
+IsReadFault bytes fault = ⊥
 
 -- the fault came in reading the bytes, or they are a docket with this fault
 abbrev pub IsFaultOf : (Contents → ServeFault → Type 0) → List ℕ → ServeFault → Type 0
@@ -165,10 +158,7 @@ IsFaultOf IsFault bytes fault = IsReadFault bytes fault ⊎ AreDocket (λ d. IsF
 -- a fault before which nothing was written: any but the writer's
 abbrev pub IsBeforeWriting : ServeFault → Type 0
 IsBeforeWriting (Docket fault) = fault ≢ docket.Write
-IsBeforeWriting NoSheet = Unit {0}
-IsBeforeWriting NoJournal = Unit {0}
-IsBeforeWriting (Run fault) = Unit {0}
-IsBeforeWriting Memory = Unit {0}
+IsBeforeWriting fault = Unit {0}
 
 -- an order was served over a docket, with this status, and this was appended
 abbrev pub Serves : Order → Contents → Status → Option (List ℕ) → Option (List ℕ) → Type 0
