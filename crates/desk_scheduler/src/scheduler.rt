@@ -23,8 +23,8 @@ pub enum Next {
 }
 
 /// The desks in hands and those that may have work, each listed at most once, by number: residents' desks before
-/// programmes'. Residents' are taken first, so that a programme hears many answers in a visit; and of each side the one
-/// listed last, of which most is still near.
+/// programmes'. Residents' are taken first, so that a programme hears many answers in a visit; of each side those that may
+/// have more to do than to hear a hold; and of these the one listed last, of which most is still near.
 #[derive(Debug, Drop)]
 pub struct Scheduler {
     residents: Side,
@@ -64,7 +64,7 @@ impl Scheduler {
         })
     }
 
-    /// A desk may have work: one with nobody is listed, one in a hand is marked.
+    /// A desk is woken: one with nobody is listed in the tier of what it is woken for, one in a hand is marked.
     #[inline(always)]
     pub fn list(&mut self, desk: u32, wake: Wake)
         ensures { self.new ≡ woken_by self.old (desk, wake) }
