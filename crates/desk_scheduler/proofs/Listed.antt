@@ -15,10 +15,19 @@ times_le Listed = omega arith
 times_le InHand = omega arith
 times_le InHandAgain = omega arith
 
+-- what is said of one tier is so of the other
+pub swapped : (places : List Place) (listed behind : List ℕ) (r s : ℕ) → AreListed places listed behind r s → AreListed places behind listed s r
+swapped places listed behind r s are = record {
+  once = λ d. omega (arith, are.once d);
+  as_many = omega (arith, are.as_many);
+  room = are.room_behind;
+  room_behind = are.room;
+}
+
 -- a desk that isn't listed finds room
-pub has_room : (places : List Place) (listed : List ℕ) (reserved d : ℕ) → AreListed places listed reserved → d < length places
-    → times (get_or places d Idle) ≡ 0 → length listed < reserved
-has_room places listed reserved d are within none =
+pub has_room : (places : List Place) (listed behind : List ℕ) (r s d : ℕ) → AreListed places listed behind r s → d < length places
+    → times (get_or places d Idle) ≡ 0 → length listed < r
+has_room places listed behind r s d are within none =
     let more = sum_by-set times places d Listed Idle within in
     let most = sum_by-le times 1 (set places d Listed) (λ k e l. times_le (get_or (set places d Listed) k e)) in
     omega (arith, more, most, length-set places d Listed, are.as_many, are.room, none)
@@ -33,15 +42,16 @@ moved_once places d place k within = by (d == k) refl
     by false e = ap times (get_or-set_other places d k place Idle (λ f. eqb-false d k e (sym f)))
 
 -- a desk that isn't listed is listed on top
-pub listed_more : (places : List Place) (listed : List ℕ) (reserved d : ℕ) → AreListed places listed reserved → d < length places
-    → times (get_or places d Idle) ≡ 0 → AreListed (set places d Listed) (listed ++ d ∷ []) reserved
-listed_more places listed reserved d are within none = record {
-  once = λ k. sum_by_push (one_for k) listed d ∙ once k (d == k) refl;
+pub listed_more : (places : List Place) (listed behind : List ℕ) (r s d : ℕ) → AreListed places listed behind r s → d < length places
+    → times (get_or places d Idle) ≡ 0 → AreListed (set places d Listed) (listed ++ d ∷ []) behind r s
+listed_more places listed behind r s d are within none = record {
+  once = λ k. omega (arith, sum_by_push (one_for k) listed d, once k (d == k) refl);
   as_many = omega (arith, length-append listed (d ∷ []), sum_by-set times places d Listed Idle within, are.as_many, none);
   room = omega (arith, length-set places d Listed, are.room);
+  room_behind = omega (arith, length-set places d Listed, are.room_behind);
 }
   where
-    once : (k : ℕ) (b : Bool) → (d == k) ≡ b → sum_by (one_for k) listed + one_for k d ≡ times (get_or (set places d Listed) k Idle)
+    once : (k : ℕ) (b : Bool) → (d == k) ≡ b → sum_by (one_for k) listed + one_for k d + sum_by (one_for k) behind ≡ times (get_or (set places d Listed) k Idle)
     once k true e =
         let same = eqb-true d k e in
         let here : times (get_or places k Idle) ≡ 0 = subst (λ (n : ℕ). times (get_or places n Idle) ≡ 0) same none in
@@ -53,13 +63,20 @@ listed_more places listed reserved d are within none = record {
         let new : times (get_or (set places d Listed) k Idle) ≡ times (get_or places k Idle) = moved_once places d Listed k within ∙ ap (λ (b : Bool). cond b 1 (times (get_or places k Idle))) e in
         omega (arith, are.once k, one, new)
 
+-- or behind
+pub listed_behind : (places : List Place) (listed behind : List ℕ) (r s d : ℕ) → AreListed places listed behind r s → d < length places
+    → times (get_or places d Idle) ≡ 0 → AreListed (set places d Listed) listed (behind ++ d ∷ []) r s
+listed_behind places listed behind r s d are within none =
+    swapped _ _ _ _ _ (listed_more places behind listed s r d (swapped _ _ _ _ _ are) within none)
+
 -- a desk that isn't listed goes elsewhere, but onto the list
-pub moved_quietly : (places : List Place) (listed : List ℕ) (reserved d : ℕ) (place : Place) → AreListed places listed reserved → d < length places
-    → times (get_or places d Idle) ≡ 0 → times place ≡ 0 → AreListed (set places d place) listed reserved
-moved_quietly places listed reserved d place are within none still = record {
+pub moved_quietly : (places : List Place) (listed behind : List ℕ) (r s d : ℕ) (place : Place) → AreListed places listed behind r s → d < length places
+    → times (get_or places d Idle) ≡ 0 → times place ≡ 0 → AreListed (set places d place) listed behind r s
+moved_quietly places listed behind r s d place are within none still = record {
   once = λ k. are.once k ∙ sym (once k (d == k) refl);
   as_many = omega (arith, sum_by-set times places d place Idle within, are.as_many, none, still);
   room = omega (arith, length-set places d place, are.room);
+  room_behind = omega (arith, length-set places d place, are.room_behind);
 }
   where
     once : (k : ℕ) (b : Bool) → (d == k) ≡ b → times (get_or (set places d place) k Idle) ≡ times (get_or places k Idle)
@@ -70,8 +87,8 @@ moved_quietly places listed reserved d place are within none still = record {
     once k false e = moved_once places d place k within ∙ ap (λ (b : Bool). cond b (times place) (times (get_or places k Idle))) e
 
 -- the desk on top is listed, and only there
-pub top_is_listed : (places : List Place) (rest : List ℕ) (reserved d : ℕ) → AreListed places (rest ++ d ∷ []) reserved → times (get_or places d Idle) ≡ 1
-top_is_listed places rest reserved d are =
+pub top_is_listed : (places : List Place) (rest behind : List ℕ) (r s d : ℕ) → AreListed places (rest ++ d ∷ []) behind r s → times (get_or places d Idle) ≡ 1
+top_is_listed places rest behind r s d are =
     let pushed = sum_by_push (one_for d) rest d in
     let one : one_for d d ≡ 1 = ap (λ (b : Bool). cond b 1 0) (eqb_same d) in
     omega (arith, pushed, one, are.once d, times_le (get_or places d Idle))
@@ -84,26 +101,27 @@ top_is_listed places rest reserved d are =
         by false e = absurd (eqb-false n n e refl)
 
 -- so it is one of the desks
-pub top_within : (places : List Place) (rest : List ℕ) (reserved d : ℕ) → AreListed places (rest ++ d ∷ []) reserved → d < length places
-top_within places rest reserved d are = elim (cases_lt d (length places)) [
+pub top_within : (places : List Place) (rest behind : List ℕ) (r s d : ℕ) → AreListed places (rest ++ d ∷ []) behind r s → d < length places
+top_within places rest behind r s d are = elim (cases_lt d (length places)) [
   | inl l ↦ l
-  | inr m ↦ absurd (omega (arith, top_is_listed places rest reserved d are, ap times (get_or_past places d Idle m)))
+  | inr m ↦ absurd (omega (arith, top_is_listed places rest behind r s d are, ap times (get_or_past places d Idle m)))
 ]
 
 -- and is taken off it
-pub top_taken : (places : List Place) (rest : List ℕ) (reserved d : ℕ) → AreListed places (rest ++ d ∷ []) reserved → AreListed (set places d InHand) rest reserved
-top_taken places rest reserved d are = record {
+pub top_taken : (places : List Place) (rest behind : List ℕ) (r s d : ℕ) → AreListed places (rest ++ d ∷ []) behind r s → AreListed (set places d InHand) rest behind r s
+top_taken places rest behind r s d are = record {
   once = λ k. once k (d == k) refl;
-  as_many = omega (arith, length-append rest (d ∷ []), sum_by-set times places d InHand Idle within, are.as_many, top_is_listed places rest reserved d are);
+  as_many = omega (arith, length-append rest (d ∷ []), sum_by-set times places d InHand Idle within, are.as_many, top_is_listed places rest behind r s d are);
   room = omega (arith, length-set places d InHand, are.room);
+  room_behind = omega (arith, length-set places d InHand, are.room_behind);
 }
   where
     within : d < length places
-    within = top_within places rest reserved d are
+    within = top_within places rest behind r s d are
 
-    once : (k : ℕ) (b : Bool) → (d == k) ≡ b → sum_by (one_for k) rest ≡ times (get_or (set places d InHand) k Idle)
+    once : (k : ℕ) (b : Bool) → (d == k) ≡ b → sum_by (one_for k) rest + sum_by (one_for k) behind ≡ times (get_or (set places d InHand) k Idle)
     once k true e =
-        let here : times (get_or places k Idle) ≡ 1 = subst (λ (n : ℕ). times (get_or places n Idle) ≡ 1) (eqb-true d k e) (top_is_listed places rest reserved d are) in
+        let here : times (get_or places k Idle) ≡ 1 = subst (λ (n : ℕ). times (get_or places n Idle) ≡ 1) (eqb-true d k e) (top_is_listed places rest behind r s d are) in
         let one : one_for k d ≡ 1 = ap (λ (b : Bool). cond b 1 0) e in
         let new : times (get_or (set places d InHand) k Idle) ≡ 0 = moved_once places d InHand k within ∙ ap (λ (b : Bool). cond b 0 (times (get_or places k Idle))) e in
         omega (arith, sum_by_push (one_for k) rest d, are.once k, here, one, new)

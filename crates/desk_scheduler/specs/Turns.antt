@@ -1,10 +1,11 @@
 -- What a scheduler's calls do.
-use Rattle.std.specs.Prelude.{ℕ, ◌+◌, ◌-◌, Bool, true, false, List, [], ◌∷◌, length, slice_set, nat_lt, ◌||◌}
+use Rattle.std.specs.Prelude.{ℕ, ◌+◌, ◌-◌, Bool, true, false, Option, Some, None, length, nat_lt, ◌||◌}
 use Rattle.desk_scheduler.specs.declared.scheduler.Next.{Next}
+use Rattle.desk_scheduler.specs.declared.wake.Wake.{Wake}
 use Rattle.desk_scheduler.specs.declared.scheduler.Next.TheVariants.{Desk, Nothing, Ended}
 use Rattle.desk_scheduler.specs.declared.side.Place.{Place}
 use Rattle.desk_scheduler.specs.declared.side.Place.TheVariants.{Idle, Listed, InHand, InHandAgain}
-use Rattle.desk_scheduler.specs.Desks.{Desks, place_of, moved}
+use Rattle.desk_scheduler.specs.Desks.{Desks, place_of, moved, listing, is_listed, taken}
 use Rattle.desk_scheduler.specs.Schedule.{Schedule}
 
 -- desks of one side change so
@@ -17,19 +18,19 @@ at_side change s d false false = s
 abbrev pub at_desk : (Desks → ℕ → Desks) → Schedule → ℕ → Schedule
 at_desk change s d = at_side change s d (nat_lt d (length s.residents.places)) (nat_lt (d - length s.residents.places) (length s.programmes.places))
 
--- the desk on top of a side, and the rest, comes into a hand
-abbrev pub taken : Desks → ℕ → List ℕ → Desks
-taken desks d rest = record { places = slice_set desks.places d InHand; ready = rest }
+-- a desk is woken, by its number
+abbrev pub woken_by : Schedule → ℕ × Wake → Schedule
+woken_by s (d, wake) = at_desk (λ desks n. listing desks n wake) s d
 
 -- the next desk comes into a hand: a resident's where one is listed, and none once the run ends
-abbrev pub next_from : Schedule → Bool → List ℕ → List ℕ → Next × Schedule
+abbrev pub next_from : Schedule → Bool → Option (ℕ × Desks) → Option (ℕ × Desks) → Next × Schedule
 next_from s true rs ps = (Ended, s)
-next_from s false (r ∷ rs) ps = (Desk r, record { residents = taken s.residents r rs; programmes = s.programmes; waiting = s.waiting; ended = s.ended })
-next_from s false [] (p ∷ ps) = (Desk (length s.residents.places + p), record { residents = s.residents; programmes = taken s.programmes p ps; waiting = s.waiting; ended = s.ended })
-next_from s false [] [] = (Nothing, s)
+next_from s false (Some (r, rs)) ps = (Desk r, record { residents = rs; programmes = s.programmes; waiting = s.waiting; ended = s.ended })
+next_from s false None (Some (p, ps)) = (Desk (length s.residents.places + p), record { residents = s.residents; programmes = ps; waiting = s.waiting; ended = s.ended })
+next_from s false None None = (Nothing, s)
 
 abbrev pub next_of : Schedule → Next × Schedule
-next_of s = next_from s s.ended s.residents.ready s.programmes.ready
+next_of s = next_from s s.ended (taken s.residents) (taken s.programmes)
 
 -- where the desk of this number is; past the programmes' there is none, so that nobody finds it idle
 abbrev pub place_of_side : Schedule → ℕ → Bool → Bool → Place
@@ -46,7 +47,7 @@ in_hand desks d = moved desks d InHand
 
 -- whether some desk is listed
 abbrev pub any_ready : Schedule → Bool
-any_ready s = nat_lt 0 (length s.residents.ready) || nat_lt 0 (length s.programmes.ready)
+any_ready s = is_listed s.residents || is_listed s.programmes
 
 -- a desk at this place is claimed, if it is idle; else the one on top comes
 abbrev pub claimed_from : Schedule → ℕ → Bool → Place → Next × Schedule

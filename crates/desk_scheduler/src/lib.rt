@@ -4,8 +4,10 @@
 mod scheduler;
 mod side;
 mod wait_queues;
+mod wake;
 mod woken;
 
 pub use scheduler::{Next, Scheduler};
 pub use wait_queues::WaitQueues;
+pub use wake::Wake;
 pub use woken::Woken;

@@ -1,11 +1,12 @@
 //! Which desks are in a worker's hands, and which may have work.
 ghost use Rattle.std.specs.Prelude.{◌≡◌, ◌≢◌, ◌+◌, ◌-◌, ◌<◌, ◌^◌, ◌||◌, ◌&&◌, [], true, false, length, fold, nat_lt, replicate, cond, IfOk};
 ghost use Rattle.std.specs.List.{range_with_len};
-ghost use Rattle.desk_scheduler.specs.Desks.{listing, letting_go};
-ghost use Rattle.desk_scheduler.specs.Turns.{at_desk, in_hand, place_at, next_of, claim_or_next_of, waiting_now, ended_now, any_ready};
+ghost use Rattle.desk_scheduler.specs.Desks.{letting_go};
+ghost use Rattle.desk_scheduler.specs.Turns.{at_desk, in_hand, place_at, next_of, claim_or_next_of, waiting_now, ended_now, any_ready, woken_by};
 ghost use Rattle.desk_scheduler.specs.declared.side.Place.TheVariants.{Idle};
 
 use crate::side::Side;
+use crate::wake::Wake;
 use crate::woken::Woken;
 use std::alloc::{AllocError, Global};
 use std::marker::Model;
@@ -22,8 +23,8 @@ pub enum Next {
 }
 
 /// The desks in hands and those that may have work, each listed at most once, by number: residents' desks before
-/// programmes'. Residents' are taken first, so that a programme hears many answers in a visit; and of each side the one
-/// listed last, of which most is still near.
+/// programmes'. Residents' are taken first, so that a programme hears many answers in a visit; of each side those that may
+/// have more to do than to hear a hold; and of these the one listed last, of which most is still near.
 #[derive(Debug, Drop)]
 pub struct Scheduler {
     residents: Side,
@@ -51,6 +52,7 @@ impl Scheduler {
             × (s.residents.ready ≡ [])) }
         ensures programmes { IfOk result (λ s. (length s.programmes.places ≡ programmes)
             × (s.programmes.ready ≡ range_with_len 0 programmes)) }
+        ensures behind { IfOk result (λ s. (s.residents.behind ≡ []) × (s.programmes.behind ≡ [])) }
         ensures nobody { IfOk result (λ s. (s.waiting ≡ 0) × (s.ended ≡ false)) }
     {
         Ok(Scheduler {
@@ -62,26 +64,27 @@ impl Scheduler {
         })
     }
 
-    /// A desk may have work: one with nobody is listed, one in a hand is marked.
+    /// A desk is woken: one with nobody is listed in the tier of what it is woken for, one in a hand is marked.
     #[inline(always)]
-    pub fn list(&mut self, desk: u32)
-        ensures { self.new ≡ at_desk listing self.old desk }
+    pub fn list(&mut self, desk: u32, wake: Wake)
+        ensures { self.new ≡ woken_by self.old (desk, wake) }
     {
         if desk < self.first_programme {
-            self.residents.list(desk);
+            self.residents.list(desk, wake);
         } else if self.programmes.has(desk - self.first_programme) {
-            self.programmes.list(desk - self.first_programme);
+            self.programmes.list(desk - self.first_programme, wake);
         }
     }
 
     /// All these desks may have work. They are noted no more.
     #[inline(always)]
     pub fn list_all(&mut self, woken: &mut Woken)
-        ensures listed { self.new ≡ fold (at_desk listing) self.old woken.old }
+        ensures listed { self.new ≡ fold woken_by self.old woken.old }
         ensures none_left { woken.new ≡ [] }
     {
-        for desk in woken.desks() {
-            self.list(*desk);
+        for note in woken.desks() {
+            let (desk, wake) = *note;
+            self.list(desk, wake);
         }
         woken.clear();
     }

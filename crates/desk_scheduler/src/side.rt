@@ -1,9 +1,10 @@
 //! The desks of one kind: where each is, and which may have work.
-ghost use Rattle.std.specs.Prelude.{◌≡◌, ◌≢◌, ◌<◌, ◌∷◌, [], true, false, length, replicate, slice_set, nat_lt, MatchOption, IfOk};
+ghost use Rattle.std.specs.Prelude.{◌≡◌, ◌≢◌, ◌<◌, [], None, Some, true, false, length, replicate, nat_lt, MatchOption, IfOk};
 ghost use Rattle.std.specs.List.{range_with_len};
-ghost use Rattle.desk_scheduler.specs.Desks.{listing, letting_go, moved, on_top, place_of, times};
+ghost use Rattle.desk_scheduler.specs.Desks.{listing, letting_go, is_listed, moved, on_top, on_top_behind, place_of, taken, times};
 ghost use Rattle.desk_scheduler.specs.declared.side.Place.TheVariants.{Idle, InHand};
 
+use crate::wake::Wake;
 use std::alloc::{AllocError, Global};
 use std::marker::Model;
 
@@ -20,11 +21,13 @@ pub(crate) enum Place {
     InHandAgain,
 }
 
-/// The desks of one kind, by number: where each is, and those that are listed, the one listed last on top.
+/// The desks of one kind, by number: where each is, and those that are listed, in two tiers. Behind are those that were
+/// woken for a hold alone, and they come when no other is listed. In each tier the one listed last is on top.
 #[derive(Debug, Drop)]
 pub(crate) struct Side {
     places: Vec<Place>,
     listed: Vec<u32>,
+    behind: Vec<u32>,
 }
 
 impl Model for Side {
@@ -33,19 +36,22 @@ impl Model for Side {
 
     ghost Value = { Desks };
 
-    ghost view = { λ s. record { places = s.places.items; ready = reverse s.listed.items } };
+    ghost view = { λ s. record { places = s.places.items; ready = reverse s.listed.items; behind = reverse s.behind.items } };
 
-    ghost invariant = { λ s. AreListed s.places.items s.listed.items (vec_capacity s.listed) };
+    ghost invariant = { λ s. AreListed s.places.items s.listed.items s.behind.items
+        (vec_capacity s.listed) (vec_capacity s.behind) };
 }
 
 impl Side {
     /// Desks with nobody and with no work.
     pub(crate) fn idle(alloc: Global, desks: u32) -> Result<Side, AllocError>
-        ensures { IfOk result (λ side. (side.places ≡ replicate desks Idle) × (side.ready ≡ [])) }
+        ensures { IfOk result (λ side. (side.places ≡ replicate desks Idle)
+            × (side.ready ≡ []) × (side.behind ≡ [])) }
     {
         Ok(Side {
             places: vec![in alloc; Place::Idle; desks as usize]?,
             listed: Vec::with_capacity(alloc, desks as usize)?,
+            behind: Vec::with_capacity(alloc, desks as usize)?,
         })
     }
 
@@ -53,10 +59,11 @@ impl Side {
     pub(crate) fn ready(alloc: Global, desks: u32) -> Result<Side, AllocError>
         ensures desks { IfOk result (λ side. length side.places ≡ desks) }
         ensures all { IfOk result (λ side. side.ready ≡ range_with_len 0 desks) }
+        ensures behind { IfOk result (λ side. side.behind ≡ []) }
     {
         let mut side = Side::idle(alloc, desks)?;
         for after in 0..desks {
-            side.list(desks - 1 - after);
+            side.list(desks - 1 - after, Wake::Work);
         }
         Ok(side)
     }
@@ -72,19 +79,22 @@ impl Side {
     /// Whether a desk is listed.
     #[inline(always)]
     pub(crate) fn is_ready(&self) -> bool
-        ensures { result ≡ nat_lt 0 (length self.now.ready) }
+        ensures { result ≡ is_listed self.now }
     {
-        !self.listed.is_empty()
+        !self.listed.is_empty() || !self.behind.is_empty()
     }
 
-    /// A desk may have work.
+    /// A desk is woken.
     #[inline(always)]
-    pub(crate) fn list(&mut self, desk: u32)
+    pub(crate) fn list(&mut self, desk: u32, wake: Wake)
         requires { desk < length self.old.places }
-        ensures { self.new ≡ listing self.old desk }
+        ensures { self.new ≡ listing self.old desk wake }
     {
         match self.places[desk as usize] {
-            Place::Idle => self.put_on_top(desk),
+            Place::Idle => match wake {
+                Wake::Work => self.put(desk),
+                Wake::Hold => self.put_behind(desk),
+            },
             Place::InHand => self.places[desk as usize] = Place::InHandAgain,
             Place::Listed | Place::InHandAgain => {}
         }
@@ -98,14 +108,14 @@ impl Side {
     {
         match self.places[desk as usize] {
             Place::InHand if !again => self.places[desk as usize] = Place::Idle,
-            Place::InHand | Place::InHandAgain => self.put_on_top(desk),
+            Place::InHand | Place::InHandAgain => self.put(desk),
             Place::Idle | Place::Listed => {}
         }
     }
 
-    // Lists a desk that isn't listed.
+    // Lists a desk that isn't listed, on top.
     #[inline(always)]
-    fn put_on_top(&mut self, desk: u32)
+    fn put(&mut self, desk: u32)
         requires within { desk < length self.old.places }
         requires unlisted { times (place_of self.old desk) ≡ 0 }
         ensures { self.new ≡ on_top self.old desk }
@@ -114,15 +124,40 @@ impl Side {
         self.listed.push_reserved(desk);
     }
 
-    /// The desk that is listed on top comes into a hand.
+    // Lists a desk that isn't listed, behind those that have more to do.
+    #[inline(always)]
+    fn put_behind(&mut self, desk: u32)
+        requires within { desk < length self.old.places }
+        requires unlisted { times (place_of self.old desk) ≡ 0 }
+        ensures { self.new ≡ on_top_behind self.old desk }
+    {
+        self.places[desk as usize] = Place::Listed;
+        self.behind.push_reserved(desk);
+    }
+
+    /// The desk that is listed on top comes into a hand: of those behind, where no other is listed.
     #[inline(always)]
     pub(crate) fn next(&mut self) -> Option<u32>
-        ensures { MatchOption result ((self.old.ready ≡ []) × (self.new ≡ self.old)) (λ desk.
-            (self.old.ready ≡ desk ∷ self.new.ready)
-            × (self.new.places ≡ slice_set self.old.places desk InHand)
-            × (desk < length self.old.places)) }
+        ensures { MatchOption result ((taken self.old ≡ None) × (self.new ≡ self.old)) (λ desk.
+            (taken self.old ≡ Some (desk, self.new)) × (desk < length self.old.places)) }
     {
-        let desk = self.listed.pop()?;
+        match self.listed.pop() {
+            Some(desk) => {
+                self.places[desk as usize] = Place::InHand;
+                Some(desk)
+            }
+            None => self.next_behind(),
+        }
+    }
+
+    // The desk on top of those behind comes into a hand, where no other is listed.
+    #[inline(always)]
+    fn next_behind(&mut self) -> Option<u32>
+        requires { self.old.ready ≡ [] }
+        ensures { MatchOption result ((taken self.old ≡ None) × (self.new ≡ self.old)) (λ desk.
+            (taken self.old ≡ Some (desk, self.new)) × (desk < length self.old.places)) }
+    {
+        let desk = self.behind.pop()?;
         self.places[desk as usize] = Place::InHand;
         Some(desk)
     }

@@ -1,6 +1,7 @@
 //! The desks that a worker's entries gave work, until they are listed.
 ghost use Rattle.std.specs.Prelude.{◌≡◌, ◌<◌, ◌↔◌, ◌++◌, ◌∷◌, [], true, false, length};
 
+use crate::wake::Wake;
 use arrayvec::ArrayVec;
 use std::marker::Model;
 
@@ -10,13 +11,14 @@ const MOST: usize = 64;
 /// Desks by number, in the order in which they were noted. They leave by being listed alone.
 #[derive(Debug, Drop)]
 pub struct Woken {
-    desks: ArrayVec<u32, MOST>,
+    desks: ArrayVec<(u32, Wake), MOST>,
 }
 
 impl Model for Woken {
     ghost use Rattle.std.specs.Prelude.{ℕ, List};
+    ghost use Rattle.desk_scheduler.specs.declared.wake.Wake.{Wake};
 
-    ghost Value = { List ℕ };
+    ghost Value = { List (ℕ × Wake) };
 
     ghost view = { λ w. w.desks.items };
 }
@@ -49,16 +51,16 @@ impl Woken {
 
     /// Notes a desk.
     #[inline(always)]
-    pub fn note(&mut self, desk: u32)
+    pub fn note(&mut self, desk: u32, wake: Wake)
         requires { length self.old < 64 }
-        ensures { self.new ≡ self.old ++ desk ∷ [] }
+        ensures { self.new ≡ self.old ++ (desk, wake) ∷ [] }
     {
-        self.desks.push(desk);
+        self.desks.push((desk, wake));
     }
 
     /// The desks, in their order.
     #[inline(always)]
-    pub(crate) fn desks(&self) -> &[u32]
+    pub(crate) fn desks(&self) -> &[(u32, Wake)]
         ensures { result.now ≡ self.now }
     {
         self.desks.as_slice()

@@ -9,7 +9,7 @@ use crate::gate::{Gate, Go};
 use crate::mailboxes::Mailboxes;
 use crate::naps::Naps;
 use crate::shared::SharedState;
-use desk_scheduler::{Next, Woken};
+use desk_scheduler::{Next, Wake, Woken};
 use exchange_core::{AnswerKind, AnswerNote, Desk};
 use match_agents::Heard;
 use match_model::{Instance, ProgrammeNo, ResidentNo};
@@ -46,6 +46,15 @@ const MISSES: u32 = 16;
 const LOOKS: u32 = 8;
 
 const LEAVE: Step = Step::Leave { again: false };
+
+// What an answer wakes its programme for: a place that it gives back is for another offer.
+#[inline(always)]
+fn wake_of(kind: AnswerKind) -> Wake {
+    match kind {
+        AnswerKind::Hold => Wake::Hold,
+        AnswerKind::Decline | AnswerKind::Release => Wake::Work,
+    }
+}
 
 impl<'a, 'f, J: ExchangeIdentity, M: Mailboxes, G: Gate, R: Wait> Worker<'a, 'f, J, M, G, R> {
     /// A worker with this number and tally, which has noted nothing.
@@ -177,7 +186,8 @@ impl<'a, 'f, J: ExchangeIdentity, M: Mailboxes, G: Gate, R: Wait> Worker<'a, 'f,
         if let Entry::Made { .. } = entry {
             agent.answered();
         }
-        self.after_put(entry, Desk::Resident(resident), Desk::Programme(programme))
+        let (sender, receiver) = (Desk::Resident(resident), Desk::Programme(programme));
+        self.after_put(entry, sender, receiver, wake_of(kind))
     }
 
     // Offers to the next resident, if there is a wish.
@@ -206,7 +216,8 @@ impl<'a, 'f, J: ExchangeIdentity, M: Mailboxes, G: Gate, R: Wait> Worker<'a, 'f,
             Entry::Later => agent.waits(),
             Entry::Missed | Entry::Ended | Entry::Refused | Entry::Gone => {}
         }
-        self.after_put(entry, Desk::Programme(programme), Desk::Resident(resident))
+        let (sender, receiver) = (Desk::Programme(programme), Desk::Resident(resident));
+        self.after_put(entry, sender, receiver, Wake::Work)
     }
 
     // Takes an offer out of the mailbox, enters the take, and decides.
@@ -253,11 +264,11 @@ impl<'a, 'f, J: ExchangeIdentity, M: Mailboxes, G: Gate, R: Wait> Worker<'a, 'f,
         }
     }
 
-    // What a put leaves at the desk of its sender.
+    // What a put leaves at the desk of its sender, which woke its receiver for this.
     #[inline(always)]
-    fn after_put(&mut self, entry: Entry, sender: Desk, receiver: Desk) -> Step {
+    fn after_put(&mut self, entry: Entry, sender: Desk, receiver: Desk, wake: Wake) -> Step {
         match entry {
-            Entry::Made { more, woken } => self.made(more, woken),
+            Entry::Made { more, woken } => self.made(more, woken, wake),
             Entry::Later | Entry::Ended => LEAVE,
             Entry::Missed => self.miss(sender),
             Entry::Refused => {
@@ -271,11 +282,11 @@ impl<'a, 'f, J: ExchangeIdentity, M: Mailboxes, G: Gate, R: Wait> Worker<'a, 'f,
         }
     }
 
-    // What a receipt leaves at its desk.
+    // What a receipt leaves at its desk. Whom it woke waited for room, and puts into it.
     #[inline(always)]
     fn after_receipt(&mut self, entry: Entry) -> Step {
         match entry {
-            Entry::Made { more, woken } => self.made(more, woken),
+            Entry::Made { more, woken } => self.made(more, woken, Wake::Work),
             Entry::Refused => {
                 self.shared.fail(self.rt, Trouble::OutOfStep);
                 LEAVE
@@ -324,10 +335,10 @@ impl<'a, 'f, J: ExchangeIdentity, M: Mailboxes, G: Gate, R: Wait> Worker<'a, 'f,
     // An event was entered: the desk that it woke is noted, and the gate is told. What was woken is listed before, where the
     // gate may hold this worker.
     #[inline(always)]
-    fn made(&mut self, more: bool, woken: Option<u32>) -> Step {
+    fn made(&mut self, more: bool, woken: Option<u32>, wake: Wake) -> Step {
         self.missed = 0;
         if let Some(desk) = woken {
-            self.note(desk);
+            self.note(desk, wake);
         }
         if G::ENTERED_MAY_HOLD {
             self.list_woken();
@@ -337,13 +348,14 @@ impl<'a, 'f, J: ExchangeIdentity, M: Mailboxes, G: Gate, R: Wait> Worker<'a, 'f,
     }
 
     // Notes a desk that was woken. Where no more can be noted, those so far are listed before.
-    fn note(&mut self, desk: u32)
-        ensures { (self.new.woken ≡ self.old.woken ++ desk ∷ []) ⊎ (self.new.woken ≡ desk ∷ []) }
+    fn note(&mut self, desk: u32, wake: Wake)
+        ensures { (self.new.woken ≡ self.old.woken ++ (desk, wake) ∷ [])
+            ⊎ (self.new.woken ≡ (desk, wake) ∷ []) }
     {
         if self.woken.is_full() {
             self.list_woken();
         }
-        self.woken.note(desk);
+        self.woken.note(desk, wake);
     }
 
     // Lists the desks that were woken, and wakes a worker that waits for one.

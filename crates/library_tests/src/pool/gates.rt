@@ -3,7 +3,7 @@ use super::runs::{Told, ran, ran_on};
 use crate::instances::{Members, TWO_BY_TWO, TWO_PLACES, made};
 use crate::markets::{made_chain, made_pairs};
 use exchange_core::{Capacity, Desk, Event};
-use match_model::{Instance, ModelFault};
+use match_model::{Instance, ModelFault, ProgrammeNo};
 use match_pool::Ending;
 use std::alloc::Global;
 use std::sync::Wait;
@@ -261,13 +261,13 @@ fn what_an_entry_woke_is_listed_before_its_worker_is_held(rt: HostRuntime) {
     }
 }
 
-// Two programmes that offer to one resident, who prefers the second.
-const RIVALS: Members = (&[(1, &[0]), (1, &[0])], &[&[1, 0]]);
+// Two programmes that offer to one resident, who prefers the first. The second is rejected, and offers to another.
+const RIVALS: Members = (&[(1, &[0]), (1, &[0, 1])], &[&[0, 1], &[1]]);
 
-// Whether a worker that found nothing to do was woken for what was listed, while another stayed at the desk that it
-// saw.
+// Whether a worker that found nothing to do went on with what was listed, while another stayed at the desk that it saw. That
+// is the desk of the rejected programme, which hears of it and offers again.
 fn is_woken<R: Threads + Wait + Sync + Send + Copy>(rt: R, alloc: Global, cap: Capacity) -> bool {
-    let gate = Rested::new();
+    let gate = Rested::new(rt, Desk::Programme(ProgrammeNo(1)));
     let told = ran(rt, alloc, RIVALS, cap, 2, &gate);
     gate.has_held() && told.is_ok_and(|told| told.ending == Ending::Closed)
 }

@@ -5,8 +5,10 @@ use super::{Counts, LINGER, TURNS};
 use exchange_core::Desk;
 use match_model::{ProgrammeNo, ResidentNo};
 use match_pool::{Gate, Go};
+use std::sync::Wait;
 use std::sync::atomic::{AtomicBool, AtomicU32, AtomicU64, Ordering};
 use std::thread;
+use std::time::Duration;
 
 /// Which worker a pass held, and how many events were entered when the hold began and ended.
 #[derive(Clone, Copy, Debug, PartialEq, Eq)]
@@ -238,61 +240,95 @@ impl Gate for HoldsVisit {
     }
 }
 
-/// A gate that holds the first pass until nobody has entered anything for long, and the second until another worker has
-/// entered an event.
+/// For how long, in microseconds, a gate lets others come to rest: by then each that has found nothing to do has looked again.
+const WHILE: u64 = 20_000;
+
+/// How often a gate looks, a while apart, whether another worker has entered an event.
+const LOOKS: u32 = 150;
+
+/// A gate that holds each receipt of one desk for a while. It holds the worker again at its next entry after that receipt,
+/// until another worker has entered an event. After that it holds nobody.
 #[derive(Drop)]
-pub struct Rested {
-    passed: AtomicU64,
+pub struct Rested<R: Wait + Copy> {
+    rt: R,
+    clock: AtomicU64,
+    desk: Desk,
+    worker: AtomicU64,
+    own: AtomicU64,
+    others: AtomicU64,
     held: AtomicBool,
     counts: Counts,
 }
 
-impl Rested {
-    /// Nothing is seen yet.
-    pub fn new() -> Rested {
+impl<R: Wait + Copy> Rested<R> {
+    /// Nothing is seen yet of this desk.
+    pub fn new(rt: R, desk: Desk) -> Rested<R> {
         Rested {
-            passed: AtomicU64::new(0),
+            rt,
+            clock: AtomicU64::new(0),
+            desk,
+            worker: AtomicU64::new(0),
+            own: AtomicU64::new(0),
+            others: AtomicU64::new(0),
             held: AtomicBool::new(false),
             counts: Counts::none(),
         }
     }
 
-    /// Whether the second pass was held, and another worker entered an event meanwhile.
+    /// Whether a worker was held at an entry, and another has entered an event meanwhile.
     pub fn has_held(&self) -> bool {
         self.held.load(Ordering::SeqCst)
     }
 
+    fn sleep(&self) {
+        self.clock
+            .park_timeout(&self.rt, 0, Duration::from_micros(WHILE));
+    }
+
+    // How many events others than this worker have entered.
+    fn of_others(&self, worker: usize) -> u64 {
+        self.counts.of_all().saturating_sub(self.counts.of(worker))
+    }
+
     // Waits until another worker has entered an event.
     fn hold(&self, worker: usize) {
-        let others = self.counts.of_all().saturating_sub(self.counts.of(worker));
-        for _ in 0..TURNS {
-            if self.counts.of_all().saturating_sub(self.counts.of(worker)) > others {
+        for _ in 0..LOOKS {
+            if self.of_others(worker) > self.others.load(Ordering::SeqCst) {
                 self.held.store(true, Ordering::SeqCst);
                 return;
             }
-            thread::yield_now();
+            self.sleep();
         }
     }
 }
 
-impl Gate for Rested {
+impl<R: Wait + Copy + Sync> Gate for Rested<R> {
     ghost MAY_STOP = { false };
 
     const MAY_STOP: bool = false;
 
-    fn pass(&self, worker: usize, _desk: Desk) -> Go {
-        match self.passed.fetch_add(1, Ordering::SeqCst) {
-            0 => {
-                self.counts.at_rest();
-            }
-            1 => self.hold(worker),
-            _ => {}
+    fn pass(&self, worker: usize, desk: Desk) -> Go {
+        if self.has_held() {
+            return Go::On;
+        }
+        if desk == self.desk {
+            let next = self.counts.of(worker).saturating_add(2);
+            self.worker.store(worker as u64, Ordering::SeqCst);
+            self.own.store(next, Ordering::SeqCst);
+            self.sleep();
+            self.others.store(self.of_others(worker), Ordering::SeqCst);
+        } else if self.worker.load(Ordering::SeqCst) == worker as u64 {
+            self.own.store(0, Ordering::SeqCst);
         }
         Go::On
     }
 
     fn entered(&self, worker: usize) {
         self.counts.add(worker);
+        let is_next = self.counts.of(worker) == self.own.load(Ordering::SeqCst);
+        if is_next && self.worker.load(Ordering::SeqCst) == worker as u64 {
+            self.hold(worker);
+        }
     }
 }
 

@@ -1,4 +1,4 @@
-use Rattle.std.proofs.Common.{◌≡◌, ℕ, ◌-◌, ◌<◌, length}
+use Rattle.std.proofs.Common.{◌≡◌, ℕ, ◌-◌, ◌<◌, [], length}
 use Rattle.std.specs.List.{range_with_len}
 use Rattle.desk_scheduler.specs.declared.side.Place.TheVariants.{Idle}
 use Rattle.desk_scheduler.specs.Desks.{place_of}
@@ -9,5 +9,6 @@ abbrev pub invariant-loop-after : goal.invariant-loop-after
 invariant-loop-after l = record {
   desks : length l.side.places ≡ l.desks;
   ready : l.side.ready ≡ range_with_len (l.desks - l.after) l.after;
+  behind : l.side.behind ≡ [];
   idle : (d : ℕ) → d < l.desks - l.after → place_of l.side d ≡ Idle;
 }
