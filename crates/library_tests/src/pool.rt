@@ -6,3 +6,4 @@ mod runs;
 mod slips;
 mod stops;
 mod workers;
+mod yields;
