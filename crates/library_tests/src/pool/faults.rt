@@ -25,7 +25,10 @@ fn told_by<G: Gate + Sync, R: Threads + Wait + Sync + Send + Copy>(
     let Ok(inst) = made(alloc, members) else {
         return Err(RunFault::Memory);
     };
-    let mailboxes = Slipping { rt, slip };
+    let mailboxes = Slipping {
+        rt,
+        slips: [slip, slip],
+    };
     let done = run_over(rt, alloc, &mailboxes, &inst, cap, workers, gate)?;
     Ok(done.ending == Ending::Closed && has_places(&done.assignment, places))
 }

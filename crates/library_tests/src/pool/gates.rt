@@ -60,7 +60,7 @@ fn is_stopped_from(told: &Told, gate: &StopsFrom, first: u64, workers: usize) ->
         Ending::Stopped => !is_closed && receipts >= first,
     };
     // several can close a run while one is stopped at its last receipt
-    ends && (workers > 1 || receipts == first || is_closed && receipts < first)
+    ends && (workers > 1 || is_closed && receipts < first || !is_closed && receipts == first)
         && gate.all_ended()
         && is_told(told, &counts)
 }
@@ -85,22 +85,38 @@ fn stopped_from<R: Threads + Wait + Sync + Send + Copy>(
     }
 }
 
-#[test]
-fn stops_from_each_pass_on(rt: HostRuntime) -> Result<(), Fail> {
-    let inst = made(rt.alloc(), TWO_PLACES)?;
+// Whether runs that were stopped from each pass on ended as they are to.
+fn stop_well<R: Threads + Wait + Sync + Send + Copy>(
+    rt: R,
+    alloc: Global,
+    workers: usize,
+) -> Result<bool, ModelFault> {
+    let inst = made(alloc, TWO_PLACES)?;
     for first in 1..=10 {
         for cap in CAPACITIES {
-            for workers in [1, 2, 8] {
-                let ending = stopped_from(rt, rt.alloc(), &inst, (cap, workers), first);
-                assert!(rt;
-                    ending.is_some_and(|ending| match ending {
-                        Ending::Closed => first > 1,
-                        Ending::Stopped => first < 10,
-                    }),
-                    "from {first} on, {cap:?}, {workers} workers"
-                );
+            let is_well = match stopped_from(rt, alloc, &inst, (cap, workers), first) {
+                Some(Ending::Closed) => first > 1,
+                Some(Ending::Stopped) => first < 10,
+                None => false,
+            };
+            if !is_well {
+                return Ok(false);
             }
         }
+    }
+    Ok(true)
+}
+
+#[test]
+fn one_worker_stops_from_each_pass_on(rt: HostRuntime) -> Result<(), Fail> {
+    assert!(rt; stop_well(rt, rt.alloc(), 1)?);
+    Ok(())
+}
+
+#[test]
+fn stops_from_each_pass_on(rt: HostRuntime) -> Result<(), Fail> {
+    for workers in [2, 8] {
+        assert!(rt; stop_well(rt, rt.alloc(), workers)?, "{workers} workers");
     }
     Ok(())
 }

@@ -20,6 +20,8 @@ pub(super) enum PutSlip {
     Full,
     /// It says that there is no room, from then on.
     AlwaysFull,
+    /// It says that there is no room, but for each eighth call.
+    OftenFull,
     /// It says that nobody takes, from then on.
     Gone,
 }
@@ -68,6 +70,7 @@ impl<M: Copy, R: Wait + Copy> PutEnd<M> for SlippingPut<M, R> {
         match self.slip {
             Some((at, PutSlip::Full)) if at == call => PutReply::Full(m),
             Some((at, PutSlip::AlwaysFull)) if at <= call => PutReply::Full(m),
+            Some((_, PutSlip::OftenFull)) if call % 8 < 7 => PutReply::Full(m),
             Some((at, PutSlip::Gone)) if at <= call => PutReply::Gone(m),
             _ => self.end.put(m),
         }
@@ -150,11 +153,11 @@ pub(super) enum Slip {
     Hear(ProgrammeNo, u32, TakeSlip<AnswerNote>),
 }
 
-/// Mailboxes of which one slips.
+/// Mailboxes of which one slips, or two.
 #[derive(Clone, Copy, Debug)]
 pub(super) struct Slipping<R: Wait + Copy> {
     pub(super) rt: R,
-    pub(super) slip: Slip,
+    pub(super) slips: [Slip; 2],
 }
 
 // A mailbox whose ends slip so.
@@ -205,11 +208,14 @@ impl<R: Wait + Copy + Send> Mailboxes for Slipping<R> {
         resident: ResidentNo,
         room: u32,
     ) -> Result<(SlippingPut<OfferNote, R>, SlippingTake<OfferNote, R>), MailFault> {
-        let (put, take) = match self.slip {
-            Slip::Offer(at, call, slip) if at == resident => (Some((call, slip)), None),
-            Slip::Take(at, call, slip) if at == resident => (None, Some((call, slip))),
-            _ => (None, None),
-        };
+        let (mut put, mut take) = (None, None);
+        for slip in &self.slips {
+            match slip {
+                Slip::Offer(at, call, slip) if *at == resident => put = Some((*call, *slip)),
+                Slip::Take(at, call, slip) if *at == resident => take = Some((*call, *slip)),
+                _ => {}
+            }
+        }
         ends_of(self.rt, alloc, room, put, take)
     }
 
@@ -219,11 +225,14 @@ impl<R: Wait + Copy + Send> Mailboxes for Slipping<R> {
         programme: ProgrammeNo,
         room: u32,
     ) -> Result<(SlippingPut<AnswerNote, R>, SlippingTake<AnswerNote, R>), MailFault> {
-        let (put, take) = match self.slip {
-            Slip::Answer(at, call, slip) if at == programme => (Some((call, slip)), None),
-            Slip::Hear(at, call, slip) if at == programme => (None, Some((call, slip))),
-            _ => (None, None),
-        };
+        let (mut put, mut take) = (None, None);
+        for slip in &self.slips {
+            match slip {
+                Slip::Answer(at, call, slip) if *at == programme => put = Some((*call, *slip)),
+                Slip::Hear(at, call, slip) if *at == programme => take = Some((*call, *slip)),
+                _ => {}
+            }
+        }
         ends_of(self.rt, alloc, room, put, take)
     }
 }

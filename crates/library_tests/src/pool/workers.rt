@@ -8,6 +8,7 @@ use std::sync::Wait;
 use std::test::Fail;
 use std::thread::Threads;
 use test_support::gates::{AllButOne, Order};
+use test_support::rests::RestsInPass;
 
 // Whether each event of a run has a worker, and each worker as many events as are told.
 fn is_counted(told: &Told, workers: usize) -> bool {
@@ -44,6 +45,9 @@ fn one_worker_and_eight(rt: HostRuntime) {
         );
     }
 }
+
+// A programme with one place and a resident.
+const ONE_PAIR: Members = (&[(1, &[0])], &[&[0]]);
 
 // Pairs of a programme with one place and a resident, who rank one another alone.
 const PAIRS: Members = (
@@ -112,6 +116,17 @@ fn one_goes_on_while_all_others_are_held(rt: HostRuntime) {
             );
         }
     }
+}
+
+// The run's last receipt is held until the other worker sleeps, so that nothing but the end wakes it.
+#[test]
+fn a_worker_that_sleeps_ends_with_the_run(rt: HostRuntime) {
+    let gate = RestsInPass::new(rt, None, 1, 1);
+    let told = ran(rt, rt.alloc(), ONE_PAIR, Capacity::Full, 2, &gate);
+    assert!(rt;
+        gate.entered() == Some(3)
+            && told.is_ok_and(|told| told.ending == Ending::Closed && is_counted(&told, 2))
+    );
 }
 
 #[test]
