@@ -119,6 +119,28 @@ pub(super) fn finish<W: Write>(alloc: Global, out: &mut W) -> Seen {
     }
 }
 
+/// A builder is finished with its lists.
+pub(super) fn finish_with_lists<W: Write>(alloc: Global, out: &mut W) -> Seen {
+    let Ok(builder) = one_pair(alloc) else {
+        return Seen::Wrong;
+    };
+    begin(out);
+    let answer = builder.finish_with_lists();
+    end(out);
+    match answer {
+        Ok((instance, lists)) => {
+            Seen::at_once(instance.pairs() == 1 && lists.choice(X, 0) == Some(A))
+        }
+        Err(refused) => {
+            if refused.fault == ModelFault::Memory {
+                Seen::after_memory(has(refused.builder, 1, 1, 1))
+            } else {
+                Seen::Wrong
+            }
+        }
+    }
+}
+
 // Whether nobody of two is matched.
 fn is_empty(assignment: &Assignment) -> bool {
     assignment.len() == 2

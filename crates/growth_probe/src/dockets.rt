@@ -1,8 +1,12 @@
 //! The calls of the docket.
 use crate::seen::{Seen, begin, end};
-use docket::{Docket, DocketFault, read_docket, write_journal, write_sheet};
+use docket::{
+    Docket, DocketFault, read_docket, read_docket_with_lists, write_journal, write_sheet,
+};
+use match_model::WrittenLists;
 use std::alloc::{AllocError, Global};
 use std::io::Write;
+use test_support::events::{B, Y};
 use test_support::randomness::OneByte;
 
 /// Two programmes of one place and two residents, who rank them the other way round.
@@ -37,8 +41,8 @@ fn is_small(docket: &Docket) -> bool {
     inst.programmes() == 2
         && inst.residents() == 2
         && inst.pairs() == 4
-        && docket.programme_name(test_support::events::B) == "b"
-        && docket.resident_name(test_support::events::Y) == "y"
+        && docket.programme_name(B) == "b"
+        && docket.resident_name(Y) == "y"
 }
 
 /// A docket is read.
@@ -52,6 +56,28 @@ pub(super) fn read<W: Write>(alloc: Global, out: &mut W) -> Seen {
             Ok(docket) => Seen::after_memory(is_small(&docket)),
             Err(_) => Seen::Wrong,
         },
+        Err(_) => Seen::Wrong,
+    }
+}
+
+// Whether this is the small docket with its lists.
+fn is_small_with_lists(docket: &Docket, lists: &WrittenLists) -> bool {
+    is_small(docket) && lists.choice(Y, 1) == Some(B) && lists.rank_of_resident(B, Y) == Some(0)
+}
+
+/// A docket is read with its lists.
+pub(super) fn read_with_lists<W: Write>(alloc: Global, out: &mut W) -> Seen {
+    begin(out);
+    let answer = read_docket_with_lists(&OneByte(7), alloc, SMALL.as_bytes());
+    end(out);
+    match answer {
+        Ok((docket, lists)) => Seen::at_once(is_small_with_lists(&docket, &lists)),
+        Err(DocketFault::Memory) => {
+            match read_docket_with_lists(&OneByte(7), alloc, SMALL.as_bytes()) {
+                Ok((docket, lists)) => Seen::after_memory(is_small_with_lists(&docket, &lists)),
+                Err(_) => Seen::Wrong,
+            }
+        }
         Err(_) => Seen::Wrong,
     }
 }

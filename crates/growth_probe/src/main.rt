@@ -21,14 +21,16 @@ use std::thread::Threads;
 use std::{env, io};
 
 // The calls, by name.
-const CALLS: [&str; 26] = [
+const CALLS: [&str; 28] = [
     "add_programme",
     "add_resident",
     "programme_list",
     "resident_list",
     "finish",
+    "finish_with_lists",
     "assignment",
     "read_docket",
+    "read_docket_with_lists",
     "write_sheet",
     "write_journal",
     "core",
@@ -63,8 +65,10 @@ fn made<H: Threads + Wait + RandomSource + Sync + Send + Copy + Drop, W: Write>(
         "programme_list" => builder::programme_list(alloc, out),
         "resident_list" => builder::resident_list(alloc, out),
         "finish" => builder::finish(alloc, out),
+        "finish_with_lists" => builder::finish_with_lists(alloc, out),
         "assignment" => builder::assignment(alloc, out),
         "read_docket" => dockets::read(alloc, out),
+        "read_docket_with_lists" => dockets::read_with_lists(alloc, out),
         "write_sheet" => dockets::sheet(alloc, out),
         "write_journal" => dockets::journal(alloc, out),
         "core" => exchange::core(alloc, out),

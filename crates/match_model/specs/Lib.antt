@@ -8,3 +8,4 @@ pub mod Placement
 pub mod Places
 pub mod Fault
 pub mod Withdrawals
+pub mod Written

@@ -8,6 +8,7 @@ use crate::instance::Instance;
 use crate::limits::{MAX_PAIRS, MAX_PROGRAMMES, MAX_QUOTA, MAX_RESIDENTS};
 use crate::member::{ProgrammeNo, ResidentNo};
 use crate::offer_ranks::offer_ranks;
+use crate::written::WrittenLists;
 use crate::{mutual_parts, ranking};
 use std::alloc::Global;
 use std::marker::Model;
@@ -47,6 +48,7 @@ pub struct FinishRefused {
 impl InstanceBuilder {
     ghost use Rattle.match_model.specs.Fault.{AnswersExactly};
     ghost use Rattle.match_model.specs.Draft.{Draft, AnswersFirst, AnswersOrWantsMemory, programme_fault, resident_fault, list_fault, owner_fault, withdrawal_fault, with_programme, with_resident, with_programme_list, with_resident_list, with_programme_withdrawn, with_resident_withdrawn, instance_of, IsFinishFault};
+    ghost use Rattle.match_model.specs.Written.{written_of};
 
     /// A builder without members. The allocator serves all later growths.
     pub fn new(alloc: Global) -> InstanceBuilder
@@ -182,13 +184,44 @@ impl InstanceBuilder {
         ensures handed_back { IfErr result (λ refused. refused.builder ≡ self) }
         ensures cause { IfErr result (λ refused. IsFinishFault self refused.fault) }
     {
+        match self.finish_with_lists() {
+            Ok((instance, _)) => Ok(instance),
+            Err(refused) => Err(refused),
+        }
+    }
+
+    /// Makes the instance as `finish` does, and gives the lists beside it as they were handed in. They are moved out of the
+    /// builder.
+    pub fn finish_with_lists(self) -> Result<(Instance, WrittenLists), FinishRefused>
+        ensures made { IfOk result (λ made. made.0 ≡ instance_of self) }
+        ensures lists { IfOk result (λ made. made.1 ≡ written_of self) }
+        ensures within { OnOk result (pair_count (instance_of self) ≤ MAX_PAIRS) }
+        ensures handed_back { IfErr result (λ refused. refused.builder ≡ self) }
+        ensures cause { IfErr result (λ refused. IsFinishFault self refused.fault) }
+    {
         match self.instance() {
-            Ok(instance) => Ok(instance),
+            Ok(instance) => Ok((instance, self.into_lists())),
             Err(fault) => Err(FinishRefused {
                 builder: self,
                 fault,
             }),
         }
+    }
+
+    // The lists as they were handed in.
+    fn into_lists(self) -> WrittenLists
+        ensures { result ≡ written_of self }
+    {
+        let InstanceBuilder {
+            alloc: _,
+            quotas: _,
+            programme_lists,
+            resident_lists,
+            programmes_withdrawn: _,
+            residents_withdrawn: _,
+            places: _,
+        } = self;
+        WrittenLists::new(programme_lists, resident_lists)
     }
 
     fn instance(&self) -> Result<Instance, ModelFault>

@@ -1,6 +1,7 @@
 //! The lists of one side as they are handed in, one after another in one vector.
 ghost use Rattle.std.specs.Prelude.{◌≡◌, ◌+◌, ◌<◌, ◌≤◌, ◌∷◌, ◌++◌, [], length, None, Some, OnOk, OnErr, slice_index_or, slice_set, unwrap_or, vec_len, vec_capacity};
-ghost use Rattle.match_model.specs.Draft.{owner_fault, items_fault, AnswersFirst, AnswersOrWantsMemory};
+ghost use Rattle.match_model.specs.Draft.{owner_fault, items_fault, given_lists, AnswersFirst, AnswersOrWantsMemory};
+ghost use Rattle.match_model.specs.Instance.{list_at};
 
 use crate::fault::ModelFault;
 use crate::member::{ProgrammeNo, ResidentNo};
@@ -75,7 +76,21 @@ impl GivenLists {
         }
     }
 
+<<<<<<< HEAD
     /// Gives a member its list of residents. Each resident is below `others` and stands in the list once.
+=======
+    /// The items of the list of whoever has this number, none where there is no list.
+    pub(crate) fn written(&self, owner: u32) -> &[u32]
+        ensures { result.now ≡ list_at (given_lists self.now) owner }
+    {
+        if owner as usize >= self.len() {
+            return &[];
+        }
+        self.items(owner as usize)
+    }
+
+    /// Gives a member the list of these residents, each of whom is below `others` and stands in it once.
+>>>>>>> why/draft
     pub(crate) fn give_residents(
         &mut self,
         owner: usize,

@@ -22,6 +22,7 @@ mod rank_table;
 mod ranking;
 mod rows;
 mod withdrawals;
+mod written;
 
 pub use assignment::Assignment;
 pub use builder::{FinishRefused, InstanceBuilder};
@@ -30,3 +31,4 @@ pub use instance::Instance;
 pub use limits::{MAX_PAIRS, MAX_PROGRAMMES, MAX_QUOTA, MAX_RESIDENTS, law_limits};
 pub use member::{ProgrammeNo, ResidentNo};
 pub use withdrawals::law_withdrawals;
+pub use written::WrittenLists;

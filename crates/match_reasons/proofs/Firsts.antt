@@ -10,8 +10,8 @@ use Rattle.match_model.proofs.Listed.{same_from_place}
 use Rattle.settle_law.proofs.Places.{IsListed-nil}
 use Rattle.settle_law.specs.Stable.{Prefers, IsStable, HasRoomFor}
 use Rattle.match_reasons.proofs.Ranks.{ranked, place_unranked}
-use Rattle.match_reasons.proofs.Kept.{resident_before, programme_before, written_parts}
-use Rattle.match_reasons.specs.Reason.{AreWritten, HasWithdrawn, HasBetter, IsLastPlace, IsTaken, Holds, turn, IsFirst, Wants, Asks, TellsFull, GivesProgrammes, NamesOwn, NamesProgramme, HasRoomAt, StandsPast}
+use Rattle.match_reasons.proofs.Kept.{AreListsOf, resident_before, programme_before, written_parts}
+use Rattle.match_reasons.specs.Reason.{HasWithdrawn, HasBetter, IsLastPlace, IsTaken, Holds, turn, IsFirst, Wants, Asks, TellsFull, GivesProgrammes, NamesOwn, NamesProgramme, HasRoomAt, StandsPast}
 use Rattle.match_reasons.specs.declared.taken.Taken.{Taken}
 use Rattle.match_reasons.specs.declared.reason.Why.{Why}
 use Rattle.match_reasons.specs.declared.reason.Why.TheVariants.{Withdrawn, NotListed, NotRanked, Matched, PrefersOwn, Full, Blocking}
@@ -67,7 +67,7 @@ not_withdrawn inst is r p a (inr c) =
     IsListed-nil r (subst (λ (xs : List ℕ). IsListed xs r) (is.withdrawn_programmes_rank_nobody p c) a)
 
 -- none of the first five answers holds of an acceptable pair that isn't placed, where r has nothing that stands before p
-none_of_five : (inst : Instance) → IsInstance inst → (mine theirs : List ℕ) (m : List (Option ℕ)) (r p : ℕ) → AreWritten inst r p mine theirs →
+none_of_five : (inst : Instance) → IsInstance inst → (mine theirs : List ℕ) (m : List (Option ℕ)) (r p : ℕ) → AreListsOf inst r p mine theirs →
     Acceptable inst r p → (IsMemberOf m r p → ⊥) → ((own : ℕ) → IsMemberOf m r own → IsBefore mine p own) →
     (a : Why) → turn a < 5 → Holds inst mine theirs m r p a → ⊥
 none_of_five inst is mine theirs m r p w a not has Withdrawn l h = not_withdrawn inst is r p a h
@@ -83,7 +83,7 @@ none_of_five inst is mine theirs m r p w a not has (Full i k q) l h = absurd (om
 none_of_five inst is mine theirs m r p w a not has Blocking l h = absurd (omega arith)
 
 -- so r asks for p
-pub asks : (inst : Instance) → IsInstance inst → (mine theirs : List ℕ) (m : List (Option ℕ)) (r p : ℕ) → AreWritten inst r p mine theirs → IsResident inst r →
+pub asks : (inst : Instance) → IsInstance inst → (mine theirs : List ℕ) (m : List (Option ℕ)) (r p : ℕ) → AreListsOf inst r p mine theirs → IsResident inst r →
     Acceptable inst r p → (IsMemberOf m r p → ⊥) → ((own : ℕ) → IsMemberOf m r own → IsBefore mine p own) → Asks inst mine theirs m r p
 asks inst is mine theirs m r p w within a not has = record {
   wants = record { acceptable = a; not_placed = not; would = would (programme_of m r) refl };
@@ -121,7 +121,7 @@ before_later mine m r p i j o e has f l not own is = elim (cases_lt (place mine 
 ]
 
 -- whoever would rather have p of a stable placement has nothing that stands before p
-stable_before : (inst : Instance) → IsInstance inst → (mine theirs : List ℕ) (m : List (Option ℕ)) (r p : ℕ) → AreWritten inst r p mine theirs → IsResident inst r →
+stable_before : (inst : Instance) → IsInstance inst → (mine theirs : List ℕ) (m : List (Option ℕ)) (r p : ℕ) → AreListsOf inst r p mine theirs → IsResident inst r →
     IsStable inst m → Wants inst m r p → (own : ℕ) → IsMemberOf m r own → IsBefore mine p own
 stable_before inst is mine theirs m r p w within stable wants own has = elim (cases_lt (place mine p) (place mine own)) [
   | inl c ↦ c
@@ -139,7 +139,7 @@ stable_before inst is mine theirs m r p w within stable wants own has = elim (ca
 ]
 
 -- so they are told that all places were taken before them
-pub tells_full : (inst : Instance) → IsInstance inst → (mine theirs : List ℕ) (m : List (Option ℕ)) (r p : ℕ) (a : Why) → AreWritten inst r p mine theirs → IsResident inst r →
+pub tells_full : (inst : Instance) → IsInstance inst → (mine theirs : List ℕ) (m : List (Option ℕ)) (r p : ℕ) (a : Why) → AreListsOf inst r p mine theirs → IsResident inst r →
     IsFirst inst mine theirs m r p a → IsStable inst m → Wants inst m r p → TellsFull a
 tells_full inst is mine theirs m r p a w within h stable wants =
     go a h.holds (none_of_five inst is mine theirs m r p w wants.acceptable wants.not_placed (stable_before inst is mine theirs m r p w within stable wants) a)
@@ -220,7 +220,7 @@ first_full inst mine theirs m r p i taken h e t roomless = record {
 
 -- and it would, with a free place or with a member who stands after r
 has_room : (inst : Instance) → IsInstance inst → (mine theirs : List ℕ) (m : List (Option ℕ)) (r p rank_there : ℕ) (taken : Taken) →
-    AreWritten inst r p mine theirs → IsProgramme inst p → Wants inst m r p → Some rank_there ≡ rank theirs r → IsTaken theirs m p taken →
+    AreListsOf inst r p mine theirs → IsProgramme inst p → Wants inst m r p → Some rank_there ≡ rank theirs r → IsTaken theirs m p taken →
     HasRoomAt taken (quota inst p) rank_there → HasRoomFor inst m p r
 has_room inst is mine theirs m r p i taken w within wants e t (inl c) = inl (let all = t.members in omega arith)
 has_room inst is mine theirs m r p i taken w within wants e t (inr c) = inr (past taken.last t.last c)
@@ -244,7 +244,7 @@ has_room inst is mine theirs m r p i taken w within wants e t (inr c) = inr (pas
         )
 
 pub first_blocking : (inst : Instance) → IsInstance inst → (mine theirs : List ℕ) (m : List (Option ℕ)) (r p rank_there : ℕ) (taken : Taken) →
-    AreWritten inst r p mine theirs → IsProgramme inst p → Asks inst mine theirs m r p → Some rank_there ≡ rank theirs r → IsTaken theirs m p taken →
+    AreListsOf inst r p mine theirs → IsProgramme inst p → Asks inst mine theirs m r p → Some rank_there ≡ rank theirs r → IsTaken theirs m p taken →
     HasRoomAt taken (quota inst p) rank_there → IsFirst inst mine theirs m r p Blocking
 first_blocking inst is mine theirs m r p i taken w within h e t room = record {
   holds = record {

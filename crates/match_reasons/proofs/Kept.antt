@@ -4,12 +4,28 @@ use Rattle.std.specs.Prelude.{if◌then◌else◌}
 use Rattle.std.specs.List.{filter}
 use Rattle.match_model.specs.Ranking.{place, IsListed, is_listed, IsBefore}
 use Rattle.match_model.specs.Instance.{Instance, list_at, is_withdrawn, list_of_programme, list_of_resident, Acceptable}
-use Rattle.match_model.specs.Draft.{Draft, mutual_lists, given_lists, remaining_lists, programme_lists_left, resident_lists_left}
+use Rattle.match_model.specs.Draft.{Draft, instance_of, mutual_lists, given_lists, remaining_lists, programme_lists_left, resident_lists_left}
+use Rattle.match_model.specs.Written.{Written, AreWritten}
 use Rattle.match_model.proofs.Mutual.{get_or-mutual_lists, length-mutual_lists}
 use Rattle.match_model.proofs.Remaining.{remaining_at}
 use Rattle.match_model.proofs.Struck.{acceptable_where}
 use Rattle.settle_law.proofs.Places.{place_cases, IsListed-filter}
-use Rattle.match_reasons.specs.Reason.{AreWritten}
+
+-- the instance is made of lists of which these are r's and p's, as they were written
+pub record AreListsOf (inst : Instance) (r p : ℕ) (mine theirs : List ℕ) : Type 0 where
+  pub draft : Draft
+  pub made : inst ≡ instance_of draft
+  pub of_resident : mine ≡ list_at (given_lists draft.resident_lists) r
+  pub of_programme : theirs ≡ list_at (given_lists draft.programme_lists) p
+
+pub lists_of_pair : (inst : Instance) (written : Written) (r p : ℕ) → AreWritten inst written →
+    AreListsOf inst r p (list_at written.resident_lists r) (list_at written.programme_lists p)
+lists_of_pair inst written r p h = record {
+  draft = h.draft;
+  made = h.made;
+  of_resident = ap (λ (w : Written). list_at w.resident_lists r) h.lists;
+  of_programme = ap (λ (w : Written). list_at w.programme_lists p) h.lists;
+}
 
 -- who is kept, and stands before somebody in the list as it was written, stands before that one among those who are kept
 pub kept_before : (f : ℕ → Bool) (ys : List ℕ) (x y : ℕ) → IsListed (filter f ys) x → place ys x < place ys y →
@@ -58,7 +74,7 @@ kept_at mine theirs flags i l =
     go false e = ((λ x. is_listed (list_at theirs x) i), e)
 
 -- so of the two lists of a pair
-pub resident_kept : (inst : Instance) (r p : ℕ) (mine theirs : List ℕ) → AreWritten inst r p mine theirs → r < length inst.resident_lists →
+pub resident_kept : (inst : Instance) (r p : ℕ) (mine theirs : List ℕ) → AreListsOf inst r p mine theirs → r < length inst.resident_lists →
     (f : ℕ → Bool) × (list_of_resident inst r ≡ filter f mine)
 resident_kept inst r p mine theirs w l =
     let d : Draft = w.draft in
@@ -67,7 +83,7 @@ resident_kept inst r p mine theirs w l =
     let kept = kept_at (given_lists d.resident_lists) (programme_lists_left d) d.residents_withdrawn r (omega arith) in
     (kept.0, ap (λ (i : Instance). list_of_resident i r) w.made ∙ kept.1 ∙ ap (filter kept.0) (sym w.of_resident))
 
-pub programme_kept : (inst : Instance) (r p : ℕ) (mine theirs : List ℕ) → AreWritten inst r p mine theirs → p < length inst.programme_lists →
+pub programme_kept : (inst : Instance) (r p : ℕ) (mine theirs : List ℕ) → AreListsOf inst r p mine theirs → p < length inst.programme_lists →
     (f : ℕ → Bool) × (list_of_programme inst p ≡ filter f theirs)
 programme_kept inst r p mine theirs w l =
     let d : Draft = w.draft in
@@ -80,24 +96,24 @@ programme_kept inst r p mine theirs w l =
 before_in : (f : ℕ → Bool) (xs ys : List ℕ) (x y : ℕ) → xs ≡ filter f ys → IsListed xs x → IsBefore ys x y → IsBefore xs x y
 before_in f xs ys x y e l b = subst (λ (zs : List ℕ). IsBefore zs x y) (sym e) (kept_before f ys x y (subst (λ (zs : List ℕ). IsListed zs x) e l) b)
 
-pub resident_before : (inst : Instance) (r p : ℕ) (mine theirs : List ℕ) (x y : ℕ) → AreWritten inst r p mine theirs → r < length inst.resident_lists →
+pub resident_before : (inst : Instance) (r p : ℕ) (mine theirs : List ℕ) (x y : ℕ) → AreListsOf inst r p mine theirs → r < length inst.resident_lists →
     IsListed (list_of_resident inst r) x → IsBefore mine x y → IsBefore (list_of_resident inst r) x y
 resident_before inst r p mine theirs x y w within l b =
     let kept = resident_kept inst r p mine theirs w within in before_in kept.0 (list_of_resident inst r) mine x y kept.1 l b
 
-pub programme_before : (inst : Instance) (r p : ℕ) (mine theirs : List ℕ) (x y : ℕ) → AreWritten inst r p mine theirs → p < length inst.programme_lists →
+pub programme_before : (inst : Instance) (r p : ℕ) (mine theirs : List ℕ) (x y : ℕ) → AreListsOf inst r p mine theirs → p < length inst.programme_lists →
     IsListed (list_of_programme inst p) x → IsBefore theirs x y → IsBefore (list_of_programme inst p) x y
 programme_before inst r p mine theirs x y w within l b =
     let kept = programme_kept inst r p mine theirs w within in before_in kept.0 (list_of_programme inst p) theirs x y kept.1 l b
 
 -- a pair is acceptable exactly where each listed the other, as the lists were written, and neither is withdrawn
-pub written_parts : (inst : Instance) (r p : ℕ) (mine theirs : List ℕ) → AreWritten inst r p mine theirs → Acceptable inst r p →
+pub written_parts : (inst : Instance) (r p : ℕ) (mine theirs : List ℕ) → AreListsOf inst r p mine theirs → Acceptable inst r p →
     IsListed mine p × IsListed theirs r
 written_parts inst r p mine theirs w a =
     let both = (acceptable_where w.draft r p).0 (subst (λ (i : Instance). Acceptable i r p) w.made a) in
     (subst (λ (xs : List ℕ). IsListed xs p) (sym w.of_resident) both.resident_lists_programme, subst (λ (xs : List ℕ). IsListed xs r) (sym w.of_programme) both.programme_lists_resident)
 
-pub acceptable_written : (inst : Instance) (r p : ℕ) (mine theirs : List ℕ) → AreWritten inst r p mine theirs → IsListed mine p → IsListed theirs r →
+pub acceptable_written : (inst : Instance) (r p : ℕ) (mine theirs : List ℕ) → AreListsOf inst r p mine theirs → IsListed mine p → IsListed theirs r →
     is_withdrawn inst.residents_withdrawn r ≡ false → is_withdrawn inst.programmes_withdrawn p ≡ false → Acceptable inst r p
 acceptable_written inst r p mine theirs w l k here there =
     subst (λ (i : Instance). Acceptable i r p) (sym w.made) ((acceptable_where w.draft r p).1 (record {

@@ -1,20 +1,12 @@
 -- Why a placement doesn't give a programme to a resident, by the two members' lists as they were written.
 use Rattle.std.specs.Prelude.{◌≡◌, ℕ, ◌<◌, ◌≤◌, ◌⊎◌, true, Option, Some, None, List}
 use Rattle.match_model.specs.Ranking.{place, IsBefore, IsListed}
-use Rattle.match_model.specs.Instance.{Instance, IsProgramme, Acceptable, is_withdrawn, list_at, list_of_resident, quota as quota_of, rank as rank_in}
-use Rattle.match_model.specs.Draft.{Draft, given_lists, instance_of}
+use Rattle.match_model.specs.Instance.{Instance, IsProgramme, Acceptable, is_withdrawn, list_of_resident, quota as quota_of, rank as rank_in}
 use Rattle.match_model.specs.Placement.{programme_of, IsMemberOf, member_count}
 use Rattle.settle_law.specs.Stable.{Prefers, Blocks}
 use Rattle.match_reasons.specs.declared.taken.Taken.{Taken}
 use Rattle.match_reasons.specs.declared.reason.Why.{Why}
 use Rattle.match_reasons.specs.declared.reason.Why.TheVariants.{Withdrawn, NotListed, NotRanked, Matched, PrefersOwn, Full, Blocking}
-
--- the instance is that of lists of which these are r's and p's, as they were written
-pub record AreWritten (inst : Instance) (r p : ℕ) (mine theirs : List ℕ) : Type 0 where
-  pub draft : Draft
-  pub made : inst ≡ instance_of draft
-  pub of_resident : mine ≡ list_at (given_lists draft.resident_lists) r
-  pub of_programme : theirs ≡ list_at (given_lists draft.programme_lists) p
 
 -- r has a programme that stands before p in its list, and these are the places of the two
 pub record HasBetter (mine : List ℕ) (m : List (Option ℕ)) (r p own own_rank rank : ℕ) : Type 0 where

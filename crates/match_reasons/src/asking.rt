@@ -1,12 +1,13 @@
 //! Asking why.
 ghost use Rattle.std.specs.Prelude.{◌≡◌, ◌≢◌, length, MatchOption, IfSome};
-ghost use Rattle.match_model.specs.Instance.{IsProgramme, IsResident};
+ghost use Rattle.match_model.specs.Instance.{IsProgramme, IsResident, list_at};
+ghost use Rattle.match_model.specs.Written.{AreWritten};
 ghost use Rattle.settle_law.specs.Stable.{IsStable};
-ghost use Rattle.match_reasons.specs.Reason.{AreWritten, Asks, GivesProgrammes, IsFirst, IsTaken, NamesOwn, NamesProgramme, TellsFull, Wants};
+ghost use Rattle.match_reasons.specs.Reason.{Asks, GivesProgrammes, IsFirst, IsTaken, NamesOwn, NamesProgramme, TellsFull, Wants};
 
 use crate::reason::Why;
-use crate::taken::{Taken, is_member, rank_of_programme, rank_of_resident};
-use match_model::{Assignment, Instance, ProgrammeNo, ResidentNo};
+use crate::taken::{Taken, is_member};
+use match_model::{Assignment, Instance, ProgrammeNo, ResidentNo, WrittenLists};
 
 /// Why a placement doesn't give a programme to a resident, or that it does: the first answer that holds, by the lists of
 /// the two as they were written.
@@ -16,72 +17,61 @@ use match_model::{Assignment, Instance, ProgrammeNo, ResidentNo};
 /// made of these very lists. Nobody who asks about a stable placement is told that they block it.
 pub fn why(
     inst: &Instance,
+    written: &WrittenLists,
     sheet: &Assignment,
     taken: &Taken,
     resident: ResidentNo,
-    resident_list: &[ProgrammeNo],
     programme: ProgrammeNo,
-    programme_list: &[ResidentNo],
 ) -> Why
     requires resident { IsResident inst.now resident }
     requires programme { IsProgramme inst.now programme }
     requires one_place_each { length sheet.now ≡ length inst.now.resident_lists }
-    requires taken { IsTaken programme_list.now sheet.now programme taken.now }
-    ensures first { AreWritten inst.now resident programme resident_list.now programme_list.now
-        → IsFirst inst.now resident_list.now programme_list.now sheet.now resident programme result }
-    ensures only { AreWritten inst.now resident programme resident_list.now programme_list.now → (answer : Why)
-        → IsFirst inst.now resident_list.now programme_list.now sheet.now resident programme answer → answer ≡ result }
+    requires taken { IsTaken (list_at written.now.programme_lists programme) sheet.now
+        programme taken.now }
+    ensures first { AreWritten inst.now written.now
+        → IsFirst inst.now (list_at written.now.resident_lists resident)
+        (list_at written.now.programme_lists programme) sheet.now resident programme result }
+    ensures only { AreWritten inst.now written.now → (answer : Why)
+        → IsFirst inst.now (list_at written.now.resident_lists resident)
+        (list_at written.now.programme_lists programme) sheet.now resident programme answer
+        → answer ≡ result }
     ensures members { GivesProgrammes inst.now sheet.now → NamesProgramme inst.now result }
-    ensures never_blocking { AreWritten inst.now resident programme resident_list.now programme_list.now
+    ensures never_blocking { AreWritten inst.now written.now
         → IsStable inst.now sheet.now → result ≢ Why.Blocking }
-    ensures full { AreWritten inst.now resident programme resident_list.now programme_list.now
+    ensures full { AreWritten inst.now written.now
         → IsStable inst.now sheet.now → Wants inst.now sheet.now resident programme → TellsFull result }
 {
     // For the proof alone: the instance is one.
     let _residents = inst.residents();
-    first_reason(
-        inst,
-        sheet,
-        taken,
-        resident,
-        resident_list,
-        programme,
-        programme_list,
-    )
+    first_reason(inst, written, sheet, taken, resident, programme)
 }
 
 // The first answer that holds.
 fn first_reason(
     inst: &Instance,
+    written: &WrittenLists,
     sheet: &Assignment,
     taken: &Taken,
     resident: ResidentNo,
-    resident_list: &[ProgrammeNo],
     programme: ProgrammeNo,
-    programme_list: &[ResidentNo],
 ) -> Why
     requires resident { IsResident inst.now resident }
     requires programme { IsProgramme inst.now programme }
     requires one_place_each { length sheet.now ≡ length inst.now.resident_lists }
-    requires taken { IsTaken programme_list.now sheet.now programme taken.now }
-    ensures first { AreWritten inst.now resident programme resident_list.now programme_list.now
-        → IsFirst inst.now resident_list.now programme_list.now sheet.now resident programme result }
+    requires taken { IsTaken (list_at written.now.programme_lists programme) sheet.now
+        programme taken.now }
+    ensures first { AreWritten inst.now written.now
+        → IsFirst inst.now (list_at written.now.resident_lists resident)
+        (list_at written.now.programme_lists programme) sheet.now resident programme result }
     ensures own { NamesOwn sheet.now resident result }
 {
     // For the proof alone: the instance is one.
     let _residents = inst.residents();
-    let own = residents_reason(
-        inst,
-        sheet,
-        resident,
-        resident_list,
-        programme,
-        programme_list,
-    );
+    let own = residents_reason(inst, written, sheet, resident, programme);
     if let Some(reason) = own {
         return reason;
     }
-    let Some(rank) = rank_of_resident(programme_list, resident) else {
+    let Some(rank) = written.rank_of_resident(programme, resident) else {
         return Why::NotRanked;
     };
     let quota = inst.quota(programme);
@@ -98,20 +88,21 @@ fn first_reason(
 /// Why the resident wouldn't rather have the programme, unless it would.
 fn residents_reason(
     inst: &Instance,
+    written: &WrittenLists,
     sheet: &Assignment,
     resident: ResidentNo,
-    resident_list: &[ProgrammeNo],
     programme: ProgrammeNo,
-    programme_list: &[ResidentNo],
 ) -> Option<Why>
     requires resident { IsResident inst.now resident }
     requires programme { IsProgramme inst.now programme }
     requires one_place_each { length sheet.now ≡ length inst.now.resident_lists }
     ensures first { MatchOption result
-        (AreWritten inst.now resident programme resident_list.now programme_list.now
-        → Asks inst.now resident_list.now programme_list.now sheet.now resident programme)
-        (λ answer. AreWritten inst.now resident programme resident_list.now programme_list.now
-        → IsFirst inst.now resident_list.now programme_list.now sheet.now resident programme answer) }
+        (AreWritten inst.now written.now
+        → Asks inst.now (list_at written.now.resident_lists resident)
+        (list_at written.now.programme_lists programme) sheet.now resident programme)
+        (λ answer. AreWritten inst.now written.now
+        → IsFirst inst.now (list_at written.now.resident_lists resident)
+        (list_at written.now.programme_lists programme) sheet.now resident programme answer) }
     ensures own { IfSome result (NamesOwn sheet.now resident) }
 {
     // For the proof alone: the instance is one.
@@ -119,7 +110,7 @@ fn residents_reason(
     if inst.resident_withdrawn(resident) || inst.programme_withdrawn(programme) {
         return Some(Why::Withdrawn);
     }
-    let Some(rank) = rank_of_programme(resident_list, programme) else {
+    let Some(rank) = written.rank_of_programme(resident, programme) else {
         return Some(Why::NotListed);
     };
     // Where neither is withdrawn, and the resident listed the programme, a rank is wanting only if the programme didn't.
@@ -132,7 +123,7 @@ fn residents_reason(
     let Some(own) = sheet.get(resident) else {
         return None;
     };
-    let Some(own_rank) = rank_of_programme(resident_list, own) else {
+    let Some(own_rank) = written.rank_of_programme(resident, own) else {
         return None;
     };
     if own_rank < rank {

@@ -1,11 +1,11 @@
-//! How a programme's places are taken in a placement, and where somebody stands in a list.
+//! How a programme's places are taken in a placement.
 ghost use Rattle.std.specs.Prelude.{◌≡◌, ◌<◌, ◌↔◌, length, IsTrue, max, unwrap_or};
 ghost use Rattle.match_model.specs.Ranking.{place};
-ghost use Rattle.match_model.specs.Instance.{rank};
+ghost use Rattle.match_model.specs.Instance.{list_at};
 ghost use Rattle.match_model.specs.Placement.{IsMemberOf};
 ghost use Rattle.match_reasons.specs.Reason.{IsTaken, HasRoomAt};
 
-use match_model::{Assignment, ProgrammeNo, ResidentNo};
+use match_model::{Assignment, ProgrammeNo, ResidentNo, WrittenLists};
 
 /// How many members a programme has, and the last place that one of them has in its list as it was written. A member who
 /// isn't on that list counts as after all who are.
@@ -40,37 +40,13 @@ pub(crate) fn is_member(sheet: &Assignment, resident: ResidentNo, programme: Pro
     }
 }
 
-/// The rank of a programme in a resident's list, if it is listed.
-pub(crate) fn rank_of_programme(list: &[ProgrammeNo], programme: ProgrammeNo) -> Option<usize>
-    ensures { result ≡ rank list.now programme }
-{
-    for i in 0..list.len() {
-        if list[i] == programme {
-            return Some(i);
-        }
-    }
-    None
-}
-
-/// The rank of a resident in a programme's list, if it is listed.
-pub(crate) fn rank_of_resident(list: &[ResidentNo], resident: ResidentNo) -> Option<usize>
-    ensures { result ≡ rank list.now resident }
-{
-    for i in 0..list.len() {
-        if list[i] == resident {
-            return Some(i);
-        }
-    }
-    None
-}
-
 // The place of a resident in a programme's list, or the list's length.
-fn place_of_resident(list: &[ResidentNo], resident: ResidentNo) -> usize
-    ensures { result ≡ place list.now resident }
+fn place_of_resident(written: &WrittenLists, programme: ProgrammeNo, resident: ResidentNo) -> usize
+    ensures { result ≡ place (list_at written.now.programme_lists programme) resident }
 {
-    match rank_of_resident(list, resident) {
+    match written.rank_of_resident(programme, resident) {
         Some(rank) => rank,
-        None => list.len(),
+        None => written.listed_by_programme(programme),
     }
 }
 
@@ -85,8 +61,8 @@ fn later(last: Option<usize>, place: usize) -> usize
 }
 
 /// How a programme's places are taken, by its list as it was written: one walk over the placement.
-pub fn places_taken(sheet: &Assignment, list: &[ResidentNo], programme: ProgrammeNo) -> Taken
-    ensures { IsTaken list.now sheet.now programme result }
+pub fn places_taken(sheet: &Assignment, written: &WrittenLists, programme: ProgrammeNo) -> Taken
+    ensures { IsTaken (list_at written.now.programme_lists programme) sheet.now programme result }
 {
     let mut members = 0;
     let mut last = None;
@@ -94,7 +70,7 @@ pub fn places_taken(sheet: &Assignment, list: &[ResidentNo], programme: Programm
         let resident = ResidentNo(r);
         if is_member(sheet, resident, programme) {
             members += 1;
-            last = Some(later(last, place_of_resident(list, resident)));
+            last = Some(later(last, place_of_resident(written, programme, resident)));
         }
     }
     Taken { members, last }

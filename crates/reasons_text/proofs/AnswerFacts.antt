@@ -1,60 +1,67 @@
 -- What is told, with one programme more.
-use Rattle.std.proofs.Common.{◌≡◌, ℕ, zero, suc, ◌+◌, ◌<◌, inl, inr, List, [], ◌∷◌, ◌++◌, length, get_or, take, drop, Option, Some, refl, sym, ap, ◌∙◌, subst, arith}
-use Rattle.std.specs.Prelude.{slice_get}
-use Rattle.std.specs.Global.{Vec}
-use Rattle.std.proofs.lemmas.List.{take_more, map-append, get_or-drop}
-use Rattle.csv.specs.Records.{field_at}
-use Rattle.docket.specs.Fields.{field}
-use Rattle.std.proofs.lemmas.Option.{same_Some}
-use Rattle.match_model.specs.Instance.{Instance, IsProgramme}
+use Rattle.std.proofs.Common.{◌≡◌, ℕ, ◌+◌, ◌<◌, inl, inr, List, [], ◌∷◌, ◌++◌, length, Option, Some, None, true, sym, ap, ◌∙◌, subst, arith, rules}
+use Rattle.std.specs.Prelude.{nat_lt, slice_get}
+use Rattle.std.specs.List.{list_all}
+use Rattle.std.proofs.lemmas.Option.{same_Some, get_or_from_slice_get}
+use Rattle.docket.proofs.WordFacts.{list_all_true_at}
+use Rattle.match_model.specs.Instance.{list_at, IsProgramme, IsResident}
+use Rattle.match_model.specs.Written.{Written, AreWritten}
 use Rattle.match_model.proofs.Prefixes.{slice_get_push_parts}
 use Rattle.match_reasons.specs.Reason.{IsTaken}
 use Rattle.match_reasons.specs.declared.taken.Taken.{Taken}
 use Rattle.match_reasons.specs.declared.reason.Why.{Why}
-use Rattle.docket.specs.Contents.{Contents}
-use Rattle.docket.specs.Texts.{programme_name}
-use Rattle.reasons_text.specs.Answers.{AreProgrammes, AreRight, AreTaken, IsRight, names_of, written_list}
+use Rattle.docket.specs.Contents.{Contents, draft_of}
+use Rattle.docket.specs.Whole.{IsWhole}
+use Rattle.docket.specs.WithLists.{IsReadWithLists}
+use Rattle.reasons_text.specs.Answers.{AreFirst, AreOfRecord, AreTaken, CaseParts, IsAnswer, IsCase}
 
 -- how the places of one programme more are taken
-pub AreTaken-push : (lists : List (Vec ℕ)) (m : List (Option ℕ)) (takens : List Taken) (t : Taken) (n : ℕ) → length takens ≡ n → AreTaken lists m takens →
-    IsTaken (written_list lists n) m n t → AreTaken lists m (takens ++ t ∷ [])
-AreTaken-push lists m takens t n e h new p u at = elim (slice_get_push_parts takens t p u at) [
+pub AreTaken-push : (written : Written) (m : List (Option ℕ)) (takens : List Taken) (t : Taken) (n : ℕ) → length takens ≡ n → AreTaken written m takens →
+    IsTaken (list_at written.programme_lists n) m n t → AreTaken written m (takens ++ t ∷ [])
+AreTaken-push written m takens t n e h new p u at = elim (slice_get_push_parts takens t p u at) [
   | inl old ↦ h p u old
   | inr (i, same) ↦
       let here : n ≡ p = sym e ∙ sym i in
-      subst (λ (v : Taken). IsTaken (written_list lists p) m p v) same (subst (λ q. IsTaken (written_list lists q) m q t) here new)
+      subst (λ (v : Taken). IsTaken (list_at written.programme_lists p) m p v) same (subst (λ q. IsTaken (list_at written.programme_lists q) m q t) here new)
 ]
-
--- one programme more
-pub AreProgrammes-push : (inst : Instance) (list : List ℕ) (p : ℕ) → AreProgrammes inst list → IsProgramme inst p → AreProgrammes inst (list ++ p ∷ [])
-AreProgrammes-push inst list p h new i q at = elim (slice_get_push_parts list p i q at) [
-  | inl old ↦ h i q old
-  | inr (n, same) ↦ subst (IsProgramme inst) same new
-]
-
--- one name more
-pub names_of-push : (d : Contents) (list : List ℕ) (p i : ℕ) (names : List (List ℕ)) → i < length names → names_of d list ≡ take i names →
-    programme_name d p ≡ get_or names i [] → names_of d (list ++ p ∷ []) ≡ take (i + 1) names
-names_of-push d list p i names l h here =
-    map-append (programme_name d) list (p ∷ []) ∙ ap (λ (xs : List (List ℕ)). xs ++ programme_name d p ∷ []) h ∙ ap (λ (x : List ℕ). take i names ++ x ∷ []) here ∙ sym (take_more names i [] l)
 
 -- one answer more
-pub AreRight-push : (inst : Instance) (m : List (Option ℕ)) (lists : List (Vec ℕ)) (mine : List ℕ) (r : ℕ) (reasons : List Why) (reason : Why) (p n : ℕ) → length reasons ≡ n →
-    slice_get mine n ≡ Some p → AreRight inst m lists mine r reasons → IsRight inst m lists mine r p reason → AreRight inst m lists mine r (reasons ++ reason ∷ [])
-AreRight-push inst m lists mine r reasons reason p n e there h new i q w at told = elim (slice_get_push_parts reasons reason i w told) [
+pub AreFirst-push : (c : CaseParts) (r : ℕ) (mine : List ℕ) (reasons : List Why) (reason : Why) (p n : ℕ) → length reasons ≡ n →
+    slice_get mine n ≡ Some p → AreFirst c r mine reasons → IsAnswer c r p reason → AreFirst c r mine (reasons ++ reason ∷ [])
+AreFirst-push c r mine reasons reason p n e there h new i q w at told = elim (slice_get_push_parts reasons reason i w told) [
   | inl old ↦ h i q w at old
   | inr (last, same) ↦
       let here : slice_get mine i ≡ Some p = ap (slice_get mine) (last ∙ e) ∙ there in
       let alike : p ≡ q = same_Some p q (sym here ∙ at) in
-      subst (λ (v : Why). IsRight inst m lists mine r q v) same (subst (λ z. IsRight inst m lists mine r z reason) alike new)
+      subst (λ (v : Why). IsAnswer c r q v) same (subst (λ z. IsAnswer c r z reason) alike new)
 ]
 
--- field i + 2 of a record is item i of its list
-field_is : (row : List (List ℕ)) (i : ℕ) → field row i ≡ get_or row i []
-unfolding field field_at
-field_is [] i = refl
-field_is (f ∷ row) zero = refl
-field_is (f ∷ row) (suc i) = field_is row i
+-- the instance is made of the lists that were read
+pub made_of_lists : (bytes : Option (List ℕ)) (d : Contents) (written : Written) → IsReadWithLists bytes d written → AreWritten d.instance written
+made_of_lists bytes d written h = record { draft = draft_of h.rows; made = ap (λ (c : Contents). c.instance) h.docket_is; lists = h.written_is }
 
-pub listed_at : (row : List (List ℕ)) (i : ℕ) → field row (i + 2) ≡ get_or (drop 2 row) i []
-listed_at row i = let two : i + 2 ≡ 2 + i = omega arith in rw two (field_is row (2 + i) ∙ sym (get_or-drop 2 row i []))
+-- the same, where nothing is known of the bytes
+pub read_of : (bytes : Option (List ℕ)) (d : Contents) (written : Written) → IsReadWithLists bytes d written → IsReadWithLists None d written
+read_of bytes d written h = record {
+  rows = h.rows;
+  all = tt;
+  faultless = h.faultless;
+  docket_is = h.docket_is;
+  written_is = h.written_is;
+  names = h.names;
+  members = h.members;
+}
+
+-- the sheet has a place for each resident
+pub places_of : (c : CaseParts) → IsCase c → IsWhole c.docket → length c.sheet ≡ length c.docket.instance.resident_lists
+places_of c h whole = (whole.sheet c.sheet h.has_sheet).one_entry_each ∙ whole.residents
+
+-- an item of a list of numbers below n
+pub below_at : (n : ℕ) (xs : List ℕ) (i p : ℕ) → i < length xs → list_all (λ x. nat_lt x n) xs ≡ true → slice_get xs i ≡ Some p → p < n
+below_at n xs i p lt all at =
+    let below : nat_lt p n ≡ true = subst (λ x. nat_lt x n ≡ true) (get_or_from_slice_get xs i p 0 at) (list_all_true_at (λ x. nat_lt x n) xs i 0 lt all) in
+    search (rules, below)
+
+-- a resident's list names the programmes of its record
+pub of_record : (d : Contents) (written : Written) (r : ℕ) → IsWhole d → IsResident d.instance r → AreOfRecord d written r (list_at written.resident_lists r)
+of_record d written r whole within bytes read = read.names r (let many = whole.residents in omega (arith, many))

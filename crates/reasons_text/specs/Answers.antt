@@ -1,44 +1,60 @@
 -- What is told of each programme of a record.
-use Rattle.std.specs.Prelude.{◌≡◌, ℕ, Bool, true, false, Option, Some, None, List, [], map, slice_get}
-use Rattle.std.specs.Global.{Vec}
-use Rattle.match_model.specs.Instance.{Instance, IsProgramme}
-use Rattle.match_reasons.specs.Reason.{AreWritten, IsFirst, IsTaken}
+use Rattle.std.specs.Prelude.{◌≡◌, ℕ, Bool, true, false, Option, Some, None, List, codes, length, map, slice_get}
+use Rattle.match_model.specs.Instance.{list_at}
+use Rattle.match_model.specs.Written.{Written}
+use Rattle.match_reasons.specs.Reason.{IsFirst, IsTaken}
 use Rattle.match_reasons.specs.declared.taken.Taken.{Taken}
 use Rattle.match_reasons.specs.declared.reason.Why.{Why}
 use Rattle.match_reasons.specs.declared.reason.Why.TheVariants.{Withdrawn, NotListed, NotRanked, Matched, PrefersOwn, Full, Blocking}
 use Rattle.docket.specs.Contents.{Contents}
-use Rattle.docket.specs.Texts.{programme_name}
+use Rattle.docket.specs.Fields.{lone_byte}
+use Rattle.docket.specs.Texts.{programme_name, resident_name}
+use Rattle.docket.specs.WithLists.{IsReadWithLists, fields_after}
 
--- the items of a list that may be missing
-abbrev pub items_or_none : Option (Vec ℕ) → List ℕ
-items_or_none None = []
-items_or_none (Some list) = list.items
+-- a docket with its sheet and its lists as they were written, and of some of the first programmes how their places are taken
+pub record CaseParts : Type 0 where
+  pub docket : Contents
+  pub sheet : List (Option ℕ)
+  pub written : Written
+  pub takens : List Taken
 
--- the list of programme p, as it was written
-abbrev pub written_list : List (Vec ℕ) → ℕ → List ℕ
-written_list lists p = items_or_none (slice_get lists p)
+abbrev pub case_of : Contents → List (Option ℕ) → Written → List Taken → CaseParts
+case_of docket sheet written takens = record { docket = docket; sheet = sheet; written = written; takens = takens }
 
 -- each is how the places of the programme of its number are taken
-abbrev pub AreTaken : List (Vec ℕ) → List (Option ℕ) → List Taken → Type 0
-AreTaken lists m takens = (p : ℕ) (t : Taken) → slice_get takens p ≡ Some t → IsTaken (written_list lists p) m p t
+abbrev pub AreTaken : Written → List (Option ℕ) → List Taken → Type 0
+AreTaken written m takens = (p : ℕ) (t : Taken) → slice_get takens p ≡ Some t → IsTaken (list_at written.programme_lists p) m p t
+
+-- the docket was read with these lists, and the sheet is the docket's
+pub record IsCase (c : CaseParts) : Type 0 where
+  pub has_sheet : c.docket.sheet ≡ Some c.sheet
+  pub read : IsReadWithLists None c.docket c.written
+  pub taken : AreTaken c.written c.sheet c.takens
 
 -- the names of these programmes
 abbrev pub names_of : Contents → List ℕ → List (List ℕ)
 names_of d programmes = map (programme_name d) programmes
 
--- each is a programme of the instance
-abbrev pub AreProgrammes : Instance → List ℕ → Type 0
-AreProgrammes inst programmes = (i p : ℕ) → slice_get programmes i ≡ Some p → IsProgramme inst p
+-- whatever bytes were read, these are the programmes in the R record of resident r, in order
+abbrev pub AreOfRecord : Contents → Written → ℕ → List ℕ → Type 0
+AreOfRecord d written r programmes = (bytes : Option (List ℕ)) (read : IsReadWithLists bytes d written)
+    → names_of d programmes ≡ fields_after (lone_byte (codes "R")) (resident_name d r) read.rows
 
--- the answer is the first that holds of r and p, where the instance was made of these lists
-abbrev pub IsRight : Instance → List (Option ℕ) → List (Vec ℕ) → List ℕ → ℕ → ℕ → Why → Type 0
-IsRight inst m lists mine r p reason = AreWritten inst r p mine (written_list lists p)
-    → IsFirst inst mine (written_list lists p) m r p reason
+-- the answer is the first that holds of r and p
+abbrev pub IsAnswer : CaseParts → ℕ → ℕ → Why → Type 0
+IsAnswer c r p reason =
+    IsFirst c.docket.instance (list_at c.written.resident_lists r) (list_at c.written.programme_lists p) c.sheet r p reason
 
 -- so is each answer, of r and the programme in its place
-abbrev pub AreRight : Instance → List (Option ℕ) → List (Vec ℕ) → List ℕ → ℕ → List Why → Type 0
-AreRight inst m lists mine r reasons =
-    (i p : ℕ) (reason : Why) → slice_get mine i ≡ Some p → slice_get reasons i ≡ Some reason → IsRight inst m lists mine r p reason
+abbrev pub AreFirst : CaseParts → ℕ → List ℕ → List Why → Type 0
+AreFirst c r programmes reasons =
+    (i p : ℕ) (reason : Why) → slice_get programmes i ≡ Some p → slice_get reasons i ≡ Some reason → IsAnswer c r p reason
+
+-- r is told of the programmes of its list, in order, and of no other: of each the first answer that holds
+pub record AreAnswers (c : CaseParts) (r : ℕ) (programmes : List ℕ) (reasons : List Why) : Type 0 where
+  pub listed : programmes ≡ list_at c.written.resident_lists r
+  pub each : length reasons ≡ length programmes
+  pub first : AreFirst c r programmes reasons
 
 -- whether the programme ranked the resident who is told this
 abbrev pub ranked_back : Why → Bool

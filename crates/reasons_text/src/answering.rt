@@ -1,126 +1,37 @@
 //! From bytes to sentences and rows.
-ghost use Rattle.std.specs.Prelude.{◌≡◌, ◌≢◌, ◌<◌, length, drop, IfErr, IfOk};
-ghost use Rattle.csv.specs.Records.{fields_of};
-ghost use Rattle.match_model.specs.Instance.{IsProgramme, IsResident};
-ghost use Rattle.reasons_text.specs.Answers.{AreTaken, names_of};
+ghost use Rattle.std.specs.Prelude.{◌≡◌, ◌≢◌, IfErr, IfOk};
+ghost use Rattle.match_model.specs.Instance.{IsResident};
+ghost use Rattle.reasons_text.specs.Told.{IsTold};
 
-use crate::answers::{
-    Answers, ProgrammeLists, all_taken, answer_record, count_answers, listed_programmes, reason_of,
-};
+use crate::answers::{Answers, count_answers};
+use crate::case::Case;
 use crate::fault::WhyFault;
 use crate::key::{Key, Names};
-use crate::lists::{PROGRAMME_LIST, RESIDENT_LIST, Records, field};
 use crate::naming::MemberNumbers;
 use crate::near::{unknown_programme, unknown_resident};
 use crate::question::Asked;
-use crate::recorder::{Recorded, Recorder};
 use crate::sentences::{push_first_line, push_line};
 use crate::table::{HEADING, push_row};
-use docket::{Docket, DocketFault, read_docket};
-use match_model::{Assignment, ProgrammeNo, ResidentNo};
+use docket::DocketFault;
+use match_model::{ProgrammeNo, ResidentNo};
 use std::alloc::{AllocError, Global};
 use std::hash::RandomState;
 use std::io::{Read, Write};
 use std::random::RandomSource;
 
-// What every answer is made from: the docket with its sheet, the names, and the programmes' lists.
+// How the answers are told: with these names, and with or without the numbers of the programmes' lists.
 #[derive(Clone, Copy)]
-struct Case<'a> {
-    docket: &'a Docket,
-    sheet: &'a Assignment,
-    numbers: &'a MemberNumbers,
+struct Manner<'a> {
     names: Names<'a>,
-    programmes: &'a ProgrammeLists,
     without_ranks: bool,
 }
 
-// Whom the question is about: nobody alone, or a resident, and maybe one programme.
+// Whom the question is about, by number.
 #[derive(Clone, Copy)]
-struct Told {
-    resident: Option<ResidentNo>,
-    programme: Option<ProgrammeNo>,
-}
-
-// The residents whom a record lists.
-fn listed_residents(
-    alloc: Global,
-    docket: &Docket,
-    numbers: &MemberNumbers,
-    records: &Records,
-) -> Result<Vec<ResidentNo>, WhyFault> {
-    let mut list = Vec::new(alloc);
-    for text in records.row.iter().skip(2) {
-        let Some(resident) = numbers.resident(docket, text) else {
-            return Err(records.unknown_name());
-        };
-        let Ok(()) = list.push(resident) else {
-            return Err(WhyFault::Docket(DocketFault::Memory));
-        };
-    }
-    Ok(list)
-}
-
-// Takes in the programmes' lists, record by record.
-fn read_lists(
-    alloc: Global,
-    docket: &Docket,
-    numbers: &MemberNumbers,
-    records: &mut Records,
-    lists: &mut Vec<Vec<ResidentNo>>,
-) -> Result<(), WhyFault> {
-    for _n in 0..u64::MAX {
-        if !records.next()? {
-            break;
-        }
-        if field(&records.row, 0) == PROGRAMME_LIST {
-            let Some(owner) = numbers.programme(docket, field(&records.row, 1)) else {
-                return Err(records.unknown_name());
-            };
-            let list = listed_residents(alloc, docket, numbers, records)?;
-            if let Some(slot) = lists.get_mut(owner.0 as usize) {
-                *slot = list;
-            }
-        }
-    }
-    Ok(())
-}
-
-// The programmes' lists as they were written.
-fn programmes_lists(
-    alloc: Global,
-    docket: &Docket,
-    numbers: &MemberNumbers,
-    bytes: &[u8],
-) -> Result<Vec<Vec<ResidentNo>>, WhyFault> {
-    let mut lists = Vec::new(alloc);
-    for _p in 0..docket.instance().programmes() {
-        let Ok(()) = lists.push(Vec::new(alloc)) else {
-            return Err(WhyFault::Docket(DocketFault::Memory));
-        };
-    }
-    let mut records = Records::new(alloc, bytes)?;
-    read_lists(alloc, docket, numbers, &mut records, &mut lists)?;
-    Ok(lists)
-}
-
-// The programmes' lists and, where all residents are told, how the places of each are taken.
-fn programmes_of(
-    alloc: Global,
-    docket: &Docket,
-    sheet: &Assignment,
-    numbers: &MemberNumbers,
-    bytes: &[u8],
-    is_all: bool,
-) -> Result<ProgrammeLists, WhyFault>
-    ensures { IfOk result (λ p. AreTaken p.lists.items sheet.now p.takens.items) }
-{
-    let lists = programmes_lists(alloc, docket, numbers, bytes)?;
-    let takens = if is_all {
-        all_taken(alloc, docket, sheet, lists.as_slice())?
-    } else {
-        Vec::new(alloc)
-    };
-    Ok(ProgrammeLists { lists, takens })
+enum Told {
+    All,
+    Resident(ResidentNo),
+    Pair(ResidentNo, ProgrammeNo),
 }
 
 // Adds the first line on a resident, and the line on each programme of its record.
@@ -128,25 +39,26 @@ fn push_lines(
     alloc: Global,
     text: &mut String,
     case: &Case,
+    manner: &Manner,
     resident: ResidentNo,
-    answers: &Answers,
 ) -> Result<(), AllocError>
-    requires { resident < length case.now.sheet.now }
+    requires { IsResident case.now.docket.instance resident }
 {
+    let answers = case.answers(alloc, resident)?;
     let list = answers.programmes.as_slice();
     let reasons = answers.reasons.as_slice();
-    let own = case.sheet.get(resident);
+    let own = case.place_of(resident);
     let tally = count_answers(reasons);
-    push_first_line(alloc, text, &case.names, resident, own, list, tally)?;
+    push_first_line(alloc, text, &manner.names, resident, own, list, tally)?;
     for (programme, reason) in list.iter().zip(reasons) {
         push_line(
             alloc,
             text,
-            &case.names,
+            &manner.names,
             resident,
             *programme,
             *reason,
-            case.without_ranks,
+            manner.without_ranks,
         )?;
     }
     Ok(())
@@ -155,7 +67,7 @@ fn push_lines(
 // Adds the row on each programme of a resident's record.
 fn push_rows(
     text: &mut String,
-    case: &Case,
+    manner: &Manner,
     resident: ResidentNo,
     answers: &Answers,
 ) -> Result<(), AllocError> {
@@ -164,147 +76,56 @@ fn push_rows(
         choice = choice.saturating_add(1);
         push_row(
             text,
-            &case.names,
+            &manner.names,
             resident,
             choice,
             *programme,
             *reason,
-            case.without_ranks,
+            manner.without_ranks,
         )?;
     }
     Ok(())
 }
 
-// Adds what is told of one programme to the resident of a record.
-fn push_one(
+// Adds the heading, and the rows on all residents.
+fn push_all_rows(
     alloc: Global,
     text: &mut String,
     case: &Case,
-    resident: ResidentNo,
-    programme: ProgrammeNo,
-    records: &Records,
-) -> Result<(), WhyFault>
-    requires resident { IsResident case.now.docket.now.instance resident }
-    requires programme { IsProgramme case.now.docket.now.instance programme }
-    requires one_place_each { length case.now.sheet.now
-        ≡ length case.now.docket.now.instance.resident_lists }
-    requires takens { AreTaken case.now.programmes.now.lists.items case.now.sheet.now
-        case.now.programmes.now.takens.items }
-{
-    let list = listed_programmes(
-        alloc,
-        case.docket,
-        case.numbers,
-        &records.row,
-        records.place,
-    )?;
-    let reason = reason_of(
-        case.docket,
-        case.sheet,
-        case.programmes,
-        resident,
-        list.as_slice(),
-        programme,
-    );
-    push_line(
-        alloc,
-        text,
-        &case.names,
-        resident,
-        programme,
-        reason,
-        case.without_ranks,
-    )?;
+    manner: &Manner,
+) -> Result<(), AllocError> {
+    text.push_str(HEADING)?;
+    for r in 0..case.docket().instance().residents() {
+        let resident = ResidentNo(r);
+        let answers = case.answers(alloc, resident)?;
+        push_rows(text, manner, resident, &answers)?;
+    }
     Ok(())
 }
 
-// What is told to the resident of a record, of each of its programmes.
-fn answers_of(
-    alloc: Global,
-    case: &Case,
-    resident: ResidentNo,
-    records: &Records,
-) -> Result<Answers, WhyFault>
-    requires resident { IsResident case.now.docket.now.instance resident }
-    requires one_place_each { length case.now.sheet.now
-        ≡ length case.now.docket.now.instance.resident_lists }
-    requires takens { AreTaken case.now.programmes.now.lists.items case.now.sheet.now
-        case.now.programmes.now.takens.items }
-    ensures record { IfOk result (λ answers.
-        names_of case.now.docket.now answers.programmes.items
-        ≡ drop 2 (fields_of records.now.row)) }
-{
-    answer_record(
-        alloc,
-        case.docket,
-        case.sheet,
-        case.numbers,
-        case.programmes,
-        resident,
-        &records.row,
-        records.place,
-    )
-}
-
-// Adds what is told by the record of a resident.
-fn push_record(
+// Adds what is told.
+fn push_told(
     alloc: Global,
     text: &mut String,
     case: &Case,
-    resident: ResidentNo,
-    records: &Records,
+    manner: &Manner,
     told: Told,
-) -> Result<(), WhyFault>
-    requires resident { IsResident case.now.docket.now.instance resident }
-    requires one_place_each { length case.now.sheet.now
-        ≡ length case.now.docket.now.instance.resident_lists }
-    requires takens { AreTaken case.now.programmes.now.lists.items case.now.sheet.now
-        case.now.programmes.now.takens.items }
+) -> Result<(), AllocError>
+    requires { IsTold case.now.docket.instance told }
 {
-    let Some(asked) = told.resident else {
-        let answers = answers_of(alloc, case, resident, records)?;
-        push_rows(text, case, resident, &answers)?;
-        return Ok(());
-    };
-    if asked != resident {
-        return Ok(());
+    match told {
+        Told::All => push_all_rows(alloc, text, case, manner),
+        Told::Resident(resident) => push_lines(alloc, text, case, manner, resident),
+        Told::Pair(resident, programme) => push_line(
+            alloc,
+            text,
+            &manner.names,
+            resident,
+            programme,
+            case.reason(resident, programme),
+            manner.without_ranks,
+        ),
     }
-    let Some(programme) = told.programme else {
-        let answers = answers_of(alloc, case, resident, records)?;
-        push_lines(alloc, text, case, resident, &answers)?;
-        return Ok(());
-    };
-    if programme.0 < case.docket.instance().programmes() {
-        push_one(alloc, text, case, resident, programme, records)?;
-    }
-    Ok(())
-}
-
-// Adds what is told, record by record.
-fn push_records(
-    alloc: Global,
-    text: &mut String,
-    case: &Case,
-    records: &mut Records,
-    told: Told,
-) -> Result<(), WhyFault>
-    requires one_place_each { length case.now.sheet.now
-        ≡ length case.now.docket.now.instance.resident_lists }
-    requires takens { AreTaken case.now.programmes.now.lists.items case.now.sheet.now
-        case.now.programmes.now.takens.items }
-{
-    for _n in 0..u64::MAX {
-        if !records.next()? {
-            break;
-        }
-        if field(&records.row, 0) == RESIDENT_LIST {
-            let Some(resident) = case.numbers.resident(case.docket, field(&records.row, 1)) else {
-                return Err(records.unknown_name());
-            };
-            push_record(alloc, text, case, resident, records, told)?;
-        }
-    }
-    Ok(())
 }
 
 // Whom the question is about. An unknown name is told with near ones.
@@ -313,14 +134,11 @@ fn told_of(
     numbers: &MemberNumbers,
     names: &Names,
     asked: Asked,
-) -> Result<Told, WhyFault> {
+) -> Result<Told, WhyFault>
+    ensures { IfOk result (IsTold names.now.docket.now.instance) }
+{
     let (resident_name, programme_name) = match asked {
-        Asked::All => {
-            return Ok(Told {
-                resident: None,
-                programme: None,
-            });
-        }
+        Asked::All => return Ok(Told::All),
         Asked::Resident(resident) => (resident, None),
         Asked::Pair(resident, programme) => (resident, Some(programme)),
     };
@@ -328,16 +146,10 @@ fn told_of(
         return Err(unknown_resident(alloc, names, resident_name)?);
     };
     let Some(programme_name) = programme_name else {
-        return Ok(Told {
-            resident: Some(resident),
-            programme: None,
-        });
+        return Ok(Told::Resident(resident));
     };
     match names.find_programme(numbers, programme_name) {
-        Some(programme) => Ok(Told {
-            resident: Some(resident),
-            programme: Some(programme),
-        }),
+        Some(programme) => Ok(Told::Pair(resident, programme)),
         None => Err(unknown_programme(alloc, names, programme_name)?),
     }
 }
@@ -346,15 +158,12 @@ fn told_of(
 fn text_of(
     alloc: Global,
     keys: RandomState,
-    docket: &Docket,
-    bytes: &[u8],
+    case: &Case,
     key_bytes: Option<&[u8]>,
     asked: Asked,
     without_ranks: bool,
 ) -> Result<String, WhyFault> {
-    let Some(sheet) = docket.sheet() else {
-        return Err(WhyFault::NoSheet);
-    };
+    let docket = case.docket();
     let numbers = MemberNumbers::of(alloc, keys, docket)?;
     let key = match key_bytes {
         Some(bytes) => Key::read(alloc, docket, &numbers, bytes)?,
@@ -362,44 +171,13 @@ fn text_of(
     };
     let names = Names { docket, key: &key };
     let told = told_of(alloc, &numbers, &names, asked)?;
-    let is_all = told.resident.is_none();
-    let programmes = programmes_of(alloc, docket, sheet, &numbers, bytes, is_all)?;
-    let case = Case {
-        docket,
-        sheet,
-        numbers: &numbers,
+    let manner = Manner {
         names,
-        programmes: &programmes,
         without_ranks,
     };
     let mut text = String::new(alloc);
-    if is_all {
-        text.push_str(HEADING)?;
-    }
-    let mut records = Records::new(alloc, bytes)?;
-    push_records(alloc, &mut text, &case, &mut records, told)?;
+    push_told(alloc, &mut text, case, &manner, told)?;
     Ok(text)
-}
-
-// The key's bytes and the docket with its bytes, as they were read.
-fn read_recorded<R: Read + Drop, H: RandomSource>(
-    rt: &H,
-    alloc: Global,
-    reader: R,
-    recorded: &mut Recorded,
-) -> Result<Docket, WhyFault> {
-    let read = read_docket(
-        rt,
-        alloc,
-        Recorder {
-            inner: reader,
-            recorded,
-        },
-    );
-    match read {
-        Ok(docket) => Ok(docket),
-        Err(fault) => Err(WhyFault::Docket(fault)),
-    }
 }
 
 /// Reads a docket with a sheet, and writes why: of a resident the first line and one on each programme of its record, of a
@@ -438,12 +216,6 @@ fn read_and_tell<R: Read + Drop, H: RandomSource>(
     let Ok(keys) = RandomState::new(rt) else {
         return Err(WhyFault::Docket(DocketFault::Read { place: 1 }));
     };
-    let mut recorded = Recorded::new(alloc);
-    let read = read_recorded(rt, alloc, reader, &mut recorded);
-    if recorded.is_short {
-        return Err(WhyFault::Docket(DocketFault::Memory));
-    }
-    let docket = read?;
-    let bytes = recorded.bytes.as_slice();
-    text_of(alloc, keys, &docket, bytes, key_bytes, asked, without_ranks)
+    let case = Case::read(rt, alloc, reader, asked == Asked::All)?;
+    text_of(alloc, keys, &case, key_bytes, asked, without_ranks)
 }

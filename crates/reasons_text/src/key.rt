@@ -4,7 +4,6 @@ ghost use Rattle.std.specs.Prelude.{IfSome};
 ghost use Rattle.match_model.specs.Instance.{IsProgramme, IsResident};
 
 use crate::fault::WhyFault;
-use crate::lists::field;
 use crate::naming::MemberNumbers;
 use csv::{ByteRecord, Reader, ReaderBuilder};
 use docket::{Docket, DocketFault};
@@ -16,6 +15,14 @@ use std::alloc::{AllocError, Global};
 pub(crate) struct Key {
     residents: Vec<String>,
     programmes: Vec<String>,
+}
+
+// Field `i` of a row, from 0, which is empty past the end.
+fn field(row: &ByteRecord, i: usize) -> &[u8] {
+    match row.get(i) {
+        Some(text) => text,
+        None => &[],
+    }
 }
 
 // So many empty names.

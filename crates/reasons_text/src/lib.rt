@@ -6,15 +6,14 @@
 
 mod answering;
 mod answers;
+mod case;
 mod fault;
 mod key;
 mod line;
-mod lists;
 mod naming;
 mod near;
 mod program;
 mod question;
-mod recorder;
 mod sentences;
 mod status;
 mod table;
@@ -22,6 +21,8 @@ mod table;
 mod tests;
 
 pub use answering::serve_why;
+pub use answers::Answers;
+pub use case::Case;
 pub use fault::WhyFault;
 pub use line::{LineFault, read_line};
 pub use program::{UsageFault, tell_words};

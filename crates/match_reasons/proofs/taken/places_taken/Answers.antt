@@ -1,4 +1,5 @@
 use Rattle.std.proofs.Common.{◌≡◌, ℕ, ◌+◌, List, max, unwrap_or, Some, arith, sym, ap, ◌∙◌, subst}
+use Rattle.match_model.specs.Instance.{list_at}
 use Rattle.std.specs.Prelude.{Option}
 use Rattle.match_model.specs.Ranking.{place}
 use Rattle.match_reasons.proofs.Tallies.{IsSoFar, IsSoFar-more, IsSoFar-other, IsSoFar-all}
@@ -7,7 +8,7 @@ use Rattle.match_reasons.proofs.taken.places_taken.Goals as goal
 
 pub loop-r-preserved : goal.loop-r-preserved
 loop-r-preserved c =
-    let xs : List ℕ = c.args.list.now in
+    let xs : List ℕ = (list_at c.args.written.now.programme_lists c.args.programme) in
     let m : List (Option ℕ) = c.args.sheet.now in
     let p : ℕ = c.args.programme in
     let r : ℕ = c.loop-r.r in
@@ -26,4 +27,4 @@ loop-r-preserved c =
     ]
 
 pub returns : goal.returns
-returns c = IsSoFar-all c.args.list.now c.args.sheet.now c.args.programme c.loop-r.r c.loop-r.members c.loop-r.last (omega arith) c.loop-r.invariant
+returns c = IsSoFar-all (list_at c.args.written.now.programme_lists c.args.programme) c.args.sheet.now c.args.programme c.loop-r.r c.loop-r.members c.loop-r.last (omega arith) c.loop-r.invariant

@@ -1,5 +1,6 @@
+use Rattle.match_model.specs.Instance.{list_at}
 use Rattle.match_reasons.proofs.Tallies.{IsSoFar}
 use Rattle.match_reasons.proofs.taken.places_taken.Given as goal
 
 abbrev pub invariant-loop-r : goal.invariant-loop-r
-invariant-loop-r l = IsSoFar l.list l.sheet l.programme l.r l.members l.last
+invariant-loop-r l = IsSoFar (list_at l.written.programme_lists l.programme) l.sheet l.programme l.r l.members l.last

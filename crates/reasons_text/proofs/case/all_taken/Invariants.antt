@@ -1,6 +1,6 @@
 use Rattle.std.proofs.Common.{◌≡◌, length}
 use Rattle.reasons_text.specs.Answers.{AreTaken}
-use Rattle.reasons_text.proofs.answers.all_taken.Given as goal
+use Rattle.reasons_text.proofs.case.all_taken.Given as goal
 
 abbrev pub invariant-loop-p : goal.invariant-loop-p
 invariant-loop-p l = record { each : length l.takens.items ≡ l.p; taken : AreTaken l.lists l.sheet l.takens.items }

@@ -1,0 +1,11 @@
+-- Whom a question is about.
+use Rattle.std.specs.Prelude.{ℕ}
+use Rattle.match_model.specs.Instance.{Instance, IsProgramme, IsResident}
+use Rattle.reasons_text.specs.declared.answering.Told.{Told}
+use Rattle.reasons_text.specs.declared.answering.Told.TheVariants.{All, Resident, Pair}
+
+-- whoever is named is a member of the instance
+abbrev pub IsTold : Instance → Told → Type 0
+IsTold inst All = Unit {0}
+IsTold inst (Resident r) = IsResident inst r
+IsTold inst (Pair r p) = IsResident inst r × IsProgramme inst p

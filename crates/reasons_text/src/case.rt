@@ -1,0 +1,227 @@
+//! What every answer is made from: a docket with a sheet, and its lists as they were written.
+ghost use Rattle.std.specs.Prelude.{◌≡◌, IfOk, Some};
+ghost use Rattle.docket.specs.WithLists.{IsReadWithLists};
+ghost use Rattle.match_model.specs.Instance.{IsProgramme, IsResident, list_at};
+ghost use Rattle.match_model.specs.Placement.{programme_of};
+ghost use Rattle.match_reasons.specs.Reason.{IsTaken};
+ghost use Rattle.reasons_text.specs.Answers.{AreAnswers, AreOfRecord, AreTaken, IsAnswer, IsCase, case_of};
+
+use crate::answers::Answers;
+use crate::fault::WhyFault;
+use docket::{Docket, DocketFault, read_docket_with_lists};
+use match_model::{Assignment, ProgrammeNo, ResidentNo, WrittenLists};
+use match_reasons::{Taken, Why, places_taken, why};
+use std::alloc::{AllocError, Global};
+use std::io::Read;
+use std::marker::Model;
+use std::random::RandomSource;
+
+/// A docket with a sheet, its lists as they were written and, of some of the first programmes, how their places are taken.
+pub struct Case {
+    docket: Docket,
+    lists: WrittenLists,
+    takens: Vec<Taken>,
+}
+
+impl Model for Case {
+    ghost use Rattle.std.specs.Prelude.{unwrap_or, []};
+    ghost use Rattle.reasons_text.specs.Answers.{CaseParts, IsCase, case_of};
+
+    ghost Value = { CaseParts };
+
+    ghost view = { λ c. case_of c.docket (unwrap_or c.docket.sheet []) c.lists c.takens.items };
+
+    ghost invariant = { λ c. IsCase (case_of c.docket (unwrap_or c.docket.sheet []) c.lists c.takens.items) };
+}
+
+// As one call, so that whoever lets a case go proves nothing of its parts.
+impl Drop for Case {
+    fn drop(self) {
+        let Case {
+            docket: _,
+            lists: _,
+            takens: _,
+        } = self;
+    }
+}
+
+// How the places of each programme are taken.
+fn all_taken(
+    alloc: Global,
+    programmes: u32,
+    sheet: &Assignment,
+    lists: &WrittenLists,
+) -> Result<Vec<Taken>, AllocError>
+    ensures { IfOk result (λ takens. AreTaken lists.now sheet.now takens.items) }
+{
+    let mut takens = Vec::new(alloc);
+    for p in 0..programmes {
+        takens.push(places_taken(sheet, lists, ProgrammeNo(p)))?;
+    }
+    Ok(takens)
+}
+
+// How a programme's places are taken, which is looked up where it is known.
+fn taken_of(
+    sheet: &Assignment,
+    lists: &WrittenLists,
+    takens: &[Taken],
+    programme: ProgrammeNo,
+) -> Taken
+    requires { AreTaken lists.now sheet.now takens.now }
+    ensures { IsTaken (list_at lists.now.programme_lists programme) sheet.now programme result }
+{
+    match takens.get(programme.0 as usize) {
+        Some(taken) => *taken,
+        None => places_taken(sheet, lists, programme),
+    }
+}
+
+// What a resident is told of one programme.
+fn reason_from(
+    docket: &Docket,
+    sheet: &Assignment,
+    lists: &WrittenLists,
+    takens: &[Taken],
+    resident: ResidentNo,
+    programme: ProgrammeNo,
+) -> Why
+    requires case { IsCase (case_of docket.now sheet.now lists.now takens.now) }
+    requires resident { IsResident docket.now.instance resident }
+    requires programme { IsProgramme docket.now.instance programme }
+    ensures { IsAnswer (case_of docket.now sheet.now lists.now takens.now) resident programme result }
+{
+    let inst = docket.instance();
+    let taken = taken_of(sheet, lists, takens, programme);
+    why(inst, lists, sheet, &taken, resident, programme)
+}
+
+// What a resident is told of each programme of its list.
+fn answers_from(
+    alloc: Global,
+    docket: &Docket,
+    sheet: &Assignment,
+    lists: &WrittenLists,
+    takens: &[Taken],
+    resident: ResidentNo,
+) -> Result<Answers, AllocError>
+    requires case { IsCase (case_of docket.now sheet.now lists.now takens.now) }
+    requires resident { IsResident docket.now.instance resident }
+    ensures first { IfOk result (λ answers. AreAnswers (case_of docket.now sheet.now lists.now takens.now)
+        resident answers.programmes.items answers.reasons.items) }
+    ensures record { IfOk result (λ answers. AreOfRecord docket.now lists.now resident answers.programmes.items) }
+{
+    // For the proof alone: the docket is whole.
+    let _inst = docket.instance();
+    let mut programmes = Vec::new(alloc);
+    let mut reasons = Vec::new(alloc);
+    for place in 0..lists.listed_by_resident(resident) {
+        let Some(programme) = lists.choice(resident, place) else {
+            unreachable!("the list is so long");
+        };
+        programmes.push(programme)?;
+        reasons.push(reason_from(docket, sheet, lists, takens, resident, programme))?;
+    }
+    Ok(Answers {
+        programmes,
+        reasons,
+    })
+}
+
+impl Case {
+    /// Reads a docket that has a sheet, with its lists. Where all residents are told, it is counted at once how the places of
+    /// each programme are taken.
+    pub fn read<R: Read + Drop, H: RandomSource>(
+        rt: &H,
+        alloc: Global,
+        reader: R,
+        are_all_told: bool,
+    ) -> Result<Case, WhyFault>
+        ensures read { IfOk result (λ case. IsReadWithLists (R.remaining reader) case.docket case.written) }
+        ensures sheet { IfOk result (λ case. case.docket.sheet ≡ Some case.sheet) }
+    {
+        let (docket, lists) = match read_docket_with_lists(rt, alloc, reader) {
+            Ok(read) => read,
+            Err(fault) => return Err(WhyFault::Docket(fault)),
+        };
+        let Some(sheet) = docket.sheet() else {
+            return Err(WhyFault::NoSheet);
+        };
+        let programmes = if are_all_told {
+            docket.instance().programmes()
+        } else {
+            0
+        };
+        let takens = all_taken(alloc, programmes, sheet, &lists)?;
+        Ok(Case {
+            docket,
+            lists,
+            takens,
+        })
+    }
+
+    /// The docket.
+    pub fn docket(&self) -> &Docket
+        ensures { result.now ≡ self.now.docket }
+    {
+        &self.docket
+    }
+
+    /// The docket's sheet.
+    pub fn sheet(&self) -> &Assignment
+        ensures { result.now ≡ self.now.sheet }
+    {
+        let Some(sheet) = self.docket.sheet() else {
+            unreachable!("a case has a sheet");
+        };
+        sheet
+    }
+
+    /// Where the sheet places a resident.
+    pub fn place_of(&self, resident: ResidentNo) -> Option<ProgrammeNo>
+        requires { IsResident self.now.docket.instance resident }
+        ensures { result ≡ programme_of self.now.sheet resident }
+    {
+        // For the proof alone: the sheet has a place for each resident.
+        let _inst = self.docket.instance();
+        self.sheet().get(resident)
+    }
+
+    /// What a resident is told of one programme: the first answer that holds.
+    pub fn reason(&self, resident: ResidentNo, programme: ProgrammeNo) -> Why
+        requires resident { IsResident self.now.docket.instance resident }
+        requires programme { IsProgramme self.now.docket.instance programme }
+        ensures { IsAnswer self.now resident programme result }
+    {
+        let takens = self.takens.as_slice();
+        reason_from(
+            &self.docket,
+            self.sheet(),
+            &self.lists,
+            takens,
+            resident,
+            programme,
+        )
+    }
+
+    /// What a resident is told of each programme of its record, in order, and of no other.
+    pub fn answers(&self, alloc: Global, resident: ResidentNo) -> Result<Answers, AllocError>
+        requires { IsResident self.now.docket.instance resident }
+        ensures first { IfOk result (λ answers.
+            AreAnswers self.now resident answers.programmes.items answers.reasons.items) }
+
+        // Their names are the fields of the resident's R record, whatever bytes were read.
+        ensures record { IfOk result (λ answers.
+            AreOfRecord self.now.docket self.now.written resident answers.programmes.items) }
+    {
+        let takens = self.takens.as_slice();
+        answers_from(
+            alloc,
+            &self.docket,
+            self.sheet(),
+            &self.lists,
+            takens,
+            resident,
+        )
+    }
+}
