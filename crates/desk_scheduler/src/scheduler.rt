@@ -23,8 +23,8 @@ pub enum Next {
 }
 
 /// The desks in hands and those that may have work, each listed at most once, by number: residents' desks before
-/// programmes'. Residents' are taken first, so that a programme hears many answers in a visit; of each side those that may
-/// have more to do than to hear a hold; and of these the one listed last, of which most is still near.
+/// programmes'. Residents' are taken first, so that a programme hears many answers in a visit. Of each side those come first
+/// that may have more to do than to hear a hold. Of these the one listed last comes first, since most of it is still near.
 #[derive(Debug, Drop)]
 pub struct Scheduler {
     residents: Side,

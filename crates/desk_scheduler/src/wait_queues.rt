@@ -5,8 +5,8 @@ ghost use Rattle.desk_scheduler.specs.Waits.{linked_at, was_called, one_waits};
 
 use std::alloc::{AllocError, Global};
 
-/// For each mailbox the first and the last of the desks whose put was refused as full, and for each desk the mailbox
-/// for which it waits, who waits before and behind it, and whether it was called for room; and how many wait in all, so
+/// The desks that wait for room in a mailbox that refused their put as full. Each mailbox has its first and its last. Each
+/// desk has the mailbox, who waits before and behind it, and whether it was called. How many wait in all is counted, so
 /// that nothing is looked up while nobody does. Mailboxes and desks go by the number of the desk. Each desk waits for one
 /// mailbox at most.
 #[derive(Debug, Drop)]

@@ -76,9 +76,6 @@ impl GivenLists {
         }
     }
 
-<<<<<<< HEAD
-    /// Gives a member its list of residents. Each resident is below `others` and stands in the list once.
-=======
     /// The items of the list of whoever has this number, none where there is no list.
     pub(crate) fn written(&self, owner: u32) -> &[u32]
         ensures { result.now ≡ list_at (given_lists self.now) owner }
@@ -89,8 +86,7 @@ impl GivenLists {
         self.items(owner as usize)
     }
 
-    /// Gives a member the list of these residents, each of whom is below `others` and stands in it once.
->>>>>>> why/draft
+    /// Gives a member its list of residents. Each resident is below `others` and stands in the list once.
     pub(crate) fn give_residents(
         &mut self,
         owner: usize,

@@ -140,8 +140,9 @@ where
     ExitCode::from(exit_status(&answer))
 }
 
-/// Answers the question of the words, and gives the exit status: 0 for an answer, 1 where memory, reading or writing
-/// failed, 2 for a wrong command line, 3 for a docket at fault, without a sheet, or without the names, or a bad key.
+/// Answers the question of the words, and gives the exit status. It is 0 for an answer, 1 where memory, reading or writing
+/// failed, and 2 for a wrong command line. It is 3 for a bad key, and for a docket at fault, without a sheet or without the
+/// names.
 ///
 /// The words are those after the program's own name. What help and the version say goes to standard output, and why nothing
 /// was told to standard error.
