@@ -5,8 +5,8 @@ use Rattle.desk_scheduler.specs.declared.wake.Wake.{Wake}
 use Rattle.desk_scheduler.specs.declared.wake.Wake.TheVariants.{Work, Hold}
 use Rattle.desk_scheduler.specs.declared.side.Place.TheVariants.{Idle, Listed, InHand, InHandAgain}
 
--- where the desks of one kind are, by number, and those that are listed, in two tiers: those that may have more to do, and
--- behind them those that were woken for a hold alone; in each the next one first
+-- where the desks of one kind are, by number, and those that are listed, in two tiers. Behind those that may have more to do
+-- are those that were woken for a hold alone. In each the next one is first
 pub record Desks : Type 0 where
   pub places : List Place
   pub ready : List ℕ
@@ -33,7 +33,7 @@ abbrev pub listed_for : Desks → ℕ → Wake → Desks
 listed_for desks d Work = on_top desks d
 listed_for desks d Hold = on_top_behind desks d
 
--- a desk at this place is woken: one with nobody is listed, one in a hand is marked, to be listed when it is let go
+-- a desk at this place is woken. One with nobody is listed. One in a hand is marked, to be listed when it is let go
 abbrev pub listed_from : Desks → ℕ → Wake → Place → Desks
 listed_from desks d wake Idle = listed_for desks d wake
 listed_from desks d wake InHand = moved desks d InHandAgain
@@ -44,7 +44,7 @@ listed_from desks d wake InHandAgain = desks
 abbrev pub listing : Desks → ℕ → Wake → Desks
 listing desks d wake = listed_from desks d wake (place_of desks d)
 
--- a desk at this place leaves a hand: one that may have work again is listed; one that is in no hand stays where it is
+-- a desk at this place leaves a hand. One that may have work again is listed. One that is in no hand stays where it is
 abbrev pub let_go_from : Desks → ℕ → Bool → Place → Desks
 let_go_from desks d again InHandAgain = on_top desks d
 let_go_from desks d true InHand = on_top desks d
@@ -80,7 +80,7 @@ times InHandAgain = 0
 abbrev pub one_for : ℕ → ℕ → ℕ
 one_for d x = cond (x == d) 1 0
 
--- each desk is listed once, in one of the tiers, where its place says so, and else never; as many are listed as places say, and
+-- each desk is listed once, in one of the tiers, where its place says so, and else never. As many are listed as places say, and
 -- either tier has room for all
 pub record AreListed (places : List Place) (listed behind : List ℕ) (reserved reserved_behind : ℕ) : Type 0 where
   pub once : (d : ℕ) → sum_by (one_for d) listed + sum_by (one_for d) behind ≡ times (slice_index_or places d Idle)

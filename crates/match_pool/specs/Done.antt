@@ -34,16 +34,16 @@ pub record IsSettledRun (inst : Instance) (journal : List Event) (assignment : L
   pub stable : IsStable inst assignment
   pub settled : IsSettled inst assignment
 
--- each event has the number of its worker, one of so many, and each worker the number of events that have its number, which are all events together
+-- each event has the number of its worker, one of so many. Each worker has the number of its events, which are all events together
 pub record AreCounted (workers : ℕ) (journal : List Event) (who entered : List ℕ) : Type 0 where
   pub one_worker_each : length who ≡ length journal
   pub among_the_workers : All (λ w. w < workers) who
   pub counted : Each entered workers (λ w n. n ≡ count_by (λ v. v == w) who)
   pub all_counted : sum entered ≡ length journal
 
--- what a run by so many workers gives, with a gate that may stop it or may not: a legal journal, closed exactly where the
--- run ended so, which is what the ends of every desk have put and the log of its own agent has; the assignment that it
--- gives, settled where the run closed; and each event's worker
+-- what a run by so many workers gives, with a gate that may stop it or may not. Its journal is legal, and closed exactly where
+-- the run ended so. It is what the ends of every desk have put, and what the log of each agent has. Beside it stand the
+-- assignment that it gives, settled where the run closed, and each event's worker
 pub record IsRunOf {M P T Q U : Type 0} (done : Done M P T Q U) (offers_put : P → List ℕ) (offers_taken : T → List ℕ)
     (answers_put : Q → List Answered) (answers_taken : U → List Answered) (inst : Instance) (cap : Capacity) (workers : ℕ) (may_stop : Bool) : Type 0 where
   pub legal : IsLegal inst cap done.journal.items
@@ -65,7 +65,8 @@ IsReceipt (Take r p) = Unit {0}
 IsReceipt (Hear p r k) = Unit {0}
 IsReceipt e = ⊥
 
--- no fault of the number of workers or of the capacity; out of step a receipt that may not follow a legal journal; of the others nothing is said
+-- no fault of the number of workers or of the capacity. Out of step is a receipt that may not follow a legal journal. Of the
+-- others nothing is said
 abbrev pub IsFault : Instance → Capacity → RunFault → Type 0
 IsFault inst cap BadWorkers = ⊥
 IsFault inst cap BadCapacity = ⊥

@@ -4,7 +4,8 @@ use Rattle.match_model.specs.Instance.{Instance, list_of_resident, list_of_progr
 use Rattle.exchange_core.specs.declared.event.Capacity.{Capacity}
 use Rattle.exchange_core.specs.declared.event.Capacity.TheVariants.{Full, Each}
 
--- the room of a mailbox into which at most so many messages are put: as many at full capacity, else no more than the capacity, and one at least
+-- the room of a mailbox into which at most so many messages are put. It is as many at full capacity, else no more than the
+-- capacity, and one at least
 abbrev pub room_of : Capacity → ℕ → ℕ
 room_of Full most = max most 1
 room_of (Each n) most = min n (max most 1)

@@ -12,7 +12,7 @@ use offer_ledger::{EntryRefused, ExchangeIdentity, Ledger, PutRefusal, Tally};
 use std::alloc::{AllocError, Global};
 use std::marker::Model;
 
-/// The ledger, the desks that wait for room, and a receipt that the core refused, if it refused one: the ledger is
+/// The ledger, the desks that wait for room, and a receipt that the core refused, if it refused one. The ledger is
 /// spoiled then, so that the receipt is out of step ever after.
 pub(crate) struct Exchange<J: ExchangeIdentity, M: Mailboxes> {
     ledger: Ledger<J, M::OfferPut, M::AnswerPut>,
@@ -33,9 +33,9 @@ impl<J: ExchangeIdentity, M: Mailboxes> Model for Exchange<J, M> {
 /// What became of an event that was to be entered.
 #[derive(Clone, Copy, Debug)]
 pub(crate) enum Entry {
-    /// It is entered. Whether the desk's mailbox has more, which isn't asked after a take, since an answer comes before
-    /// the next; and which desk it woke: the receiver of a put whose mailbox was empty, or who waited for the room that
-    /// a receipt made.
+    /// It is entered. `more` tells whether the desk's mailbox has more. After a take nobody asks, since an answer comes
+    /// before the next. `woken` is the receiver of a put whose mailbox was empty, or who waited for the room that a
+    /// receipt made.
     Made { more: bool, woken: Option<u32> },
     /// The mailbox was full, and the desk waits for room.
     Later,

@@ -29,8 +29,8 @@ pub enum RunFault {
         /// The take or hear.
         event: Event,
     },
-    /// The desk's log differs from the journal, or the desk was left pending: its mailbox had nothing where the journal has a
-    /// message, or no room where the journal has room, more often than its run has patience.
+    /// The desk's log differs from the journal, or the desk was left pending. Then its mailbox had nothing where the journal
+    /// has a message, or no room where the journal has room. It had so more often than its run has patience.
     #[error("a desk's log differs from the journal")]
     Torn(Desk),
     /// Nobody holds the other end of this desk's mailbox.

@@ -1,5 +1,5 @@
-//! The pool: several threads drive the agents of an exchange, each desk under a lock of its own, the ledger under one,
-//! and the desks in hands and those that may have work under a third.
+//! The pool: several threads drive the agents of an exchange. Each desk is under a lock of its own, and the ledger under
+//! one. The desks in hands and those that may have work are under a third.
 #![tactic(auto)]
 
 mod after_joins;

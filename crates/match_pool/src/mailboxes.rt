@@ -28,8 +28,8 @@ pub trait Mailboxes {
     // How many answers a mailbox has room for.
     ghost answer_room: { Self.AnswerPut → ℕ };
 
-    /// How often in a row a worker goes on after a mailbox that has nothing where the journal has a message in it, or
-    /// that is full where the journal has room in it. After so many times its run ends as torn.
+    /// How often in a row a worker goes on after a mailbox that gives nothing or takes nothing, against the journal. After
+    /// so many times its run ends as torn.
     const PATIENCE: u32;
 
     /// Opens this resident's mailbox, with room for so many offers, at least one. The one fault is `Memory`.

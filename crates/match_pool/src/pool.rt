@@ -28,7 +28,7 @@ pub type RuledDone<R> = Done<RuledMailboxes<R>>;
 /// Runs the exchange of an instance by this many workers, from 1 to 8, until it is closed or the gate stops it.
 ///
 /// After a stop each worker enters the event that it has begun, and no other. A stop at the run's last receipt may come too
-/// late: a worker that has seen none yet may close the run once that receipt is entered, and then it ends as `Closed`.
+/// late. A worker that has seen none yet may close the run once that receipt is entered, and then it ends as `Closed`.
 pub fn run<G: Gate + Sync, R: Threads + Wait + Sync + Send + Copy>(
     rt: R,
     alloc: Global,
@@ -45,8 +45,8 @@ pub fn run<G: Gate + Sync, R: Threads + Wait + Sync + Send + Copy>(
     run_over(rt, alloc, &RuledMailboxes(rt), inst, cap, workers, gate)
 }
 
-/// Runs the exchange of an instance over these mailboxes by this many workers, from 1 to 8, until it is closed or the
-/// gate stops it.
+/// Runs the exchange of an instance over these mailboxes, until it is closed or the gate stops it. It has this many
+/// workers, from 1 to 8.
 pub fn run_over<M: Mailboxes + Send + Sync, G: Gate + Sync, R: Threads + Wait + Sync + Copy>(
     rt: R,
     alloc: Global,

@@ -35,7 +35,7 @@ fn try_soon<T>(lock: &Mutex<T>) -> Option<MutexGuard<'_, T>> {
 }
 
 // The value under a lock that each worker wants for each event. Where another has it a worker steps back for a while, so
-// that the other works on alone: a lock that changes hands for each event makes both slower than one.
+// that the other works on alone. A lock that changes hands for each event makes both slower than one.
 #[inline(always)]
 fn lock_soon<'a, T, R: Wait>(rt: &R, lock: &'a Mutex<T>, room: &NapRoom) -> MutexGuard<'a, T> {
     match try_soon(lock) {

@@ -295,7 +295,7 @@ impl<'a, 'f, J: ExchangeIdentity, M: Mailboxes, G: Gate, R: Wait> Worker<'a, 'f,
         }
     }
 
-    // What a look into the mailbox leaves that gave no message: where none waits by the ledger, the desk does what else it
+    // What a look into the mailbox leaves that gave no message. Where none waits by the ledger, the desk does what else it
     // has to do.
     fn after_look<N: Drop>(&mut self, heard: Heard<N>, desk: Desk) -> Step {
         if let Heard::Gone = heard {
@@ -428,8 +428,8 @@ impl<'a, 'f, J: ExchangeIdentity, M: Mailboxes, G: Gate, R: Wait> Worker<'a, 'f,
         unreachable!()
     }
 
-    // Takes this desk into a hand; where another worker has it, looks after each of some naps whether a desk is listed,
-    // and then waits for news. Who naps needs no waking.
+    // Takes this desk into a hand. Where another worker has it, looks after each of some naps whether a desk is listed, and
+    // then waits for news. Who naps needs no waking.
     fn claim_or_look(&self, desk: u32) -> Next {
         let mut found = self
             .shared

@@ -9,8 +9,8 @@ use crate::reason::Why;
 use crate::taken::{Taken, is_member};
 use match_model::{Assignment, Instance, ProgrammeNo, ResidentNo, WrittenLists};
 
-/// Why a placement doesn't give a programme to a resident, or that it does: the first answer that holds, by the lists of
-/// the two as they were written.
+/// Why a placement doesn't give a programme to a resident, or that it does. It is the first answer that holds, by the
+/// lists of the two as they were written.
 ///
 /// The two are members of the instance, and the placement has a place for each resident. How the programme's places are
 /// taken is what `places_taken` says of the same placement and list. What is promised is promised where the instance was

@@ -180,9 +180,9 @@ fn text_of(
     Ok(text)
 }
 
-/// Reads a docket with a sheet, and writes why: of a resident the first line and one on each programme of its record, of a
-/// resident and a programme the one line, or of all the rows. The key's bytes have the members' real names. Nothing is
-/// written before a fault other than the writer's own.
+/// Reads a docket with a sheet, and writes why. Of a resident it writes the first line and one on each programme of its
+/// record. Of a resident and a programme it writes one line, and of all the rows. The key's bytes have the members' real
+/// names. Nothing is written before a fault other than the writer's own.
 pub fn serve_why<R: Read + Drop, W: Write, H: RandomSource>(
     rt: &H,
     alloc: Global,

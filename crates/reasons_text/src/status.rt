@@ -7,8 +7,8 @@ use crate::line::LineFault;
 use clap::error::ErrorKind;
 use docket::DocketFault;
 
-/// The exit status of the program after a question: 0 for an answer, 1 where memory, reading or writing failed, 3 for a
-/// docket at fault, without a sheet, or without the names.
+/// The exit status of the program after a question. It is 0 for an answer, and 1 where memory, reading or writing failed.
+/// It is 3 for a docket at fault, without a sheet, or without the names.
 pub fn exit_status(answer: &Result<(), WhyFault>) -> u8
     ensures { result ≡ exit_status_of answer.now }
 {
