@@ -5,7 +5,7 @@ use Rattle.std.specs.List.{list_any}
 use Rattle.std.specs.Option.{option_or}
 use Rattle.docket.specs.Fields.{Fields, field, is_kind}
 use Rattle.docket.specs.Contents.{Contents, contents_of, programmes_of, residents_of, rows_of, events_of, journal_of, JournalParts, ByWorkerParts, by_worker_of, has_sheet, declares_member}
-use Rattle.docket.specs.Passes.{first_from, reading_fault, later_fault, first_fault, docket_of, rows_in, sheet_fault, mark_fault, missing_fault, filled_fault, ranking_fault, pairs_fault, event_fault}
+use Rattle.docket.specs.Passes.{first_from, reading_fault, later_fault, first_fault, rows_in, sheet_fault, mark_fault, missing_fault, filled_fault, ranking_fault, pairs_fault, event_fault}
 use Rattle.docket.specs.Answers.{Answers, Refuses}
 use Rattle.docket.specs.Texts.{programme_name, resident_name}
 use Rattle.std.proofs.lemmas.Option.{get_or_from_slice_get}
@@ -19,6 +19,8 @@ use Rattle.exchange_core.specs.declared.event.Event.{Event}
 use Rattle.docket.specs.Words.{capacity_of}
 use Rattle.docket.specs.Declarations.{IsDeclared, AreByWorker, capacity_in}
 use Rattle.docket.specs.Whole.{AreWorkers}
+use Rattle.docket.specs.WithLists.{IsReadAs, lists_if}
+use Rattle.match_model.specs.Written.{Written}
 use Rattle.docket.specs.declared.store.declarations.Declarations.{Declarations}
 use Rattle.docket.specs.declared.kind.TheConstants.{QUOTA, PROGRAMME_LIST, RESIDENT_LIST, CAPACITY}
 use Rattle.docket.specs.declared.fault.DocketFault.{DocketFault}
@@ -84,16 +86,15 @@ whole_reading known e (inl read) = inl read
 whole_reading None e (inr h) = inr tt
 whole_reading (Some bytes) e (inr h) = inr (refuses_first _ _ e h)
 
--- the docket
-pub whole_docket : (known : Option (List ℕ)) (rows : List Fields) (r : Result Contents DocketFault) → AreAll (option_map rows_in known) rows
-    → first_from reading_fault [] rows ≡ None → IfOk r (λ d. d ≡ contents_of rows) → Answers (later_fault rows) r
-    → IfOk r (λ d. IfSome known (λ bytes. (first_fault bytes ≡ None) × (d ≡ docket_of bytes)))
-whole_docket known rows (Err e) all sound is answers = tt
-whole_docket None rows (Ok d) all sound is answers = tt
-whole_docket (Some bytes) rows (Ok d) all sound is answers = rw all (no_fault _ _ sound answers, is)
+-- the docket, and the lists where they are kept
+pub whole_read : (known : Option (List ℕ)) (keeps : Bool) (rows : List Fields) (r : Result (Contents × Option Written) DocketFault) → AreAll (option_map rows_in known) rows
+    → first_from reading_fault [] rows ≡ None → IfOk r (λ read. read.0 ≡ contents_of rows) → IfOk r (λ read. read.1 ≡ lists_if keeps rows) → Answers (later_fault rows) r
+    → IfOk r (λ read. IsReadAs known keeps read.0 read.1)
+whole_read known keeps rows (Err e) all sound is lists answers = tt
+whole_read known keeps rows (Ok read) all sound is lists answers =
+    record { rows = rows; all = all; faultless = no_fault _ _ sound answers; docket_is = is; lists_are = lists }
 
--- a fault of a later pass
-pub whole_later : (known : Option (List ℕ)) (rows : List Fields) (r : Result Contents DocketFault) → AreAll (option_map rows_in known) rows
+pub whole_later : {T : Type 0} (known : Option (List ℕ)) (rows : List Fields) (r : Result T DocketFault) → AreAll (option_map rows_in known) rows
     → first_from reading_fault [] rows ≡ None → Answers (later_fault rows) r
     → IfErr r (λ e. IsReadFault e ⊎ IfSome known (λ bytes. Refuses (first_fault bytes) e))
 whole_later known rows (Ok d) all sound answers = tt

@@ -26,3 +26,4 @@ pub mod DocketFacts
 pub mod WholeFacts
 pub mod WriteFacts
 pub mod RowTextFacts
+pub mod WithListsFacts

@@ -195,7 +195,7 @@ owner_unlisted kind owners others before name i at free =
     rw (there, list, find_none (is_row_of kind name) before free) refl
 
 -- declared members have numbers below the count
-items_below : (others : List (List ℕ)) (names : List (List ℕ)) → list_all (is_declared others) names ≡ true
+pub items_below : (others : List (List ℕ)) (names : List (List ℕ)) → list_all (is_declared others) names ≡ true
     → list_all (λ x. nat_lt x (length others)) (map (member_in others) names) ≡ true
 items_below others [] h = refl
 items_below others (n ∷ names) h =

@@ -17,3 +17,4 @@ pub mod RowText
 pub mod Texts
 pub mod NameKeys
 pub mod Context
+pub mod WithLists

@@ -22,7 +22,7 @@ mod write;
 pub use crate::docket::{ByWorker, Docket, Journal};
 pub use fault::{DocketFault, WriteFailed};
 pub use kind::law_constants;
-pub use read::read_docket;
+pub use read::{read_docket, read_docket_with_lists};
 pub use row_writer::{RowWriter, room_for_rows};
 pub use words::capacity_of;
 pub use write::{push_journal, push_programme, push_sheet, write_journal, write_sheet};

@@ -9,13 +9,14 @@ ghost use Rattle.docket.specs.Passes.{first_from, unknown_fault, ranking_fault, 
 ghost use Rattle.docket.specs.Answers.{Answers};
 ghost use Rattle.docket.specs.Rows.{row_at};
 ghost use Rattle.docket.specs.Ranking.{IsRanked};
+ghost use Rattle.docket.specs.WithLists.{lists_if};
 
 use crate::fault::DocketFault;
 use crate::kind::{PROGRAMME_LIST, RESIDENT_LIST, WITHDRAWAL};
 use crate::row::is_programme_side;
 use crate::store::declarations::model_fault;
 use crate::store::tables::Tables;
-use match_model::{Instance, InstanceBuilder, ProgrammeNo, ResidentNo};
+use match_model::{Instance, InstanceBuilder, ProgrammeNo, ResidentNo, WrittenLists};
 use std::alloc::Global;
 
 // The residents whom row `k` lists.
@@ -211,29 +212,37 @@ fn rank(alloc: Global, tables: &Tables, builder: &mut InstanceBuilder) -> Result
     Ok(())
 }
 
-// The instance of the builder, after the last record.
-fn finished(builder: InstanceBuilder, tables: &Tables) -> Result<Instance, DocketFault>
+// The instance of the builder, after the last record, and the lists where they are kept.
+fn finished(
+    builder: InstanceBuilder,
+    tables: &Tables,
+    keeps_lists: bool,
+) -> Result<(Instance, Option<WrittenLists>), DocketFault>
     requires { IsRanked builder tables.now tables.now }
-    ensures instance { IfOk result (λ instance. instance ≡ made_of (draft_of tables.now)) }
+    ensures instance { IfOk result (λ made. made.0 ≡ made_of (draft_of tables.now)) }
+    ensures lists { IfOk result (λ made. made.1 ≡ lists_if keeps_lists tables.now) }
     ensures fault { Answers (pairs_fault tables.now) result }
 {
     let place = tables.len() as u32;
-    match builder.finish() {
-        Ok(instance) => Ok(instance),
+    match builder.finish_with_lists() {
+        Ok((instance, lists)) if keeps_lists => Ok((instance, Some(lists))),
+        Ok((instance, _)) => Ok((instance, None)),
         Err(refused) => Err(model_fault(place, refused.fault)),
     }
 }
 
-/// The instance of the lists and withdrawals.
+/// The instance of the lists and withdrawals, and the lists where they are kept.
 pub(crate) fn instance_of(
     alloc: Global,
     tables: &Tables,
     mut builder: InstanceBuilder,
-) -> Result<Instance, DocketFault>
+    keeps_lists: bool,
+) -> Result<(Instance, Option<WrittenLists>), DocketFault>
     requires { IsRanked builder tables.now [] }
-    ensures instance { IfOk result (λ instance. instance ≡ made_of (draft_of tables.now)) }
+    ensures instance { IfOk result (λ made. made.0 ≡ made_of (draft_of tables.now)) }
+    ensures lists { IfOk result (λ made. made.1 ≡ lists_if keeps_lists tables.now) }
     ensures fault { Answers (option_or (first_from (ranking_fault tables.now) [] tables.now) (pairs_fault tables.now)) result }
 {
     rank(alloc, tables, &mut builder)?;
-    finished(builder, tables)
+    finished(builder, tables, keeps_lists)
 }
