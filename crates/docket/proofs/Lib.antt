@@ -19,6 +19,7 @@ pub mod PassFacts
 pub mod ReadInvariant
 pub mod RankingFacts
 pub mod GoneFacts
+pub mod KindFacts
 pub mod JournalFacts
 pub mod MarkFacts
 pub mod RestFacts

@@ -13,7 +13,8 @@ use Rattle.docket.specs.declared.kind.TheConstants.{MAX_RECORDS}
 use Rattle.docket.specs.declared.fault.DocketFault.{DocketFault}
 use Rattle.docket.specs.declared.fault.DocketFault.TheVariants.{TooManyRecords}
 
-option_or-assoc : (a b c : Option DocketFault) → option_or a (option_or b c) ≡ option_or (option_or a b) c
+-- three tests, two by two
+pub option_or-assoc : (a b c : Option DocketFault) → option_or a (option_or b c) ≡ option_or (option_or a b) c
 option_or-assoc None b c = refl
 option_or-assoc (Some f) b c = refl
 

@@ -65,6 +65,55 @@ pub(crate) enum EventWord {
     Close,
 }
 
+/// A side of the match, as a withdrawal names it.
+#[derive(Clone, Copy)]
+pub(crate) enum Side {
+    /// `P`
+    Programmes,
+    /// `R`
+    Residents,
+}
+
+/// The kind of a row that is kept, by which later passes go.
+#[derive(Clone, Copy)]
+pub(crate) enum KeptKind {
+    /// A Q row
+    Programme,
+    /// A P row
+    ProgrammeList,
+    /// An R row
+    Resident,
+    /// An M row
+    Matched,
+    /// A U row
+    Unmatched,
+    /// An F row
+    Filled,
+    /// A C row
+    Capacity,
+    /// An E row of this word
+    Event(EventWord),
+    /// A V row
+    Version,
+    /// A W row of this side
+    Withdrawal(Side),
+}
+
+impl KeptKind {
+    ghost use Rattle.docket.specs.Rows.{word_of};
+
+    /// The word of an event.
+    #[inline(always)]
+    pub(crate) fn word(self) -> Option<EventWord>
+        ensures { result ≡ word_of self }
+    {
+        match self {
+            KeptKind::Event(word) => Some(word),
+            _ => None,
+        }
+    }
+}
+
 /// What a record says by itself, where it has no fault of its own: its kind, and what was read from its fields.
 #[derive(Clone, Copy)]
 pub(crate) enum RowKind {
@@ -76,8 +125,12 @@ pub(crate) enum RowKind {
     ProgrammeList,
     /// `R,resident,programme,..`
     Resident,
-    /// `M,resident,programme`, `U,resident` or `F,programme,filled,quota`
-    Sheet,
+    /// `M,resident,programme`
+    Matched,
+    /// `U,resident`
+    Unmatched,
+    /// `F,programme,filled,quota`
+    Filled,
     /// `C,full` or `C,n`, and in a journal by worker the number of workers
     Capacity {
         capacity: Capacity,
@@ -88,22 +141,33 @@ pub(crate) enum RowKind {
         word: EventWord,
         worker: u8,
     },
-    /// A V row, whose other fields weren't read yet
+    /// `V,2`
     Version,
-    /// A W row, whose other fields weren't read yet
-    Withdrawal,
+    /// `W,P,programme` or `W,R,resident`
+    Withdrawal {
+        side: Side,
+    },
 }
 
 impl RowKind {
-    ghost use Rattle.docket.specs.RowKind.{word_of};
+    ghost use Rattle.docket.specs.RowKind.{kept_of};
 
-    /// The word of a record, if it is an event.
-    pub(crate) fn word(self) -> Option<EventWord>
-        ensures { result ≡ word_of self }
+    /// The kind that is kept with the row.
+    #[inline(always)]
+    pub(crate) fn kept(self) -> KeptKind
+        ensures { result ≡ kept_of self }
     {
         match self {
-            RowKind::Event { word, .. } => Some(word),
-            _ => None,
+            RowKind::Programme { .. } => KeptKind::Programme,
+            RowKind::ProgrammeList => KeptKind::ProgrammeList,
+            RowKind::Resident => KeptKind::Resident,
+            RowKind::Matched => KeptKind::Matched,
+            RowKind::Unmatched => KeptKind::Unmatched,
+            RowKind::Filled => KeptKind::Filled,
+            RowKind::Capacity { .. } => KeptKind::Capacity,
+            RowKind::Event { word, .. } => KeptKind::Event(word),
+            RowKind::Version => KeptKind::Version,
+            RowKind::Withdrawal { side } => KeptKind::Withdrawal(side),
         }
     }
 }
