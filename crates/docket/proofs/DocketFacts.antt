@@ -22,7 +22,7 @@ use Rattle.docket.specs.Whole.{AreWorkers}
 use Rattle.docket.specs.WithLists.{IsReadAs, lists_if}
 use Rattle.match_model.specs.Written.{Written}
 use Rattle.docket.specs.declared.store.declarations.Declarations.{Declarations}
-use Rattle.docket.specs.declared.kind.TheConstants.{QUOTA, PROGRAMME_LIST, RESIDENT_LIST, CAPACITY}
+use Rattle.docket.specs.declared.vocabulary.TheConstants.{QUOTA, PROGRAMME_LIST, RESIDENT_LIST, CAPACITY}
 use Rattle.docket.specs.declared.fault.DocketFault.{DocketFault}
 use Rattle.docket.proofs.DeclarationFacts.{refuses_first, refuses_second, no_fault}
 use Rattle.docket.proofs.RankingFacts.{lists_of-none}

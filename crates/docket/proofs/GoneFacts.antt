@@ -13,7 +13,7 @@ use Rattle.docket.specs.Ranking.{IsRanked}
 use Rattle.match_model.specs.Draft.{Draft, with_programme_withdrawn, with_resident_withdrawn}
 use Rattle.match_model.specs.Draft as model
 use Rattle.match_model.specs.Fault.{AnswersExactly}
-use Rattle.docket.specs.declared.kind.TheConstants.{PROGRAMME_LIST, RESIDENT_LIST, MAX_RECORDS}
+use Rattle.docket.specs.declared.vocabulary.TheConstants.{PROGRAMME_LIST, RESIDENT_LIST, MAX_RECORDS}
 use Rattle.docket.specs.declared.fault.DocketFault.TheVariants.{UnknownKind, UnknownName, DeclaredTwice}
 use Rattle.docket.proofs.NumberFacts.{distinct, number_below, at_number, map_at, bytes_eq-same}
 use Rattle.docket.proofs.SoundFacts.{both_none, unless_none}

@@ -9,7 +9,7 @@ use Rattle.docket.specs.Rows.{row_at}
 use Rattle.docket.specs.Answers.{Refuses}
 use Rattle.docket.specs.Read.{GivesRow, IsSplit, IsOutside, IsReadFault, Explains, AreAll}
 use Rattle.docket.specs.Passes.{first_from, reading_fault, repeat_fault, limit_fault, next_place}
-use Rattle.docket.specs.declared.kind.TheConstants.{MAX_RECORDS}
+use Rattle.docket.specs.declared.vocabulary.TheConstants.{MAX_RECORDS}
 use Rattle.docket.specs.declared.fault.DocketFault.{DocketFault}
 use Rattle.docket.specs.declared.fault.DocketFault.TheVariants.{TooManyRecords}
 

@@ -5,9 +5,9 @@ use Rattle.std.specs.List.{list_all}
 use Rattle.docket.specs.Words.{is_name, is_number, answer_of}
 use Rattle.std.specs.Option.{option_or}
 use Rattle.docket.specs.Fields.{Fields, field, kind_of, is_kind, unless, counted, row_fault, list_row_fault, lists_names, filled_row_fault, event_row_fault, worded_row_fault, event_names_fault, answer_fault, event_word, version_kind, withdrawal_kind, event_width, worker_at}
-use Rattle.docket.specs.declared.kind.TheConstants.{QUOTA, PROGRAMME_LIST, RESIDENT_LIST, MATCHED, UNMATCHED, FILLED, CAPACITY, EVENT}
-use Rattle.docket.specs.declared.kind.EventWord.{EventWord}
-use Rattle.docket.specs.declared.kind.EventWord.TheVariants.{Offer, Take, Answer, Hear, Close}
+use Rattle.docket.specs.declared.vocabulary.TheConstants.{QUOTA, PROGRAMME_LIST, RESIDENT_LIST, MATCHED, UNMATCHED, FILLED, CAPACITY, EVENT}
+use Rattle.docket.specs.declared.vocabulary.EventWord.{EventWord}
+use Rattle.docket.specs.declared.vocabulary.EventWord.TheVariants.{Offer, Take, Answer, Hear, Close}
 use Rattle.docket.specs.Contents.{word_in, is_sheet_row}
 use Rattle.docket.specs.declared.fault.DocketFault.{DocketFault}
 use Rattle.docket.specs.declared.fault.DocketFault.TheVariants.{FieldCount, BadName, BadEvent, BadSheet}

@@ -8,9 +8,9 @@ use Rattle.docket.specs.declared.kind.RowKind.{RowKind}
 use Rattle.docket.specs.declared.kind.RowKind.TheVariants.{Programme, ProgrammeList, Resident, Matched, Unmatched, Filled, Capacity, Event, Version, Withdrawal}
 use Rattle.docket.specs.declared.kind.KeptKind.{KeptKind}
 use Rattle.docket.specs.declared.kind.KeptKind.TheVariants as kept
-use Rattle.docket.specs.declared.kind.Side.{Side}
-use Rattle.docket.specs.declared.kind.Side.TheVariants.{Programmes, Residents}
-use Rattle.docket.specs.declared.kind.TheConstants.{QUOTA, PROGRAMME_LIST, RESIDENT_LIST, MATCHED, UNMATCHED, FILLED, CAPACITY}
+use Rattle.docket.specs.declared.vocabulary.Side.{Side}
+use Rattle.docket.specs.declared.vocabulary.Side.TheVariants.{Programmes, Residents}
+use Rattle.docket.specs.declared.vocabulary.TheConstants.{QUOTA, PROGRAMME_LIST, RESIDENT_LIST, MATCHED, UNMATCHED, FILLED, CAPACITY}
 use Rattle.docket.specs.declared.fault.DocketFault.{DocketFault}
 use Rattle.docket.specs.declared.fault.DocketFault.TheVariants.{UnknownKind}
 

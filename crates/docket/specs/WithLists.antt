@@ -8,7 +8,7 @@ use Rattle.docket.specs.Contents.{Contents, contents_of, draft_of}
 use Rattle.docket.specs.Passes.{rows_in, fault_of}
 use Rattle.docket.specs.Read.{AreAll}
 use Rattle.docket.specs.Texts.{programme_name, resident_name}
-use Rattle.docket.specs.declared.kind.TheConstants.{RESIDENT_LIST}
+use Rattle.docket.specs.declared.vocabulary.TheConstants.{RESIDENT_LIST}
 
 -- the fields after the name in the record of a kind that has this name, and none where there is no such record
 abbrev pub fields_after : ℕ → List ℕ → List Fields → List (List ℕ)

@@ -12,9 +12,10 @@ ghost use Rattle.docket.specs.Ranking.{IsRanked};
 ghost use Rattle.docket.specs.WithLists.{lists_if};
 
 use crate::fault::DocketFault;
-use crate::kind::{KeptKind, PROGRAMME_LIST, RESIDENT_LIST, Side, WITHDRAWAL};
+use crate::kind::KeptKind;
 use crate::store::declarations::model_fault;
 use crate::store::tables::Tables;
+use crate::vocabulary::{PROGRAMME_LIST, RESIDENT_LIST, Side, WITHDRAWAL};
 use match_model::{Instance, InstanceBuilder, ProgrammeNo, ResidentNo, WrittenLists};
 use std::alloc::Global;
 

@@ -9,8 +9,9 @@ ghost use Rattle.docket.specs.Answers.{Answers};
 ghost use Rattle.docket.specs.Rows.{row_at};
 
 use crate::fault::DocketFault;
-use crate::kind::{FILLED, KeptKind, MATCHED, UNMATCHED};
+use crate::kind::KeptKind;
 use crate::store::tables::Tables;
+use crate::vocabulary::{FILLED, MATCHED, UNMATCHED};
 use crate::words::digits_worth;
 use match_model::{Assignment, Instance, ProgrammeNo, ResidentNo};
 use std::alloc::{AllocError, Global};
