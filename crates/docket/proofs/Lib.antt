@@ -28,3 +28,7 @@ pub mod WholeFacts
 pub mod WriteFacts
 pub mod RowTextFacts
 pub mod WithListsFacts
+pub mod KeptFacts
+pub mod ListedFacts
+pub mod CutFacts
+pub mod JoinFacts
