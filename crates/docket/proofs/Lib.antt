@@ -19,6 +19,7 @@ pub mod PassFacts
 pub mod ReadInvariant
 pub mod RankingFacts
 pub mod GoneFacts
+pub mod KindFacts
 pub mod JournalFacts
 pub mod MarkFacts
 pub mod RestFacts
@@ -27,3 +28,7 @@ pub mod WholeFacts
 pub mod WriteFacts
 pub mod RowTextFacts
 pub mod WithListsFacts
+pub mod KeptFacts
+pub mod ListedFacts
+pub mod CutFacts
+pub mod JoinFacts

@@ -18,7 +18,7 @@ use Rattle.docket.specs.Passes.{first_from, reading_fault, repeat_fault, limit_f
 use Rattle.match_model.specs.Instance.{pair_count}
 use Rattle.match_model.specs.declared.limits.TheConstants.{MAX_PAIRS}
 use Rattle.docket.specs.Answers.{Refuses, at_record}
-use Rattle.docket.specs.declared.kind.TheConstants.{QUOTA, PROGRAMME_LIST, RESIDENT_LIST, MAX_RECORDS}
+use Rattle.docket.specs.declared.vocabulary.TheConstants.{QUOTA, PROGRAMME_LIST, RESIDENT_LIST, MAX_RECORDS}
 use Rattle.docket.specs.declared.fault.DocketFault.{DocketFault}
 use Rattle.docket.specs.declared.fault.DocketFault.TheVariants.{DeclaredTwice, UnknownName, Model}
 use Rattle.docket.proofs.PassFacts.{first_from-append, reading_fault-few}
