@@ -25,4 +25,5 @@ pub use fault::{DocketFault, WriteFailed};
 pub use read::{read_docket, read_docket_with_lists};
 pub use row_writer::{RowWriter, room_for_rows};
 pub use vocabulary::{capacity_of, law_constants};
-pub use write::{push_journal, push_programme, push_sheet, write_journal, write_sheet};
+pub use write::journal::{push_journal, write_journal};
+pub use write::sheet::{push_programme, push_sheet, write_sheet};

@@ -1,8 +1,8 @@
 use Rattle.std.proofs.Common.{◌≡◌, ◌<◌, Some, length, arith, rules, sym, ap, ◌∙◌}
 use Rattle.match_model.specs.Placement.{programme_of}
 use Rattle.docket.proofs.WriteFacts.{read_within, counts_next_none, counts_next_read}
-use Rattle.docket.proofs.write.member_counts.Goals as goal
-use Rattle.docket.proofs.write.member_counts.Goals.{in-Some, in_default}
+use Rattle.docket.proofs.write.sheet.member_counts.Goals as goal
+use Rattle.docket.proofs.write.sheet.member_counts.Goals.{in-Some, in_default}
 
 pub overflow_add-index_mut : goal.overflow_add-index_mut
 overflow_add-index_mut c =

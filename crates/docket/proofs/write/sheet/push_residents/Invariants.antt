@@ -1,7 +1,7 @@
 use Rattle.std.specs.List.{flat_map, range_with_len}
 use Rattle.docket.specs.Texts.{resident_row}
 use Rattle.docket.specs.RowText.{Adds}
-use Rattle.docket.proofs.write.push_residents.Given as goal
+use Rattle.docket.proofs.write.sheet.push_residents.Given as goal
 
 abbrev pub invariant-loop-r : goal.invariant-loop-r
 invariant-loop-r g l =

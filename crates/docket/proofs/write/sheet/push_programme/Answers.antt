@@ -3,7 +3,7 @@ use Rattle.std.specs.Prelude.{decimal}
 use Rattle.std.proofs.lemmas.Result.{on_ok_weaker}
 use Rattle.match_model.specs.Instance.{quota}
 use Rattle.docket.specs.Texts.{programme_row}
-use Rattle.docket.proofs.write.push_programme.Goals as goal
+use Rattle.docket.proofs.write.sheet.push_programme.Goals as goal
 
 pub returns : goal.returns
 unfolding programme_row

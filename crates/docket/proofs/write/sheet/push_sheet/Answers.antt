@@ -1,6 +1,6 @@
 use Rattle.std.proofs.Common.{length, ap, arith}
 use Rattle.docket.proofs.WriteFacts.{sheet_text-rows}
-use Rattle.docket.proofs.write.push_sheet.Goals as goal
+use Rattle.docket.proofs.write.sheet.push_sheet.Goals as goal
 
 pub returns-clause-rows : goal.returns-clause-rows
 returns-clause-rows g c =

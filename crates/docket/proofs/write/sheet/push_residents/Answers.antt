@@ -1,6 +1,6 @@
 use Rattle.docket.specs.Texts.{resident_row}
 use Rattle.docket.proofs.WriteFacts.{rows_next}
-use Rattle.docket.proofs.write.push_residents.Goals as goal
+use Rattle.docket.proofs.write.sheet.push_residents.Goals as goal
 
 pub loop-r-preserved : goal.loop-r-preserved
 loop-r-preserved g c =

@@ -1,7 +1,7 @@
 use Rattle.std.proofs.Common.{sym, ◌∙◌}
 use Rattle.std.proofs.lemmas.Result.{on_ok_weaker}
 use Rattle.docket.specs.Texts.{mark_row}
-use Rattle.docket.proofs.write.push_mark.Goals as goal
+use Rattle.docket.proofs.write.sheet.push_mark.Goals as goal
 
 pub returns-in-Some : goal.returns-in-Some
 unfolding mark_row

@@ -1,7 +1,7 @@
 use Rattle.std.proofs.Common.{◌≡◌, ◌<◌, length, ap, arith}
 use Rattle.docket.specs.Texts.{filled_row}
 use Rattle.docket.proofs.WriteFacts.{rows_next}
-use Rattle.docket.proofs.write.push_programmes.Goals as goal
+use Rattle.docket.proofs.write.sheet.push_programmes.Goals as goal
 
 pub loop-p-preserved : goal.loop-p-preserved
 loop-p-preserved g c =
