@@ -1,16 +1,15 @@
 -- Rows as they are kept, with one row more.
-use Rattle.std.proofs.Common.{◌≡◌, ◌⊎◌, ◌≤◌, ◌<◌, ℕ, List, [], ◌∷◌, ◌++◌, Bool, true, false, length, filter, sym, ◌∙◌, refl, ap, arith, Option, Some, None, inl, inr, append_assoc, subst, count_by}
-use Rattle.std.specs.List.{list_any}
+use Rattle.std.proofs.Common.{◌≡◌, ◌⊎◌, ◌≤◌, ◌<◌, ℕ, List, [], ◌∷◌, ◌++◌, false, length, sym, ◌∙◌, refl, ap, arith, Option, Some, None, inl, inr, append_assoc, subst, count_by}
 use Rattle.std.proofs.lemmas.List.Sums.{length-filter}
-use Rattle.docket.specs.Fields.{Fields, field, is_kind}
+use Rattle.docket.specs.Fields.{Fields}
 use Rattle.docket.specs.Contents.{is_sheet_row}
 use Rattle.docket.specs.Passes.{first_from, reading_fault}
 use Rattle.docket.specs.Declarations.{IsDeclared}
 use Rattle.docket.specs.Read.{IsSplit, GivesRow, AreKeptOf}
-use Rattle.docket.specs.Kept.{AreMany, IsFront, IsBlank, IsClose, AreManyMarks, AreManyNames, names_text, is_named, AreAlike, IsKeptAs, Keeps, AreCut, AreCutFrom, AreCutAt, AreListsCut, AreKept}
+use Rattle.docket.specs.Kept.{AreMany, IsFront, IsBlank, IsClose, AreManyMarks, AreManyNames, names_text, is_named, AreAlike, IsKeptAs, Keeps, AreCut, AreListsCut, AreKept}
 use Rattle.docket.specs.declared.store.declarations.Declarations.{Declarations}
-use Rattle.docket.specs.declared.vocabulary.TheConstants.{EVENT, MAX_RECORDS}
-use Rattle.docket.proofs.KeptFacts.{IsOffOf, IsSeen, off_same, front_seen, blank_seen, close_seen, front_event, front_mark, blank_event, alike_same, alike_append, alike_one, alike_first, alike_push, alike_length, alike_any, alike_filter, alike_reading, alike_declared}
+use Rattle.docket.specs.declared.vocabulary.TheConstants.{MAX_RECORDS}
+use Rattle.docket.proofs.KeptFacts.{IsOffOf, off_same, front_seen, blank_seen, close_seen, front_event, front_mark, blank_event, alike_same, alike_append, alike_one, alike_first, alike_push, alike_length, alike_any, alike_filter, alike_reading, alike_declared}
 use Rattle.docket.proofs.ListedFacts.{count_wider}
 use Rattle.docket.proofs.PassFacts.{split_end}
 use Rattle.docket.proofs.StandInFacts.{front_sound, blank_sound, close_sound}

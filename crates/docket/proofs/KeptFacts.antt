@@ -1,5 +1,5 @@
 -- What rows that aren't kept whole show.
-use Rattle.std.proofs.Common.{◌≡◌, ◌⊎◌, ◌≤◌, ◌<◌, ℕ, zero, suc, get_or, List, [], ◌∷◌, ◌++◌, Bool, true, false, length, take, drop, map, filter, find, sym, ◌∙◌, refl, ap, arith, rules, Option, Some, None, inl, inr, append_assoc, subst}
+use Rattle.std.proofs.Common.{◌≡◌, ◌⊎◌, ◌≤◌, ◌<◌, ℕ, suc, get_or, List, [], ◌∷◌, ◌++◌, Bool, true, false, length, take, drop, map, filter, find, sym, ◌∙◌, refl, ap, arith, rules, Option, Some, None, inl, inr, subst}
 use Rattle.std.specs.Prelude.{◌&&◌, ◌||◌, ◌==◌, ◌+◌, if◌then◌else◌, bytes_eq, codes, unwrap_or}
 use Rattle.std.specs.List.{list_any}
 use Rattle.std.proofs.lemmas.List.{get_or-take, get_or-drop}
@@ -151,7 +151,7 @@ close_worker : (row short : Fields) → IsClose row short → worker_in short �
 close_worker row short h =
     let word : word_in short ≡ Close = ap word_in h.close ∙ sym (event_word_in Close (drop (width_of (word_in row)) row)) in
     let there : field short 2 ≡ field row (width_of (word_in row)) =
-        ap (λ (r : Fields). field r 2) h.close ∙ event_field Close (drop (width_of (word_in row)) row) 2 (λ e. omega (arith, e)) (λ e. omega (arith, e)) ∙ field_drop row (width_of (word_in row)) in
+    ap (λ (r : Fields). field r 2) h.close ∙ event_field Close (drop (width_of (word_in row)) row) 2 (λ e. omega (arith, e)) (λ e. omega (arith, e)) ∙ field_drop row (width_of (word_in row)) in
     rw (word, there) refl
 
 pub close_seen : IsSeen IsClose

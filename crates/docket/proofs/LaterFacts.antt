@@ -1,10 +1,10 @@
 -- Rows that are kept as far as anything asks for them have the faults of all rows.
 use Rattle.std.proofs.Common.{◌≡◌, ◌≤◌, List, [], length, ◌∙◌, None}
 use Rattle.docket.specs.Fields.{Fields}
-use Rattle.docket.specs.Passes.{first_from, reading_fault, later_fault}
-use Rattle.docket.specs.Kept.{IsFront, IsBlank, IsClose, AreManyMarks, AreManyNames, AreKept}
+use Rattle.docket.specs.Passes.{first_from, reading_fault}
+use Rattle.docket.specs.Kept.{IsFront, IsBlank, AreManyMarks, AreKept}
 use Rattle.docket.specs.declared.vocabulary.TheConstants.{MAX_RECORDS}
-use Rattle.docket.proofs.CutFacts.{AreFew, IsAsGood, few_members, few_alike, lists_later}
+use Rattle.docket.proofs.CutFacts.{IsAsGood, few_members, few_alike, lists_later}
 use Rattle.docket.proofs.JournalCutFacts.{journal_later}
 use Rattle.docket.proofs.KeepFacts.{cut_alike, lists_alike}
 use Rattle.docket.proofs.KeptFacts.{front_seen, blank_seen}

@@ -1,14 +1,13 @@
 -- Where only rows of a sheet or of a journal aren't kept whole, the second pass is that of all rows.
-use Rattle.std.proofs.Common.{◌≡◌, ◌⊎◌, ℕ, List, [], ◌∷◌, ◌++◌, Bool, true, false, length, filter, find, sym, ◌∙◌, refl, ap, Option, Some, None, inl, inr}
+use Rattle.std.proofs.Common.{◌≡◌, ◌⊎◌, ℕ, List, [], ◌∷◌, ◌++◌, find, sym, ◌∙◌, refl, ap, Option, None, inl, inr}
 use Rattle.std.specs.Prelude.{codes, option_map, nat_le}
-use Rattle.std.specs.Option.{option_or}
 use Rattle.std.specs.List.{list_any}
 use Rattle.match_model.specs.Instance.{pair_count}
 use Rattle.match_model.specs.Draft.{instance_of}
 use Rattle.match_model.specs.declared.limits.TheConstants.{MAX_PAIRS}
 use Rattle.match_model.specs.declared.fault.ModelFault.TheVariants as model
 use Rattle.docket.specs.Fields.{Fields, is_kind, is_row_of, unless, withdrawal_kind}
-use Rattle.docket.specs.Contents.{programmes_of, residents_of, quotas_of, lists_of, listed_in, draft_of, withdrawn_of, is_withdrawal_of}
+use Rattle.docket.specs.Contents.{programmes_of, residents_of, lists_of, listed_in, draft_of, withdrawn_of, is_withdrawal_of}
 use Rattle.docket.specs.Passes.{first_from, ranking_fault, pairs_fault}
 use Rattle.docket.specs.Kept.{AreAlike}
 use Rattle.docket.specs.declared.vocabulary.TheConstants.{PROGRAMME_LIST, RESIDENT_LIST}

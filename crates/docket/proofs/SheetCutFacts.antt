@@ -1,5 +1,5 @@
 -- Where a sheet's rows aren't kept whole the third pass has a fault, and it is that of all rows.
-use Rattle.std.proofs.Common.{◌≡◌, ◌⊎◌, ◌≤◌, ◌<◌, ◌+◌, ℕ, List, [], ◌∷◌, ◌++◌, Bool, true, false, length, map, filter, sym, ◌∙◌, refl, ap, arith, rules, Option, Some, None, inl, inr, count_by}
+use Rattle.std.proofs.Common.{◌≡◌, ◌⊎◌, ◌≤◌, ◌<◌, ℕ, List, [], ◌∷◌, ◌++◌, Bool, true, false, length, map, filter, sym, ◌∙◌, refl, ap, arith, rules, Option, Some, None, inl, inr, count_by}
 use Rattle.std.specs.Prelude.{◌&&◌, ◌||◌, not, if◌then◌else◌, bytes_eq}
 use Rattle.std.specs.Option.{option_or}
 use Rattle.std.specs.List.{list_any, list_all, IsDistinct, AllByRecursion}
@@ -20,7 +20,6 @@ use Rattle.docket.proofs.KeptFacts.{or_left, or_right, blank_seen, blank_quiet, 
 use Rattle.docket.proofs.KeepFacts.{cut_alike}
 use Rattle.docket.proofs.ListedFacts.{few_among, count_all, count_split}
 use Rattle.docket.proofs.NameFacts.{is_declared-any}
-use Rattle.docket.proofs.NumberFacts.{bytes_eq-same}
 use Rattle.docket.proofs.PassFacts.{first_from-append}
 use Rattle.docket.proofs.QuietFacts.{alike_ranking, alike_pairs}
 use Rattle.docket.proofs.RankingFacts.{bytes_eq-swap}
@@ -158,9 +157,10 @@ unfolding mark_fault
 filled_told rows before row e none =
     let k : kind_of row ≡ FILLED = search (rules, e) in
     let own : option_or (unless (is_declared (programmes_of rows) (field row 1)) (UnknownName (next_place before))) (unless (not (list_any (is_row_of FILLED (field row 1)) before)) (BadSheet (next_place before))) ≡ None = rw k at none in
-    let parts = both_none (unless (is_declared (programmes_of rows) (field row 1)) (UnknownName (next_place before))) (unless (not (list_any (is_row_of FILLED (field row 1)) before)) (BadSheet (next_place before))) own in
-    (known_name (programmes_of rows) (field row 1) (unless_none _ (UnknownName (next_place before)) parts.0),
-    off_not (list_any (is_row_of FILLED (field row 1)) before) (unless_none _ (BadSheet (next_place before)) parts.1))
+    let parts = both_none (unless (is_declared (programmes_of rows) (field row 1)) (UnknownName (next_place before))) (unless (not (list_any (is_row_of FILLED (field row 1)) before)) (BadSheet (next_place before))) own in (
+      known_name (programmes_of rows) (field row 1) (unless_none _ (UnknownName (next_place before)) parts.0),
+      off_not (list_any (is_row_of FILLED (field row 1)) before) (unless_none _ (BadSheet (next_place before)) parts.1),
+    )
 
 filled_asks : (rows : List Fields) → Asks (is_kind FILLED) (is_row_of FILLED) (programmes_of rows) (mark_fault rows)
 filled_asks rows = record {
@@ -229,9 +229,10 @@ unfolding later_fault
 sheet_later all kept (inl same) few = (rw same refl, λ none. same)
 sheet_later all kept (inr h) few =
     let alike = cut_alike IsBlank AreManyMarks all kept (inr h) in
-    let t = sheet_told all kept h few in
-    (rw (alike_ranking IsBlank blank_seen blank_quiet all kept alike, alike_pairs IsBlank blank_seen blank_quiet all kept alike, t.1, t.2) refl,
-    λ none. absurd (no t.0 (sym t.1 ∙ (none_later (first_from (ranking_fault kept) [] kept) (pairs_fault kept) (sheet_fault kept) (first_from (event_fault kept) [] kept) none).0)))
+    let t = sheet_told all kept h few in (
+      rw (alike_ranking IsBlank blank_seen blank_quiet all kept alike, alike_pairs IsBlank blank_seen blank_quiet all kept alike, t.1, t.2) refl,
+      λ none. absurd (no t.0 (sym t.1 ∙ (none_later (first_from (ranking_fault kept) [] kept) (pairs_fault kept) (sheet_fault kept) (first_from (event_fault kept) [] kept) none).0)),
+    )
   where
     no : (e : DocketFault) → Some e ≡ None → ⊥
     no e h = cc h
