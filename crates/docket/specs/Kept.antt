@@ -81,7 +81,7 @@ pub record Keeps (old new : List Fields) (row : Fields) : Type 0 where
   pub rows : new ≡ old ++ short ∷ []
   pub shown : IsKeptAs old new row short
 
--- the rows are kept whole up to where there are too many, and none of this kind of row need be from there on
+-- the rows are kept whole up to where there are too many, and from there on whole or as what stands in their place
 pub record AreCutFrom (Is : Fields → Fields → Type 0) (Many : List Fields → Type 0) (all kept : List Fields) : Type 0 where
   pub front : List Fields
   pub rest : List Fields
@@ -139,3 +139,8 @@ pub record HasNew (texts : List (List ℕ)) (start : ℕ) (row : Fields) : Type 
   pub text : List ℕ
   pub name : names_text text row ≡ true
   pub brought : IsBrought texts start text
+
+-- at most as many texts, rows and names were counted as there are of lists, of a sheet and of events
+abbrev pub AreCounted : ℕ → ℕ → ℕ → List Fields → List (List ℕ) → Type 0
+AreCounted listed marked named rows texts =
+    (listed ≤ count_by (is_listed rows) texts) × (marked ≤ count_by is_sheet_row rows) × (named ≤ count_by (is_named rows) texts)
