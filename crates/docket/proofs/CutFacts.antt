@@ -1,4 +1,4 @@
--- Rows that are kept as far as anything asks for them have the faults of all rows.
+-- Where lists are cut the second pass has a fault, and it is that of all rows.
 use Rattle.std.proofs.Common.{◌≡◌, ◌⊎◌, ◌≤◌, ◌<◌, ◌+◌, ℕ, zero, suc, List, [], ◌∷◌, ◌++◌, Bool, true, false, length, take, sym, ◌∙◌, refl, ap, arith, rules, Option, Some, None, inl, inr}
 use Rattle.std.specs.Prelude.{◌||◌, if◌then◌else◌, nat_le, nat_lt, unwrap_or}
 use Rattle.std.specs.Option.{option_or}
@@ -11,7 +11,7 @@ use Rattle.docket.specs.Fields.{Fields, field, kind_of, is_kind, row_fault}
 use Rattle.docket.specs.Rows.{row_at}
 use Rattle.docket.specs.Contents.{names_of, programmes_of, residents_of, workers_in}
 use Rattle.docket.specs.Passes.{first_from, reading_fault, repeat_fault, limit_fault, ranking_fault, later_fault, next_place}
-use Rattle.docket.specs.Kept.{is_among, lists_text, is_listed, AreMany, AreShown, AreCutAt, AreKept}
+use Rattle.docket.specs.Kept.{is_among, lists_text, is_listed, AreMany, IsFront, AreAlike, AreCutAt, AreListsCut}
 use Rattle.docket.specs.declared.store.rows.TheConstants.{MOST_LISTED}
 use Rattle.docket.specs.declared.vocabulary.TheConstants.{QUOTA, RESIDENT_LIST, MAX_RECORDS}
 use Rattle.docket.specs.declared.fault.DocketFault.{DocketFault}
@@ -20,7 +20,8 @@ use Rattle.docket.proofs.DeclarationFacts.{names_of-if}
 use Rattle.docket.proofs.PassFacts.{first_from-append, reading_fault-few}
 use Rattle.docket.proofs.RankingFacts.{clean_at}
 use Rattle.docket.proofs.SoundFacts.{both_none}
-use Rattle.docket.proofs.KeptFacts.{shown_kind, shown_owner, kept_shown, shown_programmes, shown_residents}
+use Rattle.docket.proofs.KeptFacts.{cut_kind, cut_owner, front_seen, alike_programmes, alike_residents, IsSeen}
+use Rattle.docket.proofs.KeepFacts.{lists_alike}
 use Rattle.docket.proofs.ListedFacts.{known_texts, AllKnown, few_among, count_wider, row_told, front_known}
 
 -- a row that the first pass let through is within the limits
@@ -72,15 +73,30 @@ few_names k most room rows none few (suc n) le = by (is_kind k (row_at rows n)) 
         rw (grown, e) (omega (arith, size, less))
     by false e before = rw (grown, e) before
 
-few_members : (rows : List Fields) → first_from reading_fault [] rows ≡ None → length rows ≤ MAX_RECORDS → length (known_texts rows) ≤ MOST_LISTED
+-- no more members than there can be
+pub record AreFew (rows : List Fields) : Type 0 where
+  pub programmes : length (programmes_of rows) ≤ MAX_PROGRAMMES
+  pub residents : length (residents_of rows) ≤ MAX_RESIDENTS
+
+pub few_members : (rows : List Fields) → first_from reading_fault [] rows ≡ None → length rows ≤ MAX_RECORDS → AreFew rows
 unfolding programmes_of residents_of
 few_members rows none few =
     let programmes = few_names QUOTA MAX_PROGRAMMES quota_room rows none few (length rows) (omega arith) in
     let residents = few_names RESIDENT_LIST MAX_RESIDENTS resident_room rows none few (length rows) (omega arith) in
     let all = take_all (length rows) rows (omega arith) in
-    let size = length-append (names_of QUOTA rows) (names_of RESIDENT_LIST rows) in
-    let p : length (names_of QUOTA rows) ≤ MAX_PROGRAMMES = rw all at programmes in
-    let r : length (names_of RESIDENT_LIST rows) ≤ MAX_RESIDENTS = rw all at residents in
+    record { programmes = rw all at programmes; residents = rw all at residents }
+
+pub few_alike : (Is : Fields → Fields → Type 0) → IsSeen Is → (all kept : List Fields) → AreAlike Is all kept → AreFew kept → AreFew all
+few_alike Is seen all kept h few = record {
+  programmes = rw (alike_programmes Is seen all kept h) at few.programmes;
+  residents = rw (alike_residents Is seen all kept h) at few.residents;
+}
+
+few_known : (rows : List Fields) → AreFew rows → length (known_texts rows) ≤ MOST_LISTED
+few_known rows few =
+    let size = length-append (programmes_of rows) (residents_of rows) in
+    let p = few.programmes in
+    let r = few.residents in
     omega (arith, size, p, r)
 
 -- rows whose lists have more texts than that have one that isn't known
@@ -93,40 +109,40 @@ not_all_known rows listed few many known =
     omega (arith, wider, most, more, few)
 
 -- the second pass goes by what all rows declare
-ranking_same : (all kept : List Fields) → AreShown all kept → (before : List Fields) (row : Fields) → ranking_fault kept before row ≡ ranking_fault all before row
+ranking_same : (all kept : List Fields) → AreAlike IsFront all kept → (before : List Fields) (row : Fields) → ranking_fault kept before row ≡ ranking_fault all before row
 unfolding ranking_fault
-ranking_same all kept h before row = rw (shown_programmes all kept h, shown_residents all kept h) refl
+ranking_same all kept h before row = rw (alike_programmes IsFront front_seen all kept h, alike_residents IsFront front_seen all kept h) refl
 
-first_same : (f g : List Fields → Fields → Option DocketFault) → ((before : List Fields) (row : Fields) → f before row ≡ g before row)
+pub first_same : (f g : List Fields → Fields → Option DocketFault) → ((before : List Fields) (row : Fields) → f before row ≡ g before row)
     → (before rows : List Fields) → first_from f before rows ≡ first_from g before rows
 unfolding first_from
 first_same f g h before [] = refl
 first_same f g h before (row ∷ rows) = rw (h before row, first_same f g h (before ++ row ∷ []) rows) refl
 
 -- where rows are cut, the second pass has a fault there at the latest, and it is the same
-pub cut_told : (all kept : List Fields) (h : AreCutAt all kept) → first_from reading_fault [] kept ≡ None → length kept ≤ MAX_RECORDS
+cut_told : (all kept : List Fields) (h : AreCutAt all kept) → AreFew kept
     → (e : DocketFault) × (first_from (ranking_fault kept) [] kept ≡ Some e) × (first_from (ranking_fault all) [] all ≡ Some e)
 unfolding first_from
-cut_told all kept h sound few = by (first_from (ranking_fault kept) [] h.front) refl
+cut_told all kept h few = by (first_from (ranking_fault kept) [] h.front) refl
   where
-    shown : AreShown all kept
-    shown = kept_shown all kept (inr h)
+    alike : AreAlike IsFront all kept
+    alike = lists_alike all kept (inr h)
 
     at_kept : first_from (ranking_fault kept) [] kept ≡ option_or (first_from (ranking_fault kept) [] h.front) (first_from (ranking_fault kept) h.front (h.short ∷ h.after))
     at_kept = ap (first_from (ranking_fault kept) []) h.kept_are ∙ first_from-append (ranking_fault kept) [] h.front (h.short ∷ h.after)
 
     at_all : first_from (ranking_fault all) [] all ≡ option_or (first_from (ranking_fault kept) [] h.front) (first_from (ranking_fault kept) h.front (h.row ∷ h.rest))
-    at_all = sym (first_same (ranking_fault kept) (ranking_fault all) (ranking_same all kept shown) [] all)
+    at_all = sym (first_same (ranking_fault kept) (ranking_fault all) (ranking_same all kept alike) [] all)
         ∙ ap (first_from (ranking_fault kept) []) h.all_are ∙ first_from-append (ranking_fault kept) [] h.front (h.row ∷ h.rest)
 
     told : first_from (ranking_fault kept) [] h.front ≡ None
         → (ranking_fault kept h.front h.short ≡ Some (UnknownName (next_place h.front))) × (ranking_fault kept h.front h.row ≡ Some (UnknownName (next_place h.front)))
-    told none = of (row_told kept h.front h.after h.row h.short h.kept_are h.cut (shown_kind h.row h.short (inr h.cut)) (shown_owner h.row h.short (inr h.cut)))
+    told none = of (row_told kept h.front h.after h.row h.short h.kept_are h.cut (cut_kind h.row h.short h.cut) (cut_owner h.row h.short h.cut))
       where
         of : ((ranking_fault kept h.front h.short ≡ Some (UnknownName (next_place h.front))) × (ranking_fault kept h.front h.row ≡ Some (UnknownName (next_place h.front)))) ⊎ AllKnown kept h.short
             → (ranking_fault kept h.front h.short ≡ Some (UnknownName (next_place h.front))) × (ranking_fault kept h.front h.row ≡ Some (UnknownName (next_place h.front)))
         of (inl both) = both
-        of (inr known) = absurd (not_all_known kept (h.front ++ h.short ∷ []) (few_members kept sound few) h.many all_known)
+        of (inr known) = absurd (not_all_known kept (h.front ++ h.short ∷ []) (few_known kept few) h.many all_known)
           where
             all_known : (text : List ℕ) → is_listed (h.front ++ h.short ∷ []) text ≡ true → is_among (known_texts kept) text ≡ true
             all_known text there = split (is_listed h.front text) refl (lists_text text h.short) refl (sym (list_any-append (lists_text text) h.front (h.short ∷ [])) ∙ there)
@@ -142,10 +158,18 @@ cut_told all kept h sound few = by (first_from (ranking_fault kept) [] h.front) 
     by None f = let t = told f in (UnknownName (next_place h.front), rw (at_kept, f, t.0) refl, rw (at_all, f, t.1) refl)
 
 -- so the later passes have the same first fault, and where they have none the rows are whole
-pub later_kept : (all kept : List Fields) → AreKept all kept → first_from reading_fault [] kept ≡ None → length kept ≤ MAX_RECORDS
-    → (later_fault kept ≡ later_fault all) × (later_fault kept ≡ None → kept ≡ all)
+abbrev pub IsAsGood : List Fields → List Fields → Type 0
+IsAsGood all kept = (later_fault kept ≡ later_fault all) × (later_fault kept ≡ None → kept ≡ all)
+
+pub lists_later : (all kept : List Fields) → AreListsCut all kept → AreFew kept → IsAsGood all kept
 unfolding later_fault
-later_kept all kept (inl same) sound few = (rw same refl, λ none. same)
-later_kept all kept (inr h) sound few =
-    let t = cut_told all kept h sound few in
+lists_later all kept (inl same) few = (rw same refl, λ none. same)
+lists_later all kept (inr h) few =
+    let t = cut_told all kept h few in
     (rw (t.1, t.2) refl, λ none. absurd (cc (rw t.1 at none)))
+
+-- where no later pass has a fault
+pub none_later : (a b c d : Option DocketFault) → option_or a (option_or b (option_or c d)) ≡ None → (c ≡ None) × (d ≡ None)
+none_later None None c d e = both_none c d e
+none_later None (Some f) c d e = absurd (cc e)
+none_later (Some f) b c d e = absurd (cc e)

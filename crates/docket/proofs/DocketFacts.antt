@@ -24,7 +24,7 @@ use Rattle.match_model.specs.Written.{Written}
 use Rattle.docket.specs.declared.store.declarations.Declarations.{Declarations}
 use Rattle.docket.specs.declared.vocabulary.TheConstants.{QUOTA, PROGRAMME_LIST, RESIDENT_LIST, CAPACITY, MAX_RECORDS}
 use Rattle.docket.specs.declared.fault.DocketFault.{DocketFault}
-use Rattle.docket.proofs.CutFacts.{later_kept}
+use Rattle.docket.proofs.LaterFacts.{later_kept}
 use Rattle.docket.proofs.DeclarationFacts.{refuses_first, refuses_second, no_fault}
 use Rattle.docket.proofs.RankingFacts.{lists_of-none}
 use Rattle.docket.proofs.WithdrawalFacts.{withdrawn_of-none}

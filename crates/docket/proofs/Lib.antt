@@ -29,6 +29,12 @@ pub mod WriteFacts
 pub mod RowTextFacts
 pub mod WithListsFacts
 pub mod KeptFacts
+pub mod StandInFacts
 pub mod ListedFacts
+pub mod KeepFacts
 pub mod CutFacts
+pub mod QuietFacts
+pub mod SheetCutFacts
+pub mod JournalCutFacts
+pub mod LaterFacts
 pub mod JoinFacts

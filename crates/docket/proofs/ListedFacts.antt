@@ -15,7 +15,7 @@ use Rattle.docket.specs.declared.vocabulary.TheConstants.{PROGRAMME_LIST, RESIDE
 use Rattle.docket.specs.declared.fault.DocketFault.TheVariants.{UnknownName}
 use Rattle.docket.proofs.DeclarationFacts.{is_declared-rows}
 use Rattle.docket.proofs.FieldFacts.{field-get_or}
-use Rattle.docket.proofs.KeptFacts.{list_kind}
+use Rattle.docket.proofs.KeptFacts.{list_kind, or_left, or_right}
 use Rattle.docket.proofs.NameFacts.{is_declared-any}
 use Rattle.docket.proofs.NumberFacts.{same_bytes, bytes_eq-same}
 use Rattle.docket.proofs.RankingFacts.{bytes_eq-swap}
@@ -26,8 +26,8 @@ use Rattle.docket.proofs.SoundFacts.{both_none, unless_none}
 pub count_append : (p : List ℕ → Bool) (xs ys : List (List ℕ)) → count_by p (xs ++ ys) ≡ count_by p xs + count_by p ys
 count_append p xs ys = sum_by-append (λ (x : List ℕ). if p x then 1 else 0) xs ys
 
-count_cons : (p : List ℕ → Bool) (x : List ℕ) (xs : List (List ℕ)) → count_by p (x ∷ xs) ≡ (if p x then 1 else 0) + count_by p xs
-count_cons p x xs = sum_by-append (λ (y : List ℕ). if p y then 1 else 0) (x ∷ []) xs ∙ ap (λ n. n + count_by p xs) (zero-add (if p x then 1 else 0))
+count_cons : {A : Type 0} (p : A → Bool) (x : A) (xs : List A) → count_by p (x ∷ xs) ≡ (if p x then 1 else 0) + count_by p xs
+count_cons {A} p x xs = sum_by-append (λ (y : A). if p y then 1 else 0) (x ∷ []) xs ∙ ap (λ n. n + count_by p xs) (zero-add (if p x then 1 else 0))
 
 pub count_all : (p : List ℕ → Bool) (xs : List (List ℕ)) → list_all p xs ≡ true → count_by p xs ≡ length xs
 count_all p [] h = refl
@@ -69,7 +69,7 @@ count_one k (x ∷ xs) d = rw (count_cons (λ x. bytes_eq x k) x xs) (by (bytes_
     by false e le = omega (arith, le)
 
 -- two tests together count no more than each by itself
-count_split : (p q r : List ℕ → Bool) → ((x : List ℕ) → p x ≡ true → (q x || r x) ≡ true) → (xs : List (List ℕ)) → count_by p xs ≤ count_by q xs + count_by r xs
+pub count_split : {A : Type 0} (p q r : A → Bool) → ((x : A) → p x ≡ true → (q x || r x) ≡ true) → (xs : List A) → count_by p xs ≤ count_by q xs + count_by r xs
 count_split p q r h [] = omega arith
 count_split p q r h (x ∷ xs) = rw (count_cons p x xs, count_cons q x xs, count_cons r x xs) (by (p x) refl (q x) refl (r x) refl (count_split p q r h xs))
   where
@@ -103,14 +103,6 @@ known_texts rows = codes "P" ∷ codes "R" ∷ programmes_of rows ++ residents_o
 known_first : (rows : List Fields) (text : List ℕ) → (text ≡ codes "P") ⊎ (text ≡ codes "R") → is_among (known_texts rows) text ≡ true
 known_first rows text (inl e) = rw e refl
 known_first rows text (inr e) = rw e refl
-
-pub or_right : (a b : Bool) → b ≡ true → (a || b) ≡ true
-or_right true b e = refl
-or_right false b e = e
-
-pub or_left : (a b : Bool) → a ≡ true → (a || b) ≡ true
-or_left true b e = refl
-or_left false b e = absurd (cc e)
 
 known_programme : (rows : List Fields) (text : List ℕ) → is_declared (programmes_of rows) text ≡ true → is_among (known_texts rows) text ≡ true
 known_programme rows text e =

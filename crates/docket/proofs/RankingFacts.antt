@@ -372,7 +372,7 @@ pub not_kind : (row : Fields) (k n : ℕ) → n ≡ kind_of row → (n ≡ k →
 not_kind row k n e isnt = rw (← e) (search (rules, isnt))
 
 -- drafts of the same parts
-same_draft : {b c : Draft} → b.quotas ≡ c.quotas → b.programme_lists ≡ c.programme_lists → b.resident_lists ≡ c.resident_lists
+pub same_draft : {b c : Draft} → b.quotas ≡ c.quotas → b.programme_lists ≡ c.programme_lists → b.resident_lists ≡ c.resident_lists
     → b.programmes_withdrawn ≡ c.programmes_withdrawn → b.residents_withdrawn ≡ c.residents_withdrawn → b ≡ c
 same_draft q p r pg rg = λ i. record { quotas = q i; programme_lists = p i; resident_lists = r i; programmes_withdrawn = pg i; residents_withdrawn = rg i }
 

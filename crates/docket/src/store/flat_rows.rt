@@ -54,7 +54,8 @@ fn append(
 ) -> Result<(), AllocError>
     requires short { AreShort (fields_of row.now) }
     requires within { AreNumbersOf texts.old fields.old }
-    ensures { OnOk result (AddsTexts texts.old fields.old texts.new fields.new (drop from (fields_of row.now))) }
+    ensures added { OnOk result (AddsTexts texts.old fields.old texts.new fields.new (drop from (fields_of row.now))) }
+    ensures joined { OnOk result (HaveJoined texts.old texts.new (drop from (fields_of row.now))) }
 {
     for i in from..row.len() {
         if let Some(text) = row.get(i) {
@@ -80,6 +81,10 @@ fn append_list(
     ensures front { IfOk result (λ count. (2 ≤ count) × (count ≤ length (fields_of row.now))) }
     ensures cut { IfOk result (λ count. count < length (fields_of row.now) → most < length texts.new) }
 {
+    if row.len() <= most.saturating_sub(texts.len()) {
+        append(texts, fields, row, 0)?;
+        return Ok(row.len());
+    }
     for i in 0..row.len() {
         if i >= 2 && texts.len() > most {
             return Ok(i);
