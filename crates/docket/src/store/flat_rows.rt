@@ -46,6 +46,7 @@ fn append_text(texts: &mut Texts, fields: &mut Numbers, text: &[u8]) -> Result<(
 }
 
 // Adds the numbers of the fields of a row from field `from` on.
+#[inline(always)]
 fn append(
     texts: &mut Texts,
     fields: &mut Numbers,
@@ -117,6 +118,7 @@ impl FlatRows {
     }
 
     /// Adds the fields of a row from field `from` on, as a row. Where memory is wanting no row is kept.
+    #[inline(always)]
     pub(crate) fn push(&mut self, row: &ByteRecord, from: usize) -> Result<(), AllocError>
         requires { AreShort (fields_of row.now) }
         ensures rows { OnOk result (self.new.rows ≡ self.old.rows ++ drop from (fields_of row.now) ∷ []) }
