@@ -22,10 +22,10 @@ use Rattle.docket.specs.Rows.{IsEventOf}
 use Rattle.docket.specs.FlatRows.{AreNames, StartsWith}
 use Rattle.docket.specs.Whole.{AreWorkers}
 use Rattle.docket.specs.declared.store.declarations.Declarations.{Declarations}
-use Rattle.docket.specs.declared.kind.TheConstants.{QUOTA, PROGRAMME_LIST, RESIDENT_LIST, MATCHED, UNMATCHED, FILLED, CAPACITY, EVENT}
+use Rattle.docket.specs.declared.vocabulary.TheConstants.{QUOTA, PROGRAMME_LIST, RESIDENT_LIST, MATCHED, UNMATCHED, FILLED, CAPACITY, EVENT}
 use Rattle.docket.specs.declared.fault.DocketFault.{DocketFault}
 use Rattle.docket.specs.declared.fault.DocketFault.TheVariants.{DeclaredTwice, Model, BadEvent}
-use Rattle.docket.specs.declared.kind.EventWord.{EventWord}
+use Rattle.docket.specs.declared.vocabulary.EventWord.{EventWord}
 use Rattle.docket.proofs.NameFacts.{is_declared-map}
 use Rattle.docket.proofs.TextFacts.{names_grown}
 use Rattle.docket.proofs.WithdrawalFacts.{names_withdrawn-if, is_version_2-other}

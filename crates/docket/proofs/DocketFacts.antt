@@ -1,5 +1,5 @@
 -- The passes together.
-use Rattle.std.proofs.Common.{◌≡◌, ◌⊎◌, inl, inr, ℕ, List, [], ◌∷◌, Bool, true, false, length, map, sym, ◌∙◌, refl, Option, Some, None, Result, Ok, Err, rules}
+use Rattle.std.proofs.Common.{◌≡◌, ◌⊎◌, ◌≤◌, inl, inr, ℕ, List, [], ◌∷◌, Bool, true, false, length, map, sym, ◌∙◌, refl, Option, Some, None, Result, Ok, Err, rules}
 use Rattle.std.specs.Prelude.{◌&&◌, ◌||◌, not, if◌then◌else◌, nat_eq, codes, option_map, IfOk, IfErr, IfSome}
 use Rattle.std.specs.List.{list_any}
 use Rattle.std.specs.Option.{option_or}
@@ -10,7 +10,7 @@ use Rattle.docket.specs.Answers.{Answers, Refuses}
 use Rattle.docket.specs.Texts.{programme_name, resident_name}
 use Rattle.std.proofs.lemmas.Option.{get_or_from_slice_get}
 use Rattle.std.proofs.Common.{slice_get}
-use Rattle.docket.specs.Read.{AreAll, Explains, IsReadFault}
+use Rattle.docket.specs.Read.{AreKeptOf, Explains, IsReadFault}
 use Rattle.docket.specs.Ranking.{IsRanked}
 use Rattle.std.specs.Prelude.{find, unwrap_or}
 use Rattle.exchange_core.specs.declared.event.Capacity.{Capacity}
@@ -19,11 +19,12 @@ use Rattle.exchange_core.specs.declared.event.Event.{Event}
 use Rattle.docket.specs.Words.{capacity_of}
 use Rattle.docket.specs.Declarations.{IsDeclared, AreByWorker, capacity_in}
 use Rattle.docket.specs.Whole.{AreWorkers}
-use Rattle.docket.specs.WithLists.{IsReadKeeping, lists_if}
+use Rattle.docket.specs.WithLists.{IsReadAs, lists_if}
 use Rattle.match_model.specs.Written.{Written}
 use Rattle.docket.specs.declared.store.declarations.Declarations.{Declarations}
-use Rattle.docket.specs.declared.kind.TheConstants.{QUOTA, PROGRAMME_LIST, RESIDENT_LIST, CAPACITY}
+use Rattle.docket.specs.declared.vocabulary.TheConstants.{QUOTA, PROGRAMME_LIST, RESIDENT_LIST, CAPACITY, MAX_RECORDS}
 use Rattle.docket.specs.declared.fault.DocketFault.{DocketFault}
+use Rattle.docket.proofs.LaterFacts.{later_kept}
 use Rattle.docket.proofs.DeclarationFacts.{refuses_first, refuses_second, no_fault}
 use Rattle.docket.proofs.RankingFacts.{lists_of-none}
 use Rattle.docket.proofs.WithdrawalFacts.{withdrawn_of-none}
@@ -87,19 +88,22 @@ whole_reading None e (inr h) = inr tt
 whole_reading (Some bytes) e (inr h) = inr (refuses_first _ _ e h)
 
 -- the docket, and the lists where they are kept
-pub whole_read : (known : Option (List ℕ)) (keeps : Bool) (rows : List Fields) (r : Result (Contents × Option Written) DocketFault) → AreAll (option_map rows_in known) rows
-    → first_from reading_fault [] rows ≡ None → IfOk r (λ read. read.0 ≡ contents_of rows) → IfOk r (λ read. read.1 ≡ lists_if keeps rows) → Answers (later_fault rows) r
-    → IfOk r (λ read. IsReadKeeping known keeps read.0 read.1)
-whole_read known keeps rows (Err e) all sound is lists answers = tt
-whole_read known keeps rows (Ok read) all sound is lists answers =
-    record { rows = rows; all = all; faultless = no_fault _ _ sound answers; docket_is = is; lists_are = lists }
+pub whole_read : (known : Option (List ℕ)) (keeps : Bool) (rows : List Fields) (r : Result (Contents × Option Written) DocketFault) → AreKeptOf (option_map rows_in known) rows
+    → first_from reading_fault [] rows ≡ None → length rows ≤ MAX_RECORDS → IfOk r (λ read. read.0 ≡ contents_of rows) → IfOk r (λ read. read.1 ≡ lists_if keeps rows)
+    → Answers (later_fault rows) r → IfOk r (λ read. IsReadAs known keeps read.0 read.1)
+whole_read known keeps rows (Err e) all sound few is lists answers = tt
+whole_read None keeps rows (Ok read) all sound few is lists answers =
+    record { rows = rows; all = tt; faultless = no_fault _ _ sound answers; docket_is = is; lists_are = lists }
+whole_read (Some bytes) keeps rows (Ok read) all sound few is lists answers =
+    record { rows = rows; all = sym ((later_kept (rows_in bytes) rows all.0 sound few).1 answers); faultless = no_fault _ _ sound answers; docket_is = is; lists_are = lists }
 
-pub whole_later : {T : Type 0} (known : Option (List ℕ)) (rows : List Fields) (r : Result T DocketFault) → AreAll (option_map rows_in known) rows
-    → first_from reading_fault [] rows ≡ None → Answers (later_fault rows) r
+pub whole_later : {T : Type 0} (known : Option (List ℕ)) (rows : List Fields) (r : Result T DocketFault) → AreKeptOf (option_map rows_in known) rows
+    → first_from reading_fault [] rows ≡ None → length rows ≤ MAX_RECORDS → Answers (later_fault rows) r
     → IfErr r (λ e. IsReadFault e ⊎ IfSome known (λ bytes. Refuses (first_fault bytes) e))
-whole_later known rows (Ok d) all sound answers = tt
-whole_later None rows (Err e) all sound answers = inr tt
-whole_later (Some bytes) rows (Err e) all sound answers = inr (rw all (refuses_second _ _ e sound answers))
+whole_later known rows (Ok d) all sound few answers = tt
+whole_later None rows (Err e) all sound few answers = inr tt
+whole_later (Some bytes) rows (Err e) all sound few answers =
+    inr (refuses_second _ _ e all.1 (rw (sym (later_kept (rows_in bytes) rows all.0 sound few).0) answers))
 
 -- the faults of a sheet are asked only where there is one
 pub sheet_asked : (rows : List Fields) → has_sheet rows ≡ true

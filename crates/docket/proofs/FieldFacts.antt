@@ -1,8 +1,7 @@
 -- Facts on the fields of a record.
-use Rattle.std.proofs.Common.{◌≡◌, ◌≤◌, ◌<◌, ◌+◌, ◌-◌, ℕ, zero, suc, List, [], ◌∷◌, ◌++◌, Bool, false, length, get_or, take, drop, arith, sym, ◌∙◌, refl, ap}
+use Rattle.std.proofs.Common.{◌≡◌, ◌≤◌, ◌<◌, ◌+◌, ◌-◌, ℕ, zero, suc, List, [], ◌∷◌, Bool, false, length, get_or, take, drop, arith, sym, ◌∙◌, refl, ap}
 use Rattle.std.specs.Prelude.{◌&&◌}
 use Rattle.std.specs.List.{list_all}
-use Rattle.std.proofs.lemmas.List.{get_or_append_left, get_or-append_right}
 use Rattle.std.proofs.lemmas.List.Folds.{list_all_more, list_all_at}
 use Rattle.csv.specs.Records.{field_at}
 use Rattle.docket.specs.Fields.{Fields, field}
@@ -13,13 +12,6 @@ unfolding field field_at
 field-get_or [] i = refl
 field-get_or (f ∷ row) zero = refl
 field-get_or (f ∷ row) (suc i) = field-get_or row i
-
--- a field of texts that are joined
-pub field-append_left : (xs ys : Fields) (i : ℕ) → i < length xs → field (xs ++ ys) i ≡ field xs i
-field-append_left xs ys i h = field-get_or (xs ++ ys) i ∙ get_or_append_left xs ys [] i h ∙ sym (field-get_or xs i)
-
-pub field-append_right : (xs ys : Fields) (i : ℕ) → length xs ≤ i → field (xs ++ ys) i ≡ field ys (i - length xs)
-field-append_right xs ys i h = field-get_or (xs ++ ys) i ∙ get_or-append_right xs ys (length xs) i [] refl h ∙ sym (field-get_or ys (i - length xs))
 
 -- one name more in the list from place 1 on
 pub lists_more : (p : List ℕ → Bool) (row : Fields) (i : ℕ) → 1 ≤ i → i < length row

@@ -13,13 +13,12 @@ use Rattle.docket.specs.Ranking.{IsRanked}
 use Rattle.match_model.specs.Draft.{Draft, with_programme_withdrawn, with_resident_withdrawn}
 use Rattle.match_model.specs.Draft as model
 use Rattle.match_model.specs.Fault.{AnswersExactly}
-use Rattle.docket.specs.declared.kind.TheConstants.{PROGRAMME_LIST, RESIDENT_LIST, MAX_RECORDS}
+use Rattle.docket.specs.declared.vocabulary.TheConstants.{PROGRAMME_LIST, RESIDENT_LIST, MAX_RECORDS}
 use Rattle.docket.specs.declared.fault.DocketFault.TheVariants.{UnknownKind, UnknownName, DeclaredTwice}
 use Rattle.docket.proofs.NumberFacts.{distinct, number_below, at_number, map_at, bytes_eq-same}
 use Rattle.docket.proofs.SoundFacts.{both_none, unless_none}
 use Rattle.docket.proofs.RankingFacts.{sound_row, off, bytes_eq-swap, lists_of-other, distinct_programmes, distinct_residents}
 use Rattle.docket.proofs.WithdrawalFacts.{withdrawn_of-other}
-use Rattle.docket.proofs.VersionFacts.{other_side}
 
 -- the flags, with a withdrawal of one member more
 pub withdrawn_of-owner : (side : List ℕ) (names : List (List ℕ)) (before : List Fields) (row : Fields) (i : ℕ) → distinct names ≡ true
@@ -75,22 +74,6 @@ not_withdrawn rows k sound few lt kind = by (take k rows) (row_at rows k) kind (
         let own = both_none known (option_or (withdrawal_row_fault (next_place before) row) fresh) asked in
         let last = both_none (withdrawal_row_fault (next_place before) row) fresh own.1 in
         off _ (unless_none (not (list_any (is_withdrawal_of (field row 1) (field row 2)) before)) (DeclaredTwice (next_place before)) last.1)
-
--- and what it isn't of programmes is of residents
-pub resident_side : (rows : List Fields) (k : ℕ) → first_from reading_fault [] rows ≡ None → length rows ≤ MAX_RECORDS → k < length rows
-    → kind_of (row_at rows k) ≡ withdrawal_kind → bytes_eq (field (row_at rows k) 1) (codes "P") ≡ false → field (row_at rows k) 1 ≡ codes "R"
-unfolding repeat_fault
-resident_side rows k sound few lt kind isnt = by (take k rows) (row_at rows k) kind (sound_row rows k sound few lt).1 isnt
-  where
-    by : (before : List Fields) (row : Fields) → kind_of row ≡ withdrawal_kind → repeat_fault before row ≡ None
-        → bytes_eq (field row 1) (codes "P") ≡ false → field row 1 ≡ codes "R"
-    by before row kind none other =
-        let known = unless (is_version_2 before) (UnknownKind (next_place before)) in
-        let fresh = unless (not (list_any (is_withdrawal_of (field row 1) (field row 2)) before)) (DeclaredTwice (next_place before)) in
-        let asked : option_or known (option_or (withdrawal_row_fault (next_place before) row) fresh) ≡ None = rw kind at none in
-        let own = both_none known (option_or (withdrawal_row_fault (next_place before) row) fresh) asked in
-        let last = both_none (withdrawal_row_fault (next_place before) row) fresh own.1 in
-        other_side (next_place before) row last.0 other
 
 -- what the second pass asks of a W row
 pub withdrawal_named : (rows before : List Fields) (row : Fields) (names : List (List ℕ)) (n i : ℕ) → kind_of row ≡ withdrawal_kind → names_on (field row 1) rows ≡ names

@@ -19,6 +19,7 @@ pub mod PassFacts
 pub mod ReadInvariant
 pub mod RankingFacts
 pub mod GoneFacts
+pub mod KindFacts
 pub mod JournalFacts
 pub mod MarkFacts
 pub mod RestFacts
@@ -27,3 +28,13 @@ pub mod WholeFacts
 pub mod WriteFacts
 pub mod RowTextFacts
 pub mod WithListsFacts
+pub mod KeptFacts
+pub mod StandInFacts
+pub mod ListedFacts
+pub mod KeepFacts
+pub mod CutFacts
+pub mod QuietFacts
+pub mod SheetCutFacts
+pub mod JournalCutFacts
+pub mod LaterFacts
+pub mod JoinFacts

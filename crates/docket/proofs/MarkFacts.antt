@@ -12,7 +12,7 @@ use Rattle.docket.specs.Marks.{IsMarked, placed_in}
 use Rattle.docket.specs.Passes.{first_from, reading_fault, mark_fault, missing_fault, filled_fault, next_place}
 use Rattle.docket.specs.Answers.{Refuses}
 use Rattle.docket.specs.declared.passes.sheet.Marks.{Marks}
-use Rattle.docket.specs.declared.kind.TheConstants.{MATCHED, UNMATCHED, FILLED, MAX_RECORDS}
+use Rattle.docket.specs.declared.vocabulary.TheConstants.{MATCHED, UNMATCHED, FILLED, MAX_RECORDS}
 use Rattle.docket.specs.declared.fault.DocketFault.{DocketFault}
 use Rattle.docket.specs.declared.fault.DocketFault.TheVariants.{UnknownName, BadSheet}
 use Rattle.docket.proofs.DeclarationFacts.{list_any-if, option_or-none}

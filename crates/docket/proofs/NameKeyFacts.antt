@@ -1,6 +1,6 @@
 -- Facts on what names are found by.
 use Rattle.std.proofs.Common.{◌≡◌, ◌≤◌, ◌<◌, ◌-◌, ◌+◌, ℕ, zero, suc, List, [], ◌∷◌, ◌++◌, length, take, drop, replicate, get_or, arith, rules, Bool, true, false, refl, sym, ap, ◌∙◌}
-use Rattle.std.proofs.lemmas.List.{length-take, length-drop, get_or-drop, take_all, take-append-drop}
+use Rattle.std.proofs.lemmas.List.{length-drop, get_or-drop, take_all, take-append-drop}
 use Rattle.std.specs.Prelude.{bytes_eq, ◌&&◌, nat_eq}
 use Rattle.std.proofs.lemmas.Bool.{and_parts}
 use Rattle.std.proofs.lemmas.Slice.Eq.{bytes_eq-Decides}
@@ -16,17 +16,6 @@ take_front (x ∷ xs) ys = ap (λ (l : List ℕ). x ∷ l) (take_front xs ys)
 pub filled_by : (text rest : List ℕ) → length text ≤ MAX_NAME → rest ≡ replicate (MAX_NAME - length text) 0 → IsFilled (length text) (text ++ rest)
 unfolding filled
 filled_by text rest few zeros = record { fits = few; filled_up = rw (take_front text rest) (ap (λ (l : List ℕ). text ++ l) zeros) }
-
--- the length that is kept is that of the text
-pub length_kept : (len : ℕ) (bytes : List ℕ) → IsFilled len bytes → length bytes ≡ MAX_NAME → length (take len bytes) ≡ len
-length_kept len bytes h all =
-    let few = h.fits in
-    let front = length-take len bytes in
-    omega arith
-
--- one text has one key
-pub one_key : (m n : ℕ) (b c : List ℕ) → IsFilled m b → IsFilled n c → take m b ≡ take n c → b ≡ c
-one_key m n b c h i e = h.filled_up ∙ ap filled e ∙ sym i.filled_up
 
 -- the first eight of as many items
 pub first_eight : (b : List ℕ) → 8 ≤ length b

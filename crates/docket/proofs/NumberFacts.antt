@@ -10,7 +10,7 @@ use Rattle.std.proofs.lemmas.List.Folds.{list_all_more, list_all_at}
 use Rattle.std.proofs.lemmas.Bool.{and_parts, or_parts}
 use Rattle.docket.specs.Fields.{Fields, field, is_kind, unless}
 use Rattle.docket.specs.Contents.{number_in, is_declared, member_in, listed_in, names_of, rows_of, programmes_of, residents_of}
-use Rattle.docket.specs.declared.kind.TheConstants.{QUOTA, RESIDENT_LIST}
+use Rattle.docket.specs.declared.vocabulary.TheConstants.{QUOTA, RESIDENT_LIST}
 use Rattle.docket.specs.declared.fault.DocketFault.{DocketFault}
 use Rattle.docket.proofs.FieldFacts.{field-get_or}
 

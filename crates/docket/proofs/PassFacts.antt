@@ -9,11 +9,12 @@ use Rattle.docket.specs.Rows.{row_at}
 use Rattle.docket.specs.Answers.{Refuses}
 use Rattle.docket.specs.Read.{GivesRow, IsSplit, IsOutside, IsReadFault, Explains, AreAll}
 use Rattle.docket.specs.Passes.{first_from, reading_fault, repeat_fault, limit_fault, next_place}
-use Rattle.docket.specs.declared.kind.TheConstants.{MAX_RECORDS}
+use Rattle.docket.specs.declared.vocabulary.TheConstants.{MAX_RECORDS}
 use Rattle.docket.specs.declared.fault.DocketFault.{DocketFault}
 use Rattle.docket.specs.declared.fault.DocketFault.TheVariants.{TooManyRecords}
 
-option_or-assoc : (a b c : Option DocketFault) → option_or a (option_or b c) ≡ option_or (option_or a b) c
+-- three tests, two by two
+pub option_or-assoc : (a b c : Option DocketFault) → option_or a (option_or b c) ≡ option_or (option_or a b) c
 option_or-assoc None b c = refl
 option_or-assoc (Some f) b c = refl
 

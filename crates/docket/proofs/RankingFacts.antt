@@ -18,7 +18,7 @@ use Rattle.docket.specs.Passes.{first_from, reading_fault, repeat_fault, limit_f
 use Rattle.match_model.specs.Instance.{pair_count}
 use Rattle.match_model.specs.declared.limits.TheConstants.{MAX_PAIRS}
 use Rattle.docket.specs.Answers.{Refuses, at_record}
-use Rattle.docket.specs.declared.kind.TheConstants.{QUOTA, PROGRAMME_LIST, RESIDENT_LIST, MAX_RECORDS}
+use Rattle.docket.specs.declared.vocabulary.TheConstants.{QUOTA, PROGRAMME_LIST, RESIDENT_LIST, MAX_RECORDS}
 use Rattle.docket.specs.declared.fault.DocketFault.{DocketFault}
 use Rattle.docket.specs.declared.fault.DocketFault.TheVariants.{DeclaredTwice, UnknownName, Model}
 use Rattle.docket.proofs.PassFacts.{first_from-append, reading_fault-few}
@@ -372,7 +372,7 @@ pub not_kind : (row : Fields) (k n : ℕ) → n ≡ kind_of row → (n ≡ k →
 not_kind row k n e isnt = rw (← e) (search (rules, isnt))
 
 -- drafts of the same parts
-same_draft : {b c : Draft} → b.quotas ≡ c.quotas → b.programme_lists ≡ c.programme_lists → b.resident_lists ≡ c.resident_lists
+pub same_draft : {b c : Draft} → b.quotas ≡ c.quotas → b.programme_lists ≡ c.programme_lists → b.resident_lists ≡ c.resident_lists
     → b.programmes_withdrawn ≡ c.programmes_withdrawn → b.residents_withdrawn ≡ c.residents_withdrawn → b ≡ c
 same_draft q p r pg rg = λ i. record { quotas = q i; programme_lists = p i; resident_lists = r i; programmes_withdrawn = pg i; residents_withdrawn = rg i }
 

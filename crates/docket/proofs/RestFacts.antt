@@ -7,7 +7,7 @@ use Rattle.docket.specs.Ranking.{IsRanked}
 use Rattle.docket.specs.Marks.{IsMarked}
 use Rattle.docket.specs.Passes.{first_from, ranking_fault, mark_fault, filled_fault}
 use Rattle.docket.specs.declared.passes.sheet.Marks.{Marks}
-use Rattle.docket.specs.declared.kind.TheConstants.{PROGRAMME_LIST, RESIDENT_LIST, MATCHED, UNMATCHED, FILLED, EVENT}
+use Rattle.docket.specs.declared.vocabulary.TheConstants.{PROGRAMME_LIST, RESIDENT_LIST, MATCHED, UNMATCHED, FILLED, EVENT}
 use Rattle.docket.proofs.PassFacts.{pass_more, pass_rest}
 use Rattle.docket.proofs.RankingFacts.{not_kind, ranked_other, ranking_fault-other}
 use Rattle.docket.proofs.MarkFacts.{marks_other, mark_fault-other, filled_other}

@@ -1,14 +1,14 @@
 -- What a record without a fault by itself holds.
 use Rattle.std.proofs.Common.{◌≡◌, ◌<◌, ℕ, List, [], ◌∷◌, ◌++◌, Bool, true, false, length, drop, arith, refl, Option, Some, None, inl, inr, rules}
-use Rattle.std.specs.Prelude.{◌==◌, ◌⊎◌, ◌&&◌, is_some, nat_lt, unwrap_or, IsSome}
+use Rattle.std.specs.Prelude.{◌==◌, ◌⊎◌, ◌&&◌, ◌||◌, is_some, nat_lt, unwrap_or, IsSome}
 use Rattle.std.specs.List.{list_all}
 use Rattle.docket.specs.Words.{is_name, is_number, answer_of}
 use Rattle.std.specs.Option.{option_or}
-use Rattle.docket.specs.Fields.{Fields, field, kind_of, unless, counted, row_fault, list_row_fault, lists_names, filled_row_fault, event_row_fault, worded_row_fault, event_names_fault, answer_fault, event_word, version_kind, withdrawal_kind, event_width, worker_at}
-use Rattle.docket.specs.declared.kind.TheConstants.{QUOTA, PROGRAMME_LIST, RESIDENT_LIST, MATCHED, UNMATCHED, FILLED, CAPACITY, EVENT}
-use Rattle.docket.specs.declared.kind.EventWord.{EventWord}
-use Rattle.docket.specs.declared.kind.EventWord.TheVariants.{Offer, Take, Answer, Hear, Close}
-use Rattle.docket.specs.Contents.{word_in}
+use Rattle.docket.specs.Fields.{Fields, field, kind_of, is_kind, unless, counted, row_fault, list_row_fault, lists_names, filled_row_fault, event_row_fault, worded_row_fault, event_names_fault, answer_fault, event_word, version_kind, withdrawal_kind, event_width, worker_at}
+use Rattle.docket.specs.declared.vocabulary.TheConstants.{QUOTA, PROGRAMME_LIST, RESIDENT_LIST, MATCHED, UNMATCHED, FILLED, CAPACITY, EVENT}
+use Rattle.docket.specs.declared.vocabulary.EventWord.{EventWord}
+use Rattle.docket.specs.declared.vocabulary.EventWord.TheVariants.{Offer, Take, Answer, Hear, Close}
+use Rattle.docket.specs.Contents.{word_in, is_sheet_row}
 use Rattle.docket.specs.declared.fault.DocketFault.{DocketFault}
 use Rattle.docket.specs.declared.fault.DocketFault.TheVariants.{FieldCount, BadName, BadEvent, BadSheet}
 use Rattle.docket.specs.Passes.{repeat_fault, limit_fault}
@@ -96,12 +96,19 @@ unfolding repeat_fault limit_fault
 sheet_row_free before row k kind q p r c e v w = rw (kind, q, p, r, c, e, v, w) refl
 
 -- a row of a sheet more
-pub sheet_row_declared : (d : Declarations) (texts : List (List ℕ)) (rows : List Fields) (row : Fields)
-    → (kind_of row ≡ MATCHED) ⊎ ((kind_of row ≡ UNMATCHED) ⊎ (kind_of row ≡ FILLED)) → IsDeclared d texts rows
+pub sheet_row_declared : (d : Declarations) (texts : List (List ℕ)) (rows : List Fields) (row : Fields) → is_sheet_row row ≡ true → IsDeclared d texts rows
     → IsDeclared (record d { has_sheet_row = true }) texts (rows ++ row ∷ []) × (option_or (repeat_fault rows row) (limit_fault rows row) ≡ None)
-sheet_row_declared d texts rows row (inl m) h =
-    (declared_push d _ texts rows row MATCHED m h refl refl refl h.programmes h.residents h.ranked (option_or-none d.capacity) (λ e. cc e) refl refl h.withdrawn_programmes h.withdrawn_residents refl refl (by_other _ _ rows row MATCHED m refl refl h.by_worker), sheet_row_free rows row MATCHED m refl refl refl refl refl refl refl)
-sheet_row_declared d texts rows row (inr (inl u)) h =
-    (declared_push d _ texts rows row UNMATCHED u h refl refl refl h.programmes h.residents h.ranked (option_or-none d.capacity) (λ e. cc e) refl refl h.withdrawn_programmes h.withdrawn_residents refl refl (by_other _ _ rows row UNMATCHED u refl refl h.by_worker), sheet_row_free rows row UNMATCHED u refl refl refl refl refl refl refl)
-sheet_row_declared d texts rows row (inr (inr f)) h =
-    (declared_push d _ texts rows row FILLED f h refl refl refl h.programmes h.residents h.ranked (option_or-none d.capacity) (λ e. cc e) refl refl h.withdrawn_programmes h.withdrawn_residents refl refl (by_other _ _ rows row FILLED f refl refl h.by_worker), sheet_row_free rows row FILLED f refl refl refl refl refl refl refl)
+sheet_row_declared d texts rows row is h = of (is_kind MATCHED row) refl (is_kind UNMATCHED row) refl (is_kind FILLED row) refl is
+  where
+    of : (m : Bool) → is_kind MATCHED row ≡ m → (u : Bool) → is_kind UNMATCHED row ≡ u → (f : Bool) → is_kind FILLED row ≡ f → (m || u || f) ≡ true
+        → IsDeclared (record d { has_sheet_row = true }) texts (rows ++ row ∷ []) × (option_or (repeat_fault rows row) (limit_fault rows row) ≡ None)
+    of true e u eu f ef h2 =
+        let m : kind_of row ≡ MATCHED = search (rules, e) in
+        (declared_push d _ texts rows row MATCHED m h refl refl refl h.programmes h.residents h.ranked (option_or-none d.capacity) (λ e. cc e) refl refl h.withdrawn_programmes h.withdrawn_residents refl refl (by_other _ _ rows row MATCHED m refl refl h.by_worker), sheet_row_free rows row MATCHED m refl refl refl refl refl refl refl)
+    of false e true eu f ef h2 =
+        let u : kind_of row ≡ UNMATCHED = search (rules, eu) in
+        (declared_push d _ texts rows row UNMATCHED u h refl refl refl h.programmes h.residents h.ranked (option_or-none d.capacity) (λ e. cc e) refl refl h.withdrawn_programmes h.withdrawn_residents refl refl (by_other _ _ rows row UNMATCHED u refl refl h.by_worker), sheet_row_free rows row UNMATCHED u refl refl refl refl refl refl refl)
+    of false e false eu true ef h2 =
+        let f : kind_of row ≡ FILLED = search (rules, ef) in
+        (declared_push d _ texts rows row FILLED f h refl refl refl h.programmes h.residents h.ranked (option_or-none d.capacity) (λ e. cc e) refl refl h.withdrawn_programmes h.withdrawn_residents refl refl (by_other _ _ rows row FILLED f refl refl h.by_worker), sheet_row_free rows row FILLED f refl refl refl refl refl refl refl)
+    of false e false eu false ef h2 = absurd (cc h2)

@@ -10,7 +10,7 @@ use Rattle.docket.specs.Passes.{is_version_2}
 use Rattle.docket.specs.FlatRows.{AreNames}
 use Rattle.docket.specs.Whole.{AreWorkers}
 use Rattle.docket.specs.declared.store.declarations.Declarations.{Declarations}
-use Rattle.docket.specs.declared.kind.TheConstants.{PROGRAMME_LIST, CAPACITY, EVENT}
+use Rattle.docket.specs.declared.vocabulary.TheConstants.{PROGRAMME_LIST, CAPACITY, EVENT}
 
 -- the capacity in the C row, if there is one
 unfoldable pub capacity_in : List Fields → Option Capacity

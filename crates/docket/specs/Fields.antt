@@ -4,9 +4,9 @@ use Rattle.std.specs.Option.{option_or}
 use Rattle.std.specs.List.{list_all}
 use Rattle.csv.specs.Records.{field_at}
 use Rattle.docket.specs.Words.{is_name, is_number, number_of, capacity_of, workers_of, worker_of, answer_of}
-use Rattle.docket.specs.declared.kind.TheConstants.{QUOTA, PROGRAMME_LIST, RESIDENT_LIST, MATCHED, UNMATCHED, FILLED, CAPACITY, EVENT}
-use Rattle.docket.specs.declared.kind.EventWord.{EventWord}
-use Rattle.docket.specs.declared.kind.EventWord.TheVariants.{Offer, Take, Answer, Hear, Close}
+use Rattle.docket.specs.declared.vocabulary.TheConstants.{QUOTA, PROGRAMME_LIST, RESIDENT_LIST, MATCHED, UNMATCHED, FILLED, CAPACITY, EVENT}
+use Rattle.docket.specs.declared.vocabulary.EventWord.{EventWord}
+use Rattle.docket.specs.declared.vocabulary.EventWord.TheVariants.{Offer, Take, Answer, Hear, Close}
 use Rattle.docket.specs.declared.fault.DocketFault.{DocketFault}
 use Rattle.docket.specs.declared.fault.DocketFault.TheVariants.{UnknownKind, FieldCount, BadName, BadQuota, BadEvent, BadSheet, BadVersion, BadWithdrawal}
 

@@ -18,3 +18,4 @@ pub mod Texts
 pub mod NameKeys
 pub mod Context
 pub mod WithLists
+pub mod Kept

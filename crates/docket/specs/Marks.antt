@@ -4,7 +4,7 @@ use Rattle.std.specs.List.{list_any}
 use Rattle.docket.specs.Fields.{Fields, field, is_row_of}
 use Rattle.docket.specs.Contents.{programmes_of, residents_of, number_in, is_mark_of, is_matched_with}
 use Rattle.docket.specs.declared.passes.sheet.Marks.{Marks}
-use Rattle.docket.specs.declared.kind.TheConstants.{MATCHED, FILLED}
+use Rattle.docket.specs.declared.vocabulary.TheConstants.{MATCHED, FILLED}
 
 -- the programme in the resident's M row among these, or none
 abbrev pub placed_in : List (List ℕ) → List Fields → List ℕ → Option ℕ

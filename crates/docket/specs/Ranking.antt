@@ -3,7 +3,7 @@ use Rattle.std.specs.Prelude.{◌≡◌, List, codes}
 use Rattle.match_model.specs.Draft.{Draft}
 use Rattle.docket.specs.Fields.{Fields}
 use Rattle.docket.specs.Contents.{programmes_of, residents_of, quotas_of, lists_of, withdrawn_of}
-use Rattle.docket.specs.declared.kind.TheConstants.{PROGRAMME_LIST, RESIDENT_LIST}
+use Rattle.docket.specs.declared.vocabulary.TheConstants.{PROGRAMME_LIST, RESIDENT_LIST}
 
 -- the builder has every member, and the lists and withdrawals of the rows that are done
 pub record IsRanked (builder : Draft) (rows done : List Fields) : Type 0 where

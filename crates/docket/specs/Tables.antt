@@ -4,7 +4,7 @@ use Rattle.std.specs.List.{IsDistinct}
 use Rattle.docket.specs.Contents.{programmes_of, residents_of}
 use Rattle.docket.specs.FlatRows.{NumberedRows, AreNames}
 use Rattle.docket.specs.Passes.{first_from, reading_fault}
-use Rattle.docket.specs.declared.kind.TheConstants.{MAX_RECORDS}
+use Rattle.docket.specs.declared.vocabulary.TheConstants.{MAX_RECORDS}
 
 -- by text its place among these, if it has one
 pub record AreFoundBy (by_text : List (Option ℕ)) (texts : List ℕ) : Type 0 where

@@ -8,7 +8,7 @@ use Rattle.docket.specs.Contents.{Contents, contents_of, draft_of}
 use Rattle.docket.specs.Passes.{rows_in, fault_of}
 use Rattle.docket.specs.Read.{AreAll}
 use Rattle.docket.specs.Texts.{programme_name, resident_name}
-use Rattle.docket.specs.declared.kind.TheConstants.{RESIDENT_LIST}
+use Rattle.docket.specs.declared.vocabulary.TheConstants.{RESIDENT_LIST}
 
 -- the fields after the name in the record of a kind that has this name, and none where there is no such record
 abbrev pub fields_after : ℕ → List ℕ → List Fields → List (List ℕ)
@@ -20,7 +20,7 @@ lists_if true rows = Some (written_of (draft_of rows))
 lists_if false rows = None
 
 -- the docket of records without a fault, which are all that were read where the bytes are known, and their lists where they are kept
-pub record IsReadKeeping (bytes : Option (List ℕ)) (keeps : Bool) (docket : Contents) (written : Option Written) : Type 0 where
+pub record IsReadAs (bytes : Option (List ℕ)) (keeps : Bool) (docket : Contents) (written : Option Written) : Type 0 where
   pub rows : List Fields
   pub all : AreAll (option_map rows_in bytes) rows
   pub faultless : fault_of rows ≡ None

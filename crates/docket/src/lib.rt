@@ -16,13 +16,14 @@ mod retrying;
 mod row;
 mod row_writer;
 mod store;
+mod vocabulary;
 mod words;
 mod write;
 
 pub use crate::docket::{ByWorker, Docket, Journal};
 pub use fault::{DocketFault, WriteFailed};
-pub use kind::law_constants;
 pub use read::{read_docket, read_docket_with_lists};
 pub use row_writer::{RowWriter, room_for_rows};
-pub use words::capacity_of;
-pub use write::{push_journal, push_programme, push_sheet, write_journal, write_sheet};
+pub use vocabulary::{capacity_of, law_constants};
+pub use write::journal::{push_journal, write_journal};
+pub use write::sheet::{push_programme, push_sheet, write_sheet};

@@ -1,5 +1,5 @@
 //! The second pass: the lists, by number, and who is withdrawn.
-ghost use Rattle.std.specs.Prelude.{◌≡◌, ◌<◌, ◌+◌, [], false, length, take, drop, codes, bytes_eq, OnOk, IfOk};
+ghost use Rattle.std.specs.Prelude.{◌≡◌, ◌<◌, ◌+◌, [], length, take, drop, codes, OnOk, IfOk};
 ghost use Rattle.match_model.specs.Draft.{instance_of as made_of};
 ghost use Rattle.std.specs.List.{list_all};
 ghost use Rattle.std.specs.Option.{option_or};
@@ -7,15 +7,15 @@ ghost use Rattle.docket.specs.Fields.{field, kind_of, unless};
 ghost use Rattle.docket.specs.Contents.{is_declared, listed_in, draft_of, programmes_of, residents_of};
 ghost use Rattle.docket.specs.Passes.{first_from, unknown_fault, ranking_fault, pairs_fault};
 ghost use Rattle.docket.specs.Answers.{Answers};
-ghost use Rattle.docket.specs.Rows.{row_at};
+ghost use Rattle.docket.specs.Rows.{row_at, side_text};
 ghost use Rattle.docket.specs.Ranking.{IsRanked};
 ghost use Rattle.docket.specs.WithLists.{lists_if};
 
 use crate::fault::DocketFault;
-use crate::kind::{PROGRAMME_LIST, RESIDENT_LIST, WITHDRAWAL};
-use crate::row::is_programme_side;
+use crate::kind::KeptKind;
 use crate::store::declarations::model_fault;
 use crate::store::tables::Tables;
+use crate::vocabulary::{PROGRAMME_LIST, RESIDENT_LIST, Side, WITHDRAWAL};
 use match_model::{Instance, InstanceBuilder, ProgrammeNo, ResidentNo, WrittenLists};
 use std::alloc::Global;
 
@@ -142,7 +142,7 @@ fn withdraw_resident(
 ) -> Result<(), DocketFault>
     requires place { k < length tables.now }
     requires kind { kind_of (row_at tables.now k) ≡ WITHDRAWAL }
-    requires side { bytes_eq (field (row_at tables.now k) 1) (codes "P") ≡ false }
+    requires side { field (row_at tables.now k) 1 ≡ codes "R" }
     requires ranked { IsRanked builder.old tables.now (take k tables.now) }
     ensures ranked { OnOk result (IsRanked builder.new tables.now (take (k + 1) tables.now)) }
     ensures fault { Answers (ranking_fault tables.now (take k tables.now) (row_at tables.now k)) result }
@@ -158,17 +158,22 @@ fn withdraw_resident(
 }
 
 // `W,P,programme` or `W,R,resident`
-fn withdraw(tables: &Tables, k: usize, builder: &mut InstanceBuilder) -> Result<(), DocketFault>
+fn withdraw(
+    tables: &Tables,
+    k: usize,
+    side: Side,
+    builder: &mut InstanceBuilder,
+) -> Result<(), DocketFault>
     requires place { k < length tables.now }
     requires kind { kind_of (row_at tables.now k) ≡ WITHDRAWAL }
+    requires side { field (row_at tables.now k) 1 ≡ side_text side }
     requires ranked { IsRanked builder.old tables.now (take k tables.now) }
     ensures ranked { OnOk result (IsRanked builder.new tables.now (take (k + 1) tables.now)) }
     ensures fault { Answers (ranking_fault tables.now (take k tables.now) (row_at tables.now k)) result }
 {
-    if is_programme_side(tables.field(k, 1)) {
-        withdraw_programme(tables, k, builder)
-    } else {
-        withdraw_resident(tables, k, builder)
+    match side {
+        Side::Programmes => withdraw_programme(tables, k, builder),
+        Side::Residents => withdraw_resident(tables, k, builder),
     }
 }
 
@@ -185,17 +190,12 @@ fn rank_row(
     ensures ranked { OnOk result (IsRanked builder.new tables.now (take (k + 1) tables.now)) }
     ensures fault { Answers (ranking_fault tables.now (take k tables.now) (row_at tables.now k)) result }
 {
-    let kind = tables.kind(k);
-    if kind == PROGRAMME_LIST {
-        return rank_residents(tables, k, builder, residents);
+    match tables.kind(k) {
+        KeptKind::ProgrammeList => rank_residents(tables, k, builder, residents),
+        KeptKind::Resident => rank_programmes(tables, k, builder, programmes),
+        KeptKind::Withdrawal(side) => withdraw(tables, k, side, builder),
+        _ => Ok(()),
     }
-    if kind == RESIDENT_LIST {
-        return rank_programmes(tables, k, builder, programmes);
-    }
-    if kind == WITHDRAWAL {
-        return withdraw(tables, k, builder);
-    }
-    Ok(())
 }
 
 // Hands the lists and withdrawals in to the builder, in the order of the rows.

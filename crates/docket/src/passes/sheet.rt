@@ -9,8 +9,9 @@ ghost use Rattle.docket.specs.Answers.{Answers};
 ghost use Rattle.docket.specs.Rows.{row_at};
 
 use crate::fault::DocketFault;
-use crate::kind::{FILLED, MATCHED, UNMATCHED};
+use crate::kind::KeptKind;
 use crate::store::tables::Tables;
+use crate::vocabulary::{FILLED, MATCHED, UNMATCHED};
 use crate::words::digits_worth;
 use match_model::{Assignment, Instance, ProgrammeNo, ResidentNo};
 use std::alloc::{AllocError, Global};
@@ -141,17 +142,12 @@ impl Marks {
         ensures marked { OnOk result (IsMarked self.new tables.now (take (k + 1) tables.now)) }
         ensures fault { Answers (mark_fault tables.now (take k tables.now) (row_at tables.now k)) result }
     {
-        let kind = tables.kind(k);
-        if kind == MATCHED {
-            return self.add_matched(tables, k);
+        match tables.kind(k) {
+            KeptKind::Matched => self.add_matched(tables, k),
+            KeptKind::Unmatched => self.add_unmatched(tables, k),
+            KeptKind::Filled => self.add_filled(tables, k),
+            _ => Ok(()),
         }
-        if kind == UNMATCHED {
-            return self.add_unmatched(tables, k);
-        }
-        if kind == FILLED {
-            return self.add_filled(tables, k);
-        }
-        Ok(())
     }
 
     // The first walk: M, U and F rows.
@@ -200,7 +196,7 @@ impl Marks {
         ensures { Answers (first_from (filled_fault tables.now) [] tables.now) result }
     {
         for k in 0..tables.events_from() {
-            if tables.kind(k) == FILLED {
+            if let KeptKind::Filled = tables.kind(k) {
                 if !self.is_right(tables, k, instance) {
                     return Err(DocketFault::BadSheet {
                         place: tables.place(k),

@@ -1,9 +1,10 @@
 //! Rows, one after another, and where each of them ends.
-ghost use Rattle.std.specs.Prelude.{◌≡◌, ◌<◌, ◌≤◌, ◌++◌, ◌∷◌, [], Some, length, drop, slice_get, IfSome, IfNone, IfOk, OnOk};
+ghost use Rattle.std.specs.Prelude.{◌≡◌, ◌<◌, ◌≤◌, ◌++◌, ◌∷◌, [], Some, length, take, drop, slice_get, IfSome, IfNone, IfOk, OnOk};
 ghost use Rattle.csv.specs.Records.{fields_of};
 ghost use Rattle.docket.specs.Fields as fields;
 ghost use Rattle.docket.specs.FlatRows.{AreNumbersOf, AreShort, AddsTexts, StartsWith};
 ghost use Rattle.docket.specs.Rows.{row_at};
+ghost use Rattle.docket.specs.Kept.{IsJoined, HaveJoined};
 
 use crate::store::name_key::MAX_NAME;
 use crate::store::numbers::{Numbers, start_of};
@@ -36,7 +37,8 @@ impl Model for FlatRows {
 fn append_text(texts: &mut Texts, fields: &mut Numbers, text: &[u8]) -> Result<(), AllocError>
     requires fits { length text.now ≤ MAX_NAME }
     requires within { AreNumbersOf texts.old fields.old }
-    ensures { OnOk result (AddsTexts texts.old fields.old texts.new fields.new (text.now ∷ [])) }
+    ensures added { OnOk result (AddsTexts texts.old fields.old texts.new fields.new (text.now ∷ [])) }
+    ensures joined { OnOk result (IsJoined texts.old texts.new text.now) }
 {
     let number = texts.number(text)?;
     fields.push(number)?;
@@ -44,6 +46,7 @@ fn append_text(texts: &mut Texts, fields: &mut Numbers, text: &[u8]) -> Result<(
 }
 
 // Adds the numbers of the fields of a row from field `from` on.
+#[inline(always)]
 fn append(
     texts: &mut Texts,
     fields: &mut Numbers,
@@ -52,7 +55,8 @@ fn append(
 ) -> Result<(), AllocError>
     requires short { AreShort (fields_of row.now) }
     requires within { AreNumbersOf texts.old fields.old }
-    ensures { OnOk result (AddsTexts texts.old fields.old texts.new fields.new (drop from (fields_of row.now))) }
+    ensures added { OnOk result (AddsTexts texts.old fields.old texts.new fields.new (drop from (fields_of row.now))) }
+    ensures joined { OnOk result (HaveJoined texts.old texts.new (drop from (fields_of row.now))) }
 {
     for i in from..row.len() {
         if let Some(text) = row.get(i) {
@@ -60,6 +64,37 @@ fn append(
         }
     }
     Ok(())
+}
+
+// Adds the numbers of the fields of a row with a list, which are all, or as many as bring the texts above so many: its kind and
+// its owner at least. Says how many there are.
+fn append_list(
+    texts: &mut Texts,
+    fields: &mut Numbers,
+    row: &ByteRecord,
+    most: usize,
+) -> Result<usize, AllocError>
+    requires short { AreShort (fields_of row.now) }
+    requires owner { 2 ≤ length (fields_of row.now) }
+    requires within { AreNumbersOf texts.old fields.old }
+    ensures added { IfOk result (λ count. AddsTexts texts.old fields.old texts.new fields.new (take count (fields_of row.now))) }
+    ensures joined { IfOk result (λ count. HaveJoined texts.old texts.new (take count (fields_of row.now))) }
+    ensures front { IfOk result (λ count. (2 ≤ count) × (count ≤ length (fields_of row.now))) }
+    ensures cut { IfOk result (λ count. count < length (fields_of row.now) → most < length texts.new) }
+{
+    if row.len() <= most.saturating_sub(texts.len()) {
+        append(texts, fields, row, 0)?;
+        return Ok(row.len());
+    }
+    for i in 0..row.len() {
+        if i >= 2 && texts.len() > most {
+            return Ok(i);
+        }
+        if let Some(text) = row.get(i) {
+            append_text(texts, fields, text)?;
+        }
+    }
+    Ok(row.len())
 }
 
 impl FlatRows {
@@ -83,6 +118,7 @@ impl FlatRows {
     }
 
     /// Adds the fields of a row from field `from` on, as a row. Where memory is wanting no row is kept.
+    #[inline(always)]
     pub(crate) fn push(&mut self, row: &ByteRecord, from: usize) -> Result<(), AllocError>
         requires { AreShort (fields_of row.now) }
         ensures rows { OnOk result (self.new.rows ≡ self.old.rows ++ drop from (fields_of row.now) ∷ []) }
@@ -99,6 +135,29 @@ impl FlatRows {
             return Err(AllocError);
         };
         Ok(())
+    }
+
+    /// Adds a row with a list: all its fields, or as many as bring the texts above so many, its kind and its owner at least.
+    /// Says how many there are. Where memory is wanting no row is kept.
+    pub(crate) fn push_list(&mut self, row: &ByteRecord, most: usize) -> Result<usize, AllocError>
+        requires short { AreShort (fields_of row.now) }
+        requires owner { 2 ≤ length (fields_of row.now) }
+        ensures rows { IfOk result (λ count. self.new.rows ≡ self.old.rows ++ take count (fields_of row.now) ∷ []) }
+        ensures texts { IfOk result (λ count. HaveJoined self.old.texts self.new.texts (take count (fields_of row.now))) }
+        ensures front { IfOk result (λ count. (2 ≤ count) × (count ≤ length (fields_of row.now))) }
+        ensures cut { IfOk result (λ count. count < length (fields_of row.now) → most < length self.new.texts) }
+    {
+        let Ok(count) = append_list(&mut self.texts, &mut self.fields, row, most) else {
+            self.fields.clear();
+            self.ends.clear();
+            return Err(AllocError);
+        };
+        let Ok(()) = self.ends.push(self.fields.len()) else {
+            self.fields.clear();
+            self.ends.clear();
+            return Err(AllocError);
+        };
+        Ok(count)
     }
 
     /// The number of a text, which joins the texts where it is new. The rows stay.

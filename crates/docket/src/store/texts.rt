@@ -3,6 +3,7 @@ ghost use Rattle.std.specs.Prelude.{◌≡◌, ◌≤◌, ◌<◌, [], Some, tru
 ghost use Rattle.std.specs.List.{IsDistinct};
 ghost use Rattle.docket.specs.Contents.{number_in};
 ghost use Rattle.docket.specs.FlatRows.{AreShort, StartsWith};
+ghost use Rattle.docket.specs.Kept.{IsJoined};
 
 use crate::store::name_key::{MAX_NAME, NameKey, PLACES};
 use indexmap::IndexSet;
@@ -112,6 +113,7 @@ impl Texts {
         requires { length text.now ≤ MAX_NAME }
         ensures number { IfOk result (λ n. slice_get self.new n ≡ Some text.now) }
         ensures kept { StartsWith self.old self.new }
+        ensures joined { IfOk result (λ n. IsJoined self.old self.new text.now) }
     {
         let text = NameKey::new(text);
         let next = self.next;
@@ -130,6 +132,7 @@ impl Texts {
     fn number_by_guess(&mut self, text: &NameKey) -> Result<usize, AllocError>
         ensures number { IfOk result (λ n. slice_get self.new n ≡ Some text.now) }
         ensures kept { StartsWith self.old self.new }
+        ensures joined { IfOk result (λ n. IsJoined self.old self.new text.now) }
     {
         let place = text.place();
         if let Some(guess) = self.guesses.get(place) {
@@ -146,6 +149,7 @@ impl Texts {
     fn number_by_hash(&mut self, place: usize, text: &NameKey) -> Result<usize, AllocError>
         ensures number { IfOk result (λ n. slice_get self.new n ≡ Some text.now) }
         ensures kept { StartsWith self.old self.new }
+        ensures joined { IfOk result (λ n. IsJoined self.old self.new text.now) }
     {
         let number = insert(&mut self.seen, text.copy())?;
         if number >= FEW {
@@ -162,6 +166,7 @@ fn insert(seen: &mut IndexSet<NameKey, RandomState>, text: NameKey) -> Result<us
     requires fits { length text ≤ MAX_NAME }
     ensures number { IfOk result (λ n. slice_get seen.new.keys n ≡ Some text) }
     ensures kept { StartsWith seen.old.keys seen.new.keys }
+    ensures joined { IfOk result (λ n. IsJoined seen.old.keys seen.new.keys text) }
     ensures short { AreShort seen.new.keys }
 {
     let (number, _) = seen.insert_full(text)?;

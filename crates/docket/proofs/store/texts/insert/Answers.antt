@@ -1,4 +1,5 @@
 use Rattle.docket.proofs.TextFacts.{key_found, starts_insert, short_insert}
+use Rattle.docket.proofs.JoinFacts.{joined_insert}
 use Rattle.docket.proofs.store.texts.insert.Goals as goal
 
 pub returns-clause-number : goal.returns-clause-number
@@ -11,3 +12,6 @@ returns-clause-kept c = rw c.in_ok-number.ensures.keys (starts_insert c.args.see
 
 pub returns-clause-short : goal.returns-clause-short
 returns-clause-short c = rw c.in_ok-number.ensures.keys (short_insert c.args.seen.now.keys c.args.text _ c.requires.short c.requires.fits)
+
+pub returns-clause-joined : goal.returns-clause-joined
+returns-clause-joined c = joined_insert c.args.seen.now.keys _ c.args.text _ c.in_ok-number.ensures.keys

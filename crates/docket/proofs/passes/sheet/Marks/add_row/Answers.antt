@@ -1,19 +1,14 @@
 use Rattle.docket.specs.Rows.{row_at}
-use Rattle.docket.specs.declared.kind.TheConstants.{MATCHED, UNMATCHED, FILLED}
-use Rattle.docket.proofs.RankingFacts.{not_kind}
+use Rattle.docket.proofs.KindFacts.{no_matched, no_unmatched, no_filled}
 use Rattle.docket.proofs.MarkFacts.{mark_fault-other, marks_other}
 use Rattle.docket.proofs.passes.sheet.Marks.add_row.Goals as goal
 
-pub returns-clause-marked : goal.returns-clause-marked
-returns-clause-marked c =
-    marks_other c.args.self.now c.args.tables.now c.args.k c.requires.place
-    (not_kind (row_at c.args.tables.now c.args.k) MATCHED c.kind-kind.result c.kind-kind.ensures c.if-kind-eq-MATCHED.false)
-    (not_kind (row_at c.args.tables.now c.args.k) UNMATCHED c.kind-kind.result c.kind-kind.ensures c.if-kind-eq-UNMATCHED.false)
-    (not_kind (row_at c.args.tables.now c.args.k) FILLED c.kind-kind.result c.kind-kind.ensures c.if-kind-eq-FILLED.false) c.requires.marked
-
-pub returns-clause-fault : goal.returns-clause-fault
-returns-clause-fault c =
-    mark_fault-other c.args.tables.now _ (row_at c.args.tables.now c.args.k)
-    (not_kind (row_at c.args.tables.now c.args.k) MATCHED c.kind-kind.result c.kind-kind.ensures c.if-kind-eq-MATCHED.false)
-    (not_kind (row_at c.args.tables.now c.args.k) UNMATCHED c.kind-kind.result c.kind-kind.ensures c.if-kind-eq-UNMATCHED.false)
-    (not_kind (row_at c.args.tables.now c.args.k) FILLED c.kind-kind.result c.kind-kind.ensures c.if-kind-eq-FILLED.false)
+pub returns-in_default : goal.returns-in_default
+returns-in_default c =
+    let matched = no_matched c.kind.result (row_at c.args.tables.now c.args.k) c.in_default.not-Matched c.kind.ensures in
+    let unmatched = no_unmatched c.kind.result (row_at c.args.tables.now c.args.k) c.in_default.not-Unmatched c.kind.ensures in
+    let filled = no_filled c.kind.result (row_at c.args.tables.now c.args.k) c.in_default.not-Filled c.kind.ensures in
+    record {
+      marked = marks_other c.args.self.now c.args.tables.now c.args.k c.requires.place matched unmatched filled c.requires.marked;
+      fault = mark_fault-other c.args.tables.now _ (row_at c.args.tables.now c.args.k) matched unmatched filled;
+    }

@@ -1,13 +1,12 @@
 use Rattle.std.proofs.Common.{◌≡◌, inr, arith, take}
 use Rattle.docket.specs.Rows.{row_at}
 use Rattle.docket.specs.Passes.{filled_fault}
-use Rattle.docket.specs.declared.kind.TheConstants.{FILLED}
 use Rattle.docket.proofs.PassFacts.{pass_start, pass_more, pass_fault}
-use Rattle.docket.proofs.RankingFacts.{not_kind}
+use Rattle.docket.proofs.KindFacts.{no_filled}
 use Rattle.docket.proofs.MarkFacts.{filled_other}
 use Rattle.docket.proofs.RestFacts.{filled_rest}
 use Rattle.docket.proofs.passes.sheet.Marks.check_filled.Goals as goal
-use Rattle.docket.proofs.passes.sheet.Marks.check_filled.Goals.{then-kind-eq-FILLED+else-not-is_right, else-kind-eq-FILLED}
+use Rattle.docket.proofs.passes.sheet.Marks.check_filled.Goals.{in-Filled+else-not-is_right, in_default}
 
 pub loop-k-init : goal.loop-k-init
 loop-k-init c = pass_start (filled_fault c.args.tables.now) c.args.tables.now
@@ -18,10 +17,10 @@ returns-then-not-is_right c =
     pass_fault (filled_fault c.args.tables.now) c.args.tables.now c.loop-k.k _ (omega arith) c.loop-k.invariant (inr fault)
 
 pub loop-k-preserved : goal.loop-k-preserved
-loop-k-preserved c = elim c.if-kind-eq-FILLED.branch [
-  | then-kind-eq-FILLED+else-not-is_right w ↦ pass_more (filled_fault c.args.tables.now) c.args.tables.now c.loop-k.k (omega arith) c.loop-k.invariant (rw w.if-not-is_right.false at w.is_right.ensures)
-  | else-kind-eq-FILLED w ↦ pass_more (filled_fault c.args.tables.now) c.args.tables.now c.loop-k.k (omega arith) c.loop-k.invariant
-      (filled_other c.args.tables.now (take c.loop-k.k c.args.tables.now) (row_at c.args.tables.now c.loop-k.k) (not_kind (row_at c.args.tables.now c.loop-k.k) FILLED c.kind.result c.kind.ensures w.if-kind-eq-FILLED.false))
+loop-k-preserved c = elim c.match-kind.branch [
+  | in-Filled+else-not-is_right w ↦ pass_more (filled_fault c.args.tables.now) c.args.tables.now c.loop-k.k (omega arith) c.loop-k.invariant (rw w.if-not-is_right.false at w.is_right.ensures)
+  | in_default w ↦ pass_more (filled_fault c.args.tables.now) c.args.tables.now c.loop-k.k (omega arith) c.loop-k.invariant
+      (filled_other c.args.tables.now (take c.loop-k.k c.args.tables.now) (row_at c.args.tables.now c.loop-k.k) (no_filled c.kind.result (row_at c.args.tables.now c.loop-k.k) w.in_default.not-Filled c.kind.ensures))
 ]
 
 pub returns : goal.returns

@@ -1,0 +1,23 @@
+-- Rows that are kept as far as anything asks for them have the faults of all rows.
+use Rattle.std.proofs.Common.{◌≡◌, ◌≤◌, List, [], length, ◌∙◌, None}
+use Rattle.docket.specs.Fields.{Fields}
+use Rattle.docket.specs.Passes.{first_from, reading_fault}
+use Rattle.docket.specs.Kept.{IsFront, IsBlank, AreManyMarks, AreKept}
+use Rattle.docket.specs.declared.vocabulary.TheConstants.{MAX_RECORDS}
+use Rattle.docket.proofs.CutFacts.{IsAsGood, few_members, few_alike, lists_later}
+use Rattle.docket.proofs.JournalCutFacts.{journal_later}
+use Rattle.docket.proofs.KeepFacts.{cut_alike, lists_alike}
+use Rattle.docket.proofs.KeptFacts.{front_seen, blank_seen}
+use Rattle.docket.proofs.SheetCutFacts.{sheet_later}
+
+as_good : (all noted kept : List Fields) → IsAsGood all noted → IsAsGood noted kept → IsAsGood all kept
+as_good all noted kept first second = (second.0 ∙ first.0, λ none. let same = second.1 none in same ∙ first.1 (rw same at none))
+
+-- so the later passes have the same first fault, and where they have none the rows are whole
+pub later_kept : (all kept : List Fields) → AreKept all kept → first_from reading_fault [] kept ≡ None → length kept ≤ MAX_RECORDS → IsAsGood all kept
+later_kept all kept h sound few =
+    let members = few_members kept sound few in
+    let marked = few_alike IsFront front_seen h.marked kept (lists_alike h.marked kept h.lists) members in
+    let noted = few_alike IsBlank blank_seen h.noted h.marked (cut_alike IsBlank AreManyMarks h.noted h.marked h.sheet) marked in
+    as_good all h.noted kept (journal_later all h.noted h.journal noted)
+    (as_good h.noted h.marked kept (sheet_later h.noted h.marked h.sheet marked) (lists_later h.marked kept h.lists members))
