@@ -1,1 +1,3 @@
 mod AnswerFacts
+mod LineFacts
+mod NobodyFacts

@@ -1,0 +1,68 @@
+-- The text that answers a question.
+use Rattle.std.specs.Prelude.{◌≡◌, ℕ, Bool, Option, Some, None, List, []}
+use Rattle.match_model.specs.Placement.{programme_of}
+use Rattle.match_reasons.specs.declared.reason.Why.{Why}
+use Rattle.std.specs.Io.KnownBytes.{Appends}
+use Rattle.docket.specs.WithLists.{IsReadWithLists}
+use Rattle.reasons_text.specs.Answers.{AreAnswers, AreOfRecord, CaseParts, IsAnswer}
+use Rattle.reasons_text.specs.Lines.{line, text_on}
+use Rattle.reasons_text.specs.Naming.{Naming}
+use Rattle.reasons_text.specs.Told.{IsTold}
+use Rattle.reasons_text.specs.declared.answering.Told.{Told}
+use Rattle.reasons_text.specs.declared.answering.Told.TheVariants.{All, Resident, Pair}
+use Rattle.reasons_text.specs.declared.question.Asked.{Asked}
+use Rattle.reasons_text.specs.declared.question.Asked.TheVariants as asked
+
+-- what resident r is told: the programmes of its record, in order, and of each the first answer that holds
+pub record RecordAnswers (c : CaseParts) (r : ℕ) : Type 0 where
+  pub programmes : List ℕ
+  pub reasons : List Why
+  pub first : AreAnswers c r programmes reasons
+  pub record_is : AreOfRecord c.docket c.written r programmes
+
+-- the first line on resident r, then one line on each programme of its record, and no other line
+pub record IsTextOn (c : CaseParts) (names : Naming) (without_ranks : Bool) (r : ℕ) (text : List ℕ) : Type 0 where
+  pub told : RecordAnswers c r
+  pub text_is : text ≡ text_on names without_ranks r (programme_of c.sheet r) told.programmes told.reasons
+
+-- the line on programme p
+pub record IsLineOn (c : CaseParts) (names : Naming) (without_ranks : Bool) (r p : ℕ) (text : List ℕ) : Type 0 where
+  pub reason : Why
+  pub first : IsAnswer c r p reason
+  pub text_is : text ≡ line names without_ranks r p reason
+
+-- the text on whom it is about; of the rows on all nothing is said
+abbrev pub IsTextOf : CaseParts → Naming → Bool → Told → List ℕ → Type 0
+IsTextOf c names without_ranks All text = Unit {0}
+IsTextOf c names without_ranks (Resident r) text = IsTextOn c names without_ranks r text
+IsTextOf c names without_ranks (Pair r p) text = IsLineOn c names without_ranks r p text
+
+-- the question is about all, about one resident, or about a resident and a programme
+abbrev pub Asks : Asked → Told → Type 0
+Asks asked.All All = Unit {0}
+Asks (asked.Resident name) (Resident r) = Unit {0}
+Asks (asked.Pair resident programme) (Pair r p) = Unit {0}
+Asks question told = ⊥
+
+-- the text answers the question over this docket; the names are the docket's own, unless there is a key
+pub record AnswersOver (c : CaseParts) (key : Option (List ℕ)) (question : Asked) (without_ranks : Bool) (text : List ℕ) : Type 0 where
+  pub names : Naming
+  pub docket : names.docket ≡ c.docket
+  pub keyless : key ≡ None → (names.residents ≡ []) × (names.programmes ≡ [])
+  pub told : Told
+  pub member : IsTold c.docket.instance told
+  pub asks : Asks question told
+  pub text_is : IsTextOf c names without_ranks told text
+
+-- the text answers the question over the docket of these bytes
+pub record AnswersFrom (bytes key : Option (List ℕ)) (question : Asked) (without_ranks : Bool) (text : List ℕ) : Type 0 where
+  pub case : CaseParts
+  pub read : IsReadWithLists bytes case.docket case.written
+  pub sheet : case.docket.sheet ≡ Some case.sheet
+  pub answers : AnswersOver case key question without_ranks text
+
+-- what was appended, if it is known, is a text of this kind
+pub record AppendsText (Wanted : List ℕ → Type 0) (old new : Option (List ℕ)) : Type 0 where
+  pub text : List ℕ
+  pub wanted : Wanted text
+  pub appended : Appends old new text
