@@ -3,4 +3,5 @@ pub mod Answers
 pub mod Told
 pub mod Naming
 pub mod Lines
+pub mod Table
 pub mod Texts

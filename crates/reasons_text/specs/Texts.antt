@@ -1,12 +1,16 @@
 -- The text that answers a question.
-use Rattle.std.specs.Prelude.{◌≡◌, ℕ, Bool, Option, Some, None, List, []}
+use Rattle.std.specs.Prelude.{◌≡◌, ℕ, Bool, Option, Some, None, List, [], ◌∷◌, ◌++◌, length, slice_get}
+use Rattle.std.specs.List.{flat_map}
 use Rattle.match_model.specs.Placement.{programme_of}
 use Rattle.match_reasons.specs.declared.reason.Why.{Why}
 use Rattle.std.specs.Io.KnownBytes.{Appends}
+use Rattle.docket.specs.RowText.{Adds, row}
 use Rattle.docket.specs.WithLists.{IsReadWithLists}
+use Rattle.docket.specs.declared.row_writer.RowWriter.{RowWriter}
 use Rattle.reasons_text.specs.Answers.{AreAnswers, AreOfRecord, CaseParts, IsAnswer}
 use Rattle.reasons_text.specs.Lines.{line, text_on}
 use Rattle.reasons_text.specs.Naming.{Naming}
+use Rattle.reasons_text.specs.Table.{columns, rows_on}
 use Rattle.reasons_text.specs.Told.{IsTold}
 use Rattle.reasons_text.specs.declared.answering.Told.{Told}
 use Rattle.reasons_text.specs.declared.answering.Told.TheVariants.{All, Resident, Pair}
@@ -31,9 +35,25 @@ pub record IsLineOn (c : CaseParts) (names : Naming) (without_ranks : Bool) (r p
   pub first : IsAnswer c r p reason
   pub text_is : text ≡ line names without_ranks r p reason
 
--- the text on whom it is about; of the rows on all nothing is said
+-- one row on each programme of the record of resident r, in order, and no other row
+pub record AreRowsOn (c : CaseParts) (names : Naming) (without_ranks : Bool) (r : ℕ) (text : List ℕ) : Type 0 where
+  pub told : RecordAnswers c r
+  pub text_is : text ≡ rows_on names without_ranks r told.programmes told.reasons
+
+-- the rows on the first n residents, one resident after another
+abbrev pub AreRowsBelow : CaseParts → Naming → Bool → ℕ → List (List ℕ) → Type 0
+AreRowsBelow c names without_ranks n texts =
+    (length texts ≡ n) × ((r : ℕ) (text : List ℕ) → slice_get texts r ≡ Some text → AreRowsOn c names without_ranks r text)
+
+-- the names of the columns, then the rows on all residents, in the docket's order, and no other row
+pub record IsTable (c : CaseParts) (names : Naming) (without_ranks : Bool) (text : List ℕ) : Type 0 where
+  pub texts : List (List ℕ)
+  pub rows : AreRowsBelow c names without_ranks (length c.docket.instance.resident_lists) texts
+  pub text_is : text ≡ row columns ++ flat_map (λ t. t) texts
+
+-- the text on whom it is about
 abbrev pub IsTextOf : CaseParts → Naming → Bool → Told → List ℕ → Type 0
-IsTextOf c names without_ranks All text = Unit {0}
+IsTextOf c names without_ranks All text = IsTable c names without_ranks text
 IsTextOf c names without_ranks (Resident r) text = IsTextOn c names without_ranks r text
 IsTextOf c names without_ranks (Pair r p) text = IsLineOn c names without_ranks r p text
 
@@ -45,7 +65,7 @@ Asks (asked.Pair resident programme) (Pair r p) = Unit {0}
 Asks question told = ⊥
 
 -- the text answers the question over this docket; the names are the docket's own, unless there is a key
-pub record AnswersOver (c : CaseParts) (key : Option (List ℕ)) (question : Asked) (without_ranks : Bool) (text : List ℕ) : Type 0 where
+pub record Answers (c : CaseParts) (key : Option (List ℕ)) (question : Asked) (without_ranks : Bool) (text : List ℕ) : Type 0 where
   pub names : Naming
   pub docket : names.docket ≡ c.docket
   pub keyless : key ≡ None → (names.residents ≡ []) × (names.programmes ≡ [])
@@ -59,7 +79,14 @@ pub record AnswersFrom (bytes key : Option (List ℕ)) (question : Asked) (witho
   pub case : CaseParts
   pub read : IsReadWithLists bytes case.docket case.written
   pub sheet : case.docket.sheet ≡ Some case.sheet
-  pub answers : AnswersOver case key question without_ranks text
+  pub answers : Answers case key question without_ranks text
+
+-- the rows on the first n residents were added
+pub record AddsRows {W : Type 0} (contents : W → Option (List ℕ)) (c : CaseParts) (names : Naming) (without_ranks : Bool) (n : ℕ)
+    (old new : RowWriter W) : Type 0 where
+  pub texts : List (List ℕ)
+  pub rows : AreRowsBelow c names without_ranks n texts
+  pub added : Adds contents old new (flat_map (λ t. t) texts)
 
 -- what was appended, if it is known, is a text of this kind
 pub record AppendsText (Wanted : List ℕ → Type 0) (old new : Option (List ℕ)) : Type 0 where

@@ -1,12 +1,14 @@
 //! From bytes to sentences and rows.
 ghost use Rattle.std.specs.Prelude.{◌≡◌, ◌≢◌, ◌++◌, length, IfErr, IfOk, None, OnOk, Some, option_copied, string_bytes};
 ghost use Rattle.match_model.specs.Instance.{IsProgramme, IsResident};
+ghost use Rattle.docket.specs.RowText.{Adds};
 ghost use Rattle.reasons_text.specs.Lines.{lines};
 ghost use Rattle.reasons_text.specs.Naming.{HasNoNames, naming_of};
-ghost use Rattle.reasons_text.specs.Texts.{AnswersFrom, AnswersOver, AppendsText, Asks, IsLineOn, IsTextOf, IsTextOn};
+ghost use Rattle.reasons_text.specs.Table.{rows_on};
+ghost use Rattle.reasons_text.specs.Texts.{AddsRows, Answers, AnswersFrom, AppendsText, Asks, IsLineOn, IsTable, IsTextOf, IsTextOn};
 ghost use Rattle.reasons_text.specs.Told.{IsTold};
 
-use crate::answers::{Answers, count_answers};
+use crate::answers::count_answers;
 use crate::case::Case;
 use crate::fault::WhyFault;
 use crate::key::{Key, Names};
@@ -14,8 +16,8 @@ use crate::naming::MemberNumbers;
 use crate::near::{unknown_programme, unknown_resident};
 use crate::question::Asked;
 use crate::sentences::{push_first_line, push_line};
-use crate::table::{HEADING, push_row};
-use docket::{Docket, DocketFault};
+use crate::table::{push_columns, push_row};
+use docket::{Docket, DocketFault, RowWriter, WriteFailed, room_for_rows};
 use match_model::{ProgrammeNo, ResidentNo};
 use match_reasons::Why;
 use std::alloc::{AllocError, Global};
@@ -86,39 +88,79 @@ fn push_lines(
     push_each(alloc, text, manner, resident, list, reasons)
 }
 
-// Adds the row on each programme of a resident's record.
-fn push_rows(
-    text: &mut String,
+// Adds the row on each of these programmes, with the answer in its place.
+fn push_rows<W: Write>(
+    rows: &mut RowWriter<'_, W>,
     manner: &Manner,
     resident: ResidentNo,
-    answers: &Answers,
-) -> Result<(), AllocError> {
-    let mut choice = 0usize;
-    for (programme, reason) in answers.programmes.iter().zip(answers.reasons.as_slice()) {
-        choice = choice.saturating_add(1);
+    programmes: &[ProgrammeNo],
+    reasons: &[Why],
+) -> Result<(), WriteFailed>
+    requires { length reasons.now ≡ length programmes.now }
+    ensures { OnOk result (Adds W.contents rows.old rows.new
+        (rows_on (naming_of manner.now.names) manner.now.without_ranks resident programmes.now reasons.now)) }
+{
+    for k in 0..programmes.len() {
         push_row(
-            text,
+            rows,
             &manner.names,
             resident,
-            choice,
-            *programme,
-            *reason,
+            k + 1,
+            programmes[k],
+            &reasons[k],
             manner.without_ranks,
         )?;
     }
     Ok(())
 }
 
-// The heading, and the rows on all residents.
-fn table_of(alloc: Global, case: &Case, manner: &Manner) -> Result<Vec<u8>, AllocError> {
-    let mut text = String::new(alloc);
-    text.push_str(HEADING)?;
+// Adds the rows on all residents.
+fn push_all_rows<W: Write>(
+    alloc: Global,
+    rows: &mut RowWriter<'_, W>,
+    case: &Case,
+    manner: &Manner,
+) -> Result<(), DocketFault>
+    ensures { OnOk result (AddsRows W.contents case.now (naming_of manner.now.names) manner.now.without_ranks
+        (length case.now.docket.instance.resident_lists) rows.old rows.new) }
+{
     for r in 0..case.docket().instance().residents() {
         let resident = ResidentNo(r);
         let answers = case.answers(alloc, resident)?;
-        push_rows(&mut text, manner, resident, &answers)?;
+        let programmes = answers.programmes.as_slice();
+        let reasons = answers.reasons.as_slice();
+        push_rows(rows, manner, resident, programmes, reasons)?;
     }
-    Ok(text.into_bytes())
+    Ok(())
+}
+
+// Writes the names of the columns, and the rows on all residents.
+fn write_table<W: Write>(
+    alloc: Global,
+    writer: &mut W,
+    case: &Case,
+    manner: &Manner,
+) -> Result<(), DocketFault>
+    ensures { OnOk result (AppendsText (IsTable case.now (naming_of manner.now.names) manner.now.without_ranks)
+        (W.contents writer.old) (W.contents writer.new)) }
+{
+    let mut room = room_for_rows(alloc)?;
+    let mut rows = RowWriter::new(writer, &mut room);
+    push_columns(&mut rows)?;
+    push_all_rows(alloc, &mut rows, case, manner)?;
+    rows.send()?;
+    Ok(())
+}
+
+// The names of the columns, and the rows on all residents. They are written to memory, so want of it is the one fault.
+fn table_of(alloc: Global, case: &Case, manner: &Manner) -> Result<Vec<u8>, AllocError>
+    ensures { IfOk result (λ text. IsTable case.now (naming_of manner.now.names) manner.now.without_ranks text.items) }
+{
+    let mut text = Vec::new(alloc);
+    match write_table(alloc, &mut text, case, manner) {
+        Ok(()) => Ok(text),
+        Err(_) => Err(AllocError),
+    }
 }
 
 // The lines on a resident.
@@ -163,7 +205,12 @@ fn line_of(
 }
 
 // What is told.
-fn told_text(alloc: Global, case: &Case, manner: &Manner, told: Told) -> Result<Vec<u8>, AllocError>
+fn told_text(
+    alloc: Global,
+    case: &Case,
+    manner: &Manner,
+    told: Told,
+) -> Result<Vec<u8>, AllocError>
     requires { IsTold case.now.docket.instance told }
     ensures { IfOk result (λ text. IsTextOf case.now (naming_of manner.now.names) manner.now.without_ranks told text.items) }
 {
@@ -252,7 +299,7 @@ fn text_of(
     asked: Asked,
     without_ranks: bool,
 ) -> Result<Vec<u8>, WhyFault>
-    ensures { IfOk result (λ text. AnswersOver case.now (option_copied key_bytes.entry) asked.entry without_ranks text.items) }
+    ensures { IfOk result (λ text. Answers case.now (option_copied key_bytes.entry) asked.entry without_ranks text.items) }
 {
     let docket = case.docket();
     let numbers = MemberNumbers::of(alloc, keys, docket)?;
