@@ -1,6 +1,6 @@
 -- Lines and rows, one after another.
 use Rattle.std.proofs.Common.{◌≡◌, ℕ, Bool, ◌+◌, ◌<◌, List, [], ◌∷◌, ◌++◌, Option, Some, length, take, get_or, inl, inr, refl, sym, ap, ◌∙◌, subst, arith, rules, append_assoc, append-nil}
-use Rattle.std.specs.Prelude.{count_by, min, slice_get}
+use Rattle.std.specs.Prelude.{count_by, slice_get}
 use Rattle.std.specs.List.{enumerate_from, flat_map, zip}
 use Rattle.std.proofs.lemmas.Grind.{flat_map-append}
 use Rattle.std.proofs.lemmas.List.{length_push, take_more}
@@ -8,9 +8,10 @@ use Rattle.std.proofs.lemmas.List.FromFn.{get_or-enumerate_from, length-enumerat
 use Rattle.std.proofs.lemmas.Slice.Zip.{length-zip, get_or-zip}
 use Rattle.match_model.proofs.Prefixes.{slice_get_push_parts}
 use Rattle.match_reasons.specs.declared.reason.Why.{Why}
-use Rattle.docket.specs.RowText.{Adds}
+use Rattle.std.specs.Io.KnownBytes.{Appends}
+use Rattle.docket.specs.RowText.{Adds, Writes}
 use Rattle.docket.specs.declared.row_writer.RowWriter.{RowWriter}
-use Rattle.docket.proofs.RowTextFacts.{adds_both, adds_none}
+use Rattle.docket.proofs.RowTextFacts.{adds_both, adds_none, sent}
 use Rattle.reasons_text.specs.Answers.{CaseParts, ranked_back, withdrew}
 use Rattle.reasons_text.specs.Lines.{ended, first_line, has_withdrawn, lines, ranked, text_on}
 use Rattle.reasons_text.specs.Naming.{Naming}
@@ -51,7 +52,7 @@ row_next contents f ks vs k a b start old new in_ks in_vs e w so_far more =
     let within : k < length (enumerate_from 1 pairs) = omega (arith, length-enumerate_from 1 pairs, zip_within ks vs k in_ks in_vs) in
     let number : 1 + k ≡ k + 1 = omega arith in
     let here : get_or (enumerate_from 1 pairs) k (k + 1, (a, b)) ≡ (k + 1, (a, b)) =
-        get_or-enumerate_from 1 pairs k (k + 1, (a, b)) (zip_within ks vs k in_ks in_vs) ∙ pair_same _ _ _ _ number (zip_here ks vs k a b in_ks in_vs e w) in
+    get_or-enumerate_from 1 pairs k (k + 1, (a, b)) (zip_within ks vs k in_ks in_vs) ∙ pair_same _ _ _ _ number (zip_here ks vs k a b in_ks in_vs e w) in
     subst (Adds contents start new) (sym (taken_next f (enumerate_from 1 pairs) k (k + 1, (a, b)) within here)) (adds_both contents start old new _ _ so_far more)
 
 -- the first line, and a line on each programme
@@ -91,3 +92,11 @@ rows_more contents c names without_ranks n a b d t h new more = record {
           let here : n ≡ r = sym h.rows.0 ∙ sym i in
           subst (λ (v : List ℕ). AreRowsOn c names without_ranks r v) same (subst (λ q. AreRowsOn c names without_ranks q t) here new)
     ]
+
+-- a text was added to no rows over a writer, and what then waited was handed to it
+pub handed_over : {W : Type 0} (contents : W → Option (List ℕ)) (start last : RowWriter W) (old new : W) (none text : List ℕ) → start.writer.now ≡ old →
+    start.waiting.now.items ≡ none → none ≡ [] → Adds contents start last text → Writes contents last.writer.now new last.waiting.now.items
+    → Appends (contents old) (contents new) text
+handed_over contents start last old new none text over holds empty added handed =
+    sent contents start last (record { ref_ptr = start.writer.ref_ptr; ghost_name = start.writer.ghost_name; now = old }) new none text (refl, over, holds) empty
+    added handed

@@ -1,5 +1,5 @@
 -- The text that answers a question.
-use Rattle.std.specs.Prelude.{◌≡◌, ℕ, Bool, Option, Some, None, List, [], ◌∷◌, ◌++◌, length, slice_get}
+use Rattle.std.specs.Prelude.{◌≡◌, ℕ, Bool, Option, Some, None, List, [], ◌++◌, length, slice_get}
 use Rattle.std.specs.List.{flat_map}
 use Rattle.match_model.specs.Placement.{programme_of}
 use Rattle.match_reasons.specs.declared.reason.Why.{Why}

@@ -205,12 +205,7 @@ fn line_of(
 }
 
 // What is told.
-fn told_text(
-    alloc: Global,
-    case: &Case,
-    manner: &Manner,
-    told: Told,
-) -> Result<Vec<u8>, AllocError>
+fn told_text(alloc: Global, case: &Case, manner: &Manner, told: Told) -> Result<Vec<u8>, AllocError>
     requires { IsTold case.now.docket.instance told }
     ensures { IfOk result (λ text. IsTextOf case.now (naming_of manner.now.names) manner.now.without_ranks told text.items) }
 {

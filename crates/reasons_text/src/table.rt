@@ -125,7 +125,5 @@ pub(crate) fn push_row<W: Write>(
     let rank = rank_field(&mut second, reason, without_ranks).as_bytes();
     let last = last_field(&mut third, reason, without_ranks).as_bytes();
     let quota = quota_field(&mut fourth, reason).as_bytes();
-    push_fields(
-        rows, resident, programme, choice, word, rank, last, quota,
-    )
+    push_fields(rows, resident, programme, choice, word, rank, last, quota)
 }

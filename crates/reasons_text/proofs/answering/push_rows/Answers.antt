@@ -20,5 +20,5 @@ pub returns : goal.returns
 returns g c =
     let pairs = zip c.args.programmes.now c.args.reasons.now in
     let past : length (enumerate_from 1 pairs) ≤ c.loop-k.k =
-        omega (arith, length-enumerate_from 1 pairs, length-zip c.args.programmes.now c.args.reasons.now, c.loop-k-test.false) in
+    omega (arith, length-enumerate_from 1 pairs, length-zip c.args.programmes.now c.args.reasons.now, c.loop-k-test.false) in
     rw (take_all c.loop-k.k (enumerate_from 1 pairs) past) at c.loop-k.invariant
