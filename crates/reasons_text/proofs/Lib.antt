@@ -1,3 +1,4 @@
 mod AnswerFacts
+mod AskedFacts
 mod LineFacts
 mod NobodyFacts

@@ -1,5 +1,5 @@
 -- The names by which members are shown.
-use Rattle.std.specs.Prelude.{◌≡◌, ℕ, ◌==◌, if◌then◌else◌, Option, Some, None, List, [], length, map, slice_get, unwrap_or, string_bytes}
+use Rattle.std.specs.Prelude.{◌≡◌, ◌⊎◌, ℕ, ◌==◌, if◌then◌else◌, Option, Some, None, List, [], length, map, slice_get, unwrap_or, string_bytes}
 use Rattle.docket.specs.Contents.{Contents}
 use Rattle.docket.specs.Texts.{programme_name, resident_name}
 use Rattle.reasons_text.specs.declared.key.Key.{Key}
@@ -39,3 +39,11 @@ shown_resident names r = unwrap_or (real_name names.residents r) (resident_name 
 -- the name by which a programme is shown
 unfoldable pub shown_programme : Naming → ℕ → List ℕ
 shown_programme names p = unwrap_or (real_name names.programmes p) (programme_name names.docket p)
+
+-- the name means resident r: it is its real one, or the docket's
+abbrev pub MeansResident : Naming → List ℕ → ℕ → Type 0
+MeansResident names name r = (real_name names.residents r ≡ Some name) ⊎ (resident_name names.docket r ≡ name)
+
+-- the name means programme p
+abbrev pub MeansProgramme : Naming → List ℕ → ℕ → Type 0
+MeansProgramme names name p = (real_name names.programmes p ≡ Some name) ⊎ (programme_name names.docket p ≡ name)

@@ -4,12 +4,14 @@ use Rattle.std.specs.List.{flat_map}
 use Rattle.match_model.specs.Placement.{programme_of}
 use Rattle.match_reasons.specs.declared.reason.Why.{Why}
 use Rattle.std.specs.Io.KnownBytes.{Appends}
+use Rattle.docket.specs.Contents.{Contents}
 use Rattle.docket.specs.RowText.{Adds, row}
+use Rattle.docket.specs.Texts.{programme_name, resident_name}
 use Rattle.docket.specs.WithLists.{IsReadWithLists}
 use Rattle.docket.specs.declared.row_writer.RowWriter.{RowWriter}
 use Rattle.reasons_text.specs.Answers.{AreAnswers, AreOfRecord, CaseParts, IsAnswer}
 use Rattle.reasons_text.specs.Lines.{line, text_on}
-use Rattle.reasons_text.specs.Naming.{Naming}
+use Rattle.reasons_text.specs.Naming.{MeansProgramme, MeansResident, Naming}
 use Rattle.reasons_text.specs.Table.{columns, rows_on}
 use Rattle.reasons_text.specs.Told.{IsTold}
 use Rattle.reasons_text.specs.declared.answering.Told.{Told}
@@ -57,12 +59,19 @@ IsTextOf c names without_ranks All text = IsTable c names without_ranks text
 IsTextOf c names without_ranks (Resident r) text = IsTextOn c names without_ranks r text
 IsTextOf c names without_ranks (Pair r p) text = IsLineOn c names without_ranks r p text
 
--- the question is about all, about one resident, or about a resident and a programme
-abbrev pub Asks : Asked → Told → Type 0
-Asks asked.All All = Unit {0}
-Asks (asked.Resident name) (Resident r) = Unit {0}
-Asks (asked.Pair resident programme) (Pair r p) = Unit {0}
-Asks question told = ⊥
+-- the question is about all, about the resident of its name, or about the resident and the programme of its names
+abbrev pub Asks : Naming → Asked → Told → Type 0
+Asks names asked.All All = Unit {0}
+Asks names (asked.Resident name) (Resident r) = MeansResident names name.now r
+Asks names (asked.Pair resident programme) (Pair r p) = MeansResident names resident.now r × MeansProgramme names programme.now p
+Asks names question told = ⊥
+
+-- each name of the question is the docket's own
+abbrev pub AsksByDocket : Contents → Asked → Told → Type 0
+AsksByDocket docket asked.All All = Unit {0}
+AsksByDocket docket (asked.Resident name) (Resident r) = resident_name docket r ≡ name.now
+AsksByDocket docket (asked.Pair resident programme) (Pair r p) = (resident_name docket r ≡ resident.now) × (programme_name docket p ≡ programme.now)
+AsksByDocket docket question told = ⊥
 
 -- the text answers the question over this docket; the names are the docket's own, unless there is a key
 pub record Answers (c : CaseParts) (key : Option (List ℕ)) (question : Asked) (without_ranks : Bool) (text : List ℕ) : Type 0 where
@@ -71,7 +80,8 @@ pub record Answers (c : CaseParts) (key : Option (List ℕ)) (question : Asked) 
   pub keyless : key ≡ None → (names.residents ≡ []) × (names.programmes ≡ [])
   pub told : Told
   pub member : IsTold c.docket.instance told
-  pub asks : Asks question told
+  pub asks : Asks names question told
+  pub asks_keyless : key ≡ None → AsksByDocket c.docket question told
   pub text_is : IsTextOf c names without_ranks told text
 
 -- the text answers the question over the docket of these bytes

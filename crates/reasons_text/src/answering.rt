@@ -3,7 +3,7 @@ ghost use Rattle.std.specs.Prelude.{◌≡◌, ◌≢◌, ◌++◌, length, IfEr
 ghost use Rattle.match_model.specs.Instance.{IsProgramme, IsResident};
 ghost use Rattle.docket.specs.RowText.{Adds};
 ghost use Rattle.reasons_text.specs.Lines.{lines};
-ghost use Rattle.reasons_text.specs.Naming.{HasNoNames, naming_of};
+ghost use Rattle.reasons_text.specs.Naming.{HasNoNames, MeansProgramme, MeansResident, naming_of};
 ghost use Rattle.reasons_text.specs.Table.{rows_on};
 ghost use Rattle.reasons_text.specs.Texts.{AddsRows, Answers, AnswersFrom, AppendsText, Asks, IsLineOn, IsTable, IsTextOf, IsTextOn};
 ghost use Rattle.reasons_text.specs.Told.{IsTold};
@@ -223,7 +223,8 @@ fn named_resident(
     names: &Names,
     name: &str,
 ) -> Result<ResidentNo, WhyFault>
-    ensures { IfOk result (IsResident names.now.docket.now.instance) }
+    ensures member { IfOk result (IsResident names.now.docket.now.instance) }
+    ensures name { IfOk result (MeansResident (naming_of names.now) name.now) }
 {
     match names.find_resident(numbers, name) {
         Some(resident) => Ok(resident),
@@ -238,7 +239,8 @@ fn named_programme(
     names: &Names,
     name: &str,
 ) -> Result<ProgrammeNo, WhyFault>
-    ensures { IfOk result (IsProgramme names.now.docket.now.instance) }
+    ensures member { IfOk result (IsProgramme names.now.docket.now.instance) }
+    ensures name { IfOk result (MeansProgramme (naming_of names.now) name.now) }
 {
     match names.find_programme(numbers, name) {
         Some(programme) => Ok(programme),
@@ -254,7 +256,7 @@ fn told_of(
     asked: Asked,
 ) -> Result<Told, WhyFault>
     ensures member { IfOk result (IsTold names.now.docket.now.instance) }
-    ensures asks { IfOk result (Asks asked.entry) }
+    ensures asks { IfOk result (Asks (naming_of names.now) asked.entry) }
 {
     match asked {
         Asked::All => Ok(Told::All),

@@ -1,11 +1,11 @@
 //! The members' names as people know them.
 
-ghost use Rattle.std.specs.Prelude.{◌≡◌, IfSome, map, option_copied, string_bytes};
+ghost use Rattle.std.specs.Prelude.{◌≡◌, IfSome, Some, map, option_copied, string_bytes, true};
 ghost use Rattle.match_model.specs.Instance.{IsProgramme, IsResident};
 ghost use Rattle.docket.specs.Texts as texts;
 ghost use Rattle.reasons_text.specs.Lines.{has_withdrawn};
 ghost use Rattle.reasons_text.specs.Naming as naming;
-ghost use Rattle.reasons_text.specs.Naming.{HasNoNames, naming_of, shown_programme, shown_resident};
+ghost use Rattle.reasons_text.specs.Naming.{HasNoNames, MeansProgramme, MeansResident, naming_of, shown_programme, shown_resident};
 
 use crate::fault::WhyFault;
 use crate::naming::MemberNumbers;
@@ -178,6 +178,16 @@ fn real_name(names: &[String], place: u32) -> Option<&str>
     }
 }
 
+// Whether this is the name in that place.
+fn is_real_name(names: &[String], place: u32, name: &str) -> bool
+    ensures { result ≡ true → naming.real_name (map string_bytes names.now) place ≡ Some name.now }
+{
+    match real_name(names, place) {
+        Some(real) => real == name,
+        None => false,
+    }
+}
+
 // The docket's name of a resident, which is empty for a number that is nobody's.
 #[tactic(auto, using(crate::proofs::NobodyFacts::resident_nobody))]
 fn resident_name(docket: &Docket, resident: ResidentNo) -> &str
@@ -235,10 +245,11 @@ impl Names<'_> {
 
     /// The resident of this name: a real one first, and else one of the docket.
     pub(crate) fn find_resident(&self, numbers: &MemberNumbers, name: &str) -> Option<ResidentNo>
-        ensures { IfSome result (IsResident self.now.docket.now.instance) }
+        ensures member { IfSome result (IsResident self.now.docket.now.instance) }
+        ensures name { IfSome result (MeansResident (naming_of self.now) name.now) }
     {
         for r in 0..self.docket.instance().residents() {
-            if real_name(self.key.residents.as_slice(), r) == Some(name) {
+            if is_real_name(self.key.residents.as_slice(), r, name) {
                 return Some(ResidentNo(r));
             }
         }
@@ -247,10 +258,11 @@ impl Names<'_> {
 
     /// The programme of this name: a real one first, and else one of the docket.
     pub(crate) fn find_programme(&self, numbers: &MemberNumbers, name: &str) -> Option<ProgrammeNo>
-        ensures { IfSome result (IsProgramme self.now.docket.now.instance) }
+        ensures member { IfSome result (IsProgramme self.now.docket.now.instance) }
+        ensures name { IfSome result (MeansProgramme (naming_of self.now) name.now) }
     {
         for p in 0..self.docket.instance().programmes() {
-            if real_name(self.key.programmes.as_slice(), p) == Some(name) {
+            if is_real_name(self.key.programmes.as_slice(), p, name) {
                 return Some(ProgrammeNo(p));
             }
         }
