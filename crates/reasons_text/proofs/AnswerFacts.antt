@@ -1,10 +1,10 @@
 -- What is told, with one programme more.
-use Rattle.std.proofs.Common.{◌≡◌, ℕ, ◌+◌, ◌<◌, inl, inr, List, [], ◌∷◌, ◌++◌, length, Option, Some, None, true, sym, ap, ◌∙◌, subst, arith, rules}
+use Rattle.std.proofs.Common.{◌≡◌, ℕ, ◌<◌, inl, inr, List, [], ◌∷◌, ◌++◌, length, Option, Some, None, true, sym, ap, ◌∙◌, subst, arith, rules}
 use Rattle.std.specs.Prelude.{nat_lt, slice_get}
 use Rattle.std.specs.List.{list_all}
 use Rattle.std.proofs.lemmas.Option.{same_Some, get_or_from_slice_get}
 use Rattle.docket.proofs.WordFacts.{list_all_true_at}
-use Rattle.match_model.specs.Instance.{list_at, IsProgramme, IsResident}
+use Rattle.match_model.specs.Instance.{list_at, IsResident}
 use Rattle.match_model.specs.Written.{Written, AreWritten}
 use Rattle.match_model.proofs.Prefixes.{slice_get_push_parts}
 use Rattle.match_reasons.specs.Reason.{IsTaken}

@@ -1,1 +1,4 @@
 mod AnswerFacts
+mod AskedFacts
+mod LineFacts
+mod NobodyFacts

@@ -1,5 +1,4 @@
 -- Whom a question is about.
-use Rattle.std.specs.Prelude.{ℕ}
 use Rattle.match_model.specs.Instance.{Instance, IsProgramme, IsResident}
 use Rattle.reasons_text.specs.declared.answering.Told.{Told}
 use Rattle.reasons_text.specs.declared.answering.Told.TheVariants.{All, Resident, Pair}

@@ -1,9 +1,14 @@
 //! From bytes to sentences and rows.
-ghost use Rattle.std.specs.Prelude.{◌≡◌, ◌≢◌, IfErr, IfOk};
-ghost use Rattle.match_model.specs.Instance.{IsResident};
+ghost use Rattle.std.specs.Prelude.{◌≡◌, ◌≢◌, ◌++◌, length, IfErr, IfOk, None, OnOk, Some, option_copied, string_bytes};
+ghost use Rattle.match_model.specs.Instance.{IsProgramme, IsResident};
+ghost use Rattle.docket.specs.RowText.{Adds};
+ghost use Rattle.reasons_text.specs.Lines.{lines};
+ghost use Rattle.reasons_text.specs.Naming.{HasNoNames, MeansProgramme, MeansResident, naming_of};
+ghost use Rattle.reasons_text.specs.Table.{rows_on};
+ghost use Rattle.reasons_text.specs.Texts.{AddsRows, Answers, AnswersFrom, AppendsText, Asks, IsLineOn, IsTable, IsTextOf, IsTextOn};
 ghost use Rattle.reasons_text.specs.Told.{IsTold};
 
-use crate::answers::{Answers, count_answers};
+use crate::answers::count_answers;
 use crate::case::Case;
 use crate::fault::WhyFault;
 use crate::key::{Key, Names};
@@ -11,9 +16,10 @@ use crate::naming::MemberNumbers;
 use crate::near::{unknown_programme, unknown_resident};
 use crate::question::Asked;
 use crate::sentences::{push_first_line, push_line};
-use crate::table::{HEADING, push_row};
-use docket::DocketFault;
+use crate::table::{push_columns, push_row};
+use docket::{Docket, DocketFault, RowWriter, WriteFailed, room_for_rows};
 use match_model::{ProgrammeNo, ResidentNo};
+use match_reasons::Why;
 use std::alloc::{AllocError, Global};
 use std::hash::RandomState;
 use std::io::{Read, Write};
@@ -34,6 +40,33 @@ enum Told {
     Pair(ResidentNo, ProgrammeNo),
 }
 
+// Adds a line on each of these programmes, with the answer in its place.
+fn push_each(
+    alloc: Global,
+    text: &mut String,
+    manner: &Manner,
+    resident: ResidentNo,
+    programmes: &[ProgrammeNo],
+    reasons: &[Why],
+) -> Result<(), AllocError>
+    requires { length reasons.now ≡ length programmes.now }
+    ensures { OnOk result (string_bytes text.new ≡ string_bytes text.old
+        ++ lines (naming_of manner.now.names) manner.now.without_ranks resident programmes.now reasons.now) }
+{
+    for place in 0..programmes.len() {
+        push_line(
+            alloc,
+            text,
+            &manner.names,
+            resident,
+            programmes[place],
+            reasons[place],
+            manner.without_ranks,
+        )?;
+    }
+    Ok(())
+}
+
 // Adds the first line on a resident, and the line on each programme of its record.
 fn push_lines(
     alloc: Global,
@@ -43,6 +76,8 @@ fn push_lines(
     resident: ResidentNo,
 ) -> Result<(), AllocError>
     requires { IsResident case.now.docket.instance resident }
+    ensures { OnOk result (AppendsText (IsTextOn case.now (naming_of manner.now.names) manner.now.without_ranks resident)
+        (Some (string_bytes text.old)) (Some (string_bytes text.new))) }
 {
     let answers = case.answers(alloc, resident)?;
     let list = answers.programmes.as_slice();
@@ -50,107 +85,205 @@ fn push_lines(
     let own = case.place_of(resident);
     let tally = count_answers(reasons);
     push_first_line(alloc, text, &manner.names, resident, own, list, tally)?;
-    for (programme, reason) in list.iter().zip(reasons) {
-        push_line(
-            alloc,
-            text,
-            &manner.names,
-            resident,
-            *programme,
-            *reason,
-            manner.without_ranks,
-        )?;
-    }
-    Ok(())
+    push_each(alloc, text, manner, resident, list, reasons)
 }
 
-// Adds the row on each programme of a resident's record.
-fn push_rows(
-    text: &mut String,
+// Adds the row on each of these programmes, with the answer in its place.
+fn push_rows<W: Write>(
+    rows: &mut RowWriter<'_, W>,
     manner: &Manner,
     resident: ResidentNo,
-    answers: &Answers,
-) -> Result<(), AllocError> {
-    let mut choice = 0usize;
-    for (programme, reason) in answers.programmes.iter().zip(answers.reasons.as_slice()) {
-        choice = choice.saturating_add(1);
+    programmes: &[ProgrammeNo],
+    reasons: &[Why],
+) -> Result<(), WriteFailed>
+    requires { length reasons.now ≡ length programmes.now }
+    ensures { OnOk result (Adds W.contents rows.old rows.new
+        (rows_on (naming_of manner.now.names) manner.now.without_ranks resident programmes.now reasons.now)) }
+{
+    for k in 0..programmes.len() {
         push_row(
-            text,
+            rows,
             &manner.names,
             resident,
-            choice,
-            *programme,
-            *reason,
+            k + 1,
+            programmes[k],
+            &reasons[k],
             manner.without_ranks,
         )?;
     }
     Ok(())
 }
 
-// Adds the heading, and the rows on all residents.
-fn push_all_rows(
+// Adds the rows on all residents.
+fn push_all_rows<W: Write>(
     alloc: Global,
-    text: &mut String,
+    rows: &mut RowWriter<'_, W>,
     case: &Case,
     manner: &Manner,
-) -> Result<(), AllocError> {
-    text.push_str(HEADING)?;
+) -> Result<(), DocketFault>
+    ensures { OnOk result (AddsRows W.contents case.now (naming_of manner.now.names) manner.now.without_ranks
+        (length case.now.docket.instance.resident_lists) rows.old rows.new) }
+{
     for r in 0..case.docket().instance().residents() {
         let resident = ResidentNo(r);
         let answers = case.answers(alloc, resident)?;
-        push_rows(text, manner, resident, &answers)?;
+        let programmes = answers.programmes.as_slice();
+        let reasons = answers.reasons.as_slice();
+        push_rows(rows, manner, resident, programmes, reasons)?;
     }
     Ok(())
 }
 
-// Adds what is told.
-fn push_told(
+// Writes the names of the columns, and the rows on all residents.
+fn write_table<W: Write>(
     alloc: Global,
-    text: &mut String,
+    writer: &mut W,
     case: &Case,
     manner: &Manner,
-    told: Told,
-) -> Result<(), AllocError>
-    requires { IsTold case.now.docket.instance told }
+) -> Result<(), DocketFault>
+    ensures { OnOk result (AppendsText (IsTable case.now (naming_of manner.now.names) manner.now.without_ranks)
+        (W.contents writer.old) (W.contents writer.new)) }
 {
-    match told {
-        Told::All => push_all_rows(alloc, text, case, manner),
-        Told::Resident(resident) => push_lines(alloc, text, case, manner, resident),
-        Told::Pair(resident, programme) => push_line(
-            alloc,
-            text,
-            &manner.names,
-            resident,
-            programme,
-            case.reason(resident, programme),
-            manner.without_ranks,
-        ),
+    let mut room = room_for_rows(alloc)?;
+    let mut rows = RowWriter::new(writer, &mut room);
+    push_columns(&mut rows)?;
+    push_all_rows(alloc, &mut rows, case, manner)?;
+    rows.send()?;
+    Ok(())
+}
+
+// The names of the columns, and the rows on all residents. They are written to memory, so want of it is the one fault.
+fn table_of(alloc: Global, case: &Case, manner: &Manner) -> Result<Vec<u8>, AllocError>
+    ensures { IfOk result (λ text. IsTable case.now (naming_of manner.now.names) manner.now.without_ranks text.items) }
+{
+    let mut text = Vec::new(alloc);
+    match write_table(alloc, &mut text, case, manner) {
+        Ok(()) => Ok(text),
+        Err(_) => Err(AllocError),
     }
 }
 
-// Whom the question is about. An unknown name is told with near ones.
+// The lines on a resident.
+fn lines_of(
+    alloc: Global,
+    case: &Case,
+    manner: &Manner,
+    resident: ResidentNo,
+) -> Result<Vec<u8>, AllocError>
+    requires { IsResident case.now.docket.instance resident }
+    ensures { IfOk result (λ text. IsTextOn case.now (naming_of manner.now.names) manner.now.without_ranks resident text.items) }
+{
+    let mut text = String::new(alloc);
+    push_lines(alloc, &mut text, case, manner, resident)?;
+    Ok(text.into_bytes())
+}
+
+// The line on a resident and a programme.
+fn line_of(
+    alloc: Global,
+    case: &Case,
+    manner: &Manner,
+    resident: ResidentNo,
+    programme: ProgrammeNo,
+) -> Result<Vec<u8>, AllocError>
+    requires resident { IsResident case.now.docket.instance resident }
+    requires programme { IsProgramme case.now.docket.instance programme }
+    ensures { IfOk result (λ text. IsLineOn case.now (naming_of manner.now.names) manner.now.without_ranks resident programme text.items) }
+{
+    let told = case.reason(resident, programme);
+    let mut text = String::new(alloc);
+    push_line(
+        alloc,
+        &mut text,
+        &manner.names,
+        resident,
+        programme,
+        told,
+        manner.without_ranks,
+    )?;
+    Ok(text.into_bytes())
+}
+
+// What is told.
+fn told_text(alloc: Global, case: &Case, manner: &Manner, told: Told) -> Result<Vec<u8>, AllocError>
+    requires { IsTold case.now.docket.instance told }
+    ensures { IfOk result (λ text. IsTextOf case.now (naming_of manner.now.names) manner.now.without_ranks told text.items) }
+{
+    match told {
+        Told::All => table_of(alloc, case, manner),
+        Told::Resident(resident) => lines_of(alloc, case, manner, resident),
+        Told::Pair(resident, programme) => line_of(alloc, case, manner, resident, programme),
+    }
+}
+
+// The resident of this name. An unknown one is told with near ones.
+fn named_resident(
+    alloc: Global,
+    numbers: &MemberNumbers,
+    names: &Names,
+    name: &str,
+) -> Result<ResidentNo, WhyFault>
+    ensures member { IfOk result (IsResident names.now.docket.now.instance) }
+    ensures name { IfOk result (MeansResident (naming_of names.now) name.now) }
+{
+    match names.find_resident(numbers, name) {
+        Some(resident) => Ok(resident),
+        None => Err(unknown_resident(alloc, names, name)?),
+    }
+}
+
+// The programme of this name. An unknown one is told with near ones.
+fn named_programme(
+    alloc: Global,
+    numbers: &MemberNumbers,
+    names: &Names,
+    name: &str,
+) -> Result<ProgrammeNo, WhyFault>
+    ensures member { IfOk result (IsProgramme names.now.docket.now.instance) }
+    ensures name { IfOk result (MeansProgramme (naming_of names.now) name.now) }
+{
+    match names.find_programme(numbers, name) {
+        Some(programme) => Ok(programme),
+        None => Err(unknown_programme(alloc, names, name)?),
+    }
+}
+
+// Whom the question is about.
 fn told_of(
     alloc: Global,
     numbers: &MemberNumbers,
     names: &Names,
     asked: Asked,
 ) -> Result<Told, WhyFault>
-    ensures { IfOk result (IsTold names.now.docket.now.instance) }
+    ensures member { IfOk result (IsTold names.now.docket.now.instance) }
+    ensures asks { IfOk result (Asks (naming_of names.now) asked.entry) }
 {
-    let (resident_name, programme_name) = match asked {
-        Asked::All => return Ok(Told::All),
-        Asked::Resident(resident) => (resident, None),
-        Asked::Pair(resident, programme) => (resident, Some(programme)),
-    };
-    let Some(resident) = names.find_resident(numbers, resident_name) else {
-        return Err(unknown_resident(alloc, names, resident_name)?);
-    };
-    let Some(programme_name) = programme_name else {
-        return Ok(Told::Resident(resident));
-    };
-    match names.find_programme(numbers, programme_name) {
-        Some(programme) => Ok(Told::Pair(resident, programme)),
-        None => Err(unknown_programme(alloc, names, programme_name)?),
+    match asked {
+        Asked::All => Ok(Told::All),
+        Asked::Resident(resident) => {
+            let resident = named_resident(alloc, numbers, names, resident)?;
+            Ok(Told::Resident(resident))
+        }
+        Asked::Pair(resident, programme) => {
+            let resident = named_resident(alloc, numbers, names, resident)?;
+            let programme = named_programme(alloc, numbers, names, programme)?;
+            Ok(Told::Pair(resident, programme))
+        }
+    }
+}
+
+// The real names of a key, or none.
+fn key_of(
+    alloc: Global,
+    docket: &Docket,
+    numbers: &MemberNumbers,
+    key_bytes: Option<&[u8]>,
+) -> Result<Key, WhyFault>
+    ensures { IfOk result (λ key. option_copied key_bytes.entry ≡ None → HasNoNames key) }
+{
+    match key_bytes {
+        Some(bytes) => Key::read(alloc, docket, numbers, bytes),
+        None => Ok(Key::none(alloc)),
     }
 }
 
@@ -162,22 +295,19 @@ fn text_of(
     key_bytes: Option<&[u8]>,
     asked: Asked,
     without_ranks: bool,
-) -> Result<String, WhyFault> {
+) -> Result<Vec<u8>, WhyFault>
+    ensures { IfOk result (λ text. Answers case.now (option_copied key_bytes.entry) asked.entry without_ranks text.items) }
+{
     let docket = case.docket();
     let numbers = MemberNumbers::of(alloc, keys, docket)?;
-    let key = match key_bytes {
-        Some(bytes) => Key::read(alloc, docket, &numbers, bytes)?,
-        None => Key::none(alloc),
-    };
+    let key = key_of(alloc, docket, &numbers, key_bytes)?;
     let names = Names { docket, key: &key };
     let told = told_of(alloc, &numbers, &names, asked)?;
     let manner = Manner {
         names,
         without_ranks,
     };
-    let mut text = String::new(alloc);
-    push_told(alloc, &mut text, case, &manner, told)?;
-    Ok(text)
+    Ok(told_text(alloc, case, &manner, told)?)
 }
 
 /// Reads a docket with a sheet, and writes why. Of a resident it writes the first line and one on each programme of its
@@ -192,13 +322,15 @@ pub fn serve_why<R: Read + Drop, W: Write, H: RandomSource>(
     without_ranks: bool,
     key_bytes: Option<&[u8]>,
 ) -> Result<(), WhyFault>
+    ensures text { OnOk result (AppendsText (AnswersFrom (R.remaining reader) (option_copied key_bytes.entry) asked.entry without_ranks)
+        (W.contents writer.old) (W.contents writer.new)) }
     ensures before { IfErr result (λ fault. fault ≢ WhyFault.Docket DocketFault.Write → writer.new ≡ writer.old) }
 {
     let text = match read_and_tell(rt, alloc, reader, asked, without_ranks, key_bytes) {
         Ok(text) => text,
         Err(fault) => return Err(fault),
     };
-    match writer.write_all(text.as_bytes()) {
+    match writer.write_all(text.as_slice()) {
         Ok(()) => Ok(()),
         Err(_) => Err(WhyFault::Docket(DocketFault::Write)),
     }
@@ -212,7 +344,9 @@ fn read_and_tell<R: Read + Drop, H: RandomSource>(
     asked: Asked,
     without_ranks: bool,
     key_bytes: Option<&[u8]>,
-) -> Result<String, WhyFault> {
+) -> Result<Vec<u8>, WhyFault>
+    ensures { IfOk result (λ text. AnswersFrom (R.remaining reader) (option_copied key_bytes.entry) asked.entry without_ranks text.items) }
+{
     let Ok(keys) = RandomState::new(rt) else {
         return Err(WhyFault::Docket(DocketFault::Read { place: 1 }));
     };

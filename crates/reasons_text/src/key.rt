@@ -1,7 +1,11 @@
 //! The members' names as people know them.
 
-ghost use Rattle.std.specs.Prelude.{IfSome};
+ghost use Rattle.std.specs.Prelude.{◌≡◌, IfSome, Some, map, option_copied, string_bytes, true};
 ghost use Rattle.match_model.specs.Instance.{IsProgramme, IsResident};
+ghost use Rattle.docket.specs.Texts as texts;
+ghost use Rattle.reasons_text.specs.Lines.{has_withdrawn};
+ghost use Rattle.reasons_text.specs.Naming as naming;
+ghost use Rattle.reasons_text.specs.Naming.{HasNoNames, MeansProgramme, MeansResident, naming_of, shown_programme, shown_resident};
 
 use crate::fault::WhyFault;
 use crate::naming::MemberNumbers;
@@ -70,7 +74,9 @@ fn delimiter(bytes: &[u8]) -> u8 {
 
 impl Key {
     /// No real names.
-    pub(crate) fn none(alloc: Global) -> Key {
+    pub(crate) fn none(alloc: Global) -> Key
+        ensures { HasNoNames result }
+    {
         Key {
             residents: Vec::new(alloc),
             programmes: Vec::new(alloc),
@@ -162,48 +168,88 @@ pub(crate) struct Names<'a> {
 }
 
 // The name in its place, if there is one.
-fn real_name(names: &[String], place: u32) -> Option<&str> {
+#[tactic(auto, unfolding(crate::specs::Naming::real_name))]
+fn real_name(names: &[String], place: u32) -> Option<&str>
+    ensures { option_copied result ≡ naming.real_name (map string_bytes names.now) place }
+{
     match names.get(place as usize) {
         Some(name) if !name.is_empty() => Some(name.as_str()),
         _ => None,
     }
 }
 
+// Whether this is the name in that place.
+fn is_real_name(names: &[String], place: u32, name: &str) -> bool
+    ensures { result ≡ true → naming.real_name (map string_bytes names.now) place ≡ Some name.now }
+{
+    match real_name(names, place) {
+        Some(real) => real == name,
+        None => false,
+    }
+}
+
+// The docket's name of a resident, which is empty for a number that is nobody's.
+#[tactic(auto, using(crate::proofs::NobodyFacts::resident_nobody))]
+fn resident_name(docket: &Docket, resident: ResidentNo) -> &str
+    ensures { result.now ≡ texts.resident_name docket.now resident }
+{
+    if resident.0 < docket.instance().residents() {
+        docket.resident_name(resident)
+    } else {
+        ""
+    }
+}
+
+// The docket's name of a programme, which is empty for a number that is nobody's.
+#[tactic(auto, using(crate::proofs::NobodyFacts::programme_nobody))]
+fn programme_name(docket: &Docket, programme: ProgrammeNo) -> &str
+    ensures { result.now ≡ texts.programme_name docket.now programme }
+{
+    if programme.0 < docket.instance().programmes() {
+        docket.programme_name(programme)
+    } else {
+        ""
+    }
+}
+
 impl Names<'_> {
     /// The name of a resident, which is empty for a number that is nobody's.
-    pub(crate) fn resident(&self, resident: ResidentNo) -> &str {
+    #[tactic(auto, unfolding(crate::specs::Naming::shown_resident))]
+    pub(crate) fn resident(&self, resident: ResidentNo) -> &str
+        ensures { result.now ≡ shown_resident (naming_of self.now) resident }
+    {
         match real_name(self.key.residents.as_slice(), resident.0) {
             Some(name) => name,
-            None if resident.0 < self.docket.instance().residents() => self
-                .docket
-                .resident_name(resident),
-            None => "",
+            None => resident_name(self.docket, resident),
         }
     }
 
     /// The name of a programme, which is empty for a number that is nobody's.
-    pub(crate) fn programme(&self, programme: ProgrammeNo) -> &str {
+    #[tactic(auto, unfolding(crate::specs::Naming::shown_programme))]
+    pub(crate) fn programme(&self, programme: ProgrammeNo) -> &str
+        ensures { result.now ≡ shown_programme (naming_of self.now) programme }
+    {
         match real_name(self.key.programmes.as_slice(), programme.0) {
             Some(name) => name,
-            None if programme.0 < self.docket.instance().programmes() => self
-                .docket
-                .programme_name(programme),
-            None => "",
+            None => programme_name(self.docket, programme),
         }
     }
 
     /// Whether a resident withdrew.
-    pub(crate) fn resident_withdrew(&self, resident: ResidentNo) -> bool {
+    pub(crate) fn resident_withdrew(&self, resident: ResidentNo) -> bool
+        ensures { result ≡ has_withdrawn (naming_of self.now) resident }
+    {
         let inst = self.docket.instance();
         resident.0 < inst.residents() && inst.resident_withdrawn(resident)
     }
 
     /// The resident of this name: a real one first, and else one of the docket.
     pub(crate) fn find_resident(&self, numbers: &MemberNumbers, name: &str) -> Option<ResidentNo>
-        ensures { IfSome result (IsResident self.now.docket.now.instance) }
+        ensures member { IfSome result (IsResident self.now.docket.now.instance) }
+        ensures name { IfSome result (MeansResident (naming_of self.now) name.now) }
     {
         for r in 0..self.docket.instance().residents() {
-            if real_name(self.key.residents.as_slice(), r) == Some(name) {
+            if is_real_name(self.key.residents.as_slice(), r, name) {
                 return Some(ResidentNo(r));
             }
         }
@@ -212,10 +258,11 @@ impl Names<'_> {
 
     /// The programme of this name: a real one first, and else one of the docket.
     pub(crate) fn find_programme(&self, numbers: &MemberNumbers, name: &str) -> Option<ProgrammeNo>
-        ensures { IfSome result (IsProgramme self.now.docket.now.instance) }
+        ensures member { IfSome result (IsProgramme self.now.docket.now.instance) }
+        ensures name { IfSome result (MeansProgramme (naming_of self.now) name.now) }
     {
         for p in 0..self.docket.instance().programmes() {
-            if real_name(self.key.programmes.as_slice(), p) == Some(name) {
+            if is_real_name(self.key.programmes.as_slice(), p, name) {
                 return Some(ProgrammeNo(p));
             }
         }

@@ -1,7 +1,7 @@
 //! Telling residents why: a docket with a sheet is read, and plain sentences or rows go to any writer.
 //!
-//! The program is `tell_words` over the words and the streams that it is given. Tests alone show the sentences, the rows and
-//! the names that are near an unknown one. A body that writes other ones keeps its contract.
+//! The program is `tell_words` over the words and the streams that it is given. What a key's rows give to whom, and the names
+//! that are near an unknown one, are shown by tests alone: a body that takes other ones keeps its contract.
 #![tactic(auto)]
 
 mod answering;

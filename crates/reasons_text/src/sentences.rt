@@ -1,4 +1,9 @@
 //! The sentences.
+ghost use Rattle.std.specs.Prelude.{◌≡◌, ◌++◌, ◌==◌, IfOk, OnOk, string_bytes};
+ghost use Rattle.std.specs.List.{position_from};
+ghost use Rattle.reasons_text.specs.Lines as said;
+ghost use Rattle.reasons_text.specs.Lines.{ending, has_withdrawn, line};
+ghost use Rattle.reasons_text.specs.Naming.{naming_of};
 
 use crate::answers::Tally;
 use crate::key::Names;
@@ -13,7 +18,10 @@ pub(crate) struct Place(pub(crate) usize);
 
 impl Place {
     // What follows the number.
-    fn ending(&self) -> &'static str {
+    #[tactic(auto, unfolding(crate::specs::Lines::ending))]
+    fn ending(&self) -> &'static str
+        ensures { result.now ≡ ending self.now.0 }
+    {
         match (self.0 % 100, self.0 % 10) {
             (10..=12, _) => "th",
             (_, 0) => "st",
@@ -25,6 +33,12 @@ impl Place {
 }
 
 impl fmt::Display for Place {
+    ghost use Rattle.std.specs.Prelude.{Some};
+    ghost use Rattle.reasons_text.specs.Lines.{place_text};
+
+    ghost output = { λ place. Some (place_text place.0) };
+
+    #[tactic(auto, unfolding(crate::specs::Lines::place_text))]
     fn fmt<W: fmt::Write>(&self, f: &mut fmt::Formatter<W>) -> fmt::Result {
         let number = (self.0 as u64).saturating_add(1);
         let ending = self.ending();
@@ -37,6 +51,12 @@ impl fmt::Display for Place {
 struct Count(usize);
 
 impl fmt::Display for Count {
+    ghost use Rattle.std.specs.Prelude.{Some};
+    ghost use Rattle.reasons_text.specs.Lines.{count_text};
+
+    ghost output = { λ count. Some (count_text count.0) };
+
+    #[tactic(auto, unfolding(crate::specs::Lines::count_text))]
     fn fmt<W: fmt::Write>(&self, f: &mut fmt::Formatter<W>) -> fmt::Result {
         match self.0 {
             0 => f.write_str("none"),
@@ -46,13 +66,16 @@ impl fmt::Display for Count {
 }
 
 // What a resident is told to whom others were preferred.
+#[tactic(auto, unfolding(crate::specs::Lines::full_sentence))]
 fn full_sentence(
     alloc: Global,
     rank: usize,
     last_rank: Option<usize>,
     quota: u32,
     without_ranks: bool,
-) -> Result<String, AllocError> {
+) -> Result<String, AllocError>
+    ensures { IfOk result (λ text. string_bytes text ≡ said.full_sentence without_ranks rank last_rank quota) }
+{
     let Some(last_rank) = last_rank else {
         return format!(in alloc; "it had no places.");
     };
@@ -72,11 +95,14 @@ fn full_sentence(
 }
 
 // What is told where the programme or the resident withdrew.
+#[tactic(auto, unfolding(crate::specs::Lines::withdrawn_sentence))]
 fn withdrawn_sentence(
     alloc: Global,
     names: &Names,
     resident: ResidentNo,
-) -> Result<String, AllocError> {
+) -> Result<String, AllocError>
+    ensures { IfOk result (λ text. string_bytes text ≡ said.withdrawn_sentence (said.has_withdrawn (naming_of names.now) resident)) }
+{
     if names.resident_withdrew(resident) {
         format!(in alloc; "you withdrew from the match.")
     } else {
@@ -85,13 +111,16 @@ fn withdrawn_sentence(
 }
 
 // What is told of one programme.
+#[tactic(auto, unfolding(crate::specs::Lines::sentence))]
 fn sentence(
     alloc: Global,
     names: &Names,
     resident: ResidentNo,
     reason: Why,
     without_ranks: bool,
-) -> Result<String, AllocError> {
+) -> Result<String, AllocError>
+    ensures { IfOk result (λ text. string_bytes text ≡ said.sentence (naming_of names.now) without_ranks resident reason) }
+{
     match reason {
         Why::Withdrawn => withdrawn_sentence(alloc, names, resident),
         Why::NotListed => format!(in alloc; "it is not on your list."),
@@ -119,6 +148,7 @@ fn sentence(
 }
 
 /// Adds the line on one programme: its name, and what is told of it.
+#[tactic(auto, unfolding(crate::specs::Lines::line))]
 pub(crate) fn push_line(
     alloc: Global,
     text: &mut String,
@@ -127,7 +157,10 @@ pub(crate) fn push_line(
     programme: ProgrammeNo,
     reason: Why,
     without_ranks: bool,
-) -> Result<(), AllocError> {
+) -> Result<(), AllocError>
+    ensures { OnOk result (string_bytes text.new ≡ string_bytes text.old
+        ++ line (naming_of names.now) without_ranks resident programme reason) }
+{
     let said = sentence(alloc, names, resident, reason, without_ranks)?;
     text.push_str(names.programme(programme))?;
     text.push_str(": ")?;
@@ -135,25 +168,102 @@ pub(crate) fn push_line(
     text.push_str("\n")
 }
 
-// How the match ended for a resident: where it is matched, and as which choice.
-fn outcome(
+// Which of these a programme is, from 0.
+fn choice_of(list: &[ProgrammeNo], programme: ProgrammeNo) -> Option<usize>
+    ensures { result ≡ position_from (λ p. p == programme) 0 list.now }
+{
+    list.iter().position(|listed| *listed == programme)
+}
+
+// How the match ended for a resident that is with this programme, which is this choice of so many.
+#[tactic(auto, unfolding(crate::specs::Lines::matched))]
+fn matched(
     alloc: Global,
-    names: &Names,
-    own: Option<ProgrammeNo>,
-    list: &[ProgrammeNo],
-) -> Result<String, AllocError> {
-    let Some(own) = own else {
-        return format!(in alloc; "You are not matched.");
-    };
-    let name = names.programme(own);
-    let listed = list.len();
-    match list.iter().position(|programme| *programme == own) {
+    name: &str,
+    choice: Option<usize>,
+    listed: usize,
+) -> Result<String, AllocError>
+    ensures { IfOk result (λ text. string_bytes text ≡ said.matched name.now choice listed) }
+{
+    match choice {
         Some(choice) => {
             let place = Place(choice);
             format!(in alloc; "You are matched with {name}, your {place} choice of {listed}.")
         }
         None => format!(in alloc; "You are matched with {name}, which is not on your list."),
     }
+}
+
+// How the match ended for a resident that didn't withdraw: where it is matched, and as which choice.
+#[tactic(auto, unfolding(crate::specs::Lines::outcome))]
+fn outcome(
+    alloc: Global,
+    names: &Names,
+    own: Option<ProgrammeNo>,
+    list: &[ProgrammeNo],
+) -> Result<String, AllocError>
+    ensures { IfOk result (λ text. string_bytes text ≡ said.outcome (naming_of names.now) own list.now) }
+{
+    match own {
+        Some(own) => matched(
+            alloc,
+            names.programme(own),
+            choice_of(list, own),
+            list.len(),
+        ),
+        None => format!(in alloc; "You are not matched."),
+    }
+}
+
+// How the match ended for a resident.
+#[tactic(auto, unfolding(crate::specs::Lines::ended))]
+fn ended(
+    alloc: Global,
+    names: &Names,
+    resident: ResidentNo,
+    own: Option<ProgrammeNo>,
+    list: &[ProgrammeNo],
+) -> Result<String, AllocError>
+    ensures { IfOk result (λ text. string_bytes text ≡ said.ended (naming_of names.now) resident own list.now) }
+{
+    if names.resident_withdrew(resident) {
+        format!(in alloc; "You withdrew from the match.")
+    } else {
+        outcome(alloc, names, own, list)
+    }
+}
+
+// The word for so many programmes.
+#[tactic(auto, unfolding(crate::specs::Lines::programmes_word))]
+fn programmes_word(listed: usize) -> &'static str
+    ensures { result.now ≡ said.programmes_word listed }
+{
+    if listed == 1 {
+        "programme"
+    } else {
+        "programmes"
+    }
+}
+
+// How many programmes a resident ranked, and how many of these ranked it or withdrew.
+#[tactic(auto, unfolding(crate::specs::Lines::ranked))]
+fn ranked(alloc: Global, has_withdrawn: bool, tally: Tally) -> Result<String, AllocError>
+    ensures { IfOk result (λ text. string_bytes text
+        ≡ said.ranked has_withdrawn tally.listed tally.ranked_back tally.withdrew) }
+{
+    let listed = tally.listed;
+    if listed == 0 {
+        return format!(in alloc; " You ranked no programme.\n");
+    }
+    let programmes = programmes_word(listed);
+    if has_withdrawn {
+        return format!(in alloc; " You had ranked {listed} {programmes}.\n");
+    }
+    let ranked_back = Count(tally.ranked_back);
+    let withdrew = Count(tally.withdrew);
+    format!(in alloc;
+        " You ranked {listed} {programmes}: {ranked_back} ranked you too, {withdrew} withdrew.\n"
+    )
 }
 
 /// Adds the first line: how the match ended for the resident, how many programmes it ranked, and how many of these ranked it
@@ -166,29 +276,13 @@ pub(crate) fn push_first_line(
     own: Option<ProgrammeNo>,
     list: &[ProgrammeNo],
     tally: Tally,
-) -> Result<(), AllocError> {
-    let outcome = if names.resident_withdrew(resident) {
-        format!(in alloc; "You withdrew from the match.")?
-    } else {
-        outcome(alloc, names, own, list)?
-    };
-    text.push_str(outcome.as_str())?;
-    let listed = tally.listed;
-    let programmes = if listed == 1 {
-        "programme"
-    } else {
-        "programmes"
-    };
-    let ranked_back = Count(tally.ranked_back);
-    let withdrew = Count(tally.withdrew);
-    let ranked = if listed == 0 {
-        format!(in alloc; " You ranked no programme.\n")?
-    } else if names.resident_withdrew(resident) {
-        format!(in alloc; " You had ranked {listed} {programmes}.\n")?
-    } else {
-        format!(in alloc;
-            " You ranked {listed} {programmes}: {ranked_back} ranked you too, {withdrew} withdrew.\n"
-        )?
-    };
+) -> Result<(), AllocError>
+    ensures { OnOk result (string_bytes text.new ≡ string_bytes text.old
+        ++ said.ended (naming_of names.now) resident own list.now
+        ++ said.ranked (has_withdrawn (naming_of names.now) resident) tally.listed tally.ranked_back tally.withdrew) }
+{
+    let ended = ended(alloc, names, resident, own, list)?;
+    let ranked = ranked(alloc, names.resident_withdrew(resident), tally)?;
+    text.push_str(ended.as_str())?;
     text.push_str(ranked.as_str())
 }

@@ -1,16 +1,36 @@
 //! The rows on all residents.
+ghost use Rattle.std.specs.Prelude.{◌≡◌, ◌∷◌, [], OnOk, Some};
+ghost use Rattle.docket.specs.RowText.{Adds, row};
+ghost use Rattle.reasons_text.specs.Lines as said;
+ghost use Rattle.reasons_text.specs.Naming.{naming_of};
+ghost use Rattle.reasons_text.specs.Table as table;
 
 use crate::key::Names;
+use docket::{RowWriter, WriteFailed};
 use match_model::{ProgrammeNo, ResidentNo};
 use match_reasons::Why;
-use std::alloc::AllocError;
-use std::fmt::Write;
+use std::io::Write;
 
-/// The names of the columns.
-pub(crate) const HEADING: &str = "resident,programme,choice,answer,rank,last_rank,quota\n";
+/// Adds the names of the columns.
+pub(crate) fn push_columns<W: Write>(rows: &mut RowWriter<'_, W>) -> Result<(), WriteFailed>
+    ensures { OnOk result (Adds W.contents rows.old rows.new (row table.columns)) }
+{
+    rows.push(&[
+        b"resident",
+        b"programme",
+        b"choice",
+        b"answer",
+        b"rank",
+        b"last_rank",
+        b"quota",
+    ])
+}
 
-/// The word of an answer.
-pub(crate) fn word(reason: Why) -> &'static str {
+// The word of an answer.
+#[tactic(auto, unfolding(crate::specs::Table::word))]
+fn word(reason: &Why) -> &'static str
+    ensures { result.now ≡ table.word reason.now }
+{
     match reason {
         Why::Withdrawn => "withdrawn",
         Why::NotListed => "unlisted",
@@ -22,66 +42,88 @@ pub(crate) fn word(reason: Why) -> &'static str {
     }
 }
 
-// Whether a field has to stand between quotes.
-fn is_quoted(field: &str) -> bool {
-    field
-        .bytes()
-        .any(|c| matches!(c, b',' | b'"' | b'\n' | b'\r'))
+// A rank, which is counted from 0, as it is shown, in this room.
+fn rank_text(room: &mut itoa::Buffer, rank: usize) -> &str
+    ensures { result.now ≡ table.rank_text (Some rank) }
+{
+    room.format((rank as u64).saturating_add(1))
 }
 
-// Adds a field, between quotes where it must be.
-fn push_field(text: &mut String, field: &str) -> Result<(), AllocError> {
-    if !is_quoted(field) {
-        return text.push_str(field);
+// The resident's rank, in this room, where places were taken.
+#[tactic(auto, unfolding(crate::specs::Table::rank_field))]
+fn rank_field<'a>(room: &'a mut itoa::Buffer, reason: &Why, without_ranks: bool) -> &'a str
+    ensures { result.now ≡ table.rank_field without_ranks reason.now }
+{
+    match *reason {
+        Why::Full { rank, .. } if !without_ranks => rank_text(room, rank),
+        _ => "",
     }
-    text.push_str("\"")?;
-    for c in field.chars() {
-        if c == '"' {
-            text.push(c)?;
-        }
-        text.push(c)?;
-    }
-    text.push_str("\"")
 }
 
-// Adds the columns on the programme's list: the resident's rank, the last rank taken and the quota, where places were taken.
-fn push_ranks(text: &mut String, reason: Why, without_ranks: bool) -> Result<(), AllocError> {
-    let Why::Full {
-        rank,
-        last_rank,
-        quota,
-    } = reason
-    else {
-        return text.push_str(",,,\n");
-    };
-    if without_ranks {
-        return write!(text, ",,,{quota}\n");
+// The last rank that has a place, in this room, where places were taken.
+#[tactic(auto, unfolding(crate::specs::Table::last_field))]
+fn last_field<'a>(room: &'a mut itoa::Buffer, reason: &Why, without_ranks: bool) -> &'a str
+    ensures { result.now ≡ table.last_field without_ranks reason.now }
+{
+    match *reason {
+        Why::Full {
+            last_rank: Some(last_rank),
+            ..
+        } if !without_ranks => rank_text(room, last_rank),
+        _ => "",
     }
-    let rank = (rank as u64).saturating_add(1);
-    match last_rank {
-        Some(last_rank) => {
-            let last_rank = (last_rank as u64).saturating_add(1);
-            write!(text, ",{rank},{last_rank},{quota}\n")
-        }
-        None => write!(text, ",{rank},,{quota}\n"),
+}
+
+// The quota, in this room, where places were taken.
+#[tactic(auto, unfolding(crate::specs::Table::quota_field))]
+fn quota_field<'a>(room: &'a mut itoa::Buffer, reason: &Why) -> &'a str
+    ensures { result.now ≡ table.quota_field reason.now }
+{
+    match *reason {
+        Why::Full { quota, .. } => room.format(quota),
+        _ => "",
     }
+}
+
+// Adds the row of these fields.
+fn push_fields<'a, W: Write>(
+    rows: &mut RowWriter<'_, W>,
+    resident: &'a [u8],
+    programme: &'a [u8],
+    choice: &'a [u8],
+    word: &'a [u8],
+    rank: &'a [u8],
+    last: &'a [u8],
+    quota: &'a [u8],
+) -> Result<(), WriteFailed>
+    ensures { OnOk result (Adds W.contents rows.old rows.new (row
+        (resident.now ∷ programme.now ∷ choice.now ∷ word.now ∷ rank.now ∷ last.now ∷ quota.now ∷ []))) }
+{
+    rows.push(&[resident, programme, choice, word, rank, last, quota])
 }
 
 /// Adds the row on one programme, which is this choice of the resident's, from 1.
-pub(crate) fn push_row(
-    text: &mut String,
+#[tactic(auto, unfolding(crate::specs::Table::answer_row))]
+pub(crate) fn push_row<W: Write>(
+    rows: &mut RowWriter<'_, W>,
     names: &Names,
     resident: ResidentNo,
     choice: usize,
     programme: ProgrammeNo,
-    reason: Why,
+    reason: &Why,
     without_ranks: bool,
-) -> Result<(), AllocError> {
-    let again = reason;
-    push_field(text, names.resident(resident))?;
-    text.push_str(",")?;
-    push_field(text, names.programme(programme))?;
-    let word = word(reason);
-    write!(text, ",{choice},{word}")?;
-    push_ranks(text, again, without_ranks)
+) -> Result<(), WriteFailed>
+    ensures { OnOk result (Adds W.contents rows.old rows.new
+        (table.answer_row (naming_of names.now) without_ranks resident choice programme reason.now)) }
+{
+    let (mut first, mut second) = (itoa::Buffer::new(), itoa::Buffer::new());
+    let (mut third, mut fourth) = (itoa::Buffer::new(), itoa::Buffer::new());
+    let resident = names.resident(resident).as_bytes();
+    let programme = names.programme(programme).as_bytes();
+    let choice = first.format(choice).as_bytes();
+    let word = word(reason).as_bytes();
+    let rank = rank_field(&mut second, reason, without_ranks).as_bytes();
+    let last = last_field(&mut third, reason, without_ranks).as_bytes();
+    let quota = quota_field(&mut fourth, reason).as_bytes();
+    push_fields(rows, resident, programme, choice, word, rank, last, quota)
 }

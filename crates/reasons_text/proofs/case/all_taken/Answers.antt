@@ -1,4 +1,4 @@
-use Rattle.std.proofs.Common.{ℕ, ◌+◌, ◌∙◌, List, length, ap, sym, subst}
+use Rattle.std.proofs.Common.{◌+◌, ◌∙◌, List, length, ap, sym, subst}
 use Rattle.std.proofs.lemmas.List.{length_push}
 use Rattle.match_reasons.specs.declared.taken.Taken.{Taken}
 use Rattle.reasons_text.specs.Answers.{AreTaken}

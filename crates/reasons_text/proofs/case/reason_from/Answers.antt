@@ -1,4 +1,4 @@
-use Rattle.std.proofs.Common.{Option, None, sym, subst}
+use Rattle.std.proofs.Common.{None, sym, subst}
 use Rattle.match_model.specs.Instance.{Instance, list_at}
 use Rattle.match_model.specs.Written.{AreWritten}
 use Rattle.match_reasons.specs.Reason.{IsFirst}

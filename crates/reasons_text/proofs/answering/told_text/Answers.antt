@@ -1,0 +1,10 @@
+use Rattle.reasons_text.proofs.answering.told_text.Goals as goal
+
+pub returns-in-All : goal.returns-in-All
+returns-in-All c = rw c.in-All.is c.table_of.ensures
+
+pub returns-in-Resident : goal.returns-in-Resident
+returns-in-Resident c = rw c.in-Resident.is c.lines_of.ensures
+
+pub returns-in-Pair : goal.returns-in-Pair
+returns-in-Pair c = rw c.in-Pair.is c.line_of.ensures

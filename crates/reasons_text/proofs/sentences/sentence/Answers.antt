@@ -1,0 +1,7 @@
+use Rattle.std.proofs.Common.{sym}
+use Rattle.reasons_text.specs.Lines.{sentence}
+use Rattle.reasons_text.proofs.sentences.sentence.Goals as goal
+
+pub returns-in-PrefersOwn : goal.returns-in-PrefersOwn
+unfolding sentence
+returns-in-PrefersOwn c = rw (c.in-PrefersOwn.is, sym c.programme-own.ensures) c.format-in-PrefersOwn.ensures.ok

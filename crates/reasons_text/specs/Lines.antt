@@ -1,0 +1,107 @@
+-- The lines on a resident: the first one, and one on each programme of its record.
+use Rattle.std.specs.Prelude.{ℕ, ◌+◌, ◌-◌, ◌^◌, ◌%◌, ◌==◌, ◌&&◌, min, nat_lt, Bool, true, false, if◌then◌else◌, Option, Some, None, List, ◌++◌, length, codes, count_by, decimal}
+use Rattle.std.specs.List.{flat_map, position_from, zip}
+use Rattle.match_model.specs.Instance.{is_withdrawn}
+use Rattle.match_reasons.specs.declared.reason.Why.{Why}
+use Rattle.match_reasons.specs.declared.reason.Why.TheVariants.{Withdrawn, NotListed, NotRanked, Matched, PrefersOwn, Full, Blocking}
+use Rattle.reasons_text.specs.Answers.{ranked_back, withdrew}
+use Rattle.reasons_text.specs.Naming.{Naming, shown_programme}
+
+-- a rank, which is counted from 0, as the number that is shown, as far as a number of 64 bits goes
+abbrev pub from_one : ℕ → ℕ
+from_one rank = min (rank + 1) (2 ^ 64 - 1)
+
+-- what follows that number
+unfoldable pub ending : ℕ → List ℕ
+ending rank =
+    if nat_lt 9 (rank % 100) && nat_lt (rank % 100) 13 then codes "th"
+    else if rank % 10 == 0 then codes "st"
+    else if rank % 10 == 1 then codes "nd"
+    else if rank % 10 == 2 then codes "rd"
+    else codes "th"
+
+-- a rank as it is said: 1st, 2nd, 3rd
+unfoldable pub place_text : ℕ → List ℕ
+place_text rank = decimal (from_one rank) ++ ending rank
+
+-- how many there are, in words where there are none
+unfoldable pub count_text : ℕ → List ℕ
+count_text n = if n == 0 then codes "none" else decimal n
+
+-- whether a resident withdrew
+abbrev pub has_withdrawn : Naming → ℕ → Bool
+has_withdrawn names r = is_withdrawn names.docket.instance.residents_withdrawn r
+
+-- what a resident is told to whom others were preferred
+unfoldable pub full_sentence : Bool → ℕ → Option ℕ → ℕ → List ℕ
+full_sentence without_ranks rank None quota = codes "it had no places."
+full_sentence true rank (Some last) quota = codes "its places went to residents it ranks above you."
+full_sentence false rank (Some last) quota =
+    if quota == 1
+    then codes "it ranked you " ++ (place_text rank ++ (codes ". Its one place went to the resident it ranked " ++ (place_text last ++ codes ".")))
+    else codes "it ranked you " ++ (place_text rank ++ (codes ". Its " ++ (decimal quota
+    ++ (codes " places went to residents it ranked higher, the last of them " ++ (place_text last ++ codes ".")))))
+
+-- what is told where the programme or the resident withdrew
+unfoldable pub withdrawn_sentence : Bool → List ℕ
+withdrawn_sentence true = codes "you withdrew from the match."
+withdrawn_sentence false = codes "it withdrew from the match."
+
+-- what resident r is told of a programme, with this answer
+unfoldable pub sentence : Naming → Bool → ℕ → Why → List ℕ
+sentence names without_ranks r Withdrawn = withdrawn_sentence (has_withdrawn names r)
+sentence names without_ranks r NotListed = codes "it is not on your list."
+sentence names without_ranks r NotRanked = codes "it did not rank you."
+sentence names without_ranks r Matched = codes "you are matched here."
+sentence names without_ranks r (PrefersOwn own own_rank rank) =
+    codes "this was your " ++ (place_text rank ++ (codes " choice, and you have your " ++ (place_text own_rank
+    ++ (codes ", " ++ (shown_programme names own ++ codes ".")))))
+sentence names without_ranks r (Full rank last_rank quota) = full_sentence without_ranks rank last_rank quota
+sentence names without_ranks r Blocking =
+    codes "you would rather be here, and it would rather have you. This sheet is not right: please tell the office."
+
+-- the line on a programme: its name, what is told of it, and a line feed
+unfoldable pub line : Naming → Bool → ℕ → ℕ → Why → List ℕ
+line names without_ranks r p reason = shown_programme names p ++ codes ": " ++ sentence names without_ranks r reason ++ codes "\n"
+
+-- a line on each of these programmes, in order, with the answer in its place
+abbrev pub lines : Naming → Bool → ℕ → List ℕ → List Why → List ℕ
+lines names without_ranks r programmes reasons =
+    flat_map (λ (told : ℕ × Why). line names without_ranks r told.0 told.1) (zip programmes reasons)
+
+-- how the match ended for a resident that is with the programme of this name, which is this choice of so many
+unfoldable pub matched : List ℕ → Option ℕ → ℕ → List ℕ
+matched name None listed = codes "You are matched with " ++ (name ++ codes ", which is not on your list.")
+matched name (Some choice) listed =
+    codes "You are matched with " ++ (name ++ (codes ", your " ++ (place_text choice ++ (codes " choice of " ++ (decimal listed ++ codes ".")))))
+
+-- how the match ended for a resident that didn't withdraw
+unfoldable pub outcome : Naming → Option ℕ → List ℕ → List ℕ
+outcome names None programmes = codes "You are not matched."
+outcome names (Some own) programmes = matched (shown_programme names own) (position_from (λ p. p == own) 0 programmes) (length programmes)
+
+-- how the match ended for resident r
+unfoldable pub ended : Naming → ℕ → Option ℕ → List ℕ → List ℕ
+ended names r own programmes = if has_withdrawn names r then codes "You withdrew from the match." else outcome names own programmes
+
+-- the word for so many programmes
+unfoldable pub programmes_word : ℕ → List ℕ
+programmes_word listed = if listed == 1 then codes "programme" else codes "programmes"
+
+-- how many programmes a resident ranked, and how many of these ranked it or withdrew
+unfoldable pub ranked : Bool → ℕ → ℕ → ℕ → List ℕ
+ranked withdrawn listed back gone =
+    if listed == 0 then codes " You ranked no programme.\n"
+    else if withdrawn then codes " You had ranked " ++ (decimal listed ++ (codes " " ++ (programmes_word listed ++ codes ".\n")))
+    else codes " You ranked " ++ (decimal listed ++ (codes " " ++ (programmes_word listed ++ (codes ": " ++ (count_text back
+    ++ (codes " ranked you too, " ++ (count_text gone ++ codes " withdrew.\n")))))))
+
+-- the first line on resident r, which is with its own programme, if it has one
+abbrev pub first_line : Naming → ℕ → Option ℕ → List ℕ → List Why → List ℕ
+first_line names r own programmes reasons =
+    ended names r own programmes
+    ++ ranked (has_withdrawn names r) (length reasons) (count_by ranked_back reasons) (count_by withdrew reasons)
+
+-- the first line on resident r, and a line on each of these programmes
+abbrev pub text_on : Naming → Bool → ℕ → Option ℕ → List ℕ → List Why → List ℕ
+text_on names without_ranks r own programmes reasons = first_line names r own programmes reasons ++ lines names without_ranks r programmes reasons

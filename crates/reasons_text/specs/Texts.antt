@@ -1,0 +1,105 @@
+-- The text that answers a question.
+use Rattle.std.specs.Prelude.{◌≡◌, ℕ, Bool, Option, Some, None, List, [], ◌++◌, length, slice_get}
+use Rattle.std.specs.List.{flat_map}
+use Rattle.match_model.specs.Placement.{programme_of}
+use Rattle.match_reasons.specs.declared.reason.Why.{Why}
+use Rattle.std.specs.Io.KnownBytes.{Appends}
+use Rattle.docket.specs.Contents.{Contents}
+use Rattle.docket.specs.RowText.{Adds, row}
+use Rattle.docket.specs.Texts.{programme_name, resident_name}
+use Rattle.docket.specs.WithLists.{IsReadWithLists}
+use Rattle.docket.specs.declared.row_writer.RowWriter.{RowWriter}
+use Rattle.reasons_text.specs.Answers.{AreAnswers, AreOfRecord, CaseParts, IsAnswer}
+use Rattle.reasons_text.specs.Lines.{line, text_on}
+use Rattle.reasons_text.specs.Naming.{MeansProgramme, MeansResident, Naming}
+use Rattle.reasons_text.specs.Table.{columns, rows_on}
+use Rattle.reasons_text.specs.Told.{IsTold}
+use Rattle.reasons_text.specs.declared.answering.Told.{Told}
+use Rattle.reasons_text.specs.declared.answering.Told.TheVariants.{All, Resident, Pair}
+use Rattle.reasons_text.specs.declared.question.Asked.{Asked}
+use Rattle.reasons_text.specs.declared.question.Asked.TheVariants as asked
+
+-- what resident r is told: the programmes of its record, in order, and of each the first answer that holds
+pub record RecordAnswers (c : CaseParts) (r : ℕ) : Type 0 where
+  pub programmes : List ℕ
+  pub reasons : List Why
+  pub first : AreAnswers c r programmes reasons
+  pub record_is : AreOfRecord c.docket c.written r programmes
+
+-- the first line on resident r, then one line on each programme of its record, and no other line
+pub record IsTextOn (c : CaseParts) (names : Naming) (without_ranks : Bool) (r : ℕ) (text : List ℕ) : Type 0 where
+  pub told : RecordAnswers c r
+  pub text_is : text ≡ text_on names without_ranks r (programme_of c.sheet r) told.programmes told.reasons
+
+-- the line on programme p
+pub record IsLineOn (c : CaseParts) (names : Naming) (without_ranks : Bool) (r p : ℕ) (text : List ℕ) : Type 0 where
+  pub reason : Why
+  pub first : IsAnswer c r p reason
+  pub text_is : text ≡ line names without_ranks r p reason
+
+-- one row on each programme of the record of resident r, in order, and no other row
+pub record AreRowsOn (c : CaseParts) (names : Naming) (without_ranks : Bool) (r : ℕ) (text : List ℕ) : Type 0 where
+  pub told : RecordAnswers c r
+  pub text_is : text ≡ rows_on names without_ranks r told.programmes told.reasons
+
+-- the rows on the first n residents, one resident after another
+abbrev pub AreRowsBelow : CaseParts → Naming → Bool → ℕ → List (List ℕ) → Type 0
+AreRowsBelow c names without_ranks n texts =
+    (length texts ≡ n) × ((r : ℕ) (text : List ℕ) → slice_get texts r ≡ Some text → AreRowsOn c names without_ranks r text)
+
+-- the names of the columns, then the rows on all residents, in the docket's order, and no other row
+pub record IsTable (c : CaseParts) (names : Naming) (without_ranks : Bool) (text : List ℕ) : Type 0 where
+  pub texts : List (List ℕ)
+  pub rows : AreRowsBelow c names without_ranks (length c.docket.instance.resident_lists) texts
+  pub text_is : text ≡ row columns ++ flat_map (λ t. t) texts
+
+-- the text on whom it is about
+abbrev pub IsTextOf : CaseParts → Naming → Bool → Told → List ℕ → Type 0
+IsTextOf c names without_ranks All text = IsTable c names without_ranks text
+IsTextOf c names without_ranks (Resident r) text = IsTextOn c names without_ranks r text
+IsTextOf c names without_ranks (Pair r p) text = IsLineOn c names without_ranks r p text
+
+-- the question is about all, about the resident of its name, or about the resident and the programme of its names
+abbrev pub Asks : Naming → Asked → Told → Type 0
+Asks names asked.All All = Unit {0}
+Asks names (asked.Resident name) (Resident r) = MeansResident names name.now r
+Asks names (asked.Pair resident programme) (Pair r p) = MeansResident names resident.now r × MeansProgramme names programme.now p
+Asks names question told = ⊥
+
+-- each name of the question is the docket's own
+abbrev pub AsksByDocket : Contents → Asked → Told → Type 0
+AsksByDocket docket asked.All All = Unit {0}
+AsksByDocket docket (asked.Resident name) (Resident r) = resident_name docket r ≡ name.now
+AsksByDocket docket (asked.Pair resident programme) (Pair r p) = (resident_name docket r ≡ resident.now) × (programme_name docket p ≡ programme.now)
+AsksByDocket docket question told = ⊥
+
+-- the text answers the question over this docket; the names are the docket's own, unless there is a key
+pub record Answers (c : CaseParts) (key : Option (List ℕ)) (question : Asked) (without_ranks : Bool) (text : List ℕ) : Type 0 where
+  pub names : Naming
+  pub docket : names.docket ≡ c.docket
+  pub keyless : key ≡ None → (names.residents ≡ []) × (names.programmes ≡ [])
+  pub told : Told
+  pub member : IsTold c.docket.instance told
+  pub asks : Asks names question told
+  pub asks_keyless : key ≡ None → AsksByDocket c.docket question told
+  pub text_is : IsTextOf c names without_ranks told text
+
+-- the text answers the question over the docket of these bytes
+pub record AnswersFrom (bytes key : Option (List ℕ)) (question : Asked) (without_ranks : Bool) (text : List ℕ) : Type 0 where
+  pub case : CaseParts
+  pub read : IsReadWithLists bytes case.docket case.written
+  pub sheet : case.docket.sheet ≡ Some case.sheet
+  pub answers : Answers case key question without_ranks text
+
+-- the rows on the first n residents were added
+pub record AddsRows {W : Type 0} (contents : W → Option (List ℕ)) (c : CaseParts) (names : Naming) (without_ranks : Bool) (n : ℕ)
+    (old new : RowWriter W) : Type 0 where
+  pub texts : List (List ℕ)
+  pub rows : AreRowsBelow c names without_ranks n texts
+  pub added : Adds contents old new (flat_map (λ t. t) texts)
+
+-- what was appended, if it is known, is a text of this kind
+pub record AppendsText (Wanted : List ℕ → Type 0) (old new : Option (List ℕ)) : Type 0 where
+  pub text : List ℕ
+  pub wanted : Wanted text
+  pub appended : Appends old new text
