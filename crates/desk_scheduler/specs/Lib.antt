@@ -1,4 +1,5 @@
 pub mod Desks
 pub mod Schedule
+pub mod Shift
 pub mod Turns
 pub mod Waits

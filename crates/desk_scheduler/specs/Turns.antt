@@ -67,3 +67,14 @@ waiting_now s n = record { residents = s.residents; programmes = s.programmes; w
 -- the run ends
 abbrev pub ended_now : Schedule → Schedule
 ended_now s = record { residents = s.residents; programmes = s.programmes; waiting = s.waiting; ended = true }
+
+-- a desk at this place is in a hand, or past the last one
+abbrev pub IsInHandAt : Place → Type 0
+IsInHandAt Idle = ⊥
+IsInHandAt Listed = ⊥
+IsInHandAt InHand = Unit {0}
+IsInHandAt InHandAgain = Unit {0}
+
+-- the desk of this number is in a hand, or there is none of this number
+abbrev pub IsInHand : Schedule → ℕ → Type 0
+IsInHand s d = IsInHandAt (place_at s d)

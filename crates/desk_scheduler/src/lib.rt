@@ -2,12 +2,20 @@
 #![tactic(auto)]
 
 mod scheduler;
+mod shift;
 mod side;
+mod turn;
 mod wait_queues;
 mod wake;
 mod woken;
+mod workers;
 
 pub use scheduler::{Next, Scheduler};
+pub use shift::{Hand, Shift, TurnOf};
+pub use turn::Turn;
 pub use wait_queues::WaitQueues;
 pub use wake::Wake;
 pub use woken::Woken;
+pub use workers::{
+    Holding, Looking, Resting, WORKER_PARTS, WorkerBlanks, Workers, WorkersIdentity,
+};

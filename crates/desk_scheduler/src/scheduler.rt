@@ -2,8 +2,8 @@
 ghost use Rattle.std.specs.Prelude.{◌≡◌, ◌≢◌, ◌+◌, ◌-◌, ◌<◌, ◌^◌, ◌||◌, ◌&&◌, [], true, false, length, fold, nat_lt, replicate, cond, IfOk};
 ghost use Rattle.std.specs.List.{range_with_len};
 ghost use Rattle.desk_scheduler.specs.Desks.{letting_go};
-ghost use Rattle.desk_scheduler.specs.Turns.{at_desk, in_hand, place_at, next_of, claim_or_next_of, waiting_now, ended_now, any_ready, woken_by};
-ghost use Rattle.desk_scheduler.specs.declared.side.Place.TheVariants.{Idle};
+ghost use Rattle.desk_scheduler.specs.Turns.{IsInHand, at_desk, in_hand, place_at, next_of, claim_or_next_of, waiting_now, ended_now, any_ready, woken_by};
+ghost use Rattle.desk_scheduler.specs.declared.side.Place.TheVariants.{Idle, Listed};
 
 use crate::side::Side;
 use crate::wake::Wake;
@@ -67,7 +67,9 @@ impl Scheduler {
     /// A desk is woken: one with nobody is listed in the tier of what it is woken for, one in a hand is marked.
     #[inline(always)]
     pub fn list(&mut self, desk: u32, wake: Wake)
-        ensures { self.new ≡ woken_by self.old (desk, wake) }
+        ensures listed { self.new ≡ woken_by self.old (desk, wake) }
+        ensures goes_on { self.new.ended ≡ self.old.ended }
+        ensures waits { self.new.waiting ≡ self.old.waiting }
     {
         if desk < self.first_programme {
             self.residents.list(desk, wake);
@@ -80,6 +82,8 @@ impl Scheduler {
     #[inline(always)]
     pub fn list_all(&mut self, woken: &mut Woken)
         ensures listed { self.new ≡ fold woken_by self.old woken.old }
+        ensures goes_on { self.new.ended ≡ self.old.ended }
+        ensures waits { self.new.waiting ≡ self.old.waiting }
         ensures none_left { woken.new ≡ [] }
     {
         for note in woken.desks() {
@@ -92,7 +96,9 @@ impl Scheduler {
     /// A desk leaves a hand; it is listed where it may have work again.
     #[inline(always)]
     pub fn let_go(&mut self, desk: u32, again: bool)
-        ensures { self.new ≡ at_desk (λ desks d. letting_go desks d again) self.old desk }
+        ensures let_go { self.new ≡ at_desk (λ desks d. letting_go desks d again) self.old desk }
+        ensures goes_on { self.new.ended ≡ self.old.ended }
+        ensures waits { self.new.waiting ≡ self.old.waiting }
     {
         if desk < self.first_programme {
             self.residents.let_go(desk, again);
@@ -104,7 +110,10 @@ impl Scheduler {
     /// The desk on top of the list comes into a hand, while the run goes on.
     #[inline(always)]
     pub fn next(&mut self) -> Next
-        ensures { (result, self.new) ≡ next_of self.old }
+        ensures next { (result, self.new) ≡ next_of self.old }
+        ensures goes_on { self.new.ended ≡ self.old.ended }
+        ensures waits { self.new.waiting ≡ self.old.waiting }
+        ensures ended { result ≡ Next.Ended → self.old.ended ≡ true }
     {
         if self.ended {
             return Next::Ended;
@@ -118,9 +127,15 @@ impl Scheduler {
         }
     }
 
-    /// This desk comes into a hand, if nobody has it and it isn't listed; else the one on top of the list.
+    /// This desk comes into a hand, if nobody has it and it isn't listed; else the one on top of the list. Nothing comes only
+    /// where this desk is in a hand and none is listed.
     pub fn claim_or_next(&mut self, desk: u32) -> Next
-        ensures { (result, self.new) ≡ claim_or_next_of self.old desk }
+        ensures next { (result, self.new) ≡ claim_or_next_of self.old desk }
+        ensures in_hand { result ≡ Next.Nothing → IsInHand self.old desk }
+        ensures none { result ≡ Next.Nothing → any_ready self.old ≡ false }
+        ensures goes_on { self.new.ended ≡ self.old.ended }
+        ensures waits { self.new.waiting ≡ self.old.waiting }
+        ensures ended { result ≡ Next.Ended → self.old.ended ≡ true }
     {
         if self.ended {
             return Next::Ended;
@@ -135,6 +150,7 @@ impl Scheduler {
     fn claim(&mut self, desk: u32) -> bool
         ensures claimed { result ≡ true → (place_at self.old desk ≡ Idle) × (self.new ≡ at_desk in_hand self.old desk) }
         ensures left { result ≡ false → (place_at self.old desk ≢ Idle) × (self.new ≡ self.old) }
+        ensures listed { place_at self.old desk ≡ Listed → any_ready self.old ≡ true }
     {
         if desk < self.first_programme {
             return self.residents.claim(desk);

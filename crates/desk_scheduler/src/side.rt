@@ -2,7 +2,7 @@
 ghost use Rattle.std.specs.Prelude.{◌≡◌, ◌≢◌, ◌<◌, [], None, Some, true, false, length, replicate, nat_lt, MatchOption, IfOk};
 ghost use Rattle.std.specs.List.{range_with_len};
 ghost use Rattle.desk_scheduler.specs.Desks.{listing, letting_go, is_listed, moved, on_top, on_top_behind, place_of, taken, times};
-ghost use Rattle.desk_scheduler.specs.declared.side.Place.TheVariants.{Idle, InHand};
+ghost use Rattle.desk_scheduler.specs.declared.side.Place.TheVariants.{Idle, InHand, Listed};
 
 use crate::wake::Wake;
 use std::alloc::{AllocError, Global};
@@ -169,6 +169,7 @@ impl Side {
         ensures taken { result ≡ true → (place_of self.old desk ≡ Idle)
             × (self.new ≡ moved self.old desk InHand) }
         ensures left { result ≡ false → (place_of self.old desk ≢ Idle) × (self.new ≡ self.old) }
+        ensures listed { place_of self.old desk ≡ Listed → is_listed self.old ≡ true }
     {
         if self.places[desk as usize] != Place::Idle {
             return false;

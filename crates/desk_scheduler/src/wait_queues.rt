@@ -1,9 +1,10 @@
 //! The desks that wait for room in a mailbox.
-ghost use Rattle.std.specs.Prelude.{◌≡◌, ◌≢◌, ◌<◌, ℕ, List, Option, None, Some, true, false, length, replicate, slice_set, sum_by, MatchOption, IfOk};
+ghost use Rattle.std.specs.Prelude.{◌≡◌, ◌≢◌, ◌<◌, ◌++◌, ◌∷◌, [], ℕ, List, Option, None, Some, true, false, length, replicate, slice_set, MatchOption, IfOk};
 ghost use Rattle.std.specs.Option.{ForSome};
-ghost use Rattle.desk_scheduler.specs.Waits.{linked_at, was_called, one_waits};
+ghost use Rattle.desk_scheduler.specs.Waits.{ended_at, joined_rows, left_rows, linked_at, linked_to, queue_of, was_called, without};
 
 use std::alloc::{AllocError, Global};
+use std::marker::Model;
 
 /// The desks that wait for room in a mailbox that refused their put as full. Each mailbox has its first and its last. Each
 /// desk has the mailbox, who waits before and behind it, and whether it was called. How many wait in all is counted, so
@@ -18,16 +19,40 @@ pub struct WaitQueues {
     behind: Vec<Option<u32>>,
     called: Vec<bool>,
     count: usize,
-    ghost counted: { count ≡ sum_by one_waits mailbox.items },
+}
+
+impl Model for WaitQueues {
+    ghost use Rattle.desk_scheduler.specs.Waits.{Waits, AreQueues};
+
+    ghost Value = { Waits };
+
+    ghost view = { λ q. record {
+      first = q.first.items;
+      last = q.last.items;
+      mailbox = q.mailbox.items;
+      before = q.before.items;
+      behind = q.behind.items;
+      called = q.called.items;
+    } };
+
+    ghost invariant = { λ q. AreQueues (record {
+      first = q.first.items;
+      last = q.last.items;
+      mailbox = q.mailbox.items;
+      before = q.before.items;
+      behind = q.behind.items;
+      called = q.called.items;
+    }) q.count };
 }
 
 impl WaitQueues {
     /// Nobody waits, at this many desks.
     pub fn with_desks(alloc: Global, desks: usize) -> Result<WaitQueues, AllocError>
-        ensures none { IfOk result (λ q. (q.mailbox.items ≡ replicate desks None)
-            × (q.called.items ≡ replicate desks false)) }
-        ensures queues { IfOk result (λ q. (q.first.items ≡ replicate desks None)
-            × (q.last.items ≡ replicate desks None)) }
+        ensures none { IfOk result (λ q. (q.mailbox ≡ replicate desks None)
+            × (q.called ≡ replicate desks false)) }
+        ensures ends { IfOk result (λ q. (q.first ≡ replicate desks None)
+            × (q.last ≡ replicate desks None)) }
+        ensures queues { IfOk result (λ q. (m : ℕ) → queue_of q m ≡ []) }
     {
         Ok(WaitQueues {
             first: vec![in alloc; None; desks]?,
@@ -43,30 +68,37 @@ impl WaitQueues {
     /// A desk begins to wait for room in a mailbox, behind all who do, and for no other. Where it waits there already it
     /// keeps its place.
     pub fn join(&mut self, mailbox: u32, desk: u32)
-        ensures waits { desk < length self.old.mailbox.items →
-            linked_at self.new.mailbox.items desk ≡ Some mailbox }
+        ensures waits { desk < length self.old.mailbox →
+            linked_at self.new.mailbox desk ≡ Some mailbox }
         ensures others { (d : ℕ) → d ≢ desk →
-            linked_at self.new.mailbox.items d ≡ linked_at self.old.mailbox.items d }
-        ensures place { linked_at self.old.mailbox.items desk ≡ Some mailbox →
-            self.new ≡ self.old }
-        ensures last { desk < length self.old.mailbox.items →
-            linked_at self.old.mailbox.items desk ≢ Some mailbox →
-            mailbox < length self.old.last.items →
-            linked_at self.new.last.items mailbox ≡ Some desk }
+            linked_at self.new.mailbox d ≡ linked_at self.old.mailbox d }
+        ensures place { linked_at self.old.mailbox desk ≡ Some mailbox → self.new ≡ self.old }
+        ensures last { desk < length self.old.mailbox →
+            linked_at self.old.mailbox desk ≢ Some mailbox →
+            mailbox < length self.old.last →
+            linked_at self.new.last mailbox ≡ Some desk }
+        ensures behind_all { desk < length self.old.mailbox →
+            linked_at self.old.mailbox desk ≢ Some mailbox →
+            mailbox < length self.old.last →
+            queue_of self.new mailbox ≡ queue_of self.old mailbox ++ desk ∷ [] }
+        ensures elsewhere { (m : ℕ) → desk < length self.old.mailbox → m ≢ mailbox →
+            queue_of self.new m ≡ without desk (queue_of self.old m) }
         ensures called { self.new.called ≡ self.old.called }
     {
-        if desk as usize >= self.mailbox.len() || self.waits_for(desk, mailbox) {
+        if desk as usize >= self.mailbox.len() {
+            return;
+        }
+        if self.waits_for(desk, mailbox) {
             return;
         }
         self.leave(desk);
-        let last = linked(&self.last, mailbox);
-        self.join_behind(last, mailbox, desk);
+        self.join_behind(mailbox, desk);
     }
 
     // Whether a desk waits for room in this mailbox.
     fn waits_for(&self, desk: u32, mailbox: u32) -> bool
-        ensures yes { result ≡ true → linked_at self.now.mailbox.items desk ≡ Some mailbox }
-        ensures no { result ≡ false → linked_at self.now.mailbox.items desk ≢ Some mailbox }
+        ensures yes { result ≡ true → linked_at self.now.mailbox desk ≡ Some mailbox }
+        ensures no { result ≡ false → linked_at self.now.mailbox desk ≢ Some mailbox }
     {
         match linked(&self.mailbox, desk) {
             Some(waits) => waits == mailbox,
@@ -74,15 +106,23 @@ impl WaitQueues {
         }
     }
 
-    // A desk that waits for none begins to wait behind this one.
-    fn join_behind(&mut self, before: Option<u32>, mailbox: u32, desk: u32)
-        requires within { desk < length self.old.mailbox.items }
-        requires waits_not { linked_at self.old.mailbox.items desk ≡ None }
-        ensures waits { self.new.mailbox.items ≡ slice_set self.old.mailbox.items desk (Some mailbox) }
-        ensures last { self.new.last.items ≡ slice_set self.old.last.items mailbox (Some desk) }
-        ensures called { self.new.called ≡ self.old.called }
+    // A desk that waits for none begins to wait, behind all who do.
+    fn join_behind(&mut self, mailbox: u32, desk: u32)
+        requires within { desk < length self.old.mailbox }
+        requires waits_not { linked_at self.old.mailbox desk ≡ None }
+        ensures rows { self.new ≡ joined_rows self.old mailbox desk }
+        ensures behind_all { mailbox < length self.old.last →
+            queue_of self.new mailbox ≡ queue_of self.old mailbox ++ desk ∷ [] }
+        ensures elsewhere { (m : ℕ) → m ≢ mailbox → queue_of self.new m ≡ queue_of self.old m }
     {
-        self.put_behind(before, mailbox, Some(desk));
+        let before = linked(&self.last, mailbox);
+        relink(
+            &mut self.behind,
+            &mut self.first,
+            before,
+            mailbox,
+            Some(desk),
+        );
         link(&mut self.last, mailbox, Some(desk));
         link(&mut self.before, desk, before);
         link(&mut self.behind, desk, None);
@@ -90,46 +130,15 @@ impl WaitQueues {
         self.count += 1;
     }
 
-    // Behind this desk, or first where it is none, stands that one now.
-    fn put_behind(&mut self, before: Option<u32>, mailbox: u32, desk: Option<u32>)
-        ensures behind { MatchOption before (self.new.behind.items ≡ self.old.behind.items)
-            (λ other. self.new.behind.items ≡ slice_set self.old.behind.items other desk) }
-        ensures first { MatchOption before (self.new.first.items ≡ slice_set self.old.first.items mailbox desk)
-            (λ _. self.new.first.items ≡ self.old.first.items) }
-        ensures rest { (self.new.mailbox ≡ self.old.mailbox) × (self.new.last ≡ self.old.last)
-            × (self.new.before ≡ self.old.before) × (self.new.called ≡ self.old.called)
-            × (self.new.count ≡ self.old.count) }
-    {
-        match before {
-            Some(other) => link(&mut self.behind, other, desk),
-            None => link(&mut self.first, mailbox, desk),
-        }
-    }
-
-    // Before this desk, or last where it is none, stands that one now.
-    fn put_before(&mut self, behind: Option<u32>, mailbox: u32, desk: Option<u32>)
-        ensures before { MatchOption behind (self.new.before.items ≡ self.old.before.items)
-            (λ other. self.new.before.items ≡ slice_set self.old.before.items other desk) }
-        ensures last { MatchOption behind (self.new.last.items ≡ slice_set self.old.last.items mailbox desk)
-            (λ _. self.new.last.items ≡ self.old.last.items) }
-        ensures rest { (self.new.mailbox ≡ self.old.mailbox) × (self.new.first ≡ self.old.first)
-            × (self.new.behind ≡ self.old.behind) × (self.new.called ≡ self.old.called)
-            × (self.new.count ≡ self.old.count) }
-    {
-        match behind {
-            Some(other) => link(&mut self.before, other, desk),
-            None => link(&mut self.last, mailbox, desk),
-        }
-    }
-
     /// A desk waits no more, if it does.
     #[inline(always)]
     pub fn leave(&mut self, desk: u32)
-        ensures waits_not { linked_at self.new.mailbox.items desk ≡ None }
+        ensures waits_not { linked_at self.new.mailbox desk ≡ None }
         ensures others { (d : ℕ) → d ≢ desk →
-            linked_at self.new.mailbox.items d ≡ linked_at self.old.mailbox.items d }
-        ensures desks { (length self.new.mailbox.items ≡ length self.old.mailbox.items)
-            × (length self.new.last.items ≡ length self.old.last.items) }
+            linked_at self.new.mailbox d ≡ linked_at self.old.mailbox d }
+        ensures desks { (length self.new.mailbox ≡ length self.old.mailbox)
+            × (length self.new.last ≡ length self.old.last) }
+        ensures queues { (m : ℕ) → queue_of self.new m ≡ without desk (queue_of self.old m) }
         ensures called { self.new.called ≡ self.old.called }
     {
         if self.count > 0 {
@@ -139,20 +148,30 @@ impl WaitQueues {
 
     #[cold]
     fn leave_queue(&mut self, desk: u32)
-        ensures waits_not { linked_at self.new.mailbox.items desk ≡ None }
+        ensures waits_not { linked_at self.new.mailbox desk ≡ None }
         ensures others { (d : ℕ) → d ≢ desk →
-            linked_at self.new.mailbox.items d ≡ linked_at self.old.mailbox.items d }
-        ensures desks { (length self.new.mailbox.items ≡ length self.old.mailbox.items)
-            × (length self.new.last.items ≡ length self.old.last.items) }
+            linked_at self.new.mailbox d ≡ linked_at self.old.mailbox d }
+        ensures desks { (length self.new.mailbox ≡ length self.old.mailbox)
+            × (length self.new.last ≡ length self.old.last) }
+        ensures queues { (m : ℕ) → queue_of self.new m ≡ without desk (queue_of self.old m) }
         ensures called { self.new.called ≡ self.old.called }
     {
         let Some(mailbox) = linked(&self.mailbox, desk) else {
             return;
         };
+        self.unlink(mailbox, desk);
+    }
+
+    // A desk that waits for room in this mailbox waits no more: who waits before it and who waits behind it are linked.
+    fn unlink(&mut self, mailbox: u32, desk: u32)
+        requires waits { linked_at self.old.mailbox desk ≡ Some mailbox }
+        ensures rows { self.new ≡ left_rows self.old mailbox desk }
+        ensures queues { (m : ℕ) → queue_of self.new m ≡ without desk (queue_of self.old m) }
+    {
         let before = linked(&self.before, desk);
         let behind = linked(&self.behind, desk);
-        self.put_behind(before, mailbox, behind);
-        self.put_before(behind, mailbox, before);
+        relink(&mut self.behind, &mut self.first, before, mailbox, behind);
+        relink(&mut self.before, &mut self.last, behind, mailbox, before);
         link(&mut self.mailbox, desk, None);
         self.count -= 1;
     }
@@ -160,11 +179,13 @@ impl WaitQueues {
     /// The desk that stands first for room in a mailbox is called, and waits no more.
     #[inline(always)]
     pub fn call_first(&mut self, mailbox: u32) -> Option<u32>
-        ensures first { self.old.count ≢ 0 → result ≡ linked_at self.old.first.items mailbox }
+        ensures first { result ≡ linked_at self.old.first mailbox }
         ensures called { ForSome result (λ desk.
-            self.new.called.items ≡ slice_set self.old.called.items desk true) }
-        ensures waits_not { ForSome result (λ desk.
-            linked_at self.new.mailbox.items desk ≡ None) }
+            self.new.called ≡ slice_set self.old.called desk true) }
+        ensures waits_not { ForSome result (λ desk. linked_at self.new.mailbox desk ≡ None) }
+        ensures queue { MatchOption result (queue_of self.old mailbox ≡ [])
+            (λ desk. queue_of self.old mailbox ≡ desk ∷ queue_of self.new mailbox) }
+        ensures elsewhere { (m : ℕ) → m ≢ mailbox → queue_of self.new m ≡ queue_of self.old m }
         ensures none { result ≡ None → self.new ≡ self.old }
     {
         if self.count == 0 {
@@ -175,31 +196,42 @@ impl WaitQueues {
 
     #[cold]
     fn call_waiting(&mut self, mailbox: u32) -> Option<u32>
-        ensures first { result ≡ linked_at self.old.first.items mailbox }
+        ensures first { result ≡ linked_at self.old.first mailbox }
         ensures called { ForSome result (λ desk.
-            self.new.called.items ≡ slice_set self.old.called.items desk true) }
-        ensures waits_not { ForSome result (λ desk.
-            linked_at self.new.mailbox.items desk ≡ None) }
+            self.new.called ≡ slice_set self.old.called desk true) }
+        ensures waits_not { ForSome result (λ desk. linked_at self.new.mailbox desk ≡ None) }
+        ensures queue { MatchOption result (queue_of self.old mailbox ≡ [])
+            (λ desk. queue_of self.old mailbox ≡ desk ∷ queue_of self.new mailbox) }
+        ensures elsewhere { (m : ℕ) → m ≢ mailbox → queue_of self.new m ≡ queue_of self.old m }
         ensures none { result ≡ None → self.new ≡ self.old }
     {
         let Some(desk) = linked(&self.first, mailbox) else {
             return None;
         };
         self.leave(desk);
-        mark(&mut self.called, desk, true);
+        self.mark_called(desk, true);
         Some(desk)
+    }
+
+    // Notes whether a desk was called.
+    #[inline(always)]
+    fn mark_called(&mut self, desk: u32, called: bool)
+        ensures { self.new ≡ record self.old { called = slice_set self.old.called desk called } }
+    {
+        mark(&mut self.called, desk, called);
     }
 
     /// A desk comes into a worker's hands, and waits no more. Whether it was called since it came last.
     #[inline(always)]
     pub fn comes(&mut self, desk: u32) -> bool
-        ensures called { result ≡ was_called self.old.called.items desk }
-        ensures once { self.new.called.items ≡ slice_set self.old.called.items desk false }
-        ensures waits_not { linked_at self.new.mailbox.items desk ≡ None }
+        ensures called { result ≡ was_called self.old.called desk }
+        ensures once { self.new.called ≡ slice_set self.old.called desk false }
+        ensures waits_not { linked_at self.new.mailbox desk ≡ None }
+        ensures queues { (m : ℕ) → queue_of self.new m ≡ without desk (queue_of self.old m) }
     {
         self.leave(desk);
         let was_called = matches!(self.called.get(desk as usize), Some(true));
-        mark(&mut self.called, desk, false);
+        self.mark_called(desk, false);
         was_called
     }
 }
@@ -220,6 +252,24 @@ fn link(row: &mut Vec<Option<u32>>, at: u32, to: Option<u32>)
 {
     if (at as usize) < row.len() {
         row[at as usize] = to;
+    }
+}
+
+// The link of the desk at `at` leads to that one now. Where there is no such desk, the mailbox's end does.
+#[inline(always)]
+fn relink(
+    links: &mut Vec<Option<u32>>,
+    ends: &mut Vec<Option<u32>>,
+    at: Option<u32>,
+    mailbox: u32,
+    to: Option<u32>,
+)
+    ensures links { links.new.items ≡ linked_to links.old.items at to }
+    ensures ends { ends.new.items ≡ ended_at ends.old.items at mailbox to }
+{
+    match at {
+        Some(other) => link(links, other, to),
+        None => link(ends, mailbox, to),
     }
 }
 

@@ -6,7 +6,7 @@ use Rattle.std.proofs.lemmas.List.{length-append, length-take, take_more, take_a
 use Rattle.std.proofs.lemmas.List.Folds.{list_any-append}
 use Rattle.match_model.specs.declared.limits.TheConstants.{MAX_PROGRAMMES, MAX_RESIDENTS, MAX_QUOTA}
 use Rattle.match_model.specs.declared.fault.ModelFault.TheVariants as model
-use Rattle.docket.specs.Words.{number_of}
+use Rattle.docket_names.specs.Words.{number_of}
 use Rattle.docket.specs.Fields.{Fields, field, kind_of, is_kind, row_fault}
 use Rattle.docket.specs.Rows.{row_at}
 use Rattle.docket.specs.Contents.{names_of, programmes_of, residents_of, workers_in}

@@ -12,22 +12,24 @@ use Rattle.match_model.specs.Draft.{Draft, AnswersFirst, programme_fault, reside
 use Rattle.match_model.specs.declared.limits.TheConstants.{MAX_PROGRAMMES, MAX_RESIDENTS, MAX_QUOTA}
 use Rattle.match_model.specs.declared.fault.ModelFault.{ModelFault}
 use Rattle.match_model.specs.declared.fault.ModelFault.TheVariants as model
-use Rattle.docket.specs.Words.{number_of, capacity_of, workers_of, worker_of}
+use Rattle.docket.specs.Words.{capacity_of, workers_of, worker_of}
+use Rattle.docket_names.specs.Words.{number_of}
 use Rattle.docket.specs.Fields.{Fields, field, kind_of, is_kind, is_row_of, unless, version_kind, withdrawal_kind, width_of, worker_at}
-use Rattle.docket.specs.Contents.{rows_of, names_of, programmes_of, residents_of, quotas_of, is_sheet_row, is_declared, workers_in, worker_in, who_of}
+use Rattle.docket.specs.Contents.{rows_of, names_of, programmes_of, residents_of, quotas_of, is_sheet_row, workers_in, worker_in, who_of}
+use Rattle.docket_names.specs.Texts.{is_declared, AreNames, StartsWith, AreNoted}
 use Rattle.docket.specs.Passes.{repeat_fault, limit_fault, next_place, is_version_2}
 use Rattle.docket.specs.Answers.{Refuses, at_record}
 use Rattle.docket.specs.Declarations.{IsDeclared, capacity_in, names_withdrawn, AreByWorker, who_if}
 use Rattle.docket.specs.Rows.{IsEventOf}
-use Rattle.docket.specs.FlatRows.{AreNames, StartsWith}
 use Rattle.docket.specs.Whole.{AreWorkers}
 use Rattle.docket.specs.declared.store.declarations.Declarations.{Declarations}
 use Rattle.docket.specs.declared.vocabulary.TheConstants.{QUOTA, PROGRAMME_LIST, RESIDENT_LIST, MATCHED, UNMATCHED, FILLED, CAPACITY, EVENT}
 use Rattle.docket.specs.declared.fault.DocketFault.{DocketFault}
 use Rattle.docket.specs.declared.fault.DocketFault.TheVariants.{DeclaredTwice, Model, BadEvent}
 use Rattle.docket.specs.declared.vocabulary.EventWord.{EventWord}
-use Rattle.docket.proofs.NameFacts.{is_declared-map}
-use Rattle.docket.proofs.TextFacts.{names_grown}
+use Rattle.docket_names.proofs.NameFacts.{is_declared-map}
+use Rattle.docket_names.proofs.TextFacts.{names_grown}
+use Rattle.docket_names.proofs.MemberFacts.{noted_grown}
 use Rattle.docket.proofs.WithdrawalFacts.{names_withdrawn-if, is_version_2-other}
 use Rattle.docket.proofs.RowsFacts.{event_kind_is, event_word_is}
 use Rattle.docket.proofs.WordFacts.{workers_within, worker_within}
@@ -226,14 +228,14 @@ declared_grown d texts more rows s h = record {
   resident_lists = h.resident_lists;
   programmes = names_grown texts more d.programmes (programmes_of rows) s h.programmes;
   residents = names_grown texts more d.residents (residents_of rows) s h.residents;
-  ranked = names_grown texts more d.ranked (names_of PROGRAMME_LIST rows) s h.ranked;
+  ranked = noted_grown texts more d.ranked (names_of PROGRAMME_LIST rows) s h.ranked;
   capacity = h.capacity;
   no_events = h.no_events;
   by_worker = h.by_worker;
   sheet_rows = h.sheet_rows;
   version = h.version;
-  withdrawn_programmes = names_grown texts more d.withdrawn_programmes (names_withdrawn (codes "P") rows) s h.withdrawn_programmes;
-  withdrawn_residents = names_grown texts more d.withdrawn_residents (names_withdrawn (codes "R") rows) s h.withdrawn_residents;
+  withdrawn_programmes = noted_grown texts more d.withdrawn_programmes (names_withdrawn (codes "P") rows) s h.withdrawn_programmes;
+  withdrawn_residents = noted_grown texts more d.withdrawn_residents (names_withdrawn (codes "R") rows) s h.withdrawn_residents;
   no_programme_gone = h.no_programme_gone;
   no_resident_gone = h.no_resident_gone;
 }
@@ -245,13 +247,13 @@ pub declared_push : (d e : Declarations) (texts : List (List ℕ)) (rows : List 
     → e.builder.resident_lists ≡ (if k == RESIDENT_LIST then d.builder.resident_lists ++ None ∷ [] else d.builder.resident_lists)
     → AreNames texts e.programmes (if k == QUOTA then programmes_of rows ++ field row 1 ∷ [] else programmes_of rows)
     → AreNames texts e.residents (if k == RESIDENT_LIST then residents_of rows ++ field row 1 ∷ [] else residents_of rows)
-    → AreNames texts e.ranked (if k == PROGRAMME_LIST then names_of PROGRAMME_LIST rows ++ field row 1 ∷ [] else names_of PROGRAMME_LIST rows)
+    → AreNoted texts e.ranked (if k == PROGRAMME_LIST then names_of PROGRAMME_LIST rows ++ field row 1 ∷ [] else names_of PROGRAMME_LIST rows)
     → e.capacity ≡ option_or d.capacity (if k == CAPACITY then Some (unwrap_or (capacity_of (field row 1)) Full) else None)
     → ((k == EVENT) ≡ true → is_some d.capacity ≡ true)
     → e.has_sheet_row ≡ (if (k == MATCHED) || (k == UNMATCHED) || (k == FILLED) then true else d.has_sheet_row)
     → e.is_version_2 ≡ (if k == version_kind then is_version_2 (rows ++ row ∷ []) else d.is_version_2)
-    → AreNames texts e.withdrawn_programmes (if k == withdrawal_kind then names_withdrawn (codes "P") (rows ++ row ∷ []) else names_withdrawn (codes "P") rows)
-    → AreNames texts e.withdrawn_residents (if k == withdrawal_kind then names_withdrawn (codes "R") (rows ++ row ∷ []) else names_withdrawn (codes "R") rows)
+    → AreNoted texts e.withdrawn_programmes (if k == withdrawal_kind then names_withdrawn (codes "P") (rows ++ row ∷ []) else names_withdrawn (codes "P") rows)
+    → AreNoted texts e.withdrawn_residents (if k == withdrawal_kind then names_withdrawn (codes "R") (rows ++ row ∷ []) else names_withdrawn (codes "R") rows)
     → e.builder.programmes_withdrawn ≡ (if k == QUOTA then d.builder.programmes_withdrawn ++ false ∷ [] else d.builder.programmes_withdrawn)
     → e.builder.residents_withdrawn ≡ (if k == RESIDENT_LIST then d.builder.residents_withdrawn ++ false ∷ [] else d.builder.residents_withdrawn)
     → AreByWorker e.workers e.who.items (rows ++ row ∷ [])
@@ -279,11 +281,11 @@ declared_push d e texts rows row k kind h q pl rl p r ra c ev sh ve wp wr pg rg 
     same_version true is v = v
     same_version false is v = v ∙ h.version ∙ sym (is_version_2-other rows row is)
 
-    withdrawn : (side numbers : List ℕ) (b : Bool) → is_kind withdrawal_kind row ≡ b
-        → AreNames texts numbers (if b then names_withdrawn side (rows ++ row ∷ []) else names_withdrawn side rows)
-        → AreNames texts numbers (names_withdrawn side (rows ++ row ∷ []))
-    withdrawn side numbers true is w = w
-    withdrawn side numbers false is w = rw (names_withdrawn-if side rows row, is) w
+    withdrawn : (side : List ℕ) (noted : List Bool) (b : Bool) → is_kind withdrawal_kind row ≡ b
+        → AreNoted texts noted (if b then names_withdrawn side (rows ++ row ∷ []) else names_withdrawn side rows)
+        → AreNoted texts noted (names_withdrawn side (rows ++ row ∷ []))
+    withdrawn side noted true is w = w
+    withdrawn side noted false is w = rw (names_withdrawn-if side rows row, is) w
 
     no_event : (b : Bool) (o more : Option Capacity) → (b ≡ true → is_some o ≡ true) → (o ≡ None → list_any (is_kind EVENT) rows ≡ false)
         → option_or o more ≡ None → (if b then true else list_any (is_kind EVENT) rows) ≡ false

@@ -29,7 +29,7 @@ use Rattle.docket.proofs.DeclarationFacts.{refuses_first, refuses_second, no_fau
 use Rattle.docket.proofs.RankingFacts.{lists_of-none}
 use Rattle.docket.proofs.WithdrawalFacts.{withdrawn_of-none}
 use Rattle.docket.proofs.SoundFacts.{both_none}
-use Rattle.docket.proofs.TextFacts.{names_length}
+use Rattle.docket_names.proofs.TextFacts.{names_length}
 
 -- a list with an item isn't empty
 not_empty : {A : Type 0} (x : A) (xs : List A) → nat_eq (length (x ∷ xs)) 0 ≡ false

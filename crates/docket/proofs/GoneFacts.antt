@@ -7,7 +7,8 @@ use Rattle.std.proofs.lemmas.List.{length-map, take_more}
 use Rattle.std.proofs.lemmas.List.Folds.{list_any-append}
 use Rattle.docket.specs.Fields.{Fields, field, kind_of, is_row_of, unless, withdrawal_kind, withdrawal_row_fault}
 use Rattle.docket.specs.Rows.{row_at}
-use Rattle.docket.specs.Contents.{number_in, programmes_of, residents_of, is_withdrawal_of, withdrawn_of, lists_of}
+use Rattle.docket.specs.Contents.{programmes_of, residents_of, is_withdrawal_of, withdrawn_of, lists_of}
+use Rattle.docket_names.specs.Texts.{number_in}
 use Rattle.docket.specs.Passes.{first_from, reading_fault, repeat_fault, is_version_2, ranking_fault, names_on, next_place}
 use Rattle.docket.specs.Ranking.{IsRanked}
 use Rattle.match_model.specs.Draft.{Draft, with_programme_withdrawn, with_resident_withdrawn}
@@ -15,7 +16,8 @@ use Rattle.match_model.specs.Draft as model
 use Rattle.match_model.specs.Fault.{AnswersExactly}
 use Rattle.docket.specs.declared.vocabulary.TheConstants.{PROGRAMME_LIST, RESIDENT_LIST, MAX_RECORDS}
 use Rattle.docket.specs.declared.fault.DocketFault.TheVariants.{UnknownKind, UnknownName, DeclaredTwice}
-use Rattle.docket.proofs.NumberFacts.{distinct, number_below, at_number, map_at, bytes_eq-same}
+use Rattle.docket.proofs.NumberFacts.{distinct, number_below, at_number, map_at}
+use Rattle.docket_names.proofs.NameFacts.{bytes_eq-same}
 use Rattle.docket.proofs.SoundFacts.{both_none, unless_none}
 use Rattle.docket.proofs.RankingFacts.{sound_row, off, bytes_eq-swap, lists_of-other, distinct_programmes, distinct_residents}
 use Rattle.docket.proofs.WithdrawalFacts.{withdrawn_of-other}

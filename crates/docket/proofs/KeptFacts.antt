@@ -4,7 +4,7 @@ use Rattle.std.specs.Prelude.{◌&&◌, ◌||◌, ◌==◌, ◌+◌, if◌then�
 use Rattle.std.specs.List.{list_any}
 use Rattle.std.proofs.lemmas.List.{get_or-take, get_or-drop}
 use Rattle.csv.specs.Records.{field_at}
-use Rattle.docket.specs.Words.{number_of}
+use Rattle.docket_names.specs.Words.{number_of}
 use Rattle.docket.specs.Fields.{Fields, field, kind_of, is_kind, is_row_of, version_kind, withdrawal_kind, width_of}
 use Rattle.docket.specs.Contents.{names_of, programmes_of, residents_of, quotas_of, is_sheet_row, is_withdrawal_of, workers_in, worker_in, word_in, who_of}
 use Rattle.docket.specs.Passes.{reading_fault, repeat_fault, limit_fault, is_version_2}

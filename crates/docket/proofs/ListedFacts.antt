@@ -8,7 +8,8 @@ use Rattle.std.proofs.lemmas.List.Sums.{sum_by-append}
 use Rattle.std.proofs.lemmas.List.Folds.{list_any-append}
 use Rattle.std.proofs.lemmas.Map.Keys.{IsDistinct-head, IsDistinct-tail}
 use Rattle.docket.specs.Fields.{Fields, field, kind_of, is_row_of, unless}
-use Rattle.docket.specs.Contents.{programmes_of, residents_of, is_declared}
+use Rattle.docket.specs.Contents.{programmes_of, residents_of}
+use Rattle.docket_names.specs.Texts.{is_declared}
 use Rattle.docket.specs.Passes.{first_from, ranking_fault, unknown_fault, next_place}
 use Rattle.docket.specs.Kept.{is_list_row, is_among, lists_text, is_listed, IsFront}
 use Rattle.docket.specs.declared.vocabulary.TheConstants.{PROGRAMME_LIST, RESIDENT_LIST}
@@ -16,8 +17,7 @@ use Rattle.docket.specs.declared.fault.DocketFault.TheVariants.{UnknownName}
 use Rattle.docket.proofs.DeclarationFacts.{is_declared-rows}
 use Rattle.docket.proofs.FieldFacts.{field-get_or}
 use Rattle.docket.proofs.KeptFacts.{list_kind, or_left, or_right}
-use Rattle.docket.proofs.NameFacts.{is_declared-any}
-use Rattle.docket.proofs.NumberFacts.{same_bytes, bytes_eq-same}
+use Rattle.docket_names.proofs.NameFacts.{is_declared-any, same_bytes, bytes_eq-same}
 use Rattle.docket.proofs.RankingFacts.{bytes_eq-swap}
 use Rattle.docket.proofs.RowsFacts.{lone_is}
 use Rattle.docket.proofs.SoundFacts.{both_none, unless_none}

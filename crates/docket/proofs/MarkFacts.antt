@@ -6,8 +6,9 @@ use Rattle.std.proofs.lemmas.List.{take_more, length-map}
 use Rattle.std.proofs.lemmas.List.Sums.{count_by-le-length, sum_by-append}
 use Rattle.docket.specs.Fields.{Fields, field, kind_of, is_kind, is_row_of, unless}
 use Rattle.docket.specs.Rows.{row_at}
-use Rattle.docket.specs.Contents.{number_in, programmes_of, residents_of, is_mark_of, is_matched_with, placement_of, quotas_of}
-use Rattle.docket.specs.Words.{number_of}
+use Rattle.docket.specs.Contents.{programmes_of, residents_of, is_mark_of, is_matched_with, placement_of, quotas_of}
+use Rattle.docket_names.specs.Texts.{number_in}
+use Rattle.docket_names.specs.Words.{number_of}
 use Rattle.docket.specs.Marks.{IsMarked, placed_in}
 use Rattle.docket.specs.Passes.{first_from, reading_fault, mark_fault, missing_fault, filled_fault, next_place}
 use Rattle.docket.specs.Answers.{Refuses}
@@ -16,7 +17,8 @@ use Rattle.docket.specs.declared.vocabulary.TheConstants.{MATCHED, UNMATCHED, FI
 use Rattle.docket.specs.declared.fault.DocketFault.{DocketFault}
 use Rattle.docket.specs.declared.fault.DocketFault.TheVariants.{UnknownName, BadSheet}
 use Rattle.docket.proofs.DeclarationFacts.{list_any-if, option_or-none}
-use Rattle.docket.proofs.NumberFacts.{distinct, number_below, at_number, map_at, bytes_eq-same}
+use Rattle.docket.proofs.NumberFacts.{distinct, number_below, at_number, map_at}
+use Rattle.docket_names.proofs.NameFacts.{bytes_eq-same}
 use Rattle.docket.proofs.RankingFacts.{clean_at, bytes_eq-swap, map-same, find_none, find-push, distinct_programmes, distinct_residents}
 
 -- by name whether some row passes that name's test, with a row more that passes one name's

@@ -3,16 +3,17 @@ use Rattle.std.proofs.Common.{◌≡◌, ◌≤◌, ◌<◌, ◌+◌, ◌-◌, �
 use Rattle.std.specs.Prelude.{bytes_eq, ◌&&◌, not, if◌then◌else◌, option_map, slice_set}
 use Rattle.std.specs.List.{list_any, position_from}
 use Rattle.std.proofs.lemmas.Iterator.Adapters.{position_from-zero}
-use Rattle.std.proofs.lemmas.Slice.Eq.{bytes_eq-Decides}
 use Rattle.std.specs.List.{list_all}
 use Rattle.std.proofs.lemmas.List.{take_more, length-drop, take_all, map-append, get_or-drop}
 use Rattle.std.proofs.lemmas.List.Folds.{list_all_more, list_all_at}
 use Rattle.std.proofs.lemmas.Bool.{and_parts, or_parts}
 use Rattle.docket.specs.Fields.{Fields, field, is_kind, unless}
-use Rattle.docket.specs.Contents.{number_in, is_declared, member_in, listed_in, names_of, rows_of, programmes_of, residents_of}
+use Rattle.docket.specs.Contents.{member_in, listed_in, names_of, rows_of, programmes_of, residents_of}
+use Rattle.docket_names.specs.Texts.{number_in, is_declared}
 use Rattle.docket.specs.declared.vocabulary.TheConstants.{QUOTA, RESIDENT_LIST}
 use Rattle.docket.specs.declared.fault.DocketFault.{DocketFault}
 use Rattle.docket.proofs.FieldFacts.{field-get_or}
+use Rattle.docket_names.proofs.NameFacts.{same_bytes}
 
 position_from-suc : {A : Type 0} (p : A → Bool) (n : ℕ) (xs : List A) → position_from p (n + 1) xs ≡ option_map suc (position_from p n xs)
 position_from-suc p n [] = refl
@@ -30,13 +31,6 @@ unfolding number_in
 number_in-cons x xs name =
     position_from-zero (bytes_eq name) (x ∷ xs)
     ∙ ap (λ o. if bytes_eq name x then Some 0 else o) (position_from-suc (bytes_eq name) 0 xs ∙ ap (option_map suc) (sym (position_from-zero (bytes_eq name) xs)))
-
--- bytes that are equal, and that aren't
-pub same_bytes : (xs ys : List ℕ) → bytes_eq xs ys ≡ true → xs ≡ ys
-same_bytes xs ys e = (bytes_eq-Decides xs ys).0 e
-
-pub bytes_eq-same : (xs : List ℕ) → bytes_eq xs xs ≡ true
-bytes_eq-same xs = (bytes_eq-Decides xs xs).1 refl
 
 -- what holds of a name that has a number, by the first name and the others
 number_cases : {P : Type 0} (x : List ℕ) (xs : List (List ℕ)) (name : List ℕ) (i : ℕ) → number_in (x ∷ xs) name ≡ Some i

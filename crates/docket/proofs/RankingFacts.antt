@@ -11,8 +11,9 @@ use Rattle.match_model.specs.declared.fault.ModelFault.TheVariants as model
 use Rattle.std.proofs.lemmas.Bool.{and_from, and_parts, or_parts}
 use Rattle.docket.specs.Fields.{Fields, field, kind_of, is_kind, is_row_of, unless, row_fault, withdrawal_kind}
 use Rattle.docket.specs.Rows.{row_at}
-use Rattle.docket.specs.Contents.{number_in, is_declared, member_in, listed_in, names_of, rows_of, quotas_of, programmes_of, residents_of, lists_of, withdrawn_of, draft_of, workers_in}
-use Rattle.docket.specs.Words.{number_of}
+use Rattle.docket.specs.Contents.{member_in, listed_in, names_of, rows_of, quotas_of, programmes_of, residents_of, lists_of, withdrawn_of, draft_of, workers_in}
+use Rattle.docket_names.specs.Texts.{number_in, is_declared}
+use Rattle.docket_names.specs.Words.{number_of}
 use Rattle.docket.specs.Ranking.{IsRanked}
 use Rattle.docket.specs.Passes.{first_from, reading_fault, repeat_fault, limit_fault, next_place, listing_fault, ranking_fault, pairs_fault}
 use Rattle.match_model.specs.Instance.{pair_count}
@@ -24,9 +25,9 @@ use Rattle.docket.specs.declared.fault.DocketFault.TheVariants.{DeclaredTwice, U
 use Rattle.docket.proofs.PassFacts.{first_from-append, reading_fault-few}
 use Rattle.docket.proofs.SoundFacts.{both_none, unless_none}
 use Rattle.docket.proofs.DeclarationFacts.{option_or-none, names_of-if, is_declared-rows}
-use Rattle.docket.proofs.NameFacts.{is_declared-any}
+use Rattle.docket_names.proofs.NameFacts.{is_declared-any, same_bytes, bytes_eq-same}
 use Rattle.docket.proofs.WithdrawalFacts.{withdrawn_of-other}
-use Rattle.docket.proofs.NumberFacts.{distinct, number_below, at_number, map_at, same_bytes, bytes_eq-same}
+use Rattle.docket.proofs.NumberFacts.{distinct, number_below, at_number, map_at}
 
 pub off : (b : Bool) → not b ≡ true → b ≡ false
 off true h = cc h

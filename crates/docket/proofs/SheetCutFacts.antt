@@ -8,7 +8,8 @@ use Rattle.std.proofs.lemmas.List.{length-map}
 use Rattle.std.proofs.lemmas.List.Folds.{list_any-append}
 use Rattle.std.proofs.lemmas.List.Sums.{length-filter}
 use Rattle.docket.specs.Fields.{Fields, field, kind_of, is_kind, is_row_of, unless}
-use Rattle.docket.specs.Contents.{programmes_of, residents_of, is_declared, is_sheet_row, is_mark_of, has_sheet}
+use Rattle.docket.specs.Contents.{programmes_of, residents_of, is_sheet_row, is_mark_of, has_sheet}
+use Rattle.docket_names.specs.Texts.{is_declared}
 use Rattle.docket.specs.Passes.{first_from, ranking_fault, pairs_fault, mark_fault, sheet_fault, event_fault, later_fault, next_place}
 use Rattle.docket.specs.Kept.{is_among, IsBlank, AreAlike, AreManyMarks, AreCut, AreCutFrom}
 use Rattle.docket.specs.declared.store.rows.TheConstants.{MOST_MEMBERS}
@@ -19,7 +20,7 @@ use Rattle.docket.proofs.CutFacts.{AreFew, IsAsGood, first_same, none_later}
 use Rattle.docket.proofs.KeptFacts.{or_left, or_right, blank_seen, blank_quiet, alike_programmes, alike_residents}
 use Rattle.docket.proofs.KeepFacts.{cut_alike}
 use Rattle.docket.proofs.ListedFacts.{few_among, count_all, count_split}
-use Rattle.docket.proofs.NameFacts.{is_declared-any}
+use Rattle.docket_names.proofs.NameFacts.{is_declared-any}
 use Rattle.docket.proofs.PassFacts.{first_from-append}
 use Rattle.docket.proofs.QuietFacts.{alike_ranking, alike_pairs}
 use Rattle.docket.proofs.RankingFacts.{bytes_eq-swap}

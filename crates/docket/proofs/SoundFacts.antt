@@ -2,7 +2,8 @@
 use Rattle.std.proofs.Common.{◌≡◌, ◌<◌, ℕ, List, [], ◌∷◌, ◌++◌, Bool, true, false, length, drop, arith, refl, Option, Some, None, inl, inr, rules}
 use Rattle.std.specs.Prelude.{◌==◌, ◌⊎◌, ◌&&◌, ◌||◌, is_some, nat_lt, unwrap_or, IsSome}
 use Rattle.std.specs.List.{list_all}
-use Rattle.docket.specs.Words.{is_name, is_number, answer_of}
+use Rattle.docket.specs.Words.{answer_of}
+use Rattle.docket_names.specs.Words.{is_name, is_number}
 use Rattle.std.specs.Option.{option_or}
 use Rattle.docket.specs.Fields.{Fields, field, kind_of, is_kind, unless, counted, row_fault, list_row_fault, lists_names, filled_row_fault, event_row_fault, worded_row_fault, event_names_fault, answer_fault, event_word, version_kind, withdrawal_kind, event_width, worker_at}
 use Rattle.docket.specs.declared.vocabulary.TheConstants.{QUOTA, PROGRAMME_LIST, RESIDENT_LIST, MATCHED, UNMATCHED, FILLED, CAPACITY, EVENT}
@@ -15,7 +16,7 @@ use Rattle.docket.specs.Passes.{repeat_fault, limit_fault}
 use Rattle.docket.specs.Declarations.{IsDeclared}
 use Rattle.docket.specs.declared.store.declarations.Declarations.{Declarations}
 use Rattle.docket.proofs.DeclarationFacts.{declared_push, by_other, option_or-none}
-use Rattle.docket.proofs.WordFacts.{list_all_true_at}
+use Rattle.docket_names.proofs.WordFacts.{list_all_true_at}
 use Rattle.docket.proofs.FieldFacts.{field-get_or}
 
 -- neither test has a fault

@@ -5,7 +5,8 @@ use Rattle.std.specs.Option.{option_or}
 use Rattle.std.specs.List.{list_all}
 use Rattle.std.proofs.lemmas.List.{length-take, length-drop}
 use Rattle.csv.specs.Records.{field_at}
-use Rattle.docket.specs.Words.{is_name, worker_of}
+use Rattle.docket.specs.Words.{worker_of}
+use Rattle.docket_names.specs.Words.{is_name}
 use Rattle.docket.specs.Fields.{Fields, field, kind_of, unless, counted, row_fault, list_row_fault, lists_names, event_row_fault, worded_row_fault, event_fields_fault, event_word, event_width, width_of, worker_at}
 use Rattle.docket.specs.Contents.{workers_in, word_in}
 use Rattle.docket.specs.Passes.{reading_fault, repeat_fault, limit_fault, next_place}

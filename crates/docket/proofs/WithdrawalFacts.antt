@@ -6,10 +6,11 @@ use Rattle.std.proofs.lemmas.List.{map-append}
 use Rattle.std.proofs.lemmas.List.Elements.{filter-append}
 use Rattle.std.proofs.lemmas.List.Folds.{list_any-append}
 use Rattle.docket.specs.Fields.{Fields, field, is_kind, is_row_of, version_kind, withdrawal_kind}
-use Rattle.docket.specs.Contents.{is_declared, is_withdrawal_of, withdrawn_of}
+use Rattle.docket.specs.Contents.{is_withdrawal_of, withdrawn_of}
+use Rattle.docket_names.specs.Texts.{is_declared}
 use Rattle.docket.specs.Passes.{is_version_2}
 use Rattle.docket.specs.Declarations.{names_withdrawn}
-use Rattle.docket.proofs.NameFacts.{is_declared-map}
+use Rattle.docket_names.proofs.NameFacts.{is_declared-map}
 
 -- the names that a side's W rows withdraw, with one row more
 pub names_withdrawn-if : (side : List ℕ) (rows : List Fields) (row : Fields)

@@ -7,7 +7,7 @@ use Rattle.docket.specs.Words.{capacity_of}
 use Rattle.docket.specs.Fields.{Fields, field, is_kind, is_row_of, withdrawal_kind}
 use Rattle.docket.specs.Contents.{names_of, programmes_of, residents_of, quotas_of, is_sheet_row, workers_in, who_of}
 use Rattle.docket.specs.Passes.{is_version_2}
-use Rattle.docket.specs.FlatRows.{AreNames}
+use Rattle.docket_names.specs.Texts.{AreNames, AreNoted}
 use Rattle.docket.specs.Whole.{AreWorkers}
 use Rattle.docket.specs.declared.store.declarations.Declarations.{Declarations}
 use Rattle.docket.specs.declared.vocabulary.TheConstants.{PROGRAMME_LIST, CAPACITY, EVENT}
@@ -38,13 +38,13 @@ pub record IsDeclared (d : Declarations) (texts : Fields) (rows : List Fields) :
   pub resident_lists : d.builder.resident_lists ≡ map (λ name. None) (residents_of rows)
   pub programmes : AreNames texts d.programmes (programmes_of rows)
   pub residents : AreNames texts d.residents (residents_of rows)
-  pub ranked : AreNames texts d.ranked (names_of PROGRAMME_LIST rows)
+  pub ranked : AreNoted texts d.ranked (names_of PROGRAMME_LIST rows)
   pub capacity : d.capacity ≡ capacity_in rows
   pub no_events : d.capacity ≡ None → list_any (is_kind EVENT) rows ≡ false
   pub by_worker : AreByWorker d.workers d.who.items rows
   pub sheet_rows : d.has_sheet_row ≡ list_any is_sheet_row rows
   pub version : d.is_version_2 ≡ is_version_2 rows
-  pub withdrawn_programmes : AreNames texts d.withdrawn_programmes (names_withdrawn (codes "P") rows)
-  pub withdrawn_residents : AreNames texts d.withdrawn_residents (names_withdrawn (codes "R") rows)
+  pub withdrawn_programmes : AreNoted texts d.withdrawn_programmes (names_withdrawn (codes "P") rows)
+  pub withdrawn_residents : AreNoted texts d.withdrawn_residents (names_withdrawn (codes "R") rows)
   pub no_programme_gone : d.builder.programmes_withdrawn ≡ map (λ name. false) (programmes_of rows)
   pub no_resident_gone : d.builder.residents_withdrawn ≡ map (λ name. false) (residents_of rows)

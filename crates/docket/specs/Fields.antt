@@ -3,7 +3,8 @@ use Rattle.std.specs.Prelude.{ℕ, nat_lt, ◌&&◌, ◌||◌, ◌==◌, Bool, i
 use Rattle.std.specs.Option.{option_or}
 use Rattle.std.specs.List.{list_all}
 use Rattle.csv.specs.Records.{field_at}
-use Rattle.docket.specs.Words.{is_name, is_number, number_of, capacity_of, workers_of, worker_of, answer_of}
+use Rattle.docket.specs.Words.{capacity_of, workers_of, worker_of, answer_of}
+use Rattle.docket_names.specs.Words.{is_name, is_number, number_of}
 use Rattle.docket.specs.declared.vocabulary.TheConstants.{QUOTA, PROGRAMME_LIST, RESIDENT_LIST, MATCHED, UNMATCHED, FILLED, CAPACITY, EVENT}
 use Rattle.docket.specs.declared.vocabulary.EventWord.{EventWord}
 use Rattle.docket.specs.declared.vocabulary.EventWord.TheVariants.{Offer, Take, Answer, Hear, Close}

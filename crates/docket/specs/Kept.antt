@@ -118,10 +118,6 @@ pub record AreKept (all kept : List Fields) : Type 0 where
   pub sheet : AreCut IsBlank AreManyMarks noted marked
   pub lists : AreListsCut marked kept
 
--- the texts after one more was looked for: it was known, or it joined
-abbrev pub IsJoined : List (List ℕ) → List (List ℕ) → List ℕ → Type 0
-IsJoined texts more text = (more ≡ texts) ⊎ (more ≡ texts ++ text ∷ [])
-
 -- the texts that joined are among these
 pub record HaveJoined (texts more added : List (List ℕ)) : Type 0 where
   pub extra : List (List ℕ)

@@ -13,9 +13,7 @@ pub mod Ranking
 pub mod Answers
 pub mod Marks
 pub mod Whole
-pub mod RowText
 pub mod Texts
-pub mod NameKeys
 pub mod Context
 pub mod WithLists
 pub mod Kept

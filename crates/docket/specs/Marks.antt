@@ -2,7 +2,8 @@
 use Rattle.std.specs.Prelude.{◌≡◌, ℕ, List, map, find, count_by, Option, option_and_then}
 use Rattle.std.specs.List.{list_any}
 use Rattle.docket.specs.Fields.{Fields, field, is_row_of}
-use Rattle.docket.specs.Contents.{programmes_of, residents_of, number_in, is_mark_of, is_matched_with}
+use Rattle.docket.specs.Contents.{programmes_of, residents_of, is_mark_of, is_matched_with}
+use Rattle.docket_names.specs.Texts.{number_in}
 use Rattle.docket.specs.declared.passes.sheet.Marks.{Marks}
 use Rattle.docket.specs.declared.vocabulary.TheConstants.{MATCHED, FILLED}
 

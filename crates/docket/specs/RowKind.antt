@@ -1,7 +1,8 @@
 -- What a record says by itself, where it has no fault of its own.
 use Rattle.std.specs.Prelude.{◌≡◌, true, Bool, if◌then◌else◌, Option, Some, None, Result, Ok, Err, ℕ, List, codes, bytes_eq, nat_eq}
 use Rattle.std.specs.Option.{option_or}
-use Rattle.docket.specs.Words.{is_name, number_of, capacity_of, workers_of}
+use Rattle.docket.specs.Words.{capacity_of, workers_of}
+use Rattle.docket_names.specs.Words.{is_name, number_of}
 use Rattle.docket.specs.Fields.{Fields, field, kind_of, is_kind, unless, row_fault, version_kind, withdrawal_kind, version_row_fault, withdrawal_row_fault, worker_at}
 use Rattle.docket.specs.Rows.{IsEventOf, side_text}
 use Rattle.docket.specs.declared.kind.RowKind.{RowKind}

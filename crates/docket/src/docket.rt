@@ -4,7 +4,7 @@ ghost use Rattle.match_model.specs.Instance.{IsProgramme, IsResident};
 ghost use Rattle.docket.specs.Texts as texts;
 ghost use Rattle.docket.specs.Whole.{IsWhole};
 
-use crate::store::names::Names;
+use docket_names::Names;
 use exchange_core::{Capacity, Event};
 use match_model::{Assignment, Instance, ProgrammeNo, ResidentNo};
 use std::marker::Model;

@@ -3,6 +3,7 @@ ghost use Rattle.std.specs.Prelude.{◌≡◌};
 ghost use Rattle.docket.specs.declared.fault.DocketFault.TheVariants.{Memory, Write};
 
 use match_model::ModelFault;
+use row_writer::WriteFailed;
 use std::alloc::{AllocError, AllocFailed};
 use std::fmt;
 use thiserror::Error;
@@ -101,10 +102,6 @@ impl From<AllocError> for DocketFault {
         DocketFault::Memory
     }
 }
-
-/// The writer answered a fault.
-#[derive(Clone, Copy, Debug, PartialEq, Eq)]
-pub struct WriteFailed;
 
 impl From<WriteFailed> for DocketFault {
     ghost from_gives = { λ _ e. e ≡ Write };

@@ -22,4 +22,5 @@ mod Rows
 mod NoteCodes
 mod Seats
 mod Quiet
+mod Counted
 pub mod Told

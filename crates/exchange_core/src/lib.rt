@@ -5,14 +5,13 @@
 
 mod at_rest;
 mod changes;
+mod counts;
 mod event;
 mod exchange;
 mod note;
 mod part;
 mod programme_row;
-mod programmes;
 mod resident_row;
-mod residents;
 mod some_event;
 
 pub use event::{AnswerKind, Capacity, Desk, Event, Pending, Refused};

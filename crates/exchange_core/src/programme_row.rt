@@ -1,10 +1,12 @@
 //! What the core keeps of each programme's desk, and one row of notes for all their mailboxes.
-ghost use Rattle.std.specs.Prelude.{◌≡◌, ◌+◌, ◌-◌, if◌then◌else◌, ◌*◌, ◌^◌, ◌<◌, [], length, map, slice_get, slice_set, IfOk, not, nat_lt};
+ghost use Rattle.std.specs.Prelude.{◌≡◌, ◌+◌, ◌-◌, if◌then◌else◌, ◌*◌, ◌^◌, ◌<◌, ◌&&◌, [], true, length, map, slice_get, slice_set, IfOk, not, nat_lt};
+ghost use Rattle.std.specs.List.{All};
 ghost use Rattle.exchange_core.specs.Calls.{is_rejection};
-ghost use Rattle.exchange_core.specs.Pending.{has_answers, has_wish};
+ghost use Rattle.exchange_core.specs.Pending.{has_answers, has_wish, IsContent};
 ghost use Rattle.exchange_core.specs.Rows.{note_of, answer_of};
 ghost use Rattle.exchange_core.specs.Seats.{seat_of_programme, made_offer, sent_answer, heard_answer, opened_programmes};
 
+use crate::counts::recounted;
 use crate::event::{AnswerKind, Capacity};
 use crate::part::{Part, room};
 use match_model::{Instance, ProgrammeNo, ResidentNo};
@@ -22,18 +24,32 @@ pub(crate) struct ProgrammeSeat {
     listed: u32,
 }
 
-/// A seat for each programme, and the residents and kinds of all answers that wait.
+impl ProgrammeSeat {
+    /// Whether a place is free and somebody is left to offer it to.
+    #[inline(always)]
+    fn has_wish(self) -> bool
+        ensures { result ≡ (nat_lt self.out self.places && nat_lt self.offered self.listed) }
+    {
+        self.out < self.places && self.offered < self.listed
+    }
+}
+
+/// A seat for each programme, the residents and kinds of all answers that wait, and how many programmes have answers
+/// waiting and how many have a wish.
 #[derive(Drop)]
 pub(crate) struct ProgrammeRow {
     seats: Vec<ProgrammeSeat>,
     notes: Vec<u32>,
+    with_answers: usize,
+    with_wish: usize,
 }
 
 impl Model for ProgrammeRow {
-    ghost use Rattle.std.specs.Prelude.{List, map, length};
-    ghost use Rattle.std.specs.List.{All};
+    ghost use Rattle.std.specs.Prelude.{◌≡◌, ◌<◌, ◌^◌, List, map, length};
+    ghost use Rattle.std.specs.List.{All, count_by};
     ghost use Rattle.exchange_core.specs.Left.{ProgrammeLeft};
     ghost use Rattle.exchange_core.specs.Notes.{AreLaid};
+    ghost use Rattle.exchange_core.specs.Pending.{has_answers, has_wish};
     ghost use Rattle.exchange_core.specs.Rows.{shown_programme, programme_span, IsProgrammeRing};
 
     ghost Value = { List ProgrammeLeft };
@@ -43,6 +59,9 @@ impl Model for ProgrammeRow {
     ghost invariant = { λ d. record {
       laid : AreLaid (map programme_span d.seats.items) (length d.notes.items);
       rings : All IsProgrammeRing d.seats.items;
+      few : length d.seats.items < 2 ^ 32;
+      answers_counted : d.with_answers ≡ count_by has_answers (map (shown_programme d.notes.items) d.seats.items);
+      wishes_counted : d.with_wish ≡ count_by has_wish (map (shown_programme d.notes.items) d.seats.items);
     } };
 }
 
@@ -58,22 +77,34 @@ impl ProgrammeRow {
         let count = inst.programmes();
         let mut seats = Vec::with_capacity(alloc, count as usize)?;
         let mut total = 0;
+        let mut with_wish = 0;
         for p in 0..count {
             let listed = inst.list_of_programme(ProgrammeNo(p)).len();
             let room = room(cap, 2 * listed);
-            seats.push(ProgrammeSeat {
+            let seat = ProgrammeSeat {
                 part: Part::open(total, room),
                 offered: 0,
                 out: 0,
                 places: inst.quota(ProgrammeNo(p)),
                 listed: listed as u32,
-            })?;
+            };
+            with_wish = recounted(with_wish, false, seat.has_wish());
+            seats.push(seat)?;
             total += room as usize;
         }
         Ok(ProgrammeRow {
             seats,
             notes: vec![in alloc; 0; total]?,
+            with_answers: 0,
+            with_wish,
         })
+    }
+
+    /// Whether no answer waits anywhere and no programme has a wish.
+    pub(crate) fn are_content(&self) -> bool
+        ensures { result ≡ true → All IsContent self.now }
+    {
+        self.with_answers == 0 && self.with_wish == 0
     }
 
     /// Whether as many answers wait as ever can.
@@ -130,8 +161,7 @@ impl ProgrammeRow {
         requires { programme < length self.now }
         ensures { result ≡ has_wish (seat_of_programme self.now programme) }
     {
-        let seat = &self.seats[programme.0 as usize];
-        seat.out < seat.places && seat.offered < seat.listed
+        self.seats[programme.0 as usize].has_wish()
     }
 
     /// Makes one more offer, which is out.
@@ -143,8 +173,11 @@ impl ProgrammeRow {
         ensures { self.new ≡ slice_set self.old programme (made_offer (seat_of_programme self.old programme)) }
     {
         let seat = &mut self.seats[programme.0 as usize];
+        let wished = seat.has_wish();
         seat.offered += 1;
         seat.out = one_more(seat.out, seat.places);
+        let wishes = seat.has_wish();
+        self.with_wish = recounted(self.with_wish, wished, wishes);
     }
 
     #[inline(always)]
@@ -155,7 +188,9 @@ impl ProgrammeRow {
         ensures { self.new ≡ slice_set self.old programme (sent_answer (seat_of_programme self.old programme) (resident, kind)) }
     {
         let seat = &mut self.seats[programme.0 as usize];
+        let waited = seat.part.len > 0;
         seat.part.push(&mut self.notes, note_of(resident, kind));
+        self.with_answers = recounted(self.with_answers, waited, true);
     }
 
     /// Hears the answer in front, which is this one. A rejection frees its place.
@@ -165,8 +200,12 @@ impl ProgrammeRow {
         ensures { self.new ≡ slice_set self.old programme (heard_answer (seat_of_programme self.old programme) (resident, kind)) }
     {
         let seat = &mut self.seats[programme.0 as usize];
+        let (waited, wished) = (seat.part.len > 0, seat.has_wish());
         seat.part.pop();
         seat.out = out_after(seat.out, resident, kind);
+        let (waits, wishes) = (seat.part.len > 0, seat.has_wish());
+        self.with_answers = recounted(self.with_answers, waited, waits);
+        self.with_wish = recounted(self.with_wish, wished, wishes);
     }
 }
 

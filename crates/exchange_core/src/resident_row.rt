@@ -1,11 +1,13 @@
 //! What the core keeps of each resident's desk, and one row of notes for all their mailboxes.
-ghost use Rattle.std.specs.Prelude.{◌≡◌, ◌<◌, ◌%◌, ◌^◌, [], length, map, slice_get, slice_set, IfOk, not, nat_lt, drop, None};
+ghost use Rattle.std.specs.Prelude.{◌≡◌, ◌<◌, ◌%◌, ◌^◌, [], true, length, map, slice_get, slice_set, IfOk, not, nat_lt, drop, None};
+ghost use Rattle.std.specs.List.{All};
 ghost use Rattle.std.specs.Option.{option_to_list};
-ghost use Rattle.exchange_core.specs.Pending.{has_offers};
+ghost use Rattle.exchange_core.specs.Pending.{has_offers, IsQuiet};
 ghost use Rattle.exchange_core.specs.Calls.{held_after, release_of as released};
 ghost use Rattle.exchange_core.specs.Rows.{programme_of, rank_of, rank_after};
 ghost use Rattle.exchange_core.specs.Seats.{called_for, due_of, seat_of_resident, sent_offer, took_offer, gave_answer, opened_residents};
 
+use crate::counts::recounted;
 use crate::event::{AnswerKind, Capacity};
 use crate::part::{Part, room};
 use match_model::{Instance, ProgrammeNo, ResidentNo};
@@ -24,18 +26,22 @@ pub(crate) struct ResidentSeat {
     held_rank: u32,
 }
 
-/// A seat for each resident, and the programmes and ranks of all offers that wait.
+/// A seat for each resident, the programmes and ranks of all offers that wait, and how many residents have offers waiting
+/// and how many owe an answer.
 #[derive(Drop)]
 pub(crate) struct ResidentRow {
     seats: Vec<ResidentSeat>,
     notes: Vec<u32>,
+    with_offers: usize,
+    with_due: usize,
 }
 
 impl Model for ResidentRow {
-    ghost use Rattle.std.specs.Prelude.{List, map, length};
-    ghost use Rattle.std.specs.List.{All};
+    ghost use Rattle.std.specs.Prelude.{◌≡◌, ◌<◌, ◌^◌, List, map, length};
+    ghost use Rattle.std.specs.List.{All, count_by};
     ghost use Rattle.exchange_core.specs.Left.{ResidentLeft};
     ghost use Rattle.exchange_core.specs.Notes.{AreLaid};
+    ghost use Rattle.exchange_core.specs.Pending.{has_offers, has_due};
     ghost use Rattle.exchange_core.specs.Rows.{shown_resident, resident_span, IsResidentRing};
 
     ghost Value = { List ResidentLeft };
@@ -45,6 +51,9 @@ impl Model for ResidentRow {
     ghost invariant = { λ d. record {
       laid : AreLaid (map resident_span d.seats.items) (length d.notes.items);
       rings : All IsResidentRing d.seats.items;
+      few : length d.seats.items < 2 ^ 32;
+      offers_counted : d.with_offers ≡ count_by has_offers (map (shown_resident d.notes.items) d.seats.items);
+      due_counted : d.with_due ≡ count_by has_due (map (shown_resident d.notes.items) d.seats.items);
     } };
 }
 
@@ -75,7 +84,16 @@ impl ResidentRow {
         Ok(ResidentRow {
             seats,
             notes: vec![in alloc; 0; total]?,
+            with_offers: 0,
+            with_due: 0,
         })
+    }
+
+    /// Whether no offer waits anywhere and no answer is due.
+    pub(crate) fn are_quiet(&self) -> bool
+        ensures { result ≡ true → All IsQuiet self.now }
+    {
+        self.with_offers == 0 && self.with_due == 0
     }
 
     /// Whether as many offers wait as ever can.
@@ -147,8 +165,10 @@ impl ResidentRow {
         ensures { self.new ≡ slice_set self.old resident (sent_offer (seat_of_resident self.old resident) programme) }
     {
         let seat = &mut self.seats[resident.0 as usize];
+        let waited = seat.part.len > 0;
         seat.part
             .push(&mut self.notes, note_of_offer(programme, rank));
+        self.with_offers = recounted(self.with_offers, waited, true);
     }
 
     /// Takes the offer in front, which is this programme's and came with this rank, and makes due what it calls for.
@@ -166,10 +186,14 @@ impl ResidentRow {
     {
         let seat = &mut self.seats[resident.0 as usize];
         let due = called_for(better, seat.held, programme);
+        let waited = seat.part.len > 0;
         seat.part.pop();
+        let waits = seat.part.len > 0;
         seat.first_due = due.0;
         seat.second_due = due.1;
         seat.taken_rank = rank;
+        self.with_offers = recounted(self.with_offers, waited, waits);
+        self.with_due = recounted(self.with_due, false, true);
     }
 
     /// Gives the first answer due, which is this one.
@@ -179,10 +203,13 @@ impl ResidentRow {
         ensures { self.new ≡ slice_set self.old resident (gave_answer (seat_of_resident self.old resident) (programme, kind)) }
     {
         let seat = &mut self.seats[resident.0 as usize];
+        let owed = seat.first_due.is_some();
         seat.first_due = due_next(seat.first_due, seat.second_due);
+        let owes = seat.first_due.is_some();
         seat.second_due = None;
         seat.held = held_after(seat.held, programme, kind);
         seat.held_rank = rank_after(seat.held_rank, seat.taken_rank, kind);
+        self.with_due = recounted(self.with_due, owed, owes);
     }
 }
 

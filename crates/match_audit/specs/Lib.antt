@@ -3,3 +3,4 @@ pub mod Report
 pub mod Loads
 pub mod Replay
 pub mod WorkerCounts
+pub mod Result

@@ -11,8 +11,10 @@ mod findings;
 mod load;
 mod replayer;
 mod report;
+mod settling;
 
 pub use auditor::{AuditFault, audit};
 pub use counter::counts;
 pub use replayer::{ReplayFault, Replayed, check, replay};
 pub use report::AuditReport;
+pub use settling::{first_unlike_result, is_result, settle};

@@ -2,3 +2,5 @@ pub mod Compare
 pub mod Done
 pub mod Exchange
 pub mod Rooms
+pub mod RunState
+pub mod Seat

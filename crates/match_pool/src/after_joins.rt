@@ -16,9 +16,10 @@ use crate::gate::Gate;
 use crate::mailboxes::Mailboxes;
 use crate::run_state::RunState;
 use crate::shared::SharedState;
+use desk_scheduler::WorkersIdentity;
 use exchange_core::{Desk, Event, Pending};
 use match_agents::{ProgrammeAgent, ResidentAgent};
-use match_model::{Assignment, Instance, ResidentNo};
+use match_model::{Assignment, Instance};
 use offer_ledger::{ExchangeIdentity, Ledger, Tally};
 use settle_law::{law_orderly, law_settled};
 use std::alloc::Global;
@@ -69,7 +70,7 @@ impl<M: Mailboxes> Reserve<M> {
     }
 
     /// What a run gives whose workers are joined, with these tallies.
-    pub(crate) fn finish<J: ExchangeIdentity, G: Gate>(
+    pub(crate) fn finish<J: ExchangeIdentity + WorkersIdentity, G: Gate>(
         self,
         inst: &Instance,
         shared: SharedState<'_, J, M, G>,
@@ -113,19 +114,20 @@ fn join_all<J: ExchangeIdentity>(tallies: Vec<Tally<J>>) {
 }
 
 // How a run ended, with its ledger; or what ended it early.
-fn outcome_of<J: ExchangeIdentity, M: Mailboxes, G: Gate>(
+fn outcome_of<J: ExchangeIdentity + WorkersIdentity, M: Mailboxes, G: Gate>(
     inst: &Instance,
     exchange: Exchange<J, M>,
-    state: &RunState<'_, G>,
+    state: &RunState<'_, J, G>,
 ) -> Result<(Ledger<J, M::OfferPut, M::AnswerPut>, Ending), RunFault>
     requires { inst.now ≡ J.inst }
     ensures closed { IfOk result (λ outcome. (outcome.1 ≡ Ending.Closed) ↔ IsClosed outcome.0.journal) }
     ensures stopped { IfOk result (λ outcome. outcome.1 ≡ Ending.Stopped → G.MAY_STOP ≡ true) }
     ensures fault { IfErr result (IsFault inst.now J.cap) }
 {
-    match state.trouble {
+    match state.trouble() {
         Some(Trouble::Torn(desk)) => return Err(RunFault::Torn(desk)),
         Some(Trouble::MailGone(desk)) => return Err(RunFault::MailGone(desk)),
+        Some(Trouble::Thread) => return Err(RunFault::Thread),
         Some(Trouble::OutOfStep) | None => {}
     }
     let (ledger, out_of_step) = exchange.into_parts();
@@ -153,7 +155,8 @@ fn out_of_step_fault<J: ExchangeIdentity, M: Mailboxes>(
     }
 }
 
-// How a run ended: closed, or stopped where it was stopped; else the desk that was left pending.
+// How a run ended: closed, or stopped where it was stopped; else the desk that was left pending. Where all is at rest no
+// worker came to close it, since none had begun.
 fn ending_of<J: ExchangeIdentity, M: Mailboxes>(
     inst: &Instance,
     ledger: &Ledger<J, M::OfferPut, M::AnswerPut>,
@@ -171,7 +174,7 @@ fn ending_of<J: ExchangeIdentity, M: Mailboxes>(
         return Ok(Ending::Stopped);
     }
     let Some(pending) = ledger.core().first_pending(inst) else {
-        return Err(RunFault::Torn(Desk::Resident(ResidentNo(0))));
+        return Err(RunFault::Thread);
     };
     Err(RunFault::Torn(pending_desk(pending)))
 }

@@ -2,11 +2,13 @@
 ghost use Rattle.std.specs.Prelude.{◌≡◌, ◌≤◌, ◌⊎◌, [], length, vec_capacity, IfErr};
 ghost use Rattle.match_pool.specs.declared.fault.RunFault.TheVariants.{Memory, Thread};
 
-use crate::fault::RunFault;
+use crate::fault::{RunFault, Trouble};
 use crate::gate::Gate;
+use crate::locks::InnerRank;
 use crate::mailboxes::Mailboxes;
 use crate::shared::SharedState;
 use crate::worker::Worker;
+use desk_scheduler::WorkersIdentity;
 use match_model::Instance;
 use offer_ledger::{ExchangeIdentity, Tally};
 use std::alloc::Global;
@@ -31,7 +33,7 @@ pub(crate) fn drive<J, M, G, R>(
     tallies: Vec<Tally<J>>,
 ) -> Result<Vec<Tally<J>>, RunFault>
 where
-    J: ExchangeIdentity + Send + Sync,
+    J: ExchangeIdentity + WorkersIdentity + Send + Sync,
     M: Mailboxes + Send + Sync,
     M::OfferPut: Send,
     M::OfferTake: Send,
@@ -74,7 +76,7 @@ fn start_all<'s, 'f, E, J, M, G, R>(
     handles: Handles<J>,
 ) -> Option<Handles<J>>
 where
-    J: ExchangeIdentity + Send + Sync,
+    J: ExchangeIdentity + WorkersIdentity + Send + Sync,
     M: Mailboxes + Send + Sync,
     M::OfferPut: Send,
     M::OfferTake: Send,
@@ -89,10 +91,16 @@ where
     let mut handles = handles;
     let mut number = 0;
     for tally in tallies {
-        let worker = Worker::new(rt, inst, gate, shared, number, tally);
         let thread = Builder::new().stack_size(STACK_BYTES);
-        let Ok(handle) = thread.spawn_scoped(scope, move || worker.work()) else {
-            shared.end(rt);
+        let spawned = thread.spawn_scoped(
+            scope,
+            move || -> Tally<J>
+                requires { inst.now ≡ J.inst }
+            { Worker::new(rt, inst, gate, shared, number, tally).work() },
+        );
+        let Ok(handle) = spawned else {
+            let mut rank = InnerRank::of_thread();
+            shared.fail(rt, &mut rank, Trouble::Thread);
             return None;
         };
         handles.push_reserved(handle);

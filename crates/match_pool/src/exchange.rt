@@ -8,7 +8,7 @@ use crate::mailboxes::Mailboxes;
 use desk_scheduler::WaitQueues;
 use exchange_core::{AnswerKind, Desk, Event, Refused};
 use match_model::{Instance, ProgrammeNo, ResidentNo};
-use offer_ledger::{EntryRefused, ExchangeIdentity, Ledger, PutRefusal, Tally};
+use offer_ledger::{CloseToken, EntryRefused, ExchangeIdentity, Ledger, PutRefusal, Tally};
 use std::alloc::{AllocError, Global};
 use std::marker::Model;
 
@@ -258,7 +258,7 @@ impl<J: ExchangeIdentity, M: Mailboxes> Exchange<J, M> {
     }
 
     /// Some event that may follow; where that is the close it is entered, and this is none.
-    pub(crate) fn close_or_find(&mut self, inst: &Instance, tally: &mut Tally<J>) -> Found
+    pub(crate) fn close_or_find(&mut self, inst: &Instance, tally: &mut Tally<J>) -> Found<J>
         requires { inst.now ≡ J.inst }
     {
         let Some(event) = self.ledger.core().some_enabled(inst) else {
@@ -266,8 +266,8 @@ impl<J: ExchangeIdentity, M: Mailboxes> Exchange<J, M> {
         };
         match desk_of(inst, event) {
             Some(desk) => Found::Desk(desk),
-            None => match self.ledger.close(inst, tally) {
-                Ok(()) => Found::Closed,
+            None => match self.ledger.close_and_tell(inst, tally) {
+                Ok(close) => Found::Closed(close),
                 Err(_) => Found::Ended,
             },
         }
@@ -275,11 +275,11 @@ impl<J: ExchangeIdentity, M: Mailboxes> Exchange<J, M> {
 }
 
 /// What a worker finds that asked the core for something to do.
-#[derive(Clone, Copy, Debug)]
-pub(crate) enum Found {
-    /// The exchange was at rest, and the close is entered.
-    Closed,
-    /// Nothing is entered any more.
+#[derive(Drop)]
+pub(crate) enum Found<J: ExchangeIdentity> {
+    /// The exchange was at rest, and the close is entered. The end is to be told.
+    Closed(CloseToken<J>),
+    /// Nothing is entered any more. Another worker closed or was refused a receipt, and tells the end.
     Ended,
     /// Some event of this desk may follow.
     Desk(u32),

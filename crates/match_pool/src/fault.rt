@@ -47,6 +47,8 @@ pub(crate) enum Trouble {
     Torn(Desk),
     /// A desk whose mailbox has lost its other end.
     MailGone(Desk),
+    /// The system refused to start a worker.
+    Thread,
 }
 
 impl From<AllocError> for RunFault {

@@ -4,17 +4,18 @@
 
 mod after_joins;
 mod compare;
-mod desks;
 mod done;
 mod drive;
 mod exchange;
 mod fault;
 mod gate;
+mod locks;
 mod mailboxes;
 mod naps;
 mod open;
 mod pool;
 mod run_state;
+mod seats;
 mod shared;
 mod worker;
 

@@ -6,29 +6,29 @@ ghost use Rattle.match_pool.specs.Done.{Each};
 ghost use Rattle.match_pool.specs.Rooms.{room_of, offer_room_of, answer_room_of, IsNew};
 ghost use Rattle.match_pool.specs.declared.fault.RunFault.TheVariants.{Memory};
 
-use crate::desks::{Agent, BoundDesk, ProgrammeDesk, ResidentDesk};
 use crate::exchange::Exchange;
 use crate::fault::RunFault;
 use crate::gate::Gate;
+use crate::locks::DeskLock;
 use crate::mailboxes::Mailboxes;
 use crate::run_state::RunState;
+use crate::seats::{Agent, ProgrammeSeat, ResidentSeat, Seat};
 use crate::shared::SharedState;
-use desk_scheduler::Scheduler;
+use desk_scheduler::{Scheduler, Shift, Workers, WorkersIdentity};
 use exchange_core::Capacity;
 use match_agents::{ProgrammeAgent, ResidentAgent};
 use match_model::{Instance, ProgrammeNo, ResidentNo};
 use offer_ledger::{ExchangeIdentity, Ledger, Tally};
 use std::alloc::Global;
 use std::marker::PhantomData;
-use std::sync::Mutex;
 use std::sync::ledger::Blank;
 
 /// One side's desks: by receiver, the sending ends of their mailboxes, and what lies under their locks.
-type Side<P, D> = (Vec<P>, Vec<Mutex<D>>);
+type Side<P, D> = (Vec<P>, Vec<DeskLock<D>>);
 
 /// What a run opens its exchange from, which the type names.
 #[derive(Drop)]
-pub(crate) struct Opening<'a, J: ExchangeIdentity, M: Mailboxes> {
+pub(crate) struct RunStart<'a, J: ExchangeIdentity + WorkersIdentity, M: Mailboxes> {
     pub(crate) alloc: Global,
     pub(crate) mailboxes: &'a M,
     pub(crate) inst: &'a Instance,
@@ -39,13 +39,15 @@ pub(crate) struct Opening<'a, J: ExchangeIdentity, M: Mailboxes> {
     ghost admitted: { is_capacity cap ≡ true },
 }
 
-impl<'a, J: ExchangeIdentity, M: Mailboxes> Opening<'a, J, M> {
+impl<'a, J: ExchangeIdentity + WorkersIdentity, M: Mailboxes> RunStart<'a, J, M> {
     /// Everything that the workers share, before any event, and their tallies.
     pub(crate) fn shared<'g, G: Gate>(
         &self,
         blank: Blank,
+        counts: Workers<J>,
         workers: u32,
     ) -> Result<(SharedState<'g, J, M, G>, Vec<Tally<J>>), RunFault>
+        requires nobody { counts.begun ≡ 0 }
         requires workers { workers ≡ J.workers }
         requires blank { (blank.name ≡ J.name) × (blank.parts ≡ J.parts) × (J.parts ≡ 8) }
         ensures { IfErr result (λ fault. fault ≡ Memory) }
@@ -55,12 +57,13 @@ impl<'a, J: ExchangeIdentity, M: Mailboxes> Opening<'a, J, M> {
         let (offer_puts, residents) = self.residents()?;
         let (answer_puts, programmes) = self.programmes()?;
         let (exchange, tallies) = self.exchange(blank, workers, offer_puts, answer_puts)?;
-        let shared = SharedState::new(residents, programmes, exchange, RunState::new(scheduler));
+        let state = RunState::new(Shift::new(scheduler, counts));
+        let shared = SharedState::new(residents, programmes, exchange, state);
         Ok((shared, tallies))
     }
 
     // A mailbox for each resident: its sending end, and a lock with the resident's agent over its receiving end.
-    fn residents(&self) -> Result<Side<M::OfferPut, ResidentDesk<J, M>>, RunFault>
+    fn residents(&self) -> Result<Side<M::OfferPut, ResidentSeat<J, M>>, RunFault>
         ensures puts { IfOk result (λ side. Each side.0.items (length J.inst.resident_lists)
             (IsNew M.OfferPut.puts M.offer_room (offer_room_of J.inst J.cap))) }
         ensures fault { IfErr result (λ fault. fault ≡ Memory) }
@@ -71,13 +74,13 @@ impl<'a, J: ExchangeIdentity, M: Mailboxes> Opening<'a, J, M> {
         for r in 0..count {
             let (put, desk) = self.resident(ResidentNo(r))?;
             puts.push(put)?;
-            desks.push(Mutex::new(desk))?;
+            desks.push(DeskLock::new(desk))?;
         }
         Ok((puts, desks))
     }
 
     // A mailbox for each programme: its sending end, and a lock with the programme's agent over its receiving end.
-    fn programmes(&self) -> Result<Side<M::AnswerPut, ProgrammeDesk<J, M>>, RunFault>
+    fn programmes(&self) -> Result<Side<M::AnswerPut, ProgrammeSeat<J, M>>, RunFault>
         ensures puts { IfOk result (λ side. Each side.0.items (length J.inst.quotas)
             (IsNew M.AnswerPut.puts M.answer_room (answer_room_of J.inst J.cap))) }
         ensures fault { IfErr result (λ fault. fault ≡ Memory) }
@@ -88,13 +91,13 @@ impl<'a, J: ExchangeIdentity, M: Mailboxes> Opening<'a, J, M> {
         for p in 0..count {
             let (put, desk) = self.programme(ProgrammeNo(p))?;
             puts.push(put)?;
-            desks.push(Mutex::new(desk))?;
+            desks.push(DeskLock::new(desk))?;
         }
         Ok((puts, desks))
     }
 
     // A resident's desk: the sending end of its mailbox, and its agent.
-    fn resident(&self, resident: ResidentNo) -> Result<(M::OfferPut, ResidentDesk<J, M>), RunFault>
+    fn resident(&self, resident: ResidentNo) -> Result<(M::OfferPut, ResidentSeat<J, M>), RunFault>
         requires { IsResident J.inst resident }
         ensures new { IfOk result (λ desk. IsNew M.OfferPut.puts M.offer_room
             (offer_room_of J.inst J.cap) resident desk.0) }
@@ -105,7 +108,7 @@ impl<'a, J: ExchangeIdentity, M: Mailboxes> Opening<'a, J, M> {
             return Err(RunFault::Memory);
         };
         match ResidentAgent::open(self.alloc, self.inst, resident, take) {
-            Ok(agent) => Ok((put, BoundDesk::new(agent))),
+            Ok(agent) => Ok((put, Seat::new(agent))),
             Err(_) => Err(RunFault::Memory),
         }
     }
@@ -114,7 +117,7 @@ impl<'a, J: ExchangeIdentity, M: Mailboxes> Opening<'a, J, M> {
     fn programme(
         &self,
         programme: ProgrammeNo,
-    ) -> Result<(M::AnswerPut, ProgrammeDesk<J, M>), RunFault>
+    ) -> Result<(M::AnswerPut, ProgrammeSeat<J, M>), RunFault>
         requires { IsProgramme J.inst programme }
         ensures new { IfOk result (λ desk. IsNew M.AnswerPut.puts M.answer_room
             (answer_room_of J.inst J.cap) programme desk.0) }
@@ -125,7 +128,7 @@ impl<'a, J: ExchangeIdentity, M: Mailboxes> Opening<'a, J, M> {
             return Err(RunFault::Memory);
         };
         match ProgrammeAgent::open(self.alloc, self.inst, programme, take) {
-            Ok(agent) => Ok((put, BoundDesk::new(agent))),
+            Ok(agent) => Ok((put, Seat::new(agent))),
             Err(_) => Err(RunFault::Memory),
         }
     }

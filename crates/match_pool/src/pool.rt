@@ -9,7 +9,8 @@ use crate::drive::drive;
 use crate::fault::RunFault;
 use crate::gate::Gate;
 use crate::mailboxes::{Mailboxes, RuledMailboxes};
-use crate::open::Opening;
+use crate::open::RunStart;
+use desk_scheduler::{WorkerBlanks, WorkersIdentity};
 use exchange_core::Capacity;
 use match_model::Instance;
 use offer_ledger::{ExchangeIdentity, PARTS};
@@ -67,20 +68,30 @@ pub fn run_over<M: Mailboxes + Send + Sync, G: Gate + Sync, R: Threads + Wait + 
     if !cap.is_admitted() {
         return Err(RunFault::BadCapacity);
     }
-    let blank = Blank::new(PARTS);
-    run_named::<Brand, M, G, R>(&rt, alloc, blank, mailboxes, inst, cap, workers, gate)
+    let blanks = Blanks {
+        entries: Blank::new(PARTS),
+        workers: WorkerBlanks::new(),
+    };
+    run_named::<Brand, M, G, R>(&rt, alloc, blanks, mailboxes, inst, cap, workers, gate)
+}
+
+/// The ledgers of a run's counts, which have no name yet: of its entries, and of its workers.
+#[derive(Drop)]
+struct Blanks {
+    entries: Blank,
+    workers: WorkerBlanks,
 }
 
 // The run of the exchange that the type names.
 fn run_named<
-    J: ExchangeIdentity + Send + Sync,
+    J: ExchangeIdentity + WorkersIdentity + Send + Sync,
     M: Mailboxes + Send + Sync,
     G: Gate + Sync,
     R: Threads + Wait + Sync,
 >(
     rt: &R,
     alloc: Global,
-    blank: Blank,
+    blanks: Blanks,
     mailboxes: &M,
     inst: &Instance,
     cap: Capacity,
@@ -90,21 +101,28 @@ fn run_named<
     requires instance { inst.now ≡ J.inst }
     requires capacity { cap ≡ J.cap }
     requires workers { (workers ≡ J.workers) × (1 ≤ workers) × (workers ≤ 8) }
-    requires blank { (blank.name ≡ J.name) × (blank.parts ≡ J.parts) × (J.parts ≡ 8) }
+    requires entries { (blanks.entries.name ≡ J.name) × (blanks.entries.parts ≡ J.parts) × (J.parts ≡ 8) }
+    requires holding { blanks.workers.holding.name ≡ J.holding }
+    requires looking { blanks.workers.looking.name ≡ J.looking }
+    requires resting { blanks.workers.resting.name ≡ J.resting }
     requires admitted { is_capacity cap ≡ true }
     ensures run { IfOk result (λ done. IsRunOf done M.OfferPut.puts M.OfferTake.taken
         M.AnswerPut.puts M.AnswerTake.taken inst.now cap workers G.MAY_STOP) }
     ensures fault { IfErr result (IsFault inst.now cap) }
 {
     let reserve = Reserve::new(alloc, inst, workers)?;
-    let opening = Opening::<J, M> {
+    let Blanks {
+        entries,
+        workers: counts,
+    } = blanks;
+    let start = RunStart::<J, M> {
         alloc,
         mailboxes,
         inst,
         cap,
         exchange: PhantomData,
     };
-    let (shared, tallies) = opening.shared::<G>(blank, workers as u32)?;
+    let (shared, tallies) = start.shared::<G>(entries, counts.open(), workers as u32)?;
     let tallies = drive(rt, alloc, inst, &shared, gate, tallies)?;
     reserve.finish(inst, shared, tallies)
 }

@@ -1,84 +1,41 @@
 //! What the workers share.
-ghost use Rattle.std.specs.Prelude.{◌≡◌, true};
+ghost use Rattle.std.specs.Prelude.{◌≡◌, true, false};
 
-use crate::desks::{ProgrammeDesk, ResidentDesk};
 use crate::exchange::Exchange;
 use crate::fault::Trouble;
 use crate::gate::Gate;
+use crate::locks::{DeskLock, InnerRank, lock_soon};
 use crate::mailboxes::Mailboxes;
 use crate::naps::{NapRoom, Naps};
 use crate::run_state::RunState;
-use offer_ledger::ExchangeIdentity;
-use std::hint::spin_loop;
+use crate::seats::{ProgrammeSeat, ResidentSeat};
+use desk_scheduler::WorkersIdentity;
+use offer_ledger::{CloseToken, ExchangeIdentity};
 use std::sync::{Condvar, Mutex, MutexGuard, Wait};
 
-/// How often a lock is tried before a worker naps, and how long it pauses after each time.
-const TRIES: u32 = 2;
-
-const PAUSES: u32 = 4;
-
-/// How often a worker naps before it waits for a lock.
-const NAPS: u32 = 20;
-
-// Tries a lock some times.
-#[inline(always)]
-fn try_soon<T>(lock: &Mutex<T>) -> Option<MutexGuard<'_, T>> {
-    for _ in 0..TRIES {
-        if let Some(guard) = lock.try_lock() {
-            return Some(guard);
-        }
-        for _ in 0..PAUSES {
-            spin_loop();
-        }
-    }
-    None
-}
-
-// The value under a lock that each worker wants for each event. Where another has it a worker steps back for a while, so
-// that the other works on alone. A lock that changes hands for each event makes both slower than one.
-#[inline(always)]
-fn lock_soon<'a, T, R: Wait>(rt: &R, lock: &'a Mutex<T>, room: &NapRoom) -> MutexGuard<'a, T> {
-    match try_soon(lock) {
-        Some(guard) => guard,
-        None => lock_later(rt, lock, room),
-    }
-}
-
-// The value under a lock that another worker has: tried after each of some naps, and then waited for.
-#[cold]
-fn lock_later<'a, T, R: Wait>(rt: &R, lock: &'a Mutex<T>, room: &NapRoom) -> MutexGuard<'a, T> {
-    let mut naps = Naps::FOR_LOCK;
-    for _ in 0..NAPS {
-        naps.nap(rt, room);
-        if let Some(guard) = try_soon(lock) {
-            return guard;
-        }
-    }
-    lock.lock(rt)
-}
-
-/// What the shared state is taken apart into: the desks of the residents and of the programmes, the exchange and how
+/// What the shared state is taken apart into: the seats of the residents and of the programmes, the exchange and how
 /// the run stands.
 pub(crate) type SharedParts<'a, J, M, G> = (
-    Vec<Mutex<ResidentDesk<J, M>>>,
-    Vec<Mutex<ProgrammeDesk<J, M>>>,
+    Vec<DeskLock<ResidentSeat<J, M>>>,
+    Vec<DeskLock<ProgrammeSeat<J, M>>>,
     Exchange<J, M>,
-    RunState<'a, G>,
+    RunState<'a, J, G>,
 );
 
-/// The locks of a run. They are taken in the order desk, ledger; `state` is never held while another is taken.
-pub(crate) struct SharedState<'a, J: ExchangeIdentity, M: Mailboxes, G: Gate> {
-    pub(crate) residents: Vec<Mutex<ResidentDesk<J, M>>>,
-    pub(crate) programmes: Vec<Mutex<ProgrammeDesk<J, M>>>,
-    pub(crate) exchange: Mutex<Exchange<J, M>>,
-    pub(crate) state: Mutex<RunState<'a, G>>,
+/// The locks of a run, each of its rank: a desk's lock is taken first, and then the ledger's or the scheduler's, never both.
+pub(crate) struct SharedState<'a, J: ExchangeIdentity + WorkersIdentity, M: Mailboxes, G: Gate> {
+    pub(crate) residents: Vec<DeskLock<ResidentSeat<J, M>>>,
+    pub(crate) programmes: Vec<DeskLock<ProgrammeSeat<J, M>>>,
+    exchange: Mutex<Exchange<J, M>>,
+    state: Mutex<RunState<'a, J, G>>,
     pub(crate) news: Condvar,
     for_lock: NapRoom,
     for_work: NapRoom,
 }
 
 // As one call, so that whoever lets the shared state go proves nothing of its parts.
-impl<'a, J: ExchangeIdentity, M: Mailboxes, G: Gate> Drop for SharedState<'a, J, M, G> {
+impl<'a, J: ExchangeIdentity + WorkersIdentity, M: Mailboxes, G: Gate> Drop
+    for SharedState<'a, J, M, G> {
     fn drop(self) {
         let SharedState {
             residents: _,
@@ -92,8 +49,8 @@ impl<'a, J: ExchangeIdentity, M: Mailboxes, G: Gate> Drop for SharedState<'a, J,
     }
 }
 
-impl<'a, J: ExchangeIdentity, M: Mailboxes, G: Gate> SharedState<'a, J, M, G> {
-    /// The desks, the exchange and how the run stands, out of their locks but for the desks.
+impl<'a, J: ExchangeIdentity + WorkersIdentity, M: Mailboxes, G: Gate> SharedState<'a, J, M, G> {
+    /// The seats, the exchange and how the run stands, out of their locks but for the seats.
     pub(crate) fn into_parts(self) -> SharedParts<'a, J, M, G> {
         let SharedState {
             residents,
@@ -108,12 +65,12 @@ impl<'a, J: ExchangeIdentity, M: Mailboxes, G: Gate> SharedState<'a, J, M, G> {
         (residents, programmes, exchange, state.into_inner())
     }
 
-    /// Desks, exchange and how the run stands, each under its lock.
+    /// Seats, exchange and how the run stands, each under its lock.
     pub(crate) fn new(
-        residents: Vec<Mutex<ResidentDesk<J, M>>>,
-        programmes: Vec<Mutex<ProgrammeDesk<J, M>>>,
+        residents: Vec<DeskLock<ResidentSeat<J, M>>>,
+        programmes: Vec<DeskLock<ProgrammeSeat<J, M>>>,
         exchange: Exchange<J, M>,
-        state: RunState<'a, G>,
+        state: RunState<'a, J, G>,
     ) -> SharedState<'a, J, M, G> {
         SharedState {
             residents,
@@ -128,13 +85,29 @@ impl<'a, J: ExchangeIdentity, M: Mailboxes, G: Gate> SharedState<'a, J, M, G> {
 
     /// The ledger and those who wait for room, under their lock.
     #[inline(always)]
-    pub(crate) fn lock_exchange<R: Wait>(&self, rt: &R) -> MutexGuard<'_, Exchange<J, M>> {
+    pub(crate) fn lock_exchange<R: Wait>(
+        &self,
+        rt: &R,
+        inner: &mut InnerRank,
+    ) -> MutexGuard<'_, Exchange<J, M>>
+        requires { inner.old.free.value ≡ true }
+        ensures { inner.new.free.value ≡ false }
+    {
+        inner.taken();
         lock_soon(rt, &self.exchange, &self.for_lock)
     }
 
-    /// The desks in hands, the list and how the run ends, under their lock.
+    /// Who has which desk, the list and how the run ends, under their lock.
     #[inline(always)]
-    pub(crate) fn lock_state<R: Wait>(&self, rt: &R) -> MutexGuard<'_, RunState<'a, G>> {
+    pub(crate) fn lock_state<R: Wait>(
+        &self,
+        rt: &R,
+        inner: &mut InnerRank,
+    ) -> MutexGuard<'_, RunState<'a, J, G>>
+        requires { inner.old.free.value ≡ true }
+        ensures { inner.new.free.value ≡ false }
+    {
+        inner.taken();
         lock_soon(rt, &self.state, &self.for_lock)
     }
 
@@ -150,25 +123,51 @@ impl<'a, J: ExchangeIdentity, M: Mailboxes, G: Gate> SharedState<'a, J, M, G> {
         self.for_lock.is_over()
     }
 
-    /// Ends the run: the workers leave once what they have begun is entered.
-    pub(crate) fn end<R: Wait>(&self, rt: &R) {
-        self.for_lock.end();
-        self.for_work.end();
-        self.lock_state(rt).scheduler.end();
-        self.news.notify_all();
+    /// Ends the run, whose close is entered.
+    pub(crate) fn close<R: Wait>(&self, rt: &R, inner: &mut InnerRank, close: CloseToken<J>)
+        requires { inner.old.free.value ≡ true }
+        ensures { inner.new.free.value ≡ true }
+    {
+        self.end_naps();
+        let mut state = self.lock_state(rt, inner);
+        state.close(close);
+        inner.give_back(state);
+        self.wake_all();
     }
 
-    /// Ends the run on a gate's word.
-    pub(crate) fn stop<R: Wait>(&self, rt: &R)
-        requires { G.MAY_STOP ≡ true }
+    /// Ends the run on a gate's word: the workers leave once what they have begun is entered.
+    pub(crate) fn stop<R: Wait>(&self, rt: &R, inner: &mut InnerRank)
+        requires may_stop { G.MAY_STOP ≡ true }
+        requires free { inner.old.free.value ≡ true }
+        ensures { inner.new.free.value ≡ true }
     {
-        self.lock_state(rt).stop();
-        self.end(rt);
+        let mut state = self.lock_state(rt, inner);
+        state.stop();
+        inner.give_back(state);
+        self.end_naps();
+        self.wake_all();
     }
 
     /// Ends the run for a trouble, of which the first one is kept.
-    pub(crate) fn fail<R: Wait>(&self, rt: &R, trouble: Trouble) {
-        self.lock_state(rt).trouble.get_or_insert(trouble);
-        self.end(rt);
+    pub(crate) fn fail<R: Wait>(&self, rt: &R, inner: &mut InnerRank, trouble: Trouble)
+        requires { inner.old.free.value ≡ true }
+        ensures { inner.new.free.value ≡ true }
+    {
+        self.end_naps();
+        let mut state = self.lock_state(rt, inner);
+        state.fail(trouble);
+        inner.give_back(state);
+        self.wake_all();
+    }
+
+    // No worker begins an event any more, and none naps.
+    fn end_naps(&self) {
+        self.for_lock.end();
+        self.for_work.end();
+    }
+
+    // Wakes all workers that rest.
+    fn wake_all(&self) {
+        self.news.notify_all();
     }
 }

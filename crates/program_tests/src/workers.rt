@@ -1,14 +1,22 @@
 //! Which worker made an event, as a journal by worker tells it.
-use crate::markets::hundreds;
+ghost use Rattle.std.specs.Prelude.{true, false};
+
+use crate::markets::{hundreds, push_all, push_numbered};
 use crate::texts::{QUOTAS, SMALL};
-use exchange_core::Capacity;
+use docket::{Docket, Journal, read_docket};
+use exchange_core::{Capacity, Desk, Event};
+use match_pool::{Gate, Go};
 use residency::{JournalForm, MatchOptions, Status, serve_match, serve_replay};
 use std::alloc::{AllocError, Global};
 use std::random::RandomSource;
-use std::sync::Wait;
+use std::sync::atomic::{AtomicU64, Ordering};
+use std::sync::{Mutex, Wait};
 use std::test::Fail;
+use std::thread;
 use std::thread::Threads;
+use test_support::events::desk_of;
 use test_support::gates::{Firm, Held};
+use test_support::randomness::OneByte;
 
 // How many rows of a text begin with one word and end with another.
 fn rows_between(text: &[u8], start: &str, end: &str) -> u64 {
@@ -79,6 +87,156 @@ fn a_journal_names_the_worker_of_each_event(rt: HostRuntime) -> Result<(), Fail>
             assert!(rt;
                 names_its_workers(rt, rt.alloc(), docket, workers)?,
                 "{workers}"
+            );
+        }
+    }
+    Ok(())
+}
+
+// A receipt that passed a gate: at which desk, by whom, and whether a journal's event was found to be it.
+#[derive(Clone, Copy, Debug)]
+struct Receipt {
+    desk: Desk,
+    worker: usize,
+    is_found: bool,
+}
+
+// How often the gate lets others go first, so that another worker passes too.
+const TURNS: u32 = 1_000_000;
+
+// A gate that notes each receipt. It holds the first until another passes.
+#[derive(Drop)]
+struct Noting<R: Wait + Copy> {
+    rt: R,
+    workers: usize,
+    passed: AtomicU64,
+    receipts: Mutex<Vec<Receipt>>,
+}
+
+impl<R: Wait + Copy + Sync> Gate for Noting<R> {
+    ghost MAY_STOP = { false };
+
+    const MAY_STOP: bool = false;
+
+    fn pass(&self, worker: usize, desk: Desk) -> Go {
+        let receipt = Receipt {
+            desk,
+            worker,
+            is_found: false,
+        };
+        // A receipt that isn't noted is missed where the journal has it.
+        let _is_noted = self.receipts.lock(&self.rt).push(receipt).is_ok();
+        if self.passed.fetch_add(1, Ordering::SeqCst) == 0 && self.workers > 1 {
+            for _ in 0..TURNS {
+                if self.passed.load(Ordering::SeqCst) > 1 {
+                    break;
+                }
+                thread::yield_now();
+            }
+        }
+        Go::On
+    }
+
+    fn entered(&self, _worker: usize) {}
+}
+
+// Who passed with the next receipt of a desk, which is found by this.
+fn next_at(receipts: &mut [Receipt], desk: Option<Desk>) -> Option<usize> {
+    for receipt in receipts {
+        if Some(receipt.desk) == desk && !receipt.is_found {
+            receipt.is_found = true;
+            return Some(receipt.worker);
+        }
+    }
+    None
+}
+
+// Who passed with the last receipt of a desk that was found.
+fn last_at(receipts: &[Receipt], desk: Option<Desk>) -> Option<usize> {
+    let mut last = None;
+    for receipt in receipts {
+        if Some(receipt.desk) == desk && receipt.is_found {
+            last = Some(receipt.worker);
+        }
+    }
+    last
+}
+
+// Whether a journal names, event by event, who passed with each receipt. Whoever takes an offer gives the answers that are due
+// before it takes the next.
+fn is_told_by(journal: &Journal, receipts: &mut [Receipt]) -> bool {
+    let Some(by) = &journal.by else {
+        return false;
+    };
+    for (event, worker) in journal.events.iter().zip(by.who.as_slice()) {
+        let desk = desk_of(event);
+        let made_by = match event {
+            Event::Take { .. } | Event::Hear { .. } => next_at(receipts, desk),
+            Event::Answer { .. } => last_at(receipts, desk),
+            Event::Offer { .. } | Event::Close => continue,
+        };
+        if made_by != Some(usize::from(*worker)) {
+            return false;
+        }
+    }
+    receipts.iter().all(|receipt| receipt.is_found)
+}
+
+// The docket of these bytes, if it is one.
+fn docket_of(alloc: Global, text: &[u8]) -> Option<Docket> {
+    read_docket(&OneByte(7), alloc, text).ok()
+}
+
+// Whether a match by so many workers tells the worker of each receipt and of each answer.
+fn tells_its_workers<H: Threads + Wait + RandomSource + Sync + Send + Copy>(
+    rt: H,
+    alloc: Global,
+    docket: &str,
+    workers: usize,
+) -> Result<bool, AllocError> {
+    let gate = Noting {
+        rt,
+        workers,
+        passed: AtomicU64::new(0),
+        receipts: Mutex::new(Vec::new(alloc)),
+    };
+    let options = MatchOptions {
+        workers,
+        capacity: Capacity::Full,
+        journal: JournalForm::ByWorker,
+    };
+    let mut text = docket.as_bytes().to_vec(alloc)?;
+    let status = serve_match(rt, alloc, docket.as_bytes(), &mut text, &options, &gate);
+    let mut receipts = gate.receipts.into_inner();
+    let Some(read) = docket_of(alloc, text.as_slice()) else {
+        return Ok(false);
+    };
+    let Some(journal) = read.journal() else {
+        return Ok(false);
+    };
+    Ok(status == Ok(Status::Closed) && is_told_by(journal, receipts.as_mut_slice()))
+}
+
+// A programme that ranks thirty residents, and has a place for each.
+fn thirty(alloc: Global) -> Result<String, AllocError> {
+    let mut text = String::new(alloc);
+    text.push_str("Q,a,30\nP,a")?;
+    push_all(&mut text, alloc, ",r", 30, "")?;
+    text.push_str("\n")?;
+    for r in 0..30 {
+        push_numbered(&mut text, alloc, "R,r", r, ",a\n")?;
+    }
+    Ok(text)
+}
+
+#[test]
+fn a_journal_tells_who_made_each_receipt_and_each_answer(rt: HostRuntime) -> Result<(), Fail> {
+    let (one, market) = (thirty(rt.alloc())?, hundreds(rt.alloc())?);
+    for docket in [one.as_str(), QUOTAS, market.as_str()] {
+        for workers in 1..=8 {
+            assert!(rt;
+                tells_its_workers(rt, rt.alloc(), docket, workers)?,
+                "{workers} workers"
             );
         }
     }

@@ -1,9 +1,9 @@
 -- What is told, with one programme more.
-use Rattle.std.proofs.Common.{◌≡◌, ℕ, ◌<◌, inl, inr, List, [], ◌∷◌, ◌++◌, length, Option, Some, None, true, sym, ap, ◌∙◌, subst, arith, rules}
+use Rattle.std.proofs.Common.{◌≡◌, ℕ, ◌<◌, inl, inr, List, [], ◌∷◌, ◌++◌, length, Option, Some, None, true, refl, sym, ap, ◌∙◌, subst, arith, rules}
 use Rattle.std.specs.Prelude.{nat_lt, slice_get}
 use Rattle.std.specs.List.{list_all}
 use Rattle.std.proofs.lemmas.Option.{same_Some, get_or_from_slice_get}
-use Rattle.docket.proofs.WordFacts.{list_all_true_at}
+use Rattle.docket_names.proofs.WordFacts.{list_all_true_at}
 use Rattle.match_model.specs.Instance.{list_at, IsResident}
 use Rattle.match_model.specs.Written.{Written, AreWritten}
 use Rattle.match_model.proofs.Prefixes.{slice_get_push_parts}
@@ -14,6 +14,7 @@ use Rattle.docket.specs.Contents.{Contents, draft_of}
 use Rattle.docket.specs.Whole.{IsWhole}
 use Rattle.docket.specs.WithLists.{IsReadWithLists}
 use Rattle.reasons_text.specs.Answers.{AreFirst, AreOfRecord, AreTaken, CaseParts, IsAnswer, IsCase}
+use Rattle.reasons_text.specs.Naming.{Naming, SideNames, no_names, own_names}
 
 -- how the places of one programme more are taken
 pub AreTaken-push : (written : Written) (m : List (Option ℕ)) (takens : List Taken) (t : Taken) (n : ℕ) → length takens ≡ n → AreTaken written m takens →
@@ -65,3 +66,8 @@ below_at n xs i p lt all at =
 -- a resident's list names the programmes of its record
 pub of_record : (d : Contents) (written : Written) (r : ℕ) → IsWhole d → IsResident d.instance r → AreOfRecord d written r (list_at written.resident_lists r)
 of_record d written r whole within bytes read = read.names r (let many = whole.residents in omega (arith, many))
+
+-- names that are all the docket's own
+pub names_own : (d e : Contents) (r p : SideNames) → d ≡ e → r ≡ no_names → p ≡ no_names
+    → ◌≡◌ {A = Naming} (record { docket = d; residents = r; programmes = p }) (own_names e)
+names_own d e r p h k l = rw (h, k, l) refl

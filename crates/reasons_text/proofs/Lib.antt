@@ -1,4 +1,16 @@
 mod AnswerFacts
+mod MeantFacts
 mod AskedFacts
 mod LineFacts
 mod NobodyFacts
+mod FaultFacts
+mod ShownFacts
+mod WhomFacts
+mod KeyFacts
+mod DelimiterFacts
+mod NumberFacts
+mod LabelFacts
+mod KeyInvariant
+mod KeyLoopFacts
+mod FileFacts
+mod TextFacts

@@ -1,6 +1,6 @@
 -- Lines and rows, one after another.
 use Rattle.std.proofs.Common.{◌≡◌, ℕ, Bool, ◌+◌, ◌<◌, List, [], ◌∷◌, ◌++◌, Option, Some, length, take, get_or, inl, inr, refl, sym, ap, ◌∙◌, subst, arith, rules, append_assoc, append-nil}
-use Rattle.std.specs.Prelude.{count_by, slice_get}
+use Rattle.std.specs.Prelude.{slice_get}
 use Rattle.std.specs.List.{enumerate_from, flat_map, zip}
 use Rattle.std.proofs.lemmas.Grind.{flat_map-append}
 use Rattle.std.proofs.lemmas.List.{length_push, take_more}
@@ -9,9 +9,9 @@ use Rattle.std.proofs.lemmas.Slice.Zip.{length-zip, get_or-zip}
 use Rattle.match_model.proofs.Prefixes.{slice_get_push_parts}
 use Rattle.match_reasons.specs.declared.reason.Why.{Why}
 use Rattle.std.specs.Io.KnownBytes.{Appends}
-use Rattle.docket.specs.RowText.{Adds, Writes}
-use Rattle.docket.specs.declared.row_writer.RowWriter.{RowWriter}
-use Rattle.docket.proofs.RowTextFacts.{adds_both, adds_none, sent}
+use Rattle.row_writer.specs.RowText.{Adds, Writes}
+use Rattle.row_writer.specs.declared.writer.RowWriter.{RowWriter}
+use Rattle.row_writer.proofs.RowTextFacts.{adds_both, adds_none, sent}
 use Rattle.reasons_text.specs.Answers.{CaseParts, ranked_back, withdrew}
 use Rattle.reasons_text.specs.Lines.{ended, first_line, has_withdrawn, lines, ranked, text_on}
 use Rattle.reasons_text.specs.Naming.{Naming}
@@ -56,12 +56,11 @@ row_next contents f ks vs k a b start old new in_ks in_vs e w so_far more =
     subst (Adds contents start new) (sym (taken_next f (enumerate_from 1 pairs) k (k + 1, (a, b)) within here)) (adds_both contents start old new _ _ so_far more)
 
 -- the first line, and a line on each programme
-pub text_made : (names : Naming) (without_ranks : Bool) (r : ℕ) (own with_own : Option ℕ) (programmes : List ℕ) (reasons : List Why) (listed back gone : ℕ)
-    (old mid new : List ℕ) → listed ≡ length reasons → back ≡ count_by ranked_back reasons → gone ≡ count_by withdrew reasons → with_own ≡ own
-    → mid ≡ old ++ ended names r with_own programmes ++ ranked (has_withdrawn names r) listed back gone → new ≡ mid ++ lines names without_ranks r programmes reasons
+pub text_made : (names : Naming) (without_ranks : Bool) (r : ℕ) (own with_own : Option ℕ) (programmes : List ℕ) (reasons : List Why) (old mid new : List ℕ) →
+    with_own ≡ own → mid ≡ old ++ first_line names r with_own programmes reasons → new ≡ mid ++ lines names without_ranks r programmes reasons
     → new ≡ old ++ text_on names without_ranks r own programmes reasons
-text_made names without_ranks r own with_own programmes reasons listed back gone old mid new many ranked_too left same first rest =
-    rest ∙ ap (λ (t : List ℕ). t ++ lines names without_ranks r programmes reasons) ((rw (many, ranked_too, left, same) at first) ∙ append_assoc old _ _)
+text_made names without_ranks r own with_own programmes reasons old mid new same first rest =
+    rest ∙ ap (λ (t : List ℕ). t ++ lines names without_ranks r programmes reasons) (rw same at first)
     ∙ append_assoc old (first_line names r own programmes reasons) (lines names without_ranks r programmes reasons)
 
 -- a text of this kind that was added to nothing

@@ -5,3 +5,11 @@ pub mod Naming
 pub mod Lines
 pub mod Table
 pub mod Texts
+pub mod Faults
+pub mod Line
+pub mod Program
+pub mod Shown
+pub mod Delimiter
+pub mod Keys
+pub mod Numbers
+pub mod Files

@@ -1,5 +1,5 @@
 -- The lines on a resident: the first one, and one on each programme of its record.
-use Rattle.std.specs.Prelude.{ℕ, ◌+◌, ◌-◌, ◌^◌, ◌%◌, ◌==◌, ◌&&◌, min, nat_lt, Bool, true, false, if◌then◌else◌, Option, Some, None, List, ◌++◌, length, codes, count_by, decimal}
+use Rattle.std.specs.Prelude.{ℕ, ◌+◌, ◌-◌, ◌^◌, ◌%◌, ◌==◌, ◌&&◌, min, nat_lt, Bool, true, false, if◌then◌else◌, Option, Some, None, List, ◌++◌, length, codes, count_by, decimal, slice_get}
 use Rattle.std.specs.List.{flat_map, position_from, zip}
 use Rattle.match_model.specs.Instance.{is_withdrawn}
 use Rattle.match_reasons.specs.declared.reason.Why.{Why}
@@ -69,20 +69,39 @@ abbrev pub lines : Naming → Bool → ℕ → List ℕ → List Why → List �
 lines names without_ranks r programmes reasons =
     flat_map (λ (told : ℕ × Why). line names without_ranks r told.0 told.1) (zip programmes reasons)
 
--- how the match ended for a resident that is with the programme of this name, which is this choice of so many
-unfoldable pub matched : List ℕ → Option ℕ → ℕ → List ℕ
-matched name None listed = codes "You are matched with " ++ (name ++ codes ", which is not on your list.")
-matched name (Some choice) listed =
+-- a resident is with the programme of this name, which is this choice of so many
+unfoldable pub as_choice : List ℕ → ℕ → ℕ → List ℕ
+as_choice name choice listed =
     codes "You are matched with " ++ (name ++ (codes ", your " ++ (place_text choice ++ (codes " choice of " ++ (decimal listed ++ codes ".")))))
 
+-- how the match ended for a resident that is with it, with this answer: the sheet isn't right where the programme withdrew or
+-- didn't rank the resident
+unfoldable pub given : List ℕ → ℕ → ℕ → Option Why → List ℕ
+given name choice listed None = as_choice name choice listed
+given name choice listed (Some Withdrawn) =
+    codes "This sheet is not right: it gives you " ++ (name ++ codes ", which withdrew from the match. Please tell the office.")
+given name choice listed (Some NotListed) = as_choice name choice listed
+given name choice listed (Some NotRanked) =
+    codes "This sheet is not right: it gives you " ++ (name ++ codes ", which did not rank you. Please tell the office.")
+given name choice listed (Some Matched) = as_choice name choice listed
+given name choice listed (Some (PrefersOwn own own_rank rank)) = as_choice name choice listed
+given name choice listed (Some (Full rank last_rank quota)) = as_choice name choice listed
+given name choice listed (Some Blocking) = as_choice name choice listed
+
+-- the same, of a programme that is this choice of the resident's, if it is one, where these are the answers on all choices
+unfoldable pub matched : List ℕ → Option ℕ → List Why → List ℕ
+matched name None reasons = codes "You are matched with " ++ (name ++ codes ", which is not on your list.")
+matched name (Some choice) reasons = given name choice (length reasons) (slice_get reasons choice)
+
 -- how the match ended for a resident that didn't withdraw
-unfoldable pub outcome : Naming → Option ℕ → List ℕ → List ℕ
-outcome names None programmes = codes "You are not matched."
-outcome names (Some own) programmes = matched (shown_programme names own) (position_from (λ p. p == own) 0 programmes) (length programmes)
+unfoldable pub outcome : Naming → Option ℕ → List ℕ → List Why → List ℕ
+outcome names None programmes reasons = codes "You are not matched."
+outcome names (Some own) programmes reasons = matched (shown_programme names own) (position_from (λ p. p == own) 0 programmes) reasons
 
 -- how the match ended for resident r
-unfoldable pub ended : Naming → ℕ → Option ℕ → List ℕ → List ℕ
-ended names r own programmes = if has_withdrawn names r then codes "You withdrew from the match." else outcome names own programmes
+unfoldable pub ended : Naming → ℕ → Option ℕ → List ℕ → List Why → List ℕ
+ended names r own programmes reasons =
+    if has_withdrawn names r then codes "You withdrew from the match." else outcome names own programmes reasons
 
 -- the word for so many programmes
 unfoldable pub programmes_word : ℕ → List ℕ
@@ -99,7 +118,7 @@ ranked withdrawn listed back gone =
 -- the first line on resident r, which is with its own programme, if it has one
 abbrev pub first_line : Naming → ℕ → Option ℕ → List ℕ → List Why → List ℕ
 first_line names r own programmes reasons =
-    ended names r own programmes
+    ended names r own programmes reasons
     ++ ranked (has_withdrawn names r) (length reasons) (count_by ranked_back reasons) (count_by withdrew reasons)
 
 -- the first line on resident r, and a line on each of these programmes

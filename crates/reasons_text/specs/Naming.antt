@@ -1,49 +1,152 @@
--- The names by which members are shown.
-use Rattle.std.specs.Prelude.{◌≡◌, ◌⊎◌, ℕ, ◌==◌, if◌then◌else◌, Option, Some, None, List, [], length, map, slice_get, unwrap_or, string_bytes}
+-- The names by which members are shown and asked about.
+use Rattle.std.specs.Prelude.{◌≡◌, ◌≢◌, ℕ, ◌<◌, ◌==◌, nat_lt, ◌&&◌, ◌||◌, Bool, true, false, if◌then◌else◌, Option, Some, None, List, [], ◌++◌, codes, length, map, slice_get, unwrap_or, string_bytes}
+use Rattle.std.specs.Str.{bytes_eq}
 use Rattle.docket.specs.Contents.{Contents}
-use Rattle.docket.specs.Texts.{programme_name, resident_name}
+use Rattle.docket.specs.Texts as texts
 use Rattle.reasons_text.specs.declared.key.Key.{Key}
-use Rattle.reasons_text.specs.declared.key.Names.{Names}
+use Rattle.reasons_text.specs.declared.key.SideKey.{SideKey}
+use Rattle.reasons_text.specs.declared.names.Names.{Names}
+use Rattle.reasons_text.specs.declared.names.Meant.{Meant}
+use Rattle.reasons_text.specs.declared.names.Meant.TheVariants.{Nobody, One, Several}
+use Rattle.reasons_text.specs.declared.side.Side.{Side}
+use Rattle.reasons_text.specs.declared.side.Side.TheVariants.{Programmes, Residents}
 
--- a docket, and by member the real name, which is empty where there is none
+-- a key's names of one side, by member: the real name, what tells members of one name apart, and what is shown where another
+-- has the name; each is empty where there is none
+pub record SideNames : Type 0 where
+  pub names : List (List ℕ)
+  pub signs : List (List ℕ)
+  pub labels : List (List ℕ)
+
+abbrev pub side_of : SideKey → SideNames
+side_of key = record {
+  names = map string_bytes key.names.items;
+  signs = map string_bytes key.signs.items;
+  labels = map string_bytes key.labels.items;
+}
+
+-- a key's names of both sides
+pub record KeyNames : Type 0 where
+  pub residents : SideNames
+  pub programmes : SideNames
+
+abbrev pub both_of : Key → KeyNames
+both_of key = record { residents = side_of key.residents; programmes = side_of key.programmes }
+
+-- a docket, and a key's names of both sides
 pub record Naming : Type 0 where
   pub docket : Contents
-  pub residents : List (List ℕ)
-  pub programmes : List (List ℕ)
+  pub residents : SideNames
+  pub programmes : SideNames
 
 -- the names as the program has them
 abbrev pub naming_of : Names → Naming
 naming_of names = record {
   docket = names.docket.now;
-  residents = map string_bytes names.key.now.residents.items;
-  programmes = map string_bytes names.key.now.programmes.items;
+  residents = side_of names.key.now.residents;
+  programmes = side_of names.key.now.programmes;
 }
 
--- no real name
-abbrev pub HasNoNames : Key → Type 0
-HasNoNames key = (key.residents.items ≡ []) × (key.programmes.items ≡ [])
+-- no real names
+abbrev pub no_names : SideNames
+no_names = record { names = []; signs = []; labels = [] }
 
--- a name, unless it is empty
+-- the docket's own names, and no others
+abbrev pub own_names : Contents → Naming
+own_names d = record { docket = d; residents = no_names; programmes = no_names }
+
+abbrev pub HasNoNames : SideKey → Type 0
+HasNoNames key = side_of key ≡ no_names
+
+abbrev pub IsKeyless : Naming → Type 0
+IsKeyless names = (names.residents ≡ no_names) × (names.programmes ≡ no_names)
+
+-- the names of a side in the key, and in the docket
+abbrev pub names_in : Naming → Side → SideNames
+names_in names Programmes = names.programmes
+names_in names Residents = names.residents
+
+abbrev pub docket_names : Contents → Side → List (List ℕ)
+docket_names d Programmes = d.programmes
+docket_names d Residents = d.residents
+
+-- how many members a side has in the docket
+abbrev pub member_count : Contents → Side → ℕ
+member_count d Programmes = length d.instance.quotas
+member_count d Residents = length d.instance.resident_lists
+
+-- the docket's name of a member
+abbrev pub docket_name : Contents → Side → ℕ → List ℕ
+docket_name d Programmes n = texts.programme_name d n
+docket_name d Residents n = texts.resident_name d n
+
+-- a text, unless it is empty
 abbrev pub unless_empty : Option (List ℕ) → Option (List ℕ)
 unless_empty None = None
-unless_empty (Some name) = if length name == 0 then None else Some name
+unless_empty (Some text) = if length text == 0 then None else Some text
 
--- the real name in this place, if there is one
-unfoldable pub real_name : List (List ℕ) → ℕ → Option (List ℕ)
-real_name names place = unless_empty (slice_get names place)
+-- the text in this place, if there is one
+unfoldable pub text_at : List (List ℕ) → ℕ → Option (List ℕ)
+text_at texts place = unless_empty (slice_get texts place)
 
--- the name by which a resident is shown: its real one, or the docket's
-unfoldable pub shown_resident : Naming → ℕ → List ℕ
-shown_resident names r = unwrap_or (real_name names.residents r) (resident_name names.docket r)
+-- a name and its sign, as the office writes them: NAME (ID)
+unfoldable pub label_of : List ℕ → List ℕ → List ℕ
+label_of name sign = name ++ (codes " (" ++ (sign ++ codes ")"))
 
--- the name by which a programme is shown
-unfoldable pub shown_programme : Naming → ℕ → List ℕ
-shown_programme names p = unwrap_or (real_name names.programmes p) (programme_name names.docket p)
+-- the name by which a member is shown: its label where another has its name, its real one, or the docket's
+unfoldable pub shown : Naming → Side → ℕ → List ℕ
+shown names side n =
+    unwrap_or (text_at (names_in names side).labels n) (unwrap_or (text_at (names_in names side).names n) (docket_name names.docket side n))
 
--- the name means resident r: it is its real one, or the docket's
-abbrev pub MeansResident : Naming → List ℕ → ℕ → Type 0
-MeansResident names name r = (real_name names.residents r ≡ Some name) ⊎ (resident_name names.docket r ≡ name)
+abbrev pub shown_resident : Naming → ℕ → List ℕ
+shown_resident names r = shown names Residents r
 
--- the name means programme p
-abbrev pub MeansProgramme : Naming → List ℕ → ℕ → Type 0
-MeansProgramme names name p = (real_name names.programmes p ≡ Some name) ⊎ (programme_name names.docket p ≡ name)
+abbrev pub shown_programme : Naming → ℕ → List ℕ
+shown_programme names p = shown names Programmes p
+
+-- the text is the name that a member has in the key, if it has one, its sign, or its label
+unfoldable pub is_by_key : Option (List ℕ) → Option (List ℕ) → List ℕ → Bool
+is_by_key None sign text = false
+is_by_key (Some name) sign text = bytes_eq name text || (bytes_eq (unwrap_or sign []) text || bytes_eq (label_of name (unwrap_or sign [])) text)
+
+-- the text means a member of a side: it is the docket's name, the real one, the ID, or the real name with the ID
+unfoldable pub means : Naming → Side → List ℕ → ℕ → Bool
+means names side text n =
+    (nat_lt n (member_count names.docket side) && bytes_eq (docket_name names.docket side n) text)
+    || is_by_key (text_at (names_in names side).names n) (text_at (names_in names side).signs n) text
+
+-- of the first n of a side the text means nobody, this one alone, or more than one
+abbrev pub IsMeantBelow : (ℕ → Bool) → ℕ → Meant → Type 0
+IsMeantBelow test n Nobody = (k : ℕ) → k < n → test k ≡ false
+IsMeantBelow test n (One r) = (r < n) × ((test r ≡ true) × ((k : ℕ) → k < n → test k ≡ true → k ≡ r))
+IsMeantBelow test n Several = (a : ℕ) × ((b : ℕ) × ((a < b) × ((b < n) × ((test a ≡ true) × (test b ≡ true)))))
+
+-- whom it means where it means this one too
+abbrev pub also_of : Meant → ℕ → Meant
+also_of Nobody n = One n
+also_of (One r) n = Several
+also_of Several n = Several
+
+-- this is whom the text means, of all who have names
+pub record IsMeant (names : Naming) (side : Side) (text : List ℕ) (meant : Meant) : Type 0 where
+  pub named : ℕ
+  pub all : (k : ℕ) → means names side text k ≡ true → k < named
+  pub is : IsMeantBelow (means names side text) named meant
+
+-- a member of the docket is meant, and nobody else
+pub record MeansAlone (names : Naming) (side : Side) (text : List ℕ) (n : ℕ) : Type 0 where
+  pub member : n < member_count names.docket side
+  pub is_meant : means names side text n ≡ true
+  pub alone : (k : ℕ) → means names side text k ≡ true → k ≡ n
+
+-- two are meant
+pub record MeansTwo (names : Naming) (side : Side) (text : List ℕ) : Type 0 where
+  pub one : ℕ
+  pub other : ℕ
+  pub apart : one < other
+  pub first : means names side text one ≡ true
+  pub second : means names side text other ≡ true
+
+-- no member of the docket is meant
+abbrev pub MeansNoMember : Naming → Side → List ℕ → Type 0
+MeansNoMember names side text = (k : ℕ) → k < member_count names.docket side → means names side text k ≡ false

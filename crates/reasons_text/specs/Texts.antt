@@ -1,17 +1,19 @@
 -- The text that answers a question.
-use Rattle.std.specs.Prelude.{◌≡◌, ℕ, Bool, Option, Some, None, List, [], ◌++◌, length, slice_get}
+use Rattle.std.specs.Prelude.{◌≡◌, ℕ, Bool, false, Option, Some, None, List, [], ◌++◌, length, slice_get}
 use Rattle.std.specs.List.{flat_map}
 use Rattle.match_model.specs.Placement.{programme_of}
 use Rattle.match_reasons.specs.declared.reason.Why.{Why}
 use Rattle.std.specs.Io.KnownBytes.{Appends}
 use Rattle.docket.specs.Contents.{Contents}
-use Rattle.docket.specs.RowText.{Adds, row}
+use Rattle.row_writer.specs.RowText.{Adds, row}
 use Rattle.docket.specs.Texts.{programme_name, resident_name}
 use Rattle.docket.specs.WithLists.{IsReadWithLists}
-use Rattle.docket.specs.declared.row_writer.RowWriter.{RowWriter}
+use Rattle.row_writer.specs.declared.writer.RowWriter.{RowWriter}
 use Rattle.reasons_text.specs.Answers.{AreAnswers, AreOfRecord, CaseParts, IsAnswer}
 use Rattle.reasons_text.specs.Lines.{line, text_on}
-use Rattle.reasons_text.specs.Naming.{MeansProgramme, MeansResident, Naming}
+use Rattle.reasons_text.specs.Keys.{AreNames}
+use Rattle.reasons_text.specs.Naming.{MeansAlone, Naming, own_names}
+use Rattle.reasons_text.specs.declared.side.Side.TheVariants.{Programmes, Residents}
 use Rattle.reasons_text.specs.Table.{columns, rows_on}
 use Rattle.reasons_text.specs.Told.{IsTold}
 use Rattle.reasons_text.specs.declared.answering.Told.{Told}
@@ -59,11 +61,12 @@ IsTextOf c names without_ranks All text = IsTable c names without_ranks text
 IsTextOf c names without_ranks (Resident r) text = IsTextOn c names without_ranks r text
 IsTextOf c names without_ranks (Pair r p) text = IsLineOn c names without_ranks r p text
 
--- the question is about all, about the resident of its name, or about the resident and the programme of its names
+-- the question is about all, about the only resident that its name means, or about the only resident and the only programme
+-- that its names mean
 abbrev pub Asks : Naming → Asked → Told → Type 0
 Asks names asked.All All = Unit {0}
-Asks names (asked.Resident name) (Resident r) = MeansResident names name.now r
-Asks names (asked.Pair resident programme) (Pair r p) = MeansResident names resident.now r × MeansProgramme names programme.now p
+Asks names (asked.Resident name) (Resident r) = MeansAlone names Residents name.now r
+Asks names (asked.Pair resident programme) (Pair r p) = MeansAlone names Residents resident.now r × MeansAlone names Programmes programme.now p
 Asks names question told = ⊥
 
 -- each name of the question is the docket's own
@@ -76,8 +79,7 @@ AsksByDocket docket question told = ⊥
 -- the text answers the question over this docket; the names are the docket's own, unless there is a key
 pub record Answers (c : CaseParts) (key : Option (List ℕ)) (question : Asked) (without_ranks : Bool) (text : List ℕ) : Type 0 where
   pub names : Naming
-  pub docket : names.docket ≡ c.docket
-  pub keyless : key ≡ None → (names.residents ≡ []) × (names.programmes ≡ [])
+  pub names_are : AreNames c.docket key names
   pub told : Told
   pub member : IsTold c.docket.instance told
   pub asks : Asks names question told
@@ -97,6 +99,12 @@ pub record AddsRows {W : Type 0} (contents : W → Option (List ℕ)) (c : CaseP
   pub texts : List (List ℕ)
   pub rows : AreRowsBelow c names without_ranks n texts
   pub added : Adds contents old new (flat_map (λ t. t) texts)
+
+-- the rows on resident r were added, by the docket's own names and with the ranks
+pub record AddsOwnRows {W : Type 0} (contents : W → Option (List ℕ)) (c : CaseParts) (r : ℕ) (old new : RowWriter W) : Type 0 where
+  pub text : List ℕ
+  pub rows : AreRowsOn c (own_names c.docket) false r text
+  pub added : Adds contents old new text
 
 -- what was appended, if it is known, is a text of this kind
 pub record AppendsText (Wanted : List ℕ → Type 0) (old new : Option (List ℕ)) : Type 0 where

@@ -1,21 +1,23 @@
 //! From bytes to sentences and rows.
-ghost use Rattle.std.specs.Prelude.{◌≡◌, ◌≢◌, ◌++◌, length, IfErr, IfOk, None, OnOk, Some, option_copied, string_bytes};
+ghost use Rattle.std.specs.Prelude.{◌≡◌, ◌≢◌, ◌++◌, length, IfErr, IfOk, IfSome, IsSomeAnd, None, OnOk, Some, option_copied, string_bytes};
+ghost use Rattle.reasons_text.specs.Keys.{IsKeyOf};
 ghost use Rattle.match_model.specs.Instance.{IsProgramme, IsResident};
-ghost use Rattle.docket.specs.RowText.{Adds};
+ghost use Rattle.row_writer.specs.RowText.{Adds};
 ghost use Rattle.reasons_text.specs.Lines.{lines};
-ghost use Rattle.reasons_text.specs.Naming.{HasNoNames, MeansProgramme, MeansResident, naming_of};
+ghost use Rattle.reasons_text.specs.Faults.{IsAskedFault, IsKeyFault, IsNameFault, IsServeFault, IsTellFault, IsTextFault};
+ghost use Rattle.reasons_text.specs.Naming.{HasNoNames, MeansAlone, both_of, naming_of};
 ghost use Rattle.reasons_text.specs.Table.{rows_on};
-ghost use Rattle.reasons_text.specs.Texts.{AddsRows, Answers, AnswersFrom, AppendsText, Asks, IsLineOn, IsTable, IsTextOf, IsTextOn};
+ghost use Rattle.reasons_text.specs.Texts.{AddsOwnRows, AddsRows, Answers, AnswersFrom, AppendsText, Asks, IsLineOn, IsTable, IsTextOf, IsTextOn};
 ghost use Rattle.reasons_text.specs.Told.{IsTold};
 
-use crate::answers::count_answers;
 use crate::case::Case;
 use crate::fault::WhyFault;
-use crate::key::{Key, Names};
-use crate::naming::MemberNumbers;
-use crate::near::{unknown_programme, unknown_resident};
+use crate::key::Key;
+use crate::names::{Meant, Names};
+use crate::near::{several, unknown};
 use crate::question::Asked;
 use crate::sentences::{push_first_line, push_line};
+use crate::side::{Side, member_count};
 use crate::table::{push_columns, push_row};
 use docket::{Docket, DocketFault, RowWriter, WriteFailed, room_for_rows};
 use match_model::{ProgrammeNo, ResidentNo};
@@ -83,8 +85,7 @@ fn push_lines(
     let list = answers.programmes.as_slice();
     let reasons = answers.reasons.as_slice();
     let own = case.place_of(resident);
-    let tally = count_answers(reasons);
-    push_first_line(alloc, text, &manner.names, resident, own, list, tally)?;
+    push_first_line(alloc, text, &manner.names, resident, own, list, reasons)?;
     push_each(alloc, text, manner, resident, list, reasons)
 }
 
@@ -131,6 +132,31 @@ fn push_all_rows<W: Write>(
         let reasons = answers.reasons.as_slice();
         push_rows(rows, manner, resident, programmes, reasons)?;
     }
+    Ok(())
+}
+
+/// Adds the rows of all on one resident, by the docket's own names and with the ranks.
+pub fn push_rows_on<W: Write>(
+    alloc: Global,
+    rows: &mut RowWriter<'_, W>,
+    case: &Case,
+    resident: ResidentNo,
+) -> Result<(), DocketFault>
+    requires { IsResident case.now.docket.instance resident }
+    ensures { OnOk result (AddsOwnRows W.contents case.now resident rows.old rows.new) }
+{
+    let key = Key::none(alloc);
+    let manner = Manner {
+        names: Names {
+            docket: case.docket(),
+            key: &key,
+        },
+        without_ranks: false,
+    };
+    let answers = case.answers(alloc, resident)?;
+    let programmes = answers.programmes.as_slice();
+    let reasons = answers.reasons.as_slice();
+    push_rows(rows, &manner, resident, programmes, reasons)?;
     Ok(())
 }
 
@@ -216,58 +242,37 @@ fn told_text(alloc: Global, case: &Case, manner: &Manner, told: Told) -> Result<
     }
 }
 
-// The resident of this name. An unknown one is told with near ones.
-fn named_resident(
-    alloc: Global,
-    numbers: &MemberNumbers,
-    names: &Names,
-    name: &str,
-) -> Result<ResidentNo, WhyFault>
-    ensures member { IfOk result (IsResident names.now.docket.now.instance) }
-    ensures name { IfOk result (MeansResident (naming_of names.now) name.now) }
+// The member of a side whom a name means alone. A name that means nobody is told with near ones, and one that means more
+// than one with their labels.
+fn named(alloc: Global, names: &Names, side: Side, name: &str) -> Result<u32, WhyFault>
+    ensures name { IfOk result (MeansAlone (naming_of names.now) side name.now) }
+    ensures fault { IfErr result (IsNameFault (naming_of names.now) side name.now) }
 {
-    match names.find_resident(numbers, name) {
-        Some(resident) => Ok(resident),
-        None => Err(unknown_resident(alloc, names, name)?),
-    }
-}
-
-// The programme of this name. An unknown one is told with near ones.
-fn named_programme(
-    alloc: Global,
-    numbers: &MemberNumbers,
-    names: &Names,
-    name: &str,
-) -> Result<ProgrammeNo, WhyFault>
-    ensures member { IfOk result (IsProgramme names.now.docket.now.instance) }
-    ensures name { IfOk result (MeansProgramme (naming_of names.now) name.now) }
-{
-    match names.find_programme(numbers, name) {
-        Some(programme) => Ok(programme),
-        None => Err(unknown_programme(alloc, names, name)?),
+    match names.meant(alloc, side, name)? {
+        Meant::One(number) if number < member_count(names.docket, side) as usize => {
+            Ok(number as u32)
+        }
+        Meant::One(_) | Meant::Nobody => Err(unknown(alloc, names, side, name)?),
+        Meant::Several => Err(several(alloc, names, side, name)?),
     }
 }
 
 // Whom the question is about.
-fn told_of(
-    alloc: Global,
-    numbers: &MemberNumbers,
-    names: &Names,
-    asked: Asked,
-) -> Result<Told, WhyFault>
+fn told_of(alloc: Global, names: &Names, asked: Asked) -> Result<Told, WhyFault>
     ensures member { IfOk result (IsTold names.now.docket.now.instance) }
     ensures asks { IfOk result (Asks (naming_of names.now) asked.entry) }
+    ensures fault { IfErr result (IsAskedFault (naming_of names.now) asked.entry) }
 {
     match asked {
         Asked::All => Ok(Told::All),
         Asked::Resident(resident) => {
-            let resident = named_resident(alloc, numbers, names, resident)?;
-            Ok(Told::Resident(resident))
+            let resident = named(alloc, names, Side::Residents, resident)?;
+            Ok(Told::Resident(ResidentNo(resident)))
         }
         Asked::Pair(resident, programme) => {
-            let resident = named_resident(alloc, numbers, names, resident)?;
-            let programme = named_programme(alloc, numbers, names, programme)?;
-            Ok(Told::Pair(resident, programme))
+            let resident = named(alloc, names, Side::Residents, resident)?;
+            let programme = named(alloc, names, Side::Programmes, programme)?;
+            Ok(Told::Pair(ResidentNo(resident), ProgrammeNo(programme)))
         }
     }
 }
@@ -275,14 +280,16 @@ fn told_of(
 // The real names of a key, or none.
 fn key_of(
     alloc: Global,
+    keys: RandomState,
     docket: &Docket,
-    numbers: &MemberNumbers,
     key_bytes: Option<&[u8]>,
 ) -> Result<Key, WhyFault>
-    ensures { IfOk result (λ key. option_copied key_bytes.entry ≡ None → HasNoNames key) }
+    ensures none { IfOk result (λ key. option_copied key_bytes.entry ≡ None → HasNoNames key.residents × HasNoNames key.programmes) }
+    ensures key { IfOk result (λ key. IfSome (option_copied key_bytes.entry) (λ bytes. IsKeyOf docket.now bytes (both_of key))) }
+    ensures fault { IfErr result (λ fault. IsSomeAnd (option_copied key_bytes.entry) (λ bytes. IsKeyFault docket.now bytes fault)) }
 {
     match key_bytes {
-        Some(bytes) => Key::read(alloc, docket, numbers, bytes),
+        Some(bytes) => Key::read(alloc, keys, docket, bytes),
         None => Ok(Key::none(alloc)),
     }
 }
@@ -296,13 +303,13 @@ fn text_of(
     asked: Asked,
     without_ranks: bool,
 ) -> Result<Vec<u8>, WhyFault>
-    ensures { IfOk result (λ text. Answers case.now (option_copied key_bytes.entry) asked.entry without_ranks text.items) }
+    ensures text { IfOk result (λ text. Answers case.now (option_copied key_bytes.entry) asked.entry without_ranks text.items) }
+    ensures fault { IfErr result (IsTextFault case.now (option_copied key_bytes.entry) asked.entry) }
 {
     let docket = case.docket();
-    let numbers = MemberNumbers::of(alloc, keys, docket)?;
-    let key = key_of(alloc, docket, &numbers, key_bytes)?;
+    let key = key_of(alloc, keys, docket, key_bytes)?;
     let names = Names { docket, key: &key };
-    let told = told_of(alloc, &numbers, &names, asked)?;
+    let told = told_of(alloc, &names, asked)?;
     let manner = Manner {
         names,
         without_ranks,
@@ -324,6 +331,7 @@ pub fn serve_why<R: Read + Drop, W: Write, H: RandomSource>(
 ) -> Result<(), WhyFault>
     ensures text { OnOk result (AppendsText (AnswersFrom (R.remaining reader) (option_copied key_bytes.entry) asked.entry without_ranks)
         (W.contents writer.old) (W.contents writer.new)) }
+    ensures fault { IfErr result (IsServeFault (R.remaining reader) (option_copied key_bytes.entry) asked.entry) }
     ensures before { IfErr result (λ fault. fault ≢ WhyFault.Docket DocketFault.Write → writer.new ≡ writer.old) }
 {
     let text = match read_and_tell(rt, alloc, reader, asked, without_ranks, key_bytes) {
@@ -345,7 +353,8 @@ fn read_and_tell<R: Read + Drop, H: RandomSource>(
     without_ranks: bool,
     key_bytes: Option<&[u8]>,
 ) -> Result<Vec<u8>, WhyFault>
-    ensures { IfOk result (λ text. AnswersFrom (R.remaining reader) (option_copied key_bytes.entry) asked.entry without_ranks text.items) }
+    ensures text { IfOk result (λ text. AnswersFrom (R.remaining reader) (option_copied key_bytes.entry) asked.entry without_ranks text.items) }
+    ensures fault { IfErr result (IsTellFault (R.remaining reader) (option_copied key_bytes.entry) asked.entry) }
 {
     let Ok(keys) = RandomState::new(rt) else {
         return Err(WhyFault::Docket(DocketFault::Read { place: 1 }));

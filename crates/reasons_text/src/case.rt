@@ -1,9 +1,10 @@
 //! What every answer is made from: a docket with a sheet, and its lists as they were written.
-ghost use Rattle.std.specs.Prelude.{◌≡◌, IfOk, Some};
+ghost use Rattle.std.specs.Prelude.{◌≡◌, IfErr, IfOk, Some};
 ghost use Rattle.docket.specs.WithLists.{IsReadWithLists};
 ghost use Rattle.match_model.specs.Instance.{IsProgramme, IsResident, list_at};
 ghost use Rattle.match_model.specs.Placement.{programme_of};
 ghost use Rattle.match_reasons.specs.Reason.{IsTaken};
+ghost use Rattle.reasons_text.specs.Faults.{IsCaseFault};
 ghost use Rattle.reasons_text.specs.Answers.{AreAnswers, AreOfRecord, AreTaken, IsAnswer, IsCase, case_of};
 
 use crate::answers::Answers;
@@ -139,6 +140,7 @@ impl Case {
     ) -> Result<Case, WhyFault>
         ensures read { IfOk result (λ case. IsReadWithLists (R.remaining reader) case.docket case.written) }
         ensures sheet { IfOk result (λ case. case.docket.sheet ≡ Some case.sheet) }
+        ensures fault { IfErr result (IsCaseFault (R.remaining reader)) }
     {
         let (docket, lists) = match read_docket_with_lists(rt, alloc, reader) {
             Ok(read) => read,

@@ -4,6 +4,7 @@ ghost use Rattle.docket.specs.declared.fault.DocketFault.TheVariants as docket_f
 ghost use Rattle.reasons_text.specs.declared.fault.WhyFault.TheVariants.{Docket};
 
 use docket::DocketFault;
+use docket_parts::{Part, PartFault};
 use std::alloc::AllocError;
 use thiserror::Error;
 
@@ -19,11 +20,17 @@ pub enum WhyFault {
     /// The file with the real names could not be read.
     #[error("the key could not be read")]
     KeyUnread,
-    /// A row of the key isn't a side, a name of the docket and a real name.
+    /// A row of the key isn't a side, a name and a real name.
     #[error("record {place} of the key: not a side, a name and a real name")]
     BadKey {
         /// The record, from 1.
-        place: u32,
+        place: u64,
+    },
+    /// A member has a row of the key before.
+    #[error("record {place} of the key: that member has a row before")]
+    DoubledKey {
+        /// The record, from 1.
+        place: u64,
     },
     /// No resident has the name; with what is told of it.
     #[error("{0}")]
@@ -31,6 +38,45 @@ pub enum WhyFault {
     /// No programme has the name; with what is told of it.
     #[error("{0}")]
     NoProgramme(String),
+    /// More than one resident has the name; with who they are.
+    #[error("{0}")]
+    ManyResidents(String),
+    /// More than one programme has the name; with which they are.
+    #[error("{0}")]
+    ManyProgrammes(String),
+    /// A record of the docket, or of the sheet's file, belongs to another part or to none.
+    #[error(transparent)]
+    Part(PartFault),
+    /// The records of both have this fault, in this file, and its place is that in the file.
+    #[error("{fault}")]
+    Records {
+        /// The docket, or the sheet's file.
+        file: Part,
+        /// The fault.
+        fault: DocketFault,
+    },
+    /// The sheet's file has no record.
+    #[error("no sheet")]
+    EmptySheet,
+    /// The sheet's file could not be read.
+    #[error("the sheet could not be read")]
+    SheetUnread,
+    /// The docket beside a sheet's file could not be read.
+    #[error("the input could not be read")]
+    InputUnread,
+}
+
+impl WhyFault {
+    // The file at fault, if it is the docket's or the sheet's.
+    pub(crate) fn file(&self) -> Option<Part> {
+        match self {
+            WhyFault::Part(PartFault::AnotherPart { file, .. })
+            | WhyFault::Part(PartFault::UnknownKind { file, .. })
+            | WhyFault::Records { file, .. } => Some(*file),
+            WhyFault::EmptySheet => Some(Part::Sheet),
+            _ => None,
+        }
+    }
 }
 
 impl From<AllocError> for WhyFault {

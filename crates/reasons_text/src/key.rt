@@ -1,36 +1,63 @@
 //! The members' names as people know them.
+ghost use Rattle.std.specs.Prelude.{◌≡◌, ◌⊎◌, ◌==◌, ◌&&◌, if◌then◌else◌, [], IfErr, IfOk, None, OnOk, Some, length, map, true, option_copied, option_map, replicate, slice_set, string_bytes};
+ghost use Rattle.std.specs.Str.{is_utf8};
+ghost use Rattle.csv.specs.Reading.{ReadRecord, Ready, reader_config, reader_state, reader_trim, source_of, strip_bom};
+ghost use Rattle.csv.specs.Records.{fields_of};
+ghost use Rattle.csv.specs.declared.parser.State.TheVariants as st;
+ghost use Rattle.csv.specs.declared.reader.Trim.TheVariants as trim;
+ghost use Rattle.docket.specs.Fields.{field as field_in};
+ghost use Rattle.reasons_text.specs.Faults.{IsFaultOrMemory, IsKeyFault};
+ghost use Rattle.reasons_text.specs.Keys.{AddsAll, HasBadRow, IsKeyOf, added, is_free, key_config, noted, row_fault, row_side, side_fault, sign_in, unnamed, unnamed_side, with_row};
+ghost use Rattle.reasons_text.specs.Keys.{is_blank as is_blank_row};
+ghost use Rattle.reasons_text.specs.Naming.{HasNoNames, both_of, label_of, side_of, text_at};
+ghost use Rattle.reasons_text.specs.Numbers.{AreNumbers};
+ghost use Rattle.reasons_text.specs.Shown.{shown_text};
 
-ghost use Rattle.std.specs.Prelude.{◌≡◌, IfSome, Some, map, option_copied, string_bytes, true};
-ghost use Rattle.match_model.specs.Instance.{IsProgramme, IsResident};
-ghost use Rattle.docket.specs.Texts as texts;
-ghost use Rattle.reasons_text.specs.Lines.{has_withdrawn};
-ghost use Rattle.reasons_text.specs.Naming as naming;
-ghost use Rattle.reasons_text.specs.Naming.{HasNoNames, MeansProgramme, MeansResident, naming_of, shown_programme, shown_resident};
-
+use crate::delimiter::delimiter_of;
 use crate::fault::WhyFault;
+use crate::labels::labels;
 use crate::naming::MemberNumbers;
+use crate::shown::push_shown;
+use crate::side::{Side, member_count};
 use csv::{ByteRecord, Reader, ReaderBuilder};
 use docket::{Docket, DocketFault};
-use match_model::{ProgrammeNo, ResidentNo};
 use std::alloc::{AllocError, Global};
+use std::hash::RandomState;
 
-/// By member the real name, which is empty where there is none.
+/// The names of one side's members, by number, and after them those of rows whose member isn't in the docket. A name and a
+/// sign are empty where there is no row, and a label where nobody else has the name.
+#[derive(Drop)]
+pub(crate) struct SideKey {
+    /// The real names.
+    pub(crate) names: Vec<String>,
+    /// What tells members of one name apart: the ID, or the docket's name where there is none.
+    pub(crate) signs: Vec<String>,
+    /// How a member is shown whose name another has: `NAME (ID)`.
+    pub(crate) labels: Vec<String>,
+}
+
+/// The names of both sides.
 #[derive(Drop)]
 pub(crate) struct Key {
-    residents: Vec<String>,
-    programmes: Vec<String>,
+    pub(crate) residents: SideKey,
+    pub(crate) programmes: SideKey,
 }
 
 // Field `i` of a row, from 0, which is empty past the end.
-fn field(row: &ByteRecord, i: usize) -> &[u8] {
+#[tactic(auto, unfolding(docket::specs::Fields::field))]
+fn field(row: &ByteRecord, i: usize) -> &[u8]
+    ensures { result.now ≡ field_in (fields_of row.now) i }
+{
     match row.get(i) {
         Some(text) => text,
         None => &[],
     }
 }
 
-// So many empty names.
-fn empty_names(alloc: Global, count: u32) -> Result<Vec<String>, AllocError> {
+// So many empty texts.
+fn empty_texts(alloc: Global, count: u32) -> Result<Vec<String>, AllocError>
+    ensures { IfOk result (λ texts. map string_bytes texts.items ≡ replicate count []) }
+{
     let mut names = Vec::new(alloc);
     for _n in 0..count {
         names.push(String::new(alloc))?;
@@ -38,234 +65,281 @@ fn empty_names(alloc: Global, count: u32) -> Result<Vec<String>, AllocError> {
     Ok(names)
 }
 
-// Notes a name, if there is such a place.
-fn note(names: &mut Vec<String>, place: u32, name: String) {
-    if let Some(slot) = names.get_mut(place as usize) {
-        *slot = name;
+/// The text in its place, unless it is empty or there is none.
+#[tactic(auto, unfolding(crate::specs::Naming::text_at))]
+pub(crate) fn text_in(texts: &[String], place: usize) -> Option<&str>
+    ensures { option_copied result ≡ text_at (map string_bytes texts.now) place }
+{
+    match texts.get(place) {
+        Some(text) if !text.is_empty() => Some(text.as_str()),
+        _ => None,
     }
 }
 
-// What parts the fields of a key: the one of comma, semicolon and tab that its first line with one has most often, outside
-// quotes.
-fn delimiter(bytes: &[u8]) -> u8 {
-    let mut commas = 0u64;
-    let mut semicolons = 0u64;
-    let mut tabs = 0u64;
-    let mut is_quoted = false;
-    for c in bytes {
-        match *c {
-            b'"' => is_quoted = !is_quoted,
-            _ if is_quoted => {}
-            b',' => commas = commas.saturating_add(1),
-            b';' => semicolons = semicolons.saturating_add(1),
-            b'\t' => tabs = tabs.saturating_add(1),
-            b'\n' if commas > 0 || semicolons > 0 || tabs > 0 => break,
-            _ => {}
+/// A name and its sign, as the office writes them: `NAME (ID)`.
+#[tactic(auto, unfolding(crate::specs::Naming::label_of))]
+pub(crate) fn label_text(alloc: Global, name: &str, sign: &str) -> Result<String, AllocError>
+    ensures { IfOk result (λ text. string_bytes text ≡ label_of name.now sign.now) }
+{
+    format!(in alloc; "{name} ({sign})")
+}
+
+// A text of a row, as it is shown, unless it is no text.
+#[tactic(auto, using(crate::proofs::TextFacts::is_text, crate::proofs::TextFacts::no_text))]
+fn row_text(alloc: Global, text: &[u8]) -> Result<Option<String>, AllocError>
+    ensures { IfOk result (λ shown. option_map string_bytes shown ≡ (if is_utf8 text.now then Some (shown_text text.now) else None)) }
+{
+    let Ok(text) = str::from_utf8(text) else {
+        return Ok(None);
+    };
+    let mut shown = String::new(alloc);
+    push_shown(&mut shown, text)?;
+    Ok(Some(shown))
+}
+
+// What tells a row's member apart: the ID, or the docket's name where there is none.
+fn sign(row: &ByteRecord) -> &[u8]
+    ensures { result.now ≡ sign_in (fields_of row.now) }
+{
+    let id = field(row, 3);
+    if id.len() == 0 { field(row, 1) } else { id }
+}
+
+// The side that a row is of, by its first field.
+#[tactic(auto, unfolding(docket::specs::Fields::field))]
+fn side_of_row(row: &ByteRecord) -> Option<Side>
+    ensures { result ≡ row_side (fields_of row.now) }
+{
+    match field(row, 0) {
+        b"P" => Some(Side::Programmes),
+        b"R" => Some(Side::Residents),
+        _ => None,
+    }
+}
+
+// Whether there is no word so far, nor in this text.
+fn both_blank(blank: bool, text: &[u8]) -> bool
+    ensures { result ≡ (blank && length text.now == 0) }
+{
+    blank && text.is_empty()
+}
+
+// Whether no field of a row has a word.
+fn is_blank(row: &ByteRecord) -> bool
+    ensures { result ≡ is_blank_row (fields_of row.now) }
+{
+    let mut blank = true;
+    for i in 0..row.len() {
+        blank = both_blank(blank, field(row, i));
+    }
+    blank
+}
+
+// Puts a text in its place, if there is such a place.
+fn put(texts: &mut Vec<String>, place: usize, text: String)
+    ensures { map string_bytes texts.new.items ≡ slice_set (map string_bytes texts.old.items) place (string_bytes text) }
+{
+    if let Some(slot) = texts.get_mut(place) {
+        *slot = text;
+    }
+}
+
+impl SideKey {
+    // No names.
+    fn none(alloc: Global) -> SideKey
+        ensures { HasNoNames result }
+    {
+        SideKey {
+            names: Vec::new(alloc),
+            signs: Vec::new(alloc),
+            labels: Vec::new(alloc),
         }
     }
-    if semicolons > commas && semicolons > tabs {
-        b';'
-    } else if tabs > commas {
-        b'\t'
-    } else {
-        b','
+
+    // No names of so many members.
+    fn empty(alloc: Global, count: u32) -> Result<SideKey, AllocError>
+        ensures { IfOk result (λ key. side_of key ≡ unnamed_side count) }
+    {
+        Ok(SideKey {
+            names: empty_texts(alloc, count)?,
+            signs: empty_texts(alloc, count)?,
+            labels: Vec::new(alloc),
+        })
+    }
+
+    // Notes the name and the sign of a member, or after all members those of one who isn't in the docket.
+    fn note(&mut self, number: Option<u32>, name: String, sign: String) -> Result<(), AllocError>
+        ensures { OnOk result (side_of self.new ≡ noted (side_of self.old) number (string_bytes name) (string_bytes sign)) }
+    {
+        let Some(number) = number else {
+            self.names.push(name)?;
+            self.signs.push(sign)?;
+            return Ok(());
+        };
+        put(&mut self.names, number as usize, name);
+        put(&mut self.signs, number as usize, sign);
+        Ok(())
+    }
+
+    // Whether the member has no row yet.
+    fn is_free(&self, number: Option<u32>) -> bool
+        ensures { result ≡ is_free (side_of self.now) number }
+    {
+        match number {
+            Some(number) => text_in(self.names.as_slice(), number as usize).is_none(),
+            None => true,
+        }
+    }
+
+    // Adds a row of this side.
+    #[tactic(auto, unfolding(crate::specs::Keys::side_fault))]
+    fn add(
+        &mut self,
+        alloc: Global,
+        numbers: &MemberNumbers,
+        side: Side,
+        row: &ByteRecord,
+        place: u64,
+    ) -> Result<(), WhyFault>
+        requires { AreNumbers numbers.now }
+        ensures row { OnOk result (side_of self.new ≡ with_row numbers.now.docket.now side (fields_of row.now) (side_of self.old)) }
+        ensures faultless { OnOk result (side_fault numbers.now.docket.now side (side_of self.old) place (fields_of row.now) ≡ None) }
+        ensures fault { IfErr result (IsFaultOrMemory (side_fault numbers.now.docket.now side (side_of self.old) place (fields_of row.now))) }
+    {
+        if field(row, 1).is_empty() || field(row, 2).is_empty() {
+            return Err(WhyFault::BadKey { place });
+        }
+        let number = numbers.number(side, field(row, 1));
+        if !self.is_free(number) {
+            return Err(WhyFault::DoubledKey { place });
+        }
+        let Some(name) = row_text(alloc, field(row, 2))? else {
+            return Err(WhyFault::BadKey { place });
+        };
+        let Some(sign) = row_text(alloc, sign(row))? else {
+            return Err(WhyFault::BadKey { place });
+        };
+        self.note(number, name, sign)?;
+        Ok(())
+    }
+}
+
+// A reader of the rows of a key.
+fn rows_of(alloc: Global, bytes: &[u8]) -> Reader<&[u8]>
+    ensures config { reader_config result ≡ key_config bytes.entry.now }
+    ensures trim { reader_trim result ≡ trim.None }
+    ensures ready { Ready result }
+    ensures state { reader_state result ≡ st.StartRecord }
+    ensures source { source_of (λ s. Some s.now) result ≡ Some (strip_bom bytes.entry.now) }
+{
+    ReaderBuilder::new()
+        .delimiter(delimiter_of(bytes))
+        .flexible(true)
+        .has_headers(false)
+        .from_reader(alloc, bytes)
+}
+
+// Reads the next row, and says whether there was one. A reader of bytes in memory fails for want of memory alone.
+fn next_row(reader: &mut Reader<&[u8]>, row: &mut ByteRecord) -> Result<bool, WhyFault>
+    requires plain { reader_trim reader.old ≡ trim.None }
+    requires ready { Ready reader.old }
+    ensures reads { IfOk result (λ found. ReadRecord (λ s. Some s.now) reader.old reader.new found (fields_of row.new)) }
+    ensures ready { IfOk result (λ found. found ≡ true → Ready reader.new) }
+    ensures memory { IfErr result (λ fault. fault ≡ WhyFault.Docket DocketFault.Memory) }
+{
+    let read = reader.read_byte_record(row);
+    match &read {
+        Ok(found) => Ok(*found),
+        Err(_) => Err(WhyFault::Docket(DocketFault::Memory)),
     }
 }
 
 impl Key {
     /// No real names.
     pub(crate) fn none(alloc: Global) -> Key
-        ensures { HasNoNames result }
+        ensures { HasNoNames result.residents × HasNoNames result.programmes }
     {
         Key {
-            residents: Vec::new(alloc),
-            programmes: Vec::new(alloc),
+            residents: SideKey::none(alloc),
+            programmes: SideKey::none(alloc),
         }
     }
 
-    /// The real names of a key's rows: `P,programme,name` and `R,resident,name`. Rows without a word are passed over, and
-    /// names that the docket doesn't have.
+    // No name of the docket's members.
+    fn unnamed(alloc: Global, docket: &Docket) -> Result<Key, AllocError>
+        ensures { IfOk result (λ key. both_of key ≡ unnamed docket.now) }
+    {
+        Ok(Key {
+            residents: SideKey::empty(alloc, member_count(docket, Side::Residents))?,
+            programmes: SideKey::empty(alloc, member_count(docket, Side::Programmes))?,
+        })
+    }
+
+    /// The names of a key's rows: `P,programme,name` and `R,resident,name`, and maybe an ID after them. Rows without a word
+    /// are passed over. Rows of members that the docket doesn't have give names that are taken.
     pub(crate) fn read(
         alloc: Global,
+        keys: RandomState,
         docket: &Docket,
-        numbers: &MemberNumbers,
         bytes: &[u8],
-    ) -> Result<Key, WhyFault> {
-        let mut key = Key {
-            residents: empty_names(alloc, docket.instance().residents())?,
-            programmes: empty_names(alloc, docket.instance().programmes())?,
-        };
-        let mut reader = ReaderBuilder::new()
-            .delimiter(delimiter(bytes))
-            .flexible(true)
-            .has_headers(false)
-            .from_reader(alloc, bytes);
-        key.add_all(alloc, docket, numbers, &mut reader)?;
+    ) -> Result<Key, WhyFault>
+        ensures key { IfOk result (λ key. IsKeyOf docket.now bytes.now (both_of key)) }
+        ensures fault { IfErr result (IsKeyFault docket.now bytes.now) }
+    {
+        let numbers = MemberNumbers::of(alloc, keys, docket)?;
+        let mut key = Key::unnamed(alloc, docket)?;
+        key.add_all(alloc, &numbers, bytes)?;
+        let residents = labels(alloc, keys, docket, Side::Residents, &key.residents)?;
+        let programmes = labels(alloc, keys, docket, Side::Programmes, &key.programmes)?;
+        key.residents.labels = residents;
+        key.programmes.labels = programmes;
         Ok(key)
     }
 
-    // Adds each row.
+    // Adds each row of a key's bytes.
     fn add_all(
         &mut self,
         alloc: Global,
-        docket: &Docket,
         numbers: &MemberNumbers,
-        reader: &mut Reader<&[u8]>,
-    ) -> Result<(), WhyFault> {
+        bytes: &[u8],
+    ) -> Result<(), WhyFault>
+        requires { AreNumbers numbers.now }
+        ensures all { OnOk result (AddsAll numbers.now.docket.now bytes.now (both_of self.old) (both_of self.new)) }
+        ensures fault { IfErr result (λ fault. (fault ≡ WhyFault.Docket DocketFault.Memory) ⊎ HasBadRow numbers.now.docket.now (both_of self.old) bytes.now fault) }
+    {
+        let mut reader = rows_of(alloc, bytes);
         let mut row = ByteRecord::new(alloc);
-        for place in 1..u32::MAX {
-            match reader.read_byte_record(&mut row) {
-                Ok(true) => self.add(alloc, docket, numbers, &row, place)?,
-                Ok(false) => break,
-                Err(_) => return Err(WhyFault::Docket(DocketFault::Memory)),
+        for before in 0..u64::MAX {
+            if !next_row(&mut reader, &mut row)? {
+                return Ok(());
             }
+            self.add(alloc, numbers, &row, before + 1)?;
         }
-        Ok(())
+        Err(WhyFault::Docket(DocketFault::Memory))
     }
 
-    // Adds one row.
+    // Adds one row, unless it has no word.
     fn add(
         &mut self,
         alloc: Global,
-        docket: &Docket,
         numbers: &MemberNumbers,
         row: &ByteRecord,
-        place: u32,
-    ) -> Result<(), WhyFault> {
-        if row.iter().all(|text| text.is_empty()) {
-            return Ok(());
-        }
-        let Ok(name) = str::from_utf8(field(row, 2)) else {
-            return Err(WhyFault::BadKey { place });
-        };
-        if name.is_empty() || field(row, 1).is_empty() {
-            return Err(WhyFault::BadKey { place });
-        }
-        let name = String::from_str(alloc, name)?;
-        match field(row, 0) {
-            b"P" => {
-                if let Some(programme) = numbers.programme(docket, field(row, 1)) {
-                    note(&mut self.programmes, programme.0, name);
-                }
-                Ok(())
-            }
-            b"R" => {
-                if let Some(resident) = numbers.resident(docket, field(row, 1)) {
-                    note(&mut self.residents, resident.0, name);
-                }
-                Ok(())
-            }
-            _ => Err(WhyFault::BadKey { place }),
-        }
-    }
-}
-
-/// The members' names as they are shown: the key's, where it has one, and else the docket's.
-#[derive(Clone, Copy)]
-pub(crate) struct Names<'a> {
-    pub(crate) docket: &'a Docket,
-    pub(crate) key: &'a Key,
-}
-
-// The name in its place, if there is one.
-#[tactic(auto, unfolding(crate::specs::Naming::real_name))]
-fn real_name(names: &[String], place: u32) -> Option<&str>
-    ensures { option_copied result ≡ naming.real_name (map string_bytes names.now) place }
-{
-    match names.get(place as usize) {
-        Some(name) if !name.is_empty() => Some(name.as_str()),
-        _ => None,
-    }
-}
-
-// Whether this is the name in that place.
-fn is_real_name(names: &[String], place: u32, name: &str) -> bool
-    ensures { result ≡ true → naming.real_name (map string_bytes names.now) place ≡ Some name.now }
-{
-    match real_name(names, place) {
-        Some(real) => real == name,
-        None => false,
-    }
-}
-
-// The docket's name of a resident, which is empty for a number that is nobody's.
-#[tactic(auto, using(crate::proofs::NobodyFacts::resident_nobody))]
-fn resident_name(docket: &Docket, resident: ResidentNo) -> &str
-    ensures { result.now ≡ texts.resident_name docket.now resident }
-{
-    if resident.0 < docket.instance().residents() {
-        docket.resident_name(resident)
-    } else {
-        ""
-    }
-}
-
-// The docket's name of a programme, which is empty for a number that is nobody's.
-#[tactic(auto, using(crate::proofs::NobodyFacts::programme_nobody))]
-fn programme_name(docket: &Docket, programme: ProgrammeNo) -> &str
-    ensures { result.now ≡ texts.programme_name docket.now programme }
-{
-    if programme.0 < docket.instance().programmes() {
-        docket.programme_name(programme)
-    } else {
-        ""
-    }
-}
-
-impl Names<'_> {
-    /// The name of a resident, which is empty for a number that is nobody's.
-    #[tactic(auto, unfolding(crate::specs::Naming::shown_resident))]
-    pub(crate) fn resident(&self, resident: ResidentNo) -> &str
-        ensures { result.now ≡ shown_resident (naming_of self.now) resident }
+        place: u64,
+    ) -> Result<(), WhyFault>
+        requires { AreNumbers numbers.now }
+        ensures row { OnOk result (both_of self.new ≡ added numbers.now.docket.now (both_of self.old) (fields_of row.now)) }
+        ensures faultless { OnOk result (row_fault numbers.now.docket.now (both_of self.old) place (fields_of row.now) ≡ None) }
+        ensures fault { IfErr result (IsFaultOrMemory (row_fault numbers.now.docket.now (both_of self.old) place (fields_of row.now))) }
     {
-        match real_name(self.key.residents.as_slice(), resident.0) {
-            Some(name) => name,
-            None => resident_name(self.docket, resident),
+        match side_of_row(row) {
+            Some(Side::Programmes) => self
+                .programmes
+                .add(alloc, numbers, Side::Programmes, row, place),
+            Some(Side::Residents) => self
+                .residents
+                .add(alloc, numbers, Side::Residents, row, place),
+            None if is_blank(row) => Ok(()),
+            None => Err(WhyFault::BadKey { place }),
         }
-    }
-
-    /// The name of a programme, which is empty for a number that is nobody's.
-    #[tactic(auto, unfolding(crate::specs::Naming::shown_programme))]
-    pub(crate) fn programme(&self, programme: ProgrammeNo) -> &str
-        ensures { result.now ≡ shown_programme (naming_of self.now) programme }
-    {
-        match real_name(self.key.programmes.as_slice(), programme.0) {
-            Some(name) => name,
-            None => programme_name(self.docket, programme),
-        }
-    }
-
-    /// Whether a resident withdrew.
-    pub(crate) fn resident_withdrew(&self, resident: ResidentNo) -> bool
-        ensures { result ≡ has_withdrawn (naming_of self.now) resident }
-    {
-        let inst = self.docket.instance();
-        resident.0 < inst.residents() && inst.resident_withdrawn(resident)
-    }
-
-    /// The resident of this name: a real one first, and else one of the docket.
-    pub(crate) fn find_resident(&self, numbers: &MemberNumbers, name: &str) -> Option<ResidentNo>
-        ensures member { IfSome result (IsResident self.now.docket.now.instance) }
-        ensures name { IfSome result (MeansResident (naming_of self.now) name.now) }
-    {
-        for r in 0..self.docket.instance().residents() {
-            if is_real_name(self.key.residents.as_slice(), r, name) {
-                return Some(ResidentNo(r));
-            }
-        }
-        numbers.resident(self.docket, name.as_bytes())
-    }
-
-    /// The programme of this name: a real one first, and else one of the docket.
-    pub(crate) fn find_programme(&self, numbers: &MemberNumbers, name: &str) -> Option<ProgrammeNo>
-        ensures member { IfSome result (IsProgramme self.now.docket.now.instance) }
-        ensures name { IfSome result (MeansProgramme (naming_of self.now) name.now) }
-    {
-        for p in 0..self.docket.instance().programmes() {
-            if is_real_name(self.key.programmes.as_slice(), p, name) {
-                return Some(ProgrammeNo(p));
-            }
-        }
-        numbers.programme(self.docket, name.as_bytes())
     }
 }

@@ -1,81 +1,79 @@
 //! The command line.
+ghost use Rattle.std.specs.Prelude.{◌≡◌, ◌⊎◌, IfErr, IfOk, IfSome, None, codes, false, map};
+ghost use Rattle.clap.specs.Words.{HasKind, app_of, fault_of, first_of, found_of, matches_of as rows_in, rows_of, rule_of};
+ghost use Rattle.program_shell.specs.Faults.{IsErrorOf};
+ghost use Rattle.program_shell.specs.Flags.{IsFlagged, IsUnflagged, flag_rule};
+ghost use Rattle.reasons_text.specs.Line.{Asks, AsksNone, IsAskedBy, Refuses, program_app, value_rule, why_app, word_rule};
 
 use crate::question::{Asked, Question};
 use clap::error::ErrorKind;
 use clap::{Arg, ArgAction, ArgMatches, Command};
+use program_shell::{LineFault, line_fault};
 use std::alloc::{AllocError, Global};
 use std::convert::AsStr;
-use thiserror::Error;
 use version::VERSION;
 
 // What the help says of what is read and written, of the exit status, and of examples.
 const HELP: &str =
-    "Reads a docket with its sheet on standard input. Without a programme every programme of the
-resident's record is told, in order, under a first line on how the match ended. With --all every
-resident is told, as CSV: resident,programme,choice,answer,rank,last_rank,quota, where the answer is
-matched, better (the resident has a programme that it ranked higher), full (its places went to
-residents it ranked higher), unranked (it did not rank the resident), withdrawn or blocking (the
-sheet is not stable).
+    "Reads a docket on standard input, and with --sheet its sheet from a file of its own. Each is then
+read as its own part: a docket has V, Q, P, R and W records, a sheet M, U and F. A record of another
+part is a fault, so neither can change what the other one says. Without --sheet both are read from
+standard input, the sheet's records beside the docket's.
 
-Exit status: 0 for an answer; 3 for a docket at fault, without a sheet or without the name, or a bad
-row of the key; 2 for a wrong command line; 1 where memory, reading or writing failed.
+Without a programme every programme of the resident's record is told, in order, under a first line
+on how the match ended. With --all every resident is told, as CSV:
+resident,programme,choice,answer,rank,last_rank,quota. The answer is matched, better (the resident
+has a programme that it ranked higher), full (its places went to residents it ranked higher), unranked
+(it did not rank the resident), withdrawn or blocking (the sheet is not stable).
 
-Examples: cat examples/market.csv sheet.csv | residency-why resident-250
-          cat examples/market.csv sheet.csv | residency-why resident-250 programme-16
-          cat docket.csv sheet.csv | residency-why --key key.csv \"Ewa Kowalska\" --without-ranks
-          cat docket.csv sheet.csv | residency-why --all > answers.csv";
+A name is the docket's, an ID of the key, a real name of the key, or NAME (ID). One that more than one
+has is told with all of them, and nobody is answered.
 
-/// Why a command line asks nothing.
-#[derive(Debug, Drop, Error)]
-pub enum LineFault {
-    /// A growth was refused.
-    #[error("out of memory")]
-    Memory,
-    /// The words ask nothing, or help or the version was asked for.
-    #[error(transparent)]
-    Line(clap::Error),
-}
+Exit status: 0 for an answer; 3 for a docket or a sheet at fault, without a sheet or without the name,
+a name of more than one, or a bad row of the key; 2 for a wrong command line; 1 where memory, reading
+or writing failed.
 
-impl From<AllocError> for LineFault {
-    fn from(_: AllocError) -> LineFault {
-        LineFault::Memory
-    }
-}
-
-// The fault that an error of the parser is.
-fn line_fault(error: clap::Error) -> LineFault {
-    match error.kind() {
-        ErrorKind::OutOfMemory => LineFault::Memory,
-        _ => LineFault::Line(error),
-    }
-}
+Examples: residency-why --sheet sheet.csv resident-250 < examples/market.csv
+          residency-why --sheet sheet.csv resident-250 programme-16 < examples/market.csv
+          residency-why --sheet sheet.csv --key key.csv \"Ewa Kowalska\" --without-ranks < docket.csv
+          residency-why --sheet sheet.csv --all < docket.csv > answers.csv";
 
 // Who asks.
-fn resident_argument<'a>(alloc: Global) -> Result<Arg<'a>, AllocError> {
+fn resident_argument<'a>(alloc: Global) -> Arg<'a>
+    ensures rule { rule_of result ≡ word_rule (codes "resident") }
+    ensures own { result.global ≡ false }
+{
     Arg::new(alloc, "resident")
         .value_name("RESIDENT")
         .help("The resident who asks")
-        .required_unless_present("all")
 }
 
 // About which programme.
-fn programme_argument<'a>(alloc: Global) -> Arg<'a> {
+fn programme_argument<'a>(alloc: Global) -> Arg<'a>
+    ensures rule { rule_of result ≡ word_rule (codes "programme") }
+    ensures own { result.global ≡ false }
+{
     Arg::new(alloc, "programme").value_name("PROGRAMME").help(
         "The programme asked about; without it each of the resident's record",
     )
 }
 
 // Whether all are told.
-fn all_option<'a>(alloc: Global) -> Result<Arg<'a>, AllocError> {
+fn all_option<'a>(alloc: Global) -> Arg<'a>
+    ensures rule { rule_of result ≡ flag_rule (codes "all") }
+    ensures own { result.global ≡ false }
+{
     Arg::new(alloc, "all")
         .long("all")
         .help("Tells every resident, as CSV")
         .action(ArgAction::SetTrue)
-        .conflicts_with("resident")
 }
 
 // Whether no rank is told.
-fn without_ranks_option<'a>(alloc: Global) -> Arg<'a> {
+fn without_ranks_option<'a>(alloc: Global) -> Arg<'a>
+    ensures rule { rule_of result ≡ flag_rule (codes "without-ranks") }
+    ensures own { result.global ≡ false }
+{
     Arg::new(alloc, "without-ranks")
         .long("without-ranks")
         .help("Tells no number from a programme's list")
@@ -83,48 +81,127 @@ fn without_ranks_option<'a>(alloc: Global) -> Arg<'a> {
 }
 
 // Where the real names are.
-fn key_option<'a>(alloc: Global) -> Arg<'a> {
+fn key_option<'a>(alloc: Global) -> Arg<'a>
+    ensures rule { rule_of result ≡ value_rule (codes "key") }
+    ensures own { result.global ≡ false }
+{
     Arg::new(alloc, "key").long("key").value_name("FILE").help(
-        "The members' real names: rows P,programme,name and R,resident,name",
+        "The members' real names and IDs: rows P,programme,name,ID and R,resident,name,ID",
+    )
+}
+
+// Where the sheet is, if it isn't beside the docket.
+fn sheet_option<'a>(alloc: Global) -> Arg<'a>
+    ensures rule { rule_of result ≡ value_rule (codes "sheet") }
+    ensures own { result.global ≡ false }
+{
+    Arg::new(alloc, "sheet")
+        .long("sheet")
+        .value_name("FILE")
+        .help("The sheet's own file; standard input is then the docket alone")
+}
+
+// The program, without its words and options.
+fn program<'a>(alloc: Global) -> Result<Command<'a>, AllocError>
+    ensures { IfOk result (λ command. app_of command ≡ program_app) }
+{
+    let program = Command::new(alloc, "residency-why").bin_name("residency-why")?;
+    Ok(
+        program
+            .about("Says why a resident is not with a programme, by a docket and its sheet")
+            .override_usage(
+                "residency-why [OPTIONS] --sheet FILE RESIDENT [PROGRAMME] < docket.csv\n       residency-why [OPTIONS] --sheet FILE --all < docket.csv",
+            )
+            .after_help(HELP)
+            .version(VERSION)
+            .no_binary_name(true),
     )
 }
 
 // The program.
-fn command<'a>(alloc: Global) -> Result<Command<'a>, AllocError> {
-    let command = Command::new(alloc, "residency-why").bin_name("residency-why")?;
-    let command = command
-        .about("Says why a resident is not with a programme, by a docket and its sheet")
-        .override_usage(
-            "residency-why [OPTIONS] RESIDENT [PROGRAMME] < docket-and-sheet.csv\n       residency-why [OPTIONS] --all < docket-and-sheet.csv",
-        )
-        .after_help(HELP)
-        .version(VERSION)
-        .no_binary_name(true);
-    let command = command.arg(resident_argument(alloc)?)?;
+fn command<'a>(alloc: Global) -> Result<Command<'a>, AllocError>
+    ensures { IfOk result (λ command. app_of command ≡ why_app) }
+{
+    let command = program(alloc)?;
+    let command = command.arg(resident_argument(alloc))?;
     let command = command.arg(programme_argument(alloc))?;
-    let command = command.arg(all_option(alloc)?)?;
+    let command = command.arg(all_option(alloc))?;
     let command = command.arg(without_ranks_option(alloc))?;
-    command.arg(key_option(alloc))
+    let command = command.arg(key_option(alloc))?;
+    command.arg(sheet_option(alloc))
 }
 
-// About whom the words ask.
-fn asked<'a>(matches: &ArgMatches<'a>) -> Asked<'a> {
-    match (matches.get_str("resident"), matches.get_str("programme")) {
-        (Some(resident), Some(programme)) => Asked::Pair(resident, programme),
-        (Some(resident), None) => Asked::Resident(resident),
-        (None, _) => Asked::All,
+// What the words are by this command.
+fn matches_of<'a, S: AsStr>(
+    command: &mut Command<'a>,
+    words: &'a [S],
+) -> Result<ArgMatches<'a>, clap::Error>
+    requires { app_of command.old ≡ why_app }
+    ensures found { IfOk result (λ matches. rows_of (found_of matches) ≡ rows_in why_app (map S.text words.entry.now)) }
+    ensures refused { IfErr result (HasKind (fault_of why_app (map S.text words.entry.now))) }
+{
+    command.try_get_matches_from_mut(words)
+}
+
+// About whom the words ask, unless they ask about nobody, or about one and all.
+fn asked<'a>(matches: &ArgMatches<'a>) -> Option<Asked<'a>>
+    ensures all { IfSome result (λ asked. IsFlagged (codes "all") (rows_of (found_of matches.now)) → asked ≡ Asked.All) }
+    ensures one { IfSome result (λ asked. IsUnflagged (codes "all") (rows_of (found_of matches.now))
+        → IsAskedBy (first_of (codes "resident") (rows_of (found_of matches.now)))
+        (first_of (codes "programme") (rows_of (found_of matches.now))) asked) }
+    ensures none { result ≡ None → AsksNone (rows_of (found_of matches.now)) }
+{
+    let is_all = matches.get_flag("all");
+    let Some(resident) = matches.get_str("resident") else {
+        return if is_all { Some(Asked::All) } else { None };
+    };
+    if is_all {
+        return None;
+    }
+    match matches.get_str("programme") {
+        Some(programme) => Some(Asked::Pair(resident, programme)),
+        None => Some(Asked::Resident(resident)),
+    }
+}
+
+// What is told of words that ask about nobody, or about one and all.
+fn nobody_asked(command: &mut Command, is_all: bool) -> LineFault
+    ensures { IsErrorOf (λ kind. (kind ≡ ErrorKind.ArgumentConflict) ⊎ (kind ≡ ErrorKind.MissingRequiredArgument)) result }
+{
+    let error = if is_all {
+        command.error(
+            ErrorKind::ArgumentConflict,
+            "the argument '--all' cannot be used with '[RESIDENT]'",
+        )
+    } else {
+        command.error(
+            ErrorKind::MissingRequiredArgument,
+            "a RESIDENT or '--all' is wanted",
+        )
+    };
+    match error {
+        Ok(error) => line_fault(error),
+        Err(_) => LineFault::Memory,
     }
 }
 
 /// The question that the words ask, the program's own name left out.
-pub fn read_line<'a, S: AsStr>(alloc: Global, words: &'a [S]) -> Result<Question<'a>, LineFault> {
+pub fn read_line<'a, S: AsStr>(alloc: Global, words: &'a [S]) -> Result<Question<'a>, LineFault>
+    ensures question { IfOk result (Asks (map S.text words.entry.now)) }
+    ensures refused { IfErr result (Refuses (map S.text words.entry.now)) }
+{
     let mut command = command(alloc)?;
-    match command.try_get_matches_from_mut(words) {
-        Ok(matches) => Ok(Question {
-            asked: asked(&matches),
-            without_ranks: matches.get_flag("without-ranks"),
-            key: matches.get_str("key"),
-        }),
-        Err(error) => Err(line_fault(error)),
-    }
+    let matches = match matches_of(&mut command, words) {
+        Ok(matches) => matches,
+        Err(error) => return Err(line_fault(error)),
+    };
+    let Some(asked) = asked(&matches) else {
+        return Err(nobody_asked(&mut command, matches.get_flag("all")));
+    };
+    Ok(Question {
+        asked,
+        without_ranks: matches.get_flag("without-ranks"),
+        key: matches.get_str("key"),
+        sheet: matches.get_str("sheet"),
+    })
 }

@@ -1,73 +1,90 @@
 //! Finding a member by its name.
-ghost use Rattle.std.specs.Prelude.{◌≡◌, IfSome};
-ghost use Rattle.match_model.specs.Instance.{IsProgramme, IsResident};
-ghost use Rattle.docket.specs.Texts.{programme_name, resident_name};
+ghost use Rattle.std.specs.Prelude.{◌≡◌, if◌then◌else◌, IfOk, List, None, OnOk, Some, bytes_eq, ℕ};
+ghost use Rattle.std.specs.Option.{option_or};
+ghost use Rattle.reasons_text.specs.Keys.{first_named};
+ghost use Rattle.reasons_text.specs.Naming.{member_count as member_count_in};
+ghost use Rattle.reasons_text.specs.Numbers.{AreNumbers, AreNumbersOf, number_in};
 
+use crate::side::{Side, docket_name, member_count};
 use docket::Docket;
-use match_model::{ProgrammeNo, ResidentNo};
 use std::alloc::{AllocError, Global};
 use std::collections::HashMap;
 use std::hash::RandomState;
 
-/// The members' numbers by their names. They are hashed by keys that are drawn, as a docket's are.
+// The members' numbers by their names. They are hashed by keys that are drawn, as a docket's are.
+type Numbers<'a> = HashMap<&'a [u8], u32, RandomState>;
+
+/// The members' numbers by their names, on both sides of a docket.
 #[derive(Drop)]
-pub(crate) struct MemberNumbers {
-    residents: HashMap<Vec<u8>, u32, RandomState>,
-    programmes: HashMap<Vec<u8>, u32, RandomState>,
+pub(crate) struct MemberNumbers<'a> {
+    /// The docket.
+    pub(crate) docket: &'a Docket,
+    residents: Numbers<'a>,
+    programmes: Numbers<'a>,
 }
 
-impl MemberNumbers {
+// The number at a name.
+fn number_at(numbers: &Numbers, name: &[u8]) -> Option<u32>
+    ensures { result ≡ number_in numbers.now name.now }
+{
+    numbers.get(name).copied()
+}
+
+// Puts a number at its name, unless there is one before.
+fn put_first<'a>(numbers: &mut Numbers<'a>, name: &'a [u8], number: u32) -> Result<(), AllocError>
+    ensures { OnOk result ((text : List ℕ) → number_in numbers.new text
+        ≡ option_or (number_in numbers.old text) (if bytes_eq text name.entry.now then Some number else None)) }
+{
+    if number_at(numbers, name).is_some() {
+        return Ok(());
+    }
+    numbers.insert(name, number)?;
+    Ok(())
+}
+
+// The numbers of a side's members.
+fn numbers_of<'a>(
+    alloc: Global,
+    keys: RandomState,
+    docket: &'a Docket,
+    side: Side,
+) -> Result<Numbers<'a>, AllocError>
+    ensures { IfOk result (AreNumbersOf docket.entry.now side) }
+{
+    let mut numbers = HashMap::with_hasher(alloc, keys);
+    for number in 0..member_count(docket, side) {
+        let name = docket_name(docket, side, number).as_bytes();
+        put_first(&mut numbers, name, number)?;
+    }
+    Ok(numbers)
+}
+
+impl<'a> MemberNumbers<'a> {
     /// The numbers of a docket's members.
     pub(crate) fn of(
         alloc: Global,
         keys: RandomState,
-        docket: &Docket,
-    ) -> Result<MemberNumbers, AllocError> {
-        let mut residents = HashMap::with_hasher(alloc, keys);
-        for r in 0..docket.instance().residents() {
-            let name = docket.resident_name(ResidentNo(r)).as_bytes();
-            residents.insert(Vec::from_slice(alloc, name)?, r)?;
-        }
-        let mut programmes = HashMap::with_hasher(alloc, keys);
-        for p in 0..docket.instance().programmes() {
-            let name = docket.programme_name(ProgrammeNo(p)).as_bytes();
-            programmes.insert(Vec::from_slice(alloc, name)?, p)?;
-        }
+        docket: &'a Docket,
+    ) -> Result<MemberNumbers<'a>, AllocError>
+        ensures numbers { IfOk result AreNumbers }
+        ensures docket { IfOk result (λ numbers. numbers.docket.now ≡ docket.entry.now) }
+    {
         Ok(MemberNumbers {
-            residents,
-            programmes,
+            docket,
+            residents: numbers_of(alloc, keys, docket, Side::Residents)?,
+            programmes: numbers_of(alloc, keys, docket, Side::Programmes)?,
         })
     }
 
-    /// The resident of this name.
-    pub(crate) fn resident(&self, docket: &Docket, name: &[u8]) -> Option<ResidentNo>
-        ensures member { IfSome result (IsResident docket.now.instance) }
-        ensures name { IfSome result (λ r. resident_name docket.now r ≡ name.now) }
+    /// The first member of a side that has this name in the docket.
+    pub(crate) fn number(&self, side: Side, name: &[u8]) -> Option<u32>
+        requires { AreNumbers self.now }
+        ensures { result ≡ first_named self.now.docket.now side name.now (member_count_in self.now.docket.now side) }
     {
-        let number = *self.residents.get(name)?;
-        let resident = ResidentNo(number);
-        if number < docket.instance().residents()
-            && docket.resident_name(resident).as_bytes() == name
-        {
-            Some(resident)
-        } else {
-            None
-        }
-    }
-
-    /// The programme of this name.
-    pub(crate) fn programme(&self, docket: &Docket, name: &[u8]) -> Option<ProgrammeNo>
-        ensures member { IfSome result (IsProgramme docket.now.instance) }
-        ensures name { IfSome result (λ p. programme_name docket.now p ≡ name.now) }
-    {
-        let number = *self.programmes.get(name)?;
-        let programme = ProgrammeNo(number);
-        if number < docket.instance().programmes()
-            && docket.programme_name(programme).as_bytes() == name
-        {
-            Some(programme)
-        } else {
-            None
-        }
+        let numbers = match side {
+            Side::Programmes => &self.programmes,
+            Side::Residents => &self.residents,
+        };
+        number_at(numbers, name)
     }
 }

@@ -1,32 +1,62 @@
-//! Names that are near an unknown one.
+//! What is told of a name that means nobody, or more than one.
+ghost use Rattle.std.specs.Prelude.{IfOk};
+ghost use Rattle.reasons_text.specs.Faults.{IsSharedName, IsUnknownName};
 
 use crate::fault::WhyFault;
-use crate::key::Names;
-use match_model::{ProgrammeNo, ResidentNo};
+use crate::names::Names;
+use crate::shown::push_shown;
+use crate::side::{Side, member_count};
 use std::alloc::{AllocError, Global};
 use strsim::levenshtein;
 
-// The most names that are told.
-const MOST: usize = 3;
+// The most near names that are told.
+const MOST_NEAR: usize = 3;
 
-// How many edits away a name may be: a third of what was asked for or two, and fewer than all of it.
-fn reach(asked: &str) -> usize {
-    (asked.len() / 3).max(2).min(asked.len().saturating_sub(1))
+// The most members that are told where more than one is meant.
+const MOST_MEANT: usize = 10;
+
+// The most bytes of a name whose near ones are looked for.
+const MOST_ASKED: usize = 64;
+
+// How many edits away a name may be: a third of the letters that were asked for or two, and fewer than all of them.
+fn reach(letters: usize) -> usize {
+    (letters / 3).max(2).min(letters.saturating_sub(1))
 }
 
-// Notes the number of a name and how far it is, if it is near.
-fn note(
-    alloc: Global,
-    near: &mut Vec<(usize, u32)>,
-    asked: &str,
-    name: &str,
-    number: u32,
-) -> Result<(), AllocError> {
-    let edits = levenshtein(alloc, asked, name)?;
-    if edits <= reach(asked) {
-        near.push((edits, number))?;
+// How many edits a name is away, if it is near.
+fn edits(alloc: Global, asked: &str, name: &str) -> Result<Option<usize>, AllocError> {
+    if asked.len() > MOST_ASKED {
+        return Ok(None);
     }
-    Ok(())
+    let letters = asked.chars().count();
+    let reach = reach(letters);
+    if name.chars().count().abs_diff(letters) > reach {
+        return Ok(None);
+    }
+    let edits = levenshtein(alloc, asked, name)?;
+    Ok(if edits <= reach { Some(edits) } else { None })
+}
+
+// How many edits a member is away, by its real name or by the name that is shown, if one of them is near.
+fn edits_of(
+    alloc: Global,
+    names: &Names,
+    side: Side,
+    asked: &str,
+    number: u32,
+) -> Result<Option<usize>, AllocError> {
+    let shown = names.shown(side, number);
+    let real = names.real(side, number);
+    let by_shown = edits(alloc, asked, shown)?;
+    if real == shown {
+        return Ok(by_shown);
+    }
+    let by_real = edits(alloc, asked, real)?;
+    Ok(match (by_shown, by_real) {
+        (Some(one), Some(other)) => Some(one.min(other)),
+        (one, None) => one,
+        (None, other) => other,
+    })
 }
 
 // Adds a near name to the question whether it was meant.
@@ -47,40 +77,89 @@ fn end_meant(text: &mut String) -> Result<(), AllocError> {
     text.push_str("?")
 }
 
-/// The fault that no resident has this name, with up to three near ones.
-pub(crate) fn unknown_resident(
-    alloc: Global,
-    names: &Names,
-    asked: &str,
-) -> Result<WhyFault, AllocError> {
-    let mut near = Vec::new(alloc);
-    for r in 0..names.docket.instance().residents() {
-        note(alloc, &mut near, asked, names.resident(ResidentNo(r)), r)?;
-    }
-    near.sort_by_key(|(edits, _)| *edits)?;
-    let mut meant = String::new(alloc);
-    for (_, r) in near.iter().take(MOST) {
-        push_meant(&mut meant, names.resident(ResidentNo(*r)))?;
-    }
-    end_meant(&mut meant)?;
-    Ok(WhyFault::NoResident(format!(in alloc; "no resident is named {asked}{meant}")?))
+// What was asked, as it is shown.
+fn shown(alloc: Global, asked: &str) -> Result<String, AllocError> {
+    let mut text = String::new(alloc);
+    push_shown(&mut text, asked)?;
+    Ok(text)
 }
 
-/// The fault that no programme has this name, with up to three near ones.
-pub(crate) fn unknown_programme(
-    alloc: Global,
-    names: &Names,
-    asked: &str,
-) -> Result<WhyFault, AllocError> {
+// The question whether near names were meant, or nothing where none is near.
+fn near_names(alloc: Global, names: &Names, side: Side, asked: &str) -> Result<String, AllocError> {
     let mut near = Vec::new(alloc);
-    for p in 0..names.docket.instance().programmes() {
-        note(alloc, &mut near, asked, names.programme(ProgrammeNo(p)), p)?;
+    for number in 0..member_count(names.docket, side) {
+        if let Some(edits) = edits_of(alloc, names, side, asked, number)? {
+            near.push((edits, number))?;
+        }
     }
     near.sort_by_key(|(edits, _)| *edits)?;
     let mut meant = String::new(alloc);
-    for (_, p) in near.iter().take(MOST) {
-        push_meant(&mut meant, names.programme(ProgrammeNo(*p)))?;
+    for (_, number) in near.iter().take(MOST_NEAR) {
+        push_meant(&mut meant, names.shown(side, *number))?;
     }
     end_meant(&mut meant)?;
-    Ok(WhyFault::NoProgramme(format!(in alloc; "no programme is named {asked}{meant}")?))
+    Ok(meant)
+}
+
+/// The fault that nobody of a side has this name, with up to three near ones.
+pub(crate) fn unknown(
+    alloc: Global,
+    names: &Names,
+    side: Side,
+    asked: &str,
+) -> Result<WhyFault, AllocError>
+    ensures { IfOk result (IsUnknownName side) }
+{
+    let meant = near_names(alloc, names, side, asked)?;
+    let asked = shown(alloc, asked)?;
+    Ok(match side {
+        Side::Programmes => {
+            WhyFault::NoProgramme(format!(in alloc; "no programme is named {asked}{meant}")?)
+        }
+        Side::Residents => {
+            WhyFault::NoResident(format!(in alloc; "no resident is named {asked}{meant}")?)
+        }
+    })
+}
+
+// The labels of those whom a name means, up to ten, and how many more there are.
+fn labels_of(alloc: Global, names: &Names, side: Side, asked: &str) -> Result<String, AllocError> {
+    let mut text = String::new(alloc);
+    let mut meant = 0usize;
+    for number in 0..names.named(side) {
+        if !names.means(alloc, side, asked, number)? {
+            continue;
+        }
+        if meant < MOST_MEANT {
+            text.push_str(if meant == 0 { "" } else { ", " })?;
+            text.push_str(names.label(alloc, side, number)?.as_str())?;
+        }
+        meant = meant.saturating_add(1);
+    }
+    if meant > MOST_MEANT {
+        let more = meant - MOST_MEANT;
+        text.push_str(format!(in alloc; " and {more} more")?.as_str())?;
+    }
+    Ok(text)
+}
+
+/// The fault that more than one member of a side has this name, with the labels of up to ten.
+pub(crate) fn several(
+    alloc: Global,
+    names: &Names,
+    side: Side,
+    asked: &str,
+) -> Result<WhyFault, AllocError>
+    ensures { IfOk result (IsSharedName side) }
+{
+    let labels = labels_of(alloc, names, side, asked)?;
+    let asked = shown(alloc, asked)?;
+    Ok(match side {
+        Side::Programmes => WhyFault::ManyProgrammes(format!(in alloc;
+            "more than one programme is named {asked}: {labels}"
+        )?),
+        Side::Residents => WhyFault::ManyResidents(format!(in alloc;
+            "more than one resident is named {asked}: {labels}"
+        )?),
+    })
 }

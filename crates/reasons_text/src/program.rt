@@ -1,91 +1,113 @@
 //! The program, over any streams: it answers the question of its words, and its exit status says how that ended.
-ghost use Rattle.std.specs.Prelude.{◌≡◌, ◌≢◌, IfErr, IsOk, OnOk};
+ghost use Rattle.std.specs.Prelude.{◌≡◌, ◌≢◌, ◌⊎◌, IfErr, IfOk, IfSome, OnOk, is_some, option_copied};
 ghost use Rattle.std.specs.Process.{exit_status as exit_status_in};
-ghost use Rattle.reasons_text.specs.Status.{Ends, EndsTold, IsRefusedStatus, IsUsageFaultOf, unasked_status_of};
+ghost use Rattle.reasons_text.specs.Program.{AnswersBeside, Ends, EndsTold, FailsBeside, IsAnswered, IsFailed, IsUnreadInput, IsUnreadKey};
 
 use crate::answering::serve_why;
 use crate::fault::WhyFault;
-use crate::line::{LineFault, read_line};
+use crate::files::serve_why_files;
+use crate::line::read_line;
 use crate::question::Question;
-use crate::status::{exit_status, line_status};
+use crate::status::exit_status;
 use docket::DocketFault;
+use docket_parts::Part;
+use program_shell::{UsageFault, refuse, texts_of};
 use std::alloc::Global;
 use std::io::{Read, Write};
 use std::process::ExitCode;
 use std::random::RandomSource;
 use std::rt::Files;
 use std::{fs, io};
-use thiserror::Error;
 
-/// Why the words after the program's name ask nothing.
-#[derive(Debug, Drop, Error)]
-pub enum UsageFault {
-    /// A word is no text.
-    #[error("a word of the command line is no text")]
-    NoText,
-    /// The words ask nothing, or help or the version was asked for.
-    #[error(transparent)]
-    Line(LineFault),
-}
-
-// What the words ask, the program's own name left out.
-fn question_of(alloc: Global, words: &io::Result<Vec<String>>) -> Result<Question<'_>, UsageFault>
-    ensures words { OnOk result (IsOk words.now) }
-    ensures fault { IfErr result (IsUsageFaultOf words.now) }
-{
-    match words {
-        Ok(words) => match read_line(alloc, words.as_slice()) {
-            Ok(question) => Ok(question),
-            Err(fault) => Err(UsageFault::Line(fault)),
-        },
-        Err(error) if error.kind() == io::ErrorKind::OutOfMemory => {
-            Err(UsageFault::Line(LineFault::Memory))
-        }
-        Err(_) => Err(UsageFault::NoText),
-    }
-}
-
-// The exit status after words that ask nothing.
-fn unasked_status(fault: &UsageFault) -> u8
-    ensures { result ≡ unasked_status_of fault.now }
-{
-    match fault {
-        UsageFault::NoText => 2,
-        UsageFault::Line(fault) => line_status(fault),
-    }
-}
-
-// Tells why the words ask nothing. Help and the version are an answer, so a text of them that can't be written is a fault.
-fn refuse<T: Print + Eprint>(told: &T, fault: &UsageFault) -> ExitCode
-    ensures { IsRefusedStatus fault.now (exit_status_in result) }
-{
-    let is_told = match fault {
-        UsageFault::Line(LineFault::Line(error)) => error.print(told).is_ok(),
-        fault => eprintln!(told; "residency: {fault}").is_ok(),
-    };
-    let status = unasked_status(fault);
-    if status == 0 && !is_told {
-        let _ = eprintln!(told; "residency: {}", DocketFault::Write);
-        return ExitCode::from(1);
-    }
-    ExitCode::from(status)
-}
-
-// The bytes of the key, where the question names one.
-fn key_of<H: Files + AllocGlobal>(
+// The bytes of a file, or the fault that tells that it can't be read.
+fn bytes_of<H: Files + AllocGlobal>(
     rt: &H,
-    question: &Question,
-) -> Result<Option<Vec<u8>>, WhyFault> {
-    let Some(path) = question.key else {
-        return Ok(None);
-    };
+    path: &str,
+    unread: WhyFault,
+) -> Result<Vec<u8>, WhyFault>
+    ensures { IfErr result (λ fault. (fault ≡ unread) ⊎ (fault ≡ WhyFault.Docket DocketFault.Memory)) }
+{
     match fs::read(rt, path) {
-        Ok(bytes) => Ok(Some(bytes)),
+        Ok(bytes) => Ok(bytes),
         Err(error) if error.kind() == io::ErrorKind::OutOfMemory => {
             Err(WhyFault::Docket(DocketFault::Memory))
         }
-        Err(_) => Err(WhyFault::KeyUnread),
+        Err(_) => Err(unread),
     }
+}
+
+// The bytes of the key, where the question names one.
+fn key_of<H: Files + AllocGlobal>(rt: &H, question: &Question) -> Result<Option<Vec<u8>>, WhyFault>
+    ensures named { IfOk result (λ key. is_some key ≡ is_some question.now.key) }
+    ensures fault { IfErr result (IsUnreadKey question.now) }
+{
+    let Some(path) = question.key else {
+        return Ok(None);
+    };
+    match bytes_of(rt, path, WhyFault::KeyUnread) {
+        Ok(bytes) => Ok(Some(bytes)),
+        Err(fault) => Err(fault),
+    }
+}
+
+// The bytes of a key, if there is one.
+fn lent(key: &Option<Vec<u8>>) -> Option<&[u8]>
+    ensures { is_some (option_copied result) ≡ is_some key.now }
+{
+    match key {
+        Some(bytes) => Some(bytes.as_slice()),
+        None => None,
+    }
+}
+
+// The bytes of standard input.
+fn input_of<R: Read + Drop>(alloc: Global, reader: R) -> Result<Vec<u8>, WhyFault>
+    ensures bytes { IfOk result (λ docket. IfSome (R.remaining reader) (λ bytes. docket.items ≡ bytes)) }
+    ensures fault { IfErr result IsUnreadInput }
+{
+    let mut reader = reader;
+    let mut bytes = Vec::new(alloc);
+    match reader.read_to_end(&mut bytes) {
+        Ok(_) => Ok(bytes),
+        Err(error) if error.kind() == io::ErrorKind::OutOfMemory => {
+            Err(WhyFault::Docket(DocketFault::Memory))
+        }
+        Err(_) => Err(WhyFault::InputUnread),
+    }
+}
+
+// Answers a question over a docket and a sheet's own file.
+fn serve_beside<R: Read + Drop, W: Write, H: RandomSource + Files + AllocGlobal>(
+    rt: &H,
+    alloc: Global,
+    reader: R,
+    writer: &mut W,
+    question: &Question,
+    path: &str,
+    key_bytes: Option<&[u8]>,
+) -> Result<(), WhyFault>
+    ensures answered { OnOk result (AnswersBeside question.now (R.remaining reader) (option_copied key_bytes.entry) (W.contents writer.old) (W.contents writer.new)) }
+    ensures failed { IfErr result (FailsBeside question.now (R.remaining reader) (option_copied key_bytes.entry)) }
+    ensures before { IfErr result (λ fault. fault ≢ WhyFault.Docket DocketFault.Write → W.contents writer.new ≡ W.contents writer.old) }
+{
+    let sheet = match bytes_of(rt, path, WhyFault::SheetUnread) {
+        Ok(sheet) => sheet,
+        Err(fault) => return Err(fault),
+    };
+    let docket = match input_of(alloc, reader) {
+        Ok(docket) => docket,
+        Err(fault) => return Err(fault),
+    };
+    serve_why_files(
+        rt,
+        alloc,
+        docket.as_slice(),
+        sheet.as_slice(),
+        writer,
+        question.asked,
+        question.without_ranks,
+        key_bytes,
+    )
 }
 
 // Answers a question.
@@ -96,28 +118,38 @@ fn serve<R: Read + Drop, W: Write, H: RandomSource + Files + AllocGlobal>(
     writer: &mut W,
     question: &Question,
 ) -> Result<(), WhyFault>
-    ensures before { IfErr result (λ fault. fault ≢ WhyFault.Docket DocketFault.Write → writer.new ≡ writer.old) }
+    ensures answered { OnOk result (IsAnswered question.now (R.remaining reader) (W.contents writer.old) (W.contents writer.new)) }
+    ensures failed { IfErr result (IsFailed question.now (R.remaining reader) (W.contents writer.old) (W.contents writer.new)) }
 {
     let key = match key_of(rt, question) {
         Ok(key) => key,
         Err(fault) => return Err(fault),
     };
-    let key_bytes = match &key {
-        Some(bytes) => Some(bytes.as_slice()),
-        None => None,
-    };
-    serve_why(
-        rt,
-        alloc,
-        reader,
-        writer,
-        question.asked,
-        question.without_ranks,
-        key_bytes,
-    )
+    let key_bytes = lent(&key);
+    match question.sheet {
+        Some(path) => serve_beside(rt, alloc, reader, writer, question, path, key_bytes),
+        None => serve_why(
+            rt,
+            alloc,
+            reader,
+            writer,
+            question.asked,
+            question.without_ranks,
+            key_bytes,
+        ),
+    }
 }
 
-// Answers a question, and tells why it couldn't. A text that can't be written changes no exit status.
+// Tells why a question wasn't answered. No exit status depends on whether that text could be written.
+fn tell<T: Eprint>(told: &T, question: &Question, fault: &WhyFault) {
+    let _ = match (fault.file(), question.sheet) {
+        (Some(Part::Sheet), Some(path)) => eprintln!(told; "residency: {path}: {fault}"),
+        (Some(_), _) => eprintln!(told; "residency: standard input: {fault}"),
+        (None, _) => eprintln!(told; "residency: {fault}"),
+    };
+}
+
+// Answers a question, and tells why it couldn't.
 fn serve_and_tell<R, W, T, H>(
     rt: &H,
     alloc: Global,
@@ -131,18 +163,18 @@ where
     W: Write,
     T: Eprint,
     H: RandomSource + Files + AllocGlobal,
-    ensures { EndsTold (exit_status_in result) writer.old writer.new }
+    ensures { EndsTold question.now (R.remaining reader) (W.contents writer.old) (W.contents writer.new) (exit_status_in result) }
 {
     let answer = serve(rt, alloc, reader, writer, question);
     if let Err(fault) = &answer {
-        let _ = eprintln!(told; "residency: {fault}");
+        tell(told, question, fault);
     }
     ExitCode::from(exit_status(&answer))
 }
 
 /// Answers the question of the words, and gives the exit status. It is 0 for an answer, 1 where memory, reading or writing
-/// failed, and 2 for a wrong command line. It is 3 for a bad key, and for a docket at fault, without a sheet or without the
-/// names.
+/// failed, and 2 for a wrong command line. It is 3 for a bad key, and for a docket or a sheet at fault, without a sheet or without
+/// the names.
 ///
 /// The words are those after the program's own name. What help and the version say goes to standard output, and why nothing
 /// was told to standard error.
@@ -159,10 +191,14 @@ where
     W: Write,
     T: Print + Eprint,
     H: RandomSource + Files + AllocGlobal,
-    ensures { Ends words (exit_status_in result) writer.old writer.new }
+    ensures { Ends words (R.remaining reader) (W.contents writer.old) (W.contents writer.new) (exit_status_in result) }
 {
-    match question_of(alloc, &words) {
+    let texts = match texts_of(words) {
+        Ok(texts) => texts,
+        Err(fault) => return refuse(told, &fault),
+    };
+    match read_line(alloc, texts.as_slice()) {
         Ok(question) => serve_and_tell(rt, alloc, &question, reader, writer, told),
-        Err(fault) => refuse(told, &fault),
+        Err(fault) => refuse(told, &UsageFault::Line(fault)),
     }
 }

@@ -20,4 +20,6 @@ pub struct Question<'a> {
     pub without_ranks: bool,
     /// The file with the members' real names, if there is one.
     pub key: Option<&'a str>,
+    /// The file with the sheet, where it isn't beside the docket.
+    pub sheet: Option<&'a str>,
 }

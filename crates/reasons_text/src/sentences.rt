@@ -2,11 +2,11 @@
 ghost use Rattle.std.specs.Prelude.{◌≡◌, ◌++◌, ◌==◌, IfOk, OnOk, string_bytes};
 ghost use Rattle.std.specs.List.{position_from};
 ghost use Rattle.reasons_text.specs.Lines as said;
-ghost use Rattle.reasons_text.specs.Lines.{ending, has_withdrawn, line};
+ghost use Rattle.reasons_text.specs.Lines.{ending, first_line, has_withdrawn, line};
 ghost use Rattle.reasons_text.specs.Naming.{naming_of};
 
-use crate::answers::Tally;
-use crate::key::Names;
+use crate::answers::{Tally, count_answers};
+use crate::names::Names;
 use match_model::{ProgrammeNo, ResidentNo};
 use match_reasons::Why;
 use std::alloc::{AllocError, Global};
@@ -175,22 +175,32 @@ fn choice_of(list: &[ProgrammeNo], programme: ProgrammeNo) -> Option<usize>
     list.iter().position(|listed| *listed == programme)
 }
 
-// How the match ended for a resident that is with this programme, which is this choice of so many.
-#[tactic(auto, unfolding(crate::specs::Lines::matched))]
+// How the match ended for a resident that is with this programme, which is this choice of its list. With a programme that
+// withdrew or didn't rank it the sheet isn't right.
+#[tactic(auto, unfolding(crate::specs::Lines::matched, crate::specs::Lines::given, crate::specs::Lines::as_choice))]
 fn matched(
     alloc: Global,
     name: &str,
     choice: Option<usize>,
-    listed: usize,
+    reasons: &[Why],
 ) -> Result<String, AllocError>
-    ensures { IfOk result (λ text. string_bytes text ≡ said.matched name.now choice listed) }
+    ensures { IfOk result (λ text. string_bytes text ≡ said.matched name.now choice reasons.now) }
 {
-    match choice {
-        Some(choice) => {
+    let Some(choice) = choice else {
+        return format!(in alloc; "You are matched with {name}, which is not on your list.");
+    };
+    match reasons.get(choice) {
+        Some(Why::NotRanked) => format!(in alloc;
+            "This sheet is not right: it gives you {name}, which did not rank you. Please tell the office."
+        ),
+        Some(Why::Withdrawn) => format!(in alloc;
+            "This sheet is not right: it gives you {name}, which withdrew from the match. Please tell the office."
+        ),
+        _ => {
             let place = Place(choice);
+            let listed = reasons.len();
             format!(in alloc; "You are matched with {name}, your {place} choice of {listed}.")
         }
-        None => format!(in alloc; "You are matched with {name}, which is not on your list."),
     }
 }
 
@@ -201,16 +211,12 @@ fn outcome(
     names: &Names,
     own: Option<ProgrammeNo>,
     list: &[ProgrammeNo],
+    reasons: &[Why],
 ) -> Result<String, AllocError>
-    ensures { IfOk result (λ text. string_bytes text ≡ said.outcome (naming_of names.now) own list.now) }
+    ensures { IfOk result (λ text. string_bytes text ≡ said.outcome (naming_of names.now) own list.now reasons.now) }
 {
     match own {
-        Some(own) => matched(
-            alloc,
-            names.programme(own),
-            choice_of(list, own),
-            list.len(),
-        ),
+        Some(own) => matched(alloc, names.programme(own), choice_of(list, own), reasons),
         None => format!(in alloc; "You are not matched."),
     }
 }
@@ -223,13 +229,14 @@ fn ended(
     resident: ResidentNo,
     own: Option<ProgrammeNo>,
     list: &[ProgrammeNo],
+    reasons: &[Why],
 ) -> Result<String, AllocError>
-    ensures { IfOk result (λ text. string_bytes text ≡ said.ended (naming_of names.now) resident own list.now) }
+    ensures { IfOk result (λ text. string_bytes text ≡ said.ended (naming_of names.now) resident own list.now reasons.now) }
 {
     if names.resident_withdrew(resident) {
         format!(in alloc; "You withdrew from the match.")
     } else {
-        outcome(alloc, names, own, list)
+        outcome(alloc, names, own, list, reasons)
     }
 }
 
@@ -275,13 +282,13 @@ pub(crate) fn push_first_line(
     resident: ResidentNo,
     own: Option<ProgrammeNo>,
     list: &[ProgrammeNo],
-    tally: Tally,
+    reasons: &[Why],
 ) -> Result<(), AllocError>
     ensures { OnOk result (string_bytes text.new ≡ string_bytes text.old
-        ++ said.ended (naming_of names.now) resident own list.now
-        ++ said.ranked (has_withdrawn (naming_of names.now) resident) tally.listed tally.ranked_back tally.withdrew) }
+        ++ first_line (naming_of names.now) resident own list.now reasons.now) }
 {
-    let ended = ended(alloc, names, resident, own, list)?;
+    let tally = count_answers(reasons);
+    let ended = ended(alloc, names, resident, own, list, reasons)?;
     let ranked = ranked(alloc, names.resident_withdrew(resident), tally)?;
     text.push_str(ended.as_str())?;
     text.push_str(ranked.as_str())

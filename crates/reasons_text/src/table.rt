@@ -1,11 +1,11 @@
 //! The rows on all residents.
 ghost use Rattle.std.specs.Prelude.{◌≡◌, ◌∷◌, [], OnOk, Some};
-ghost use Rattle.docket.specs.RowText.{Adds, row};
+ghost use Rattle.row_writer.specs.RowText.{Adds, row};
 ghost use Rattle.reasons_text.specs.Lines as said;
 ghost use Rattle.reasons_text.specs.Naming.{naming_of};
 ghost use Rattle.reasons_text.specs.Table as table;
 
-use crate::key::Names;
+use crate::names::Names;
 use docket::{RowWriter, WriteFailed};
 use match_model::{ProgrammeNo, ResidentNo};
 use match_reasons::Why;

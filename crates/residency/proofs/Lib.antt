@@ -1,5 +1,2 @@
 pub mod Outcomes
-pub mod Reports
-pub mod Audits
-mod CountRows
 mod OnWords

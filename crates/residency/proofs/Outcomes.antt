@@ -1,12 +1,9 @@
 -- What a run that closed gives, and what is written of it.
-use Rattle.std.proofs.Common.{◌≡◌, ℕ, ◌<◌, inl, inr, List, [], ◌++◌, length, slice_index_or, Option, Some, None, refl, sym, ap, ◌∙◌, append_assoc, arith}
+use Rattle.std.proofs.Common.{◌≡◌, ℕ, List, ◌++◌, slice_index_or, Option, Some, None, refl, sym, ap, ◌∙◌, append_assoc}
 use Rattle.std.specs.List.{All}
 use Rattle.std.specs.Io.KnownBytes.{Appends}
-use Rattle.std.proofs.lemmas.List.{get_or_past}
-use Rattle.std.proofs.lemmas.Bool.{cases_lt}
 use Rattle.std.proofs.lemmas.Option.{slice_get-get_or}
-use Rattle.match_model.specs.Ranking.{place}
-use Rattle.match_model.specs.Instance.{Instance, IsInstance, IsProgramme, Acceptable}
+use Rattle.match_model.specs.Instance.{Instance, IsInstance}
 use Rattle.exchange_core.specs.declared.event.Event.{Event}
 use Rattle.exchange_core.specs.declared.event.Event.TheVariants.{Offer, Take, Answer, Hear, Close}
 use Rattle.exchange_core.specs.declared.event.Capacity.{Capacity}
@@ -18,6 +15,7 @@ use Rattle.settle_law.specs.SettledLaws.{OneSettledLaw}
 use Rattle.match_pool.specs.Done.{IsSettledRun, AreCounted}
 use Rattle.docket.specs.Contents.{Contents}
 use Rattle.docket.specs.Whole.{NamesMembers, IsSheetOf, IsWhole}
+use Rattle.audit_text.proofs.Audits.{programme_of_acceptable}
 use Rattle.residency.specs.declared.options.MatchOptions.{MatchOptions}
 use Rattle.residency.specs.Options.{IsWithinLimits}
 use Rattle.residency.specs.Serving.{ClosedRun}
@@ -39,16 +37,6 @@ appends_both None mid new xs ys first second = tt
 appends_both (Some o) None new xs ys first second = absurd first
 appends_both (Some o) (Some m) None xs ys first second = absurd second
 appends_both (Some o) (Some m) (Some n) xs ys first second = second ∙ ap (λ (zs : List ℕ). zs ++ ys) first ∙ append_assoc o xs ys
-
--- whoever has an acceptable resident is a programme
-pub programme_of_acceptable : (inst : Instance) (r p : ℕ) → IsInstance inst → Acceptable inst r p → IsProgramme inst p
-programme_of_acceptable inst r p instance listed = elim (cases_lt p (length inst.programme_lists)) [
-  | inl below ↦ omega (arith, instance.one_list_each)
-  | inr past ↦
-      let nobody = get_or_past inst.programme_lists p [] past in
-      let none : place [] r < length {A = ℕ} [] = rw nobody at listed in
-      absurd (omega arith)
-]
 
 -- a sheet for the docket
 pub sheet_of : (d : Contents) (m : List (Option ℕ)) → IsWhole d → IsInstance d.instance → IsStable d.instance m → IsSheetOf d m

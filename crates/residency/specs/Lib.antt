@@ -2,7 +2,6 @@ pub mod Options
 pub mod Line
 pub mod Status
 pub mod Outcome
-pub mod Report
-pub mod Answer
+pub mod Told
 pub mod Serving
 pub mod Program

@@ -1,16 +1,15 @@
 -- What words order, as the parser of command lines reads them.
 use Rattle.std.specs.Prelude.{◌≡◌, ◌≤◌, ◌⊎◌, ℕ, true, codes, decimal, List, [], ◌∷◌, Option, Some, None}
-use Rattle.clap.specs.Values.{kind_of}
 use Rattle.clap.specs.Words.{App, IsAmong, Row, Rule, Text, first_of, fault_of, new_app, new_rule, one_of, subcommand_of, with_rule, with_subcommand}
 use Rattle.clap.specs.Simple.{new_shape, on_top}
-use Rattle.clap.specs.declared.error.kind.ErrorKind.{ErrorKind}
 use Rattle.clap.specs.declared.error.kind.ErrorKind.TheVariants.{MissingSubcommand}
-use Rattle.clap.specs.declared.builder.action.ArgAction.TheVariants.{SetTrue}
 use Rattle.clap.specs.declared.builder.value_parser.ValueParser.TheVariants.{Unsigned}
 use Rattle.docket.specs.Words.{capacity_of}
 use Rattle.exchange_core.specs.declared.event.Capacity.{Capacity}
-use Rattle.residency.specs.declared.line.LineFault.{LineFault}
-use Rattle.residency.specs.declared.line.LineFault.TheVariants.{Memory, Line, BadCapacity}
+use Rattle.program_shell.specs.Faults.{IsErrorOf}
+use Rattle.program_shell.specs.Flags.{IsFlagged, IsUnflagged, flag_rule}
+use Rattle.program_shell.specs.declared.fault.LineFault.{LineFault}
+use Rattle.program_shell.specs.declared.fault.LineFault.TheVariants.{BadCapacity}
 use Rattle.residency.specs.declared.options.JournalForm.{JournalForm}
 use Rattle.residency.specs.declared.options.JournalForm.TheVariants.{Absent, Plain, ByWorker}
 use Rattle.residency.specs.declared.options.MatchOptions.{MatchOptions}
@@ -20,10 +19,6 @@ use Rattle.residency.specs.declared.options.Order.TheVariants.{Match, Audit, Rep
 -- an option with a value, and the value where it isn't given
 abbrev pub valued_rule : Text → Text → Rule
 valued_rule id value = record (new_rule id) { long = Some id; value_names = 1; defaults = value ∷ [] }
-
--- an option that is given or not
-abbrev pub flag_rule : Text → Rule
-flag_rule id = record (new_rule id) { long = Some id; action = Some SetTrue }
 
 -- the number of workers: from 1 to 8, and 2 where it isn't given
 abbrev pub workers_rule : Rule
@@ -47,13 +42,6 @@ abbrev pub command_of : Order → Text
 command_of (Match o) = codes "match"
 command_of Audit = codes "audit"
 command_of Replay = codes "replay"
-
--- a flag stands in the words, or doesn't
-abbrev pub IsFlagged : Text → List Row → Type 0
-IsFlagged id rows = one_of id rows ≡ Some (codes "true")
-
-abbrev pub IsUnflagged : Text → List Row → Type 0
-IsUnflagged id rows = one_of id rows ≡ Some (codes "false")
 
 -- the values give this number of workers, if they have one from 1 to 8
 abbrev pub GivesWorkers : List Row → ℕ → Type 0
@@ -102,12 +90,6 @@ pub record HasBadRoom (found : Option (Text × List Row)) : Type 0 where
 -- what was found is none of the three commands
 abbrev pub NamesNone : Option (Text × List Row) → Type 0
 NamesNone found = (order : Order) (rows : List Row) → found ≡ Some (command_of order, rows) → ⊥
-
--- the fault is want of memory, or an error of a kind with this property
-abbrev pub IsErrorOf : (ErrorKind → Type 0) → LineFault → Type 0
-IsErrorOf P Memory = Unit {0}
-IsErrorOf P BadCapacity = ⊥
-IsErrorOf P (Line error) = P (kind_of error)
 
 -- the words give no order, for this fault: memory failed, the parser refuses them, they name no command, or the
 -- capacity is bad

@@ -1,37 +1,29 @@
 -- What a call wrote, and why a call wrote nothing.
-use Rattle.std.specs.Prelude.{◌≡◌, ◌≢◌, ◌⊎◌, ◌↔◌, ℕ, ◌++◌, Option, Some, None, Result, Ok, Err, List, [], IsSome, option_map}
+use Rattle.std.specs.Prelude.{◌≡◌, ◌≢◌, ◌⊎◌, ℕ, ◌++◌, Option, Some, None, Result, Ok, Err, List, []}
 use Rattle.std.specs.Io.KnownBytes.{Appends}
-use Rattle.match_model.specs.Instance.{Instance}
 use Rattle.exchange_core.specs.declared.event.Capacity.{Capacity}
 use Rattle.exchange_core.specs.declared.event.Event.{Event}
-use Rattle.exchange_core.specs.Left.{given}
 use Rattle.match_pool.specs.Done.{IsRunFault}
 use Rattle.residency.specs.declared.options.MatchOptions.{MatchOptions}
 use Rattle.residency.specs.declared.options.JournalForm.{JournalForm}
 use Rattle.residency.specs.declared.options.JournalForm.TheVariants.{Absent, Plain, ByWorker}
 use Rattle.residency.specs.declared.options.Order.{Order}
 use Rattle.residency.specs.declared.options.Order.TheVariants.{Match, Audit, Replay}
-use Rattle.settle_law.specs.Stable.{IsStable}
-use Rattle.docket.specs.Contents.{Contents, JournalParts, ByWorkerParts}
+use Rattle.docket.specs.Contents.{Contents, ByWorkerParts}
 use Rattle.docket.specs.Whole.{IsByWorker}
 use Rattle.docket.specs.Passes.{first_fault, docket_of}
 use Rattle.docket.specs.Texts.{sheet_text, journal_text}
-use Rattle.docket.specs.declared.fault.DocketFault.{DocketFault}
 use Rattle.docket.specs.declared.fault.DocketFault.TheVariants as docket
-use Rattle.match_audit.specs.Report.{Reports}
-use Rattle.match_audit.specs.Replay.{IsGood, IsReplayOf, IsListFault, IsCheckFault}
-use Rattle.match_audit.specs.WorkerCounts.{counts_of}
-use Rattle.match_audit.specs.declared.report.AuditReport.{AuditReport}
-use Rattle.match_audit.specs.declared.replayer.Replayed.{Replayed}
-use Rattle.match_audit.specs.declared.replayer.ReplayFault.{ReplayFault}
+use Rattle.audit_text.specs.Serving.{IsWriteFault, WritesReport as TellsReport, WritesReplay as TellsReplay, IsAuditFault as IsReportFault, IsReplayFault as IsAnswerFault}
+use Rattle.audit_text.specs.declared.fault.AnswerFault.{AnswerFault}
+use Rattle.audit_text.specs.declared.status.Status.{Status as Told}
 use Rattle.residency.specs.declared.fault.ServeFault.{ServeFault}
-use Rattle.residency.specs.declared.fault.ServeFault.TheVariants.{Docket, NoSheet, NoJournal, Run, Memory}
+use Rattle.residency.specs.declared.fault.ServeFault.TheVariants.{Docket, Run}
 use Rattle.residency.specs.declared.status.Status.{Status}
-use Rattle.residency.specs.declared.status.Status.TheVariants.{Closed, Stable, Unstable, ReplayGood, ReplayBad}
+use Rattle.residency.specs.declared.status.Status.TheVariants.{Closed}
 use Rattle.residency.specs.Options.{IsWithinLimits}
 use Rattle.residency.specs.Outcome.{IsOutcome}
-use Rattle.residency.specs.Report.{report_text}
-use Rattle.residency.specs.Answer.{replay_text}
+use Rattle.residency.specs.Told.{status_told, fault_told}
 
 -- the journal in the form that is wanted: nothing, its events, or its events with their workers
 abbrev pub wanted_text : Contents → Capacity → JournalForm → List Event → ByWorkerParts → List ℕ
@@ -67,58 +59,14 @@ pub record WritesMatch (d : Contents) (o : MatchOptions) (old new : Option (List
   pub run : ClosedRun d o
   pub appended : Appends old new (match_text d o.capacity o.journal run.assignment run.outcome.exchanged.journal run.by)
 
--- the status tells whether the sheet is stable
-pub record TellsStable (inst : Instance) (sheet : List (Option ℕ)) (status : Status) : Type 0 where
-  pub either : (status ≡ Stable) ⊎ (status ≡ Unstable)
-  pub stable : (status ≡ Stable) ↔ IsStable inst sheet
+-- What was told of the docket's sheet is this status. Here `TellsReport` is the auditor's `WritesReport`, and `Told` its
+-- `Status`.
+abbrev pub WritesReport : Contents → Status → Option (List ℕ) → Option (List ℕ) → Type 0
+WritesReport d status old new = (told : Told) × (status ≡ status_told told) × TellsReport d told old new
 
--- the docket's sheet, and the report on it
-pub record SheetReport (d : Contents) : Type 0 where
-  pub sheet : List (Option ℕ)
-  pub has_sheet : d.sheet ≡ Some sheet
-  pub report : AuditReport
-  pub reports : Reports d.instance sheet report
-
--- what was appended, if it is known, is the report on the docket's sheet
-pub record WritesReport (d : Contents) (status : Status) (old new : Option (List ℕ)) : Type 0 where
-  pub audit : SheetReport d
-  pub tells : TellsStable d.instance audit.sheet status
-  pub appended : Appends old new (report_text d audit.report)
-
--- the answer is that of a replay, or of a check where there is a sheet, and it isn't want of memory
-abbrev pub IsReplayAnswer : Instance → JournalParts → Option (List (Option ℕ)) → Result Replayed ReplayFault → Type 0
-IsReplayAnswer inst j None (Ok replayed) = IsGood inst j.capacity j.events × IsReplayOf inst j.events replayed
-IsReplayAnswer inst j None (Err fault) = IsListFault inst j.capacity j.events fault
-IsReplayAnswer inst j (Some sheet) (Ok replayed) =
-    IsGood inst j.capacity j.events × IsReplayOf inst j.events replayed × (sheet ≡ given inst j.events)
-IsReplayAnswer inst j (Some sheet) (Err fault) = IsCheckFault inst j.capacity j.events sheet fault
-
--- how many events each worker made, where the journal is by worker
-abbrev pub counts_in : JournalParts → Option (List ℕ)
-counts_in j = option_map (λ by. counts_of by.workers by.who) j.by
-
--- the status of an answer
-abbrev pub replay_status : Result Replayed ReplayFault → Status
-replay_status (Ok replayed) = ReplayGood
-replay_status (Err fault) = ReplayBad
-
--- the docket's journal, and the answer on it
-pub record JournalAnswer (d : Contents) : Type 0 where
-  pub journal : JournalParts
-  pub has_journal : d.journal ≡ Some journal
-  pub answer : Result Replayed ReplayFault
-  pub answers : IsReplayAnswer d.instance journal d.sheet answer
-
--- What was appended, if it is known, is the row of the answer on the docket's journal. Each worker's count follows
--- where the answer is good and the journal is by worker.
-pub record WritesReplay (d : Contents) (status : Status) (old new : Option (List ℕ)) : Type 0 where
-  pub replay : JournalAnswer d
-  pub tells : status ≡ replay_status replay.answer
-  pub appended : Appends old new (replay_text d replay.answer (counts_in replay.journal))
-
--- the fault is of memory or the writer
-abbrev pub IsWriteFault : DocketFault → Type 0
-IsWriteFault fault = (fault ≡ docket.Memory) ⊎ (fault ≡ docket.Write)
+-- What was told of the docket's journal is this status. Here `TellsReplay` is the auditor's `WritesReplay`.
+abbrev pub WritesReplay : Contents → Status → Option (List ℕ) → Option (List ℕ) → Type 0
+WritesReplay d status old new = (told : Told) × (status ≡ status_told told) × TellsReplay d told old new
 
 -- why a match wrote no whole sheet: memory or the writer failed after a closed run, or the run gave none
 abbrev pub IsMatchFault : MatchOptions → Contents → ServeFault → Type 0
@@ -126,21 +74,13 @@ IsMatchFault o d (Docket fault) = ClosedRun d o × IsWriteFault fault
 IsMatchFault o d (Run fault) = IsRunFault d.instance o.capacity o.workers fault
 IsMatchFault o d fault = ⊥
 
--- why an audit wrote no whole report: memory or the writer failed after it was made, there is no sheet, or memory
--- failed before
+-- why an audit wrote no whole report; `IsReportFault` is the auditor's `IsAuditFault`
 abbrev pub IsAuditFault : Contents → ServeFault → Type 0
-IsAuditFault d (Docket fault) = SheetReport d × IsWriteFault fault
-IsAuditFault d NoSheet = d.sheet ≡ None
-IsAuditFault d Memory = IsSome d.sheet
-IsAuditFault d fault = ⊥
+IsAuditFault d fault = (told : AnswerFault) × (fault ≡ fault_told told) × IsReportFault d told
 
--- why a replay wrote no whole answer: memory or the writer failed after it was found, there is no journal, or memory
--- failed before
+-- why a replay wrote no whole answer; `IsAnswerFault` is the auditor's `IsReplayFault`
 abbrev pub IsReplayFault : Contents → ServeFault → Type 0
-IsReplayFault d (Docket fault) = JournalAnswer d × IsWriteFault fault
-IsReplayFault d NoJournal = d.journal ≡ None
-IsReplayFault d Memory = IsSome d.journal
-IsReplayFault d fault = ⊥
+IsReplayFault d fault = (told : AnswerFault) × (fault ≡ fault_told told) × IsAnswerFault d told
 
 -- the bytes are a docket of which P holds
 abbrev pub AreDocket : (Contents → Type 0) → List ℕ → Type 0

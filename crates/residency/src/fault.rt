@@ -1,5 +1,6 @@
 //! Why nothing, or not all, was written.
 
+use audit_text::AnswerFault;
 use docket::DocketFault;
 use match_pool::RunFault;
 use thiserror::Error;
@@ -22,4 +23,20 @@ pub enum ServeFault {
     /// A growth was refused in an audit or a replay.
     #[error("out of memory")]
     Memory,
+}
+
+impl From<AnswerFault> for ServeFault {
+    ghost use Rattle.std.specs.Prelude.{◌≡◌};
+    ghost use Rattle.residency.specs.Told.{fault_told};
+
+    ghost from_gives = { λ told fault. fault ≡ fault_told told };
+
+    fn from(told: AnswerFault) -> ServeFault {
+        match told {
+            AnswerFault::Docket(fault) => ServeFault::Docket(fault),
+            AnswerFault::NoSheet => ServeFault::NoSheet,
+            AnswerFault::NoJournal => ServeFault::NoJournal,
+            AnswerFault::Memory => ServeFault::Memory,
+        }
+    }
 }

@@ -6,21 +6,19 @@
 //! compare them.
 #![tactic(auto)]
 
-mod answer;
 mod fault;
 mod line;
 mod options;
 mod program;
-mod report;
 mod serve;
 mod spent;
 mod status;
 
-pub use answer::write_replay;
+pub use audit_text::{write_replay, write_report};
 pub use fault::ServeFault;
-pub use line::{LineFault, read_line};
+pub use line::read_line;
 pub use options::{JournalForm, MatchOptions, Order};
 pub use program::serve_words;
-pub use report::write_report;
+pub use program_shell::{LineFault, line_status};
 pub use serve::{serve_audit, serve_match, serve_replay};
-pub use status::{Status, exit_status, line_status};
+pub use status::{Status, exit_status};

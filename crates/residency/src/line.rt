@@ -1,22 +1,22 @@
 //! The command line.
 ghost use Rattle.std.specs.Prelude.{◌≡◌, ◌≤◌, IfOk, IfErr, IfSome, None, Some, codes, map, true, false};
 ghost use Rattle.exchange_core.specs.Shown.{is_capacity};
-ghost use Rattle.residency.specs.declared.line.LineFault.TheVariants.{BadCapacity, Memory};
-ghost use Rattle.clap.specs.Values.{kind_of};
 ghost use Rattle.clap.specs.declared.error.kind.ErrorKind.TheVariants.{MissingSubcommand};
 ghost use Rattle.clap.specs.Words.{HasKind, app_of, fault_of, found_of, new_app, rows_of, rule_of, subcommand_of, subcommand_rows_of, with_subcommand};
-ghost use Rattle.residency.specs.Line.{GivesJournal, GivesOptions, GivesRoom, GivesWorkers, HasBadRoom, IsErrorOf, IsNamed, NamesNone, Orders, Refuses, commands_app, flag_rule, match_app, program_app, valued_rule, workers_rule};
+ghost use Rattle.program_shell.specs.declared.fault.LineFault.TheVariants.{BadCapacity};
+ghost use Rattle.program_shell.specs.Faults.{IsErrorOf, IsLineFault};
+ghost use Rattle.program_shell.specs.Flags.{flag_rule};
+ghost use Rattle.residency.specs.Line.{GivesJournal, GivesOptions, GivesRoom, GivesWorkers, HasBadRoom, IsNamed, NamesNone, Orders, Refuses, commands_app, match_app, program_app, valued_rule, workers_rule};
 ghost use Rattle.residency.specs.Options.{IsOrder, IsWithinLimits};
-ghost use Rattle.residency.specs.Status.{IsLineFault};
 
 use crate::options::{JournalForm, MatchOptions, Order};
 use clap::error::ErrorKind;
 use clap::{Arg, ArgAction, ArgMatches, Command};
 use docket::capacity_of;
 use exchange_core::Capacity;
+use program_shell::{LineFault, line_fault};
 use std::alloc::{AllocError, Global};
 use std::convert::AsStr;
-use thiserror::Error;
 use version::VERSION;
 
 // The help of each command: what it reads and writes, its exit status, and an example.
@@ -36,6 +36,9 @@ const AUDIT_HELP: &str =
 Writes S,stable, or S,unstable and then every cause: X a pair that isn't acceptable, O a programme
 over its quota, B a blocking pair.
 
+It trusts whoever joined what it reads: a W, P or Q row in the sheet's file changes the docket. The
+auditor's program, residency-audit, reads each file as its own part.
+
 Exit status: 0 for a stable sheet; 4 for an unstable one; 3 for a docket at fault or without a
 sheet; 2 for a wrong command line; 1 where memory, reading or writing failed.
 
@@ -47,43 +50,13 @@ Writes G and the number of events for a good journal. If it is by worker, a row 
 worker, with the number of its events. Else it writes N, the first event that may not follow, and
 why; or D and the first resident at whom the sheet differs.
 
+It trusts whoever joined what it reads: a W, P or Q row in the journal's file changes the docket. The
+auditor's program, residency-audit, reads each file as its own part.
+
 Exit status: 0 for a good journal; 4 for a bad one; 3 for a docket at fault or without a journal;
 2 for a wrong command line; 1 where memory, reading or writing failed.
 
 Example: cat examples/market.csv result.csv | residency replay";
-
-/// Why a command line orders nothing.
-#[derive(Debug, Drop, Error)]
-pub enum LineFault {
-    /// A growth was refused.
-    #[error("out of memory")]
-    Memory,
-    /// The words aren't those of a command, or help or the version was asked for.
-    #[error(transparent)]
-    Line(clap::Error),
-    /// The capacity is neither `full` nor a number from 1 to 1,024.
-    #[error("bad capacity")]
-    BadCapacity,
-}
-
-impl From<AllocError> for LineFault {
-    ghost from_gives = { λ _ fault. fault ≡ Memory };
-
-    fn from(_: AllocError) -> LineFault {
-        LineFault::Memory
-    }
-}
-
-// The fault that an error of the parser is.
-fn line_fault(error: clap::Error) -> LineFault
-    ensures fault { IsLineFault result }
-    ensures kind { IsErrorOf (λ kind. kind ≡ kind_of error) result }
-{
-    match error.kind() {
-        ErrorKind::OutOfMemory => LineFault::Memory,
-        _ => LineFault::Line(error),
-    }
-}
 
 // A command, with its usage and its help.
 fn described<'a>(

@@ -1,24 +1,21 @@
 //! The calls from bytes to bytes.
-ghost use Rattle.std.specs.Prelude.{◌≡◌, ◌≢◌, ◌++◌, ℕ, List, Some, false, length, option_copied, option_map, IfOk, IfErr, IfSome, OnOk};
+ghost use Rattle.std.specs.Prelude.{◌≡◌, ◌≢◌, ℕ, List, Some, false, IfOk, IfErr, OnOk};
 ghost use Rattle.std.specs.List.{All};
-ghost use Rattle.std.specs.Global.{Vec};
-ghost use Rattle.match_audit.specs.Report.{Reports};
-ghost use Rattle.docket.specs.RowText.{Adds, Writes};
+ghost use Rattle.row_writer.specs.RowText.{Adds, Writes};
 ghost use Rattle.docket.specs.Whole.{IsSheetOf, NamesMembers, IsByWorker};
-ghost use Rattle.residency.specs.Serving.{WritesMatch, wanted_match, wanted_journal, IsWriteFault, WritesReport, WritesReplay, IsMatchFault, IsAuditFault, IsReplayFault, AreDocket, IsFaultOf, IsBeforeWriting, IsAnswerTo, counts_in};
+ghost use Rattle.audit_text.specs.Serving.{IsWriteFault};
+ghost use Rattle.residency.specs.Serving.{WritesMatch, wanted_match, wanted_journal, WritesReport, WritesReplay, IsMatchFault, IsAuditFault, IsReplayFault, AreDocket, IsFaultOf, IsBeforeWriting, IsAnswerTo};
 
-use crate::answer::write_replay;
 use crate::fault::ServeFault;
 use crate::options::{JournalForm, MatchOptions, Order};
-use crate::report::write_report;
 use crate::spent::Spent;
 use crate::status::Status;
+use audit_text::{audit_docket, replay_docket};
 use docket::{
-    ByWorker, Docket, DocketFault, Journal, RowWriter, WriteFailed, push_journal, push_sheet,
-    read_docket, room_for_rows,
+    ByWorker, Docket, DocketFault, RowWriter, WriteFailed, push_journal, push_sheet, read_docket,
+    room_for_rows,
 };
 use exchange_core::Event;
-use match_audit::{AuditFault, AuditReport, ReplayFault, audit, check, counts, replay};
 use match_model::Assignment;
 use match_pool::{Ending, Gate, run};
 use settle_law::law_one_settled;
@@ -124,21 +121,8 @@ where
     }
 }
 
-// The report of an audit of the docket's sheet. An error is want of memory.
-fn report_of(alloc: Global, docket: &Docket, sheet: &Assignment) -> Result<AuditReport, ServeFault>
-    requires { length sheet.now ≡ length docket.now.instance.resident_lists }
-    ensures report { IfOk result (Reports docket.now.instance sheet.now) }
-    ensures fault { IfErr result (λ fault. fault ≡ ServeFault.Memory) }
-{
-    match audit(alloc, docket.instance(), sheet) {
-        Ok(report) => Ok(report),
-        Err(AuditFault::Memory) => Err(ServeFault::Memory),
-        Err(AuditFault::WrongSize) => unreachable!("a docket's sheet is by resident"),
-    }
-}
-
 // Writes what keeps a docket's sheet from being stable.
-fn audit_docket<W: Write>(
+fn write_audit<W: Write>(
     alloc: Global,
     docket: &Docket,
     writer: &mut W,
@@ -147,46 +131,14 @@ fn audit_docket<W: Write>(
     ensures fault { IfErr result (IsAuditFault docket.now) }
     ensures before { IfErr result (λ fault. IsBeforeWriting fault → writer.new ≡ writer.old) }
 {
-    let Some(sheet) = docket.sheet() else {
-        return Err(ServeFault::NoSheet);
-    };
-    // For the proof alone: reading an instance tells that its rankings are mutual and within the limits.
-    let _instance = docket.instance().residents();
-    let report = report_of(alloc, docket, sheet)?;
-    match write_report(alloc, docket, &report, writer) {
-        Ok(()) if report.is_stable() => Ok(Status::Stable),
-        Ok(()) => Ok(Status::Unstable),
-        Err(fault) => Err(ServeFault::Docket(fault)),
-    }
-}
-
-// How many events each worker made, where the journal is by worker. An error is want of memory.
-fn counts_of(alloc: Global, journal: &Journal) -> Result<Option<Vec<u64>>, ServeFault>
-    requires { IfSome journal.now.by (IsByWorker journal.now.events) }
-    ensures counts { IfOk result (λ counts. option_map (λ (v : Vec ℕ). v.items) counts ≡ counts_in journal.now) }
-    ensures fault { IfErr result (λ fault. fault ≡ ServeFault.Memory) }
-{
-    let Some(by) = &journal.by else {
-        return Ok(None);
-    };
-    match counts(alloc, by.workers, by.who.as_slice()) {
-        Ok(counts) => Ok(Some(counts)),
-        Err(_) => Err(ServeFault::Memory),
-    }
-}
-
-// The counts, as they are lent.
-fn lent(counts: &Option<Vec<u64>>) -> Option<&[u64]>
-    ensures { option_copied result ≡ option_map (λ (v : Vec ℕ). v.items) counts.now }
-{
-    match counts {
-        Some(counts) => Some(counts.as_slice()),
-        None => None,
+    match audit_docket(alloc, docket, writer) {
+        Ok(told) => Ok(Status::from(told)),
+        Err(fault) => Err(ServeFault::from(fault)),
     }
 }
 
 // Writes whether a docket's journal is a good exchange, and whether it gives the docket's sheet, if there is one.
-fn replay_docket<W: Write>(
+fn write_answer<W: Write>(
     alloc: Global,
     docket: &Docket,
     writer: &mut W,
@@ -195,22 +147,9 @@ fn replay_docket<W: Write>(
     ensures fault { IfErr result (IsReplayFault docket.now) }
     ensures before { IfErr result (λ fault. IsBeforeWriting fault → writer.new ≡ writer.old) }
 {
-    let Some(journal) = docket.journal() else {
-        return Err(ServeFault::NoJournal);
-    };
-    let events = journal.events.as_slice();
-    let answer = match docket.sheet() {
-        Some(sheet) => check(alloc, docket.instance(), journal.capacity, events, sheet),
-        None => replay(alloc, docket.instance(), journal.capacity, events),
-    };
-    if let Err(ReplayFault::Memory) = answer {
-        return Err(ServeFault::Memory);
-    }
-    let counts = counts_of(alloc, journal)?;
-    match write_replay(alloc, docket, &answer, lent(&counts), writer) {
-        Ok(()) if answer.is_ok() => Ok(Status::ReplayGood),
-        Ok(()) => Ok(Status::ReplayBad),
-        Err(fault) => Err(ServeFault::Docket(fault)),
+    match replay_docket(alloc, docket, writer) {
+        Ok(told) => Ok(Status::from(told)),
+        Err(fault) => Err(ServeFault::from(fault)),
     }
 }
 
@@ -289,7 +228,7 @@ pub fn serve_audit<R: Read + Drop, W: Write, H: RandomSource>(
     ensures before { IfErr result (λ fault. IsBeforeWriting fault → writer.new ≡ writer.old) }
 {
     match read_docket(rt, alloc, reader) {
-        Ok(docket) => audit_docket(alloc, &docket, writer),
+        Ok(docket) => write_audit(alloc, &docket, writer),
         Err(fault) => Err(ServeFault::Docket(fault)),
     }
 }
@@ -308,7 +247,7 @@ pub fn serve_replay<R: Read + Drop, W: Write, H: RandomSource>(
     ensures before { IfErr result (λ fault. IsBeforeWriting fault → writer.new ≡ writer.old) }
 {
     match read_docket(rt, alloc, reader) {
-        Ok(docket) => replay_docket(alloc, &docket, writer),
+        Ok(docket) => write_answer(alloc, &docket, writer),
         Err(fault) => Err(ServeFault::Docket(fault)),
     }
 }

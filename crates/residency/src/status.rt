@@ -1,11 +1,9 @@
 //! How a call ended, and with which status the program ends.
 ghost use Rattle.std.specs.Prelude.{◌≡◌};
-ghost use Rattle.residency.specs.Status.{exit_status_of, line_status_of};
+ghost use Rattle.residency.specs.Status.{exit_status_of};
 
 use crate::fault::ServeFault;
-use crate::line::LineFault;
-use clap::error::ErrorKind;
-use docket::DocketFault;
+use program_shell::docket_status;
 
 /// How a call ended that wrote its whole answer.
 #[derive(Clone, Copy, Debug, PartialEq, Eq)]
@@ -22,6 +20,21 @@ pub enum Status {
     ReplayBad,
 }
 
+impl From<audit_text::Status> for Status {
+    ghost use Rattle.residency.specs.Told.{status_told};
+
+    ghost from_gives = { λ told status. status ≡ status_told told };
+
+    fn from(told: audit_text::Status) -> Status {
+        match told {
+            audit_text::Status::Stable => Status::Stable,
+            audit_text::Status::Unstable => Status::Unstable,
+            audit_text::Status::ReplayGood => Status::ReplayGood,
+            audit_text::Status::ReplayBad => Status::ReplayBad,
+        }
+    }
+}
+
 /// The exit status of the program after a call.
 pub fn exit_status(answer: &Result<Status, ServeFault>) -> u8
     ensures { result ≡ exit_status_of answer.now }
@@ -29,24 +42,8 @@ pub fn exit_status(answer: &Result<Status, ServeFault>) -> u8
     match answer {
         Ok(Status::Closed | Status::Stable | Status::ReplayGood) => 0,
         Ok(Status::Unstable | Status::ReplayBad) => 4,
-        Err(
-            ServeFault::Docket(DocketFault::Read { .. } | DocketFault::Memory | DocketFault::Write),
-        ) => 1,
+        Err(ServeFault::Docket(fault)) => docket_status(fault),
         Err(ServeFault::Run(_) | ServeFault::Memory) => 1,
-        Err(ServeFault::Docket(_) | ServeFault::NoSheet | ServeFault::NoJournal) => 3,
-    }
-}
-
-/// The exit status of the program after a command line that orders nothing.
-pub fn line_status(fault: &LineFault) -> u8
-    ensures { result ≡ line_status_of fault.now }
-{
-    match fault {
-        LineFault::Memory => 1,
-        LineFault::BadCapacity => 2,
-        LineFault::Line(error) => match error.kind() {
-            ErrorKind::DisplayHelp | ErrorKind::DisplayVersion => 0,
-            _ => 2,
-        },
+        Err(ServeFault::NoSheet | ServeFault::NoJournal) => 3,
     }
 }

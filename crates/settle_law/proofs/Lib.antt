@@ -1,6 +1,7 @@
 pub mod Closing
 pub mod Orderliness
 pub mod EventCount
+pub mod Going
 pub mod Places
 pub mod Counting
 pub mod Placements
@@ -10,4 +11,5 @@ pub mod SameResidents
 pub mod FromLegal
 pub mod Settles
 pub mod OneSettled
+pub mod HasSettled
 mod StableExamples

@@ -1,9 +1,9 @@
 -- The laws of legal lists: each is the contract of the function of its name.
-use Rattle.std.specs.Prelude.{◌≡◌, ◌+◌, ◌*◌, ◌≤◌, false, List, length}
+use Rattle.std.specs.Prelude.{◌≡◌, ◌+◌, ◌*◌, ◌≤◌, ◌++◌, false, List, length}
 use Rattle.match_model.specs.Instance.{Instance, IsInstance, pair_count}
 use Rattle.exchange_core.specs.declared.event.Event.{Event}
 use Rattle.exchange_core.specs.declared.event.Capacity.{Capacity}
-use Rattle.exchange_core.specs.Legal.{is_closed, MayFollow, IsLegal}
+use Rattle.exchange_core.specs.Legal.{is_closed, MayFollow, IsLegal, IsClosed}
 use Rattle.exchange_core.specs.Shown.{IsCapacity}
 use Rattle.settle_law.specs.Orderly.{IsOrderly}
 
@@ -25,3 +25,16 @@ NoJamLaw =
     (inst : Instance) (cap : Capacity) (j : List Event) →
     IsInstance inst → IsCapacity cap → IsLegal inst cap j → is_closed j ≡ false →
     (e : Event) × MayFollow inst cap j e
+
+-- the list goes on to a closed legal one
+pub record GoesOn (inst : Instance) (cap : Capacity) (j : List Event) : Type 0 where
+  pub rest : List Event
+  pub legal : IsLegal inst cap (j ++ rest)
+  pub closed : IsClosed (j ++ rest)
+
+-- every legal list goes on to a closed one
+abbrev pub ClosesLaw : Type 0
+ClosesLaw =
+    (inst : Instance) (cap : Capacity) (j : List Event) →
+    IsInstance inst → IsCapacity cap → IsLegal inst cap j →
+    GoesOn inst cap j

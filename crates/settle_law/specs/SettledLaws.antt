@@ -38,3 +38,7 @@ SameResidentsLaw =
 -- an instance has at most one settled assignment
 abbrev pub OneSettledLaw : Type 0
 OneSettledLaw = (inst : Instance) (m n : List (Option ℕ)) → IsSettled inst m → IsSettled inst n → m ≡ n
+
+-- an instance has a stable assignment that is settled
+abbrev pub HasSettledLaw : Type 0
+HasSettledLaw = (inst : Instance) → IsInstance inst → (m : List (Option ℕ)) × IsStable inst m × IsSettled inst m

@@ -4,5 +4,7 @@
 mod lists;
 mod settled;
 
-pub use lists::{law_bound, law_no_jam, law_orderly};
-pub use settled::{law_never_rejects, law_one_settled, law_same_residents, law_settled};
+pub use lists::{law_bound, law_closes, law_no_jam, law_orderly};
+pub use settled::{
+    law_has_settled, law_never_rejects, law_one_settled, law_same_residents, law_settled,
+};

@@ -1,6 +1,6 @@
 //! What an exchange gives: no achievable programme is rejected, and a closed exchange is settled.
 
-ghost use Rattle.settle_law.specs.SettledLaws.{NeverRejectsLaw, SettledLaw, SameResidentsLaw, OneSettledLaw};
+ghost use Rattle.settle_law.specs.SettledLaws.{NeverRejectsLaw, SettledLaw, SameResidentsLaw, OneSettledLaw, HasSettledLaw};
 
 /// In no legal list is a resident called to reject a programme that is achievable for it.
 pub fn law_never_rejects()
@@ -21,4 +21,9 @@ pub fn law_same_residents()
 /// An instance has at most one settled assignment.
 pub fn law_one_settled()
     ensures { OneSettledLaw }
+{}
+
+/// Every instance has a settled assignment, and it is stable.
+pub fn law_has_settled()
+    ensures { HasSettledLaw }
 {}

@@ -12,7 +12,7 @@ use crate::fault::DocketFault;
 use crate::kind::KeptKind;
 use crate::store::tables::Tables;
 use crate::vocabulary::{FILLED, MATCHED, UNMATCHED};
-use crate::words::digits_worth;
+use docket_names::digits_worth;
 use match_model::{Assignment, Instance, ProgrammeNo, ResidentNo};
 use std::alloc::{AllocError, Global};
 

@@ -1,15 +1,16 @@
 //! Rows, one after another, and where each of them ends.
-ghost use Rattle.std.specs.Prelude.{◌≡◌, ◌<◌, ◌≤◌, ◌++◌, ◌∷◌, [], Some, length, take, drop, slice_get, IfSome, IfNone, IfOk, OnOk};
+ghost use Rattle.std.specs.Prelude.{◌≡◌, ◌<◌, ◌≤◌, ◌++◌, ◌∷◌, [], Some, true, length, take, drop, slice_get, IfSome, IfNone, IfOk, OnOk};
 ghost use Rattle.csv.specs.Records.{fields_of};
 ghost use Rattle.docket.specs.Fields as fields;
-ghost use Rattle.docket.specs.FlatRows.{AreNumbersOf, AreShort, AddsTexts, StartsWith};
+ghost use Rattle.docket.specs.FlatRows.{AreNamed, AddsTexts};
+ghost use Rattle.docket_names.specs.Words.{is_name};
+ghost use Rattle.docket_names.specs.Texts.{AreNumbersOf, StartsWith, IsJoined};
 ghost use Rattle.docket.specs.Rows.{row_at};
-ghost use Rattle.docket.specs.Kept.{IsJoined, HaveJoined};
+ghost use Rattle.docket.specs.Kept.{HaveJoined};
 
-use crate::store::name_key::MAX_NAME;
 use crate::store::numbers::{Numbers, start_of};
-use crate::store::texts::Texts;
 use csv::ByteRecord;
+use docket_names::Texts;
 use std::alloc::{AllocError, Global};
 use std::hash::RandomState;
 use std::marker::Model;
@@ -23,7 +24,8 @@ pub(crate) struct FlatRows {
 }
 
 impl Model for FlatRows {
-    ghost use Rattle.docket.specs.FlatRows.{NumberedRows, cut, texts_at, AreFlat};
+    ghost use Rattle.docket.specs.FlatRows.{NumberedRows, cut, AreFlat};
+    ghost use Rattle.docket_names.specs.Texts.{texts_at};
 
     ghost Value = { NumberedRows };
 
@@ -35,7 +37,7 @@ impl Model for FlatRows {
 // Adds the number of a text.
 #[inline(always)]
 fn append_text(texts: &mut Texts, fields: &mut Numbers, text: &[u8]) -> Result<(), AllocError>
-    requires fits { length text.now ≤ MAX_NAME }
+    requires name { is_name text.now ≡ true }
     requires within { AreNumbersOf texts.old fields.old }
     ensures added { OnOk result (AddsTexts texts.old fields.old texts.new fields.new (text.now ∷ [])) }
     ensures joined { OnOk result (IsJoined texts.old texts.new text.now) }
@@ -53,7 +55,7 @@ fn append(
     row: &ByteRecord,
     from: usize,
 ) -> Result<(), AllocError>
-    requires short { AreShort (fields_of row.now) }
+    requires names { AreNamed (fields_of row.now) }
     requires within { AreNumbersOf texts.old fields.old }
     ensures added { OnOk result (AddsTexts texts.old fields.old texts.new fields.new (drop from (fields_of row.now))) }
     ensures joined { OnOk result (HaveJoined texts.old texts.new (drop from (fields_of row.now))) }
@@ -74,7 +76,7 @@ fn append_list(
     row: &ByteRecord,
     most: usize,
 ) -> Result<usize, AllocError>
-    requires short { AreShort (fields_of row.now) }
+    requires names { AreNamed (fields_of row.now) }
     requires owner { 2 ≤ length (fields_of row.now) }
     requires within { AreNumbersOf texts.old fields.old }
     ensures added { IfOk result (λ count. AddsTexts texts.old fields.old texts.new fields.new (take count (fields_of row.now))) }
@@ -120,7 +122,7 @@ impl FlatRows {
     /// Adds the fields of a row from field `from` on, as a row. Where memory is wanting no row is kept.
     #[inline(always)]
     pub(crate) fn push(&mut self, row: &ByteRecord, from: usize) -> Result<(), AllocError>
-        requires { AreShort (fields_of row.now) }
+        requires { AreNamed (fields_of row.now) }
         ensures rows { OnOk result (self.new.rows ≡ self.old.rows ++ drop from (fields_of row.now) ∷ []) }
         ensures texts { OnOk result (StartsWith self.old.texts self.new.texts) }
     {
@@ -140,7 +142,7 @@ impl FlatRows {
     /// Adds a row with a list: all its fields, or as many as bring the texts above so many, its kind and its owner at least.
     /// Says how many there are. Where memory is wanting no row is kept.
     pub(crate) fn push_list(&mut self, row: &ByteRecord, most: usize) -> Result<usize, AllocError>
-        requires short { AreShort (fields_of row.now) }
+        requires names { AreNamed (fields_of row.now) }
         requires owner { 2 ≤ length (fields_of row.now) }
         ensures rows { IfOk result (λ count. self.new.rows ≡ self.old.rows ++ take count (fields_of row.now) ∷ []) }
         ensures texts { IfOk result (λ count. HaveJoined self.old.texts self.new.texts (take count (fields_of row.now))) }
@@ -162,7 +164,7 @@ impl FlatRows {
 
     /// The number of a text, which joins the texts where it is new. The rows stay.
     pub(crate) fn text_number(&mut self, text: &[u8]) -> Result<usize, AllocError>
-        requires { length text.now ≤ MAX_NAME }
+        requires { is_name text.now ≡ true }
         ensures rows { self.new.rows ≡ self.old.rows }
         ensures number { IfOk result (λ n. slice_get self.new.texts n ≡ Some text.now) }
         ensures texts { StartsWith self.old.texts self.new.texts }

@@ -25,7 +25,6 @@ returns c =
         };
         text_is = refl;
       };
-      appended = text_made names c.args.manner.now.without_ranks c.args.resident own _ _ _ _ _ _ _ _ _ c.count_answers-tally.ensures.listed
-          c.count_answers-tally.ensures.ranked_back c.count_answers-tally.ensures.withdrew c.place_of-own.ensures c.in_ok-push_first_line.ensures h;
+      appended = text_made names c.args.manner.now.without_ranks c.args.resident own _ _ _ _ _ _ c.place_of-own.ensures c.in_ok-push_first_line.ensures h;
     })
     c.push_each.ensures

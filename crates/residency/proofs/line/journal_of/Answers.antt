@@ -1,7 +1,7 @@
 use Rattle.std.proofs.Common.{rules, refl, ◌≡◌, ◌∙◌, Bool, true, false, codes}
 use Rattle.clap.specs.Words.{found_of, rows_of}
 use Rattle.clap.proofs.WalkLemmas.{one_text-rows}
-use Rattle.residency.specs.Line.{IsUnflagged}
+use Rattle.program_shell.specs.Flags.{IsUnflagged}
 use Rattle.residency.proofs.line.journal_of.Goals as goal
 
 -- nothing is true and false

@@ -1,9 +1,47 @@
-use Rattle.std.proofs.Common.{arith}
+use Rattle.std.proofs.Common.{◌≡◌, ◌≢◌, ℕ, ◌+◌, ◌<◌, ◌∷◌, ◌++◌, [], List, Option, None, Some, length, refl, sym, subst, arith, rules}
+use Rattle.desk_scheduler.specs.Waits.{Waits, AreQueues, joined_rows, linked_at, queue_of}
+use Rattle.desk_scheduler.proofs.Queues.{joined_queues, joined_last, joined_others}
 use Rattle.desk_scheduler.proofs.Waiting.{fewer_wait}
 use Rattle.desk_scheduler.proofs.wait_queues.WaitQueues.join_behind.Goals as goal
 
+-- what is required, of the rows
+required : (now view : Waits) (d : ℕ) → view ≡ now → (d < length now.mailbox) → linked_at now.mailbox d ≡ None
+    → (d < length view.mailbox) × (linked_at view.mailbox d ≡ None)
+required now view d is within waits_not =
+    subst (λ (w : Waits). (d < length w.mailbox) × (linked_at w.mailbox d ≡ None)) (sym is) (within, waits_not)
+
 pub overflow_add-self : goal.overflow_add-self
 overflow_add-self c =
-    let s = c.args.self.now in
-    let fewer = fewer_wait s.mailbox.items c.args.desk c.requires.within c.requires.waits_not in
-    omega (arith, fewer, s.mailbox.ok.0, s.mailbox.small, s.counted, c.put_behind.ensures.rest.4)
+    let s = c.self.inside in
+    let need = required _ _ c.args.desk c.self.view_is c.requires.within c.requires.waits_not in
+    omega (arith, fewer_wait s.mailbox.items c.args.desk need.0 need.1, s.mailbox.ok.0, s.mailbox.small, c.self.invariant.counted)
+
+pub invariant_of-self : goal.invariant_of-self
+invariant_of-self c =
+    let s = c.self.inside in
+    let w : Waits = record { first = s.first.items; last = s.last.items; mailbox = s.mailbox.items; before = s.before.items; behind = s.behind.items; called = s.called.items } in
+    let need = required c.args.self.now w c.args.desk c.self.view_is c.requires.within c.requires.waits_not in
+    let rows : record { first = c.relink.new.ends.items; last = c.link.new.row.items; mailbox = c.link-4.new.row.items; before = c.link-2.new.row.items; behind = c.link-3.new.row.items; called = s.called.items } ≡ joined_rows w c.args.mailbox c.args.desk = search rules in
+    subst (λ (v : Waits). AreQueues v (s.count + 1)) (sym rows) (joined_queues w s.count c.args.mailbox c.args.desk c.self.invariant need.0 need.1 (s.count + 1) refl)
+
+pub returns-clause-behind_all : goal.returns-clause-behind_all
+returns-clause-behind_all c =
+    let s = c.self.inside in
+    let w : Waits = record { first = s.first.items; last = s.last.items; mailbox = s.mailbox.items; before = s.before.items; behind = s.behind.items; called = s.called.items } in
+    let need = required c.args.self.now w c.args.desk c.self.view_is c.requires.within c.requires.waits_not in
+    let new : Waits = record { first = c.relink.new.ends.items; last = c.link.new.row.items; mailbox = c.link-4.new.row.items; before = c.link-2.new.row.items; behind = c.link-3.new.row.items; called = s.called.items } in
+    let rows : new ≡ joined_rows w c.args.mailbox c.args.desk = search rules in
+    subst (λ (u : Waits). c.args.mailbox < length u.last → queue_of new c.args.mailbox ≡ queue_of u c.args.mailbox ++ c.args.desk ∷ []) c.self.view_is
+    (subst (λ (v : Waits). c.args.mailbox < length w.last → queue_of v c.args.mailbox ≡ queue_of w c.args.mailbox ++ c.args.desk ∷ []) (sym rows)
+    (λ l. joined_last w s.count c.args.mailbox c.args.desk c.self.invariant need.0 need.1 (omega (arith, l, c.self.invariant.rows.last))))
+
+pub returns-clause-elsewhere : goal.returns-clause-elsewhere
+returns-clause-elsewhere c =
+    let s = c.self.inside in
+    let w : Waits = record { first = s.first.items; last = s.last.items; mailbox = s.mailbox.items; before = s.before.items; behind = s.behind.items; called = s.called.items } in
+    let need = required c.args.self.now w c.args.desk c.self.view_is c.requires.within c.requires.waits_not in
+    let new : Waits = record { first = c.relink.new.ends.items; last = c.link.new.row.items; mailbox = c.link-4.new.row.items; before = c.link-2.new.row.items; behind = c.link-3.new.row.items; called = s.called.items } in
+    let rows : new ≡ joined_rows w c.args.mailbox c.args.desk = search rules in
+    subst (λ (u : Waits). (m : ℕ) → m ≢ c.args.mailbox → queue_of new m ≡ queue_of u m) c.self.view_is
+    (subst (λ (v : Waits). (m : ℕ) → m ≢ c.args.mailbox → queue_of v m ≡ queue_of w m) (sym rows)
+    (joined_others w s.count c.args.mailbox c.args.desk c.self.invariant need.0 need.1))

@@ -1,6 +1,7 @@
 use Rattle.std.proofs.Common.{◌≡◌, map, take, drop, true}
 use Rattle.std.specs.List.{list_all}
-use Rattle.docket.specs.Contents.{member_in, is_declared, programmes_of}
+use Rattle.docket.specs.Contents.{member_in, programmes_of}
+use Rattle.docket_names.specs.Texts.{is_declared}
 use Rattle.docket.specs.Rows.{row_at}
 use Rattle.docket.proofs.passes.ranking.listed_programmes.Given as goal
 

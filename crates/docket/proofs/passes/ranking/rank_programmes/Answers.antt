@@ -5,7 +5,8 @@ use Rattle.docket.specs.Fields.{unless}
 use Rattle.std.specs.List.{list_all}
 use Rattle.docket.specs.declared.fault.DocketFault.TheVariants.{UnknownName}
 use Rattle.docket.specs.Rows.{row_at}
-use Rattle.docket.specs.Contents.{programmes_of, listed_in, is_declared}
+use Rattle.docket.specs.Contents.{programmes_of, listed_in}
+use Rattle.docket_names.specs.Texts.{is_declared}
 use Rattle.docket.proofs.SoundFacts.{unless_none}
 use Rattle.docket.proofs.DeclarationFacts.{refuses_first, refuses_second, no_fault}
 use Rattle.docket.proofs.RankingFacts.{place_at, ranking_fault-resident, resident_declared, ranked_resident, resident_list_fault, listed_answer, listed_fine}

@@ -1,6 +1,8 @@
 use Rattle.std.proofs.Common.{[], ◌∷◌, take, sym, arith}
 use Rattle.csv.specs.Records.{fields_of}
 use Rattle.csv.proofs.RecordFacts.{field-there, field-get}
+use Rattle.docket_names.specs.Words.{is_name}
+use Rattle.docket_names.proofs.WordFacts.{list_all_true_at}
 use Rattle.docket.proofs.JoinFacts.{have_none, have_more}
 use Rattle.docket.proofs.TextFacts.{adds_none, adds_more}
 use Rattle.docket.proofs.FlatRowsFacts.{take_text}
@@ -10,10 +12,10 @@ use Rattle.docket.proofs.store.flat_rows.append_list.Goals.{in-Some+in_ok-append
 pub loop-i-init : goal.loop-i-init
 loop-i-init c = (adds_none c.args.texts.now c.args.fields.now c.requires.within, have_none c.args.texts.now [])
 
-pub append_text-requires-clause-fits : goal.append_text-requires-clause-fits
-append_text-requires-clause-fits c =
+pub append_text-requires-clause-name : goal.append_text-requires-clause-name
+append_text-requires-clause-name c =
     let here = field-get (fields_of c.args.row.now) c.loop-i.i c.in-Some.text.now (sym c.in-Some.ensures.value) in
-    rw (← here) (c.requires.short.fits c.loop-i.i [] (omega arith))
+    rw (← here) (list_all_true_at is_name (fields_of c.args.row.now) c.loop-i.i [] (omega arith) c.requires.names.named)
 
 pub loop-i-preserved : goal.loop-i-preserved
 loop-i-preserved c = elim c.match-get.branch [

@@ -1,5 +1,6 @@
 use Rattle.std.proofs.Common.{◌≡◌, ◌≤◌, ◌*◌, ℕ, List, map, length}
-use Rattle.std.specs.List.{All, range_with_len}
+use Rattle.std.specs.List.{All, count_by, range_with_len}
+use Rattle.exchange_core.specs.Pending.{has_wish}
 use Rattle.match_model.specs.Instance.{quota, list_of_programme}
 use Rattle.exchange_core.specs.Left.{room_within}
 use Rattle.exchange_core.specs.Notes.{AreLaid}
@@ -12,5 +13,6 @@ invariant-loop-p l = record {
   opened : (notes : List ℕ) → map (shown_programme notes) l.seats.items ≡ map (λ p. opened_programme (room_within l.cap (2 * length (list_of_programme l.inst p))) (quota l.inst p) (length (list_of_programme l.inst p))) (range_with_len 0 l.p);
   laid : AreLaid (map programme_span l.seats.items) l.total;
   rings : All IsProgrammeRing l.seats.items;
+  counted : (notes : List ℕ) → l.with_wish ≡ count_by has_wish (map (shown_programme notes) l.seats.items);
   few : l.total ≤ 4294967296 * l.p;
 }

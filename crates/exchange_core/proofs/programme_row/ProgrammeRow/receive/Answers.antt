@@ -1,7 +1,10 @@
-use Rattle.std.proofs.Common.{◌≡◌, ◌∙◌, ◌++◌, ◌∷◌, [], ◌<◌, ℕ, List, map, get_or, slice_set, length, sym, ap, refl, subst, arith}
+use Rattle.std.proofs.Common.{true, ◌≡◌, ◌∙◌, ◌++◌, ◌∷◌, [], ◌<◌, ℕ, List, map, get_or, slice_set, length, sym, ap, refl, subst, arith}
 use Rattle.std.proofs.lemmas.List.{length-set, length-map, map_push}
 use Rattle.exchange_core.specs.declared.part.Part.{Part}
 use Rattle.exchange_core.specs.declared.programme_row.ProgrammeSeat.{ProgrammeSeat}
+use Rattle.std.proofs.lemmas.Bool.{lt-ltb}
+use Rattle.exchange_core.specs.Pending.{has_answers, has_wish}
+use Rattle.exchange_core.proofs.Counted.{waits, counted_one, counted_anew}
 use Rattle.exchange_core.specs.Left.{ProgrammeLeft}
 use Rattle.exchange_core.specs.Notes.{IsRing, AreLaid, waiting_in, place_in, span}
 use Rattle.exchange_core.specs.Rows.{shown_programme, programme_span, answer_of}
@@ -30,6 +33,15 @@ push-requires-clause-within c =
 pub push-requires-clause-room : goal.push-requires-clause-room
 push-requires-clause-room c = room_left c.self.inside.notes.items c.self.inside.seats.items c.args.self.now c.programme.inside.0 c.args.programme c.index_mut-seat.result.now c.self.view_is c.programme.view_is c.requires.member c.index_mut-seat.ensures.value c.requires.room
 
+pub recounted-self-inside-requires-clause-counted : goal.recounted-self-inside-requires-clause-counted
+recounted-self-inside-requires-clause-counted c passes =
+    let notes : List ℕ = c.self.inside.notes.items in
+    let seats : List ProgrammeSeat = c.self.inside.seats.items in
+    let seat : ProgrammeSeat = c.index_mut-seat.result.now in
+    let h = index_within (shown_programme notes) seats c.args.self.now c.programme.inside.0 c.args.programme c.self.view_is c.programme.view_is c.requires.member in
+    counted_one has_answers (shown_programme notes) seats c.programme.inside.0 c.self.inside.with_answers seat h c.index_mut-seat.ensures.value c.self.invariant.answers_counted
+    _ (waits answer_of notes seat.part) passes
+
 pub invariant_of-self : goal.invariant_of-self
 invariant_of-self c =
     let part : ProgrammeSeat → Part = λ s. s.part in
@@ -39,10 +51,23 @@ invariant_of-self c =
     let h = index_within (shown_programme notes) seats c.args.self.now c.programme.inside.0 c.args.programme c.self.view_is c.programme.view_is c.requires.member in
     let more = room_left notes seats c.args.self.now c.programme.inside.0 c.args.programme seat c.self.view_is c.programme.view_is c.requires.member c.index_mut-seat.ensures.value c.requires.room in
     let ring = ring_at part shown_programme seats c.programme.inside.0 seat h c.index_mut-seat.ensures.value c.self.invariant.rings in
+    let new : ProgrammeSeat = record { part = c.push.new.self; offered = seat.offered; out = seat.out; places = seat.places; listed = seat.listed } in
+    let written : List ℕ = slice_set notes (place_in seat.part seat.part.len) c.note_of.result in
+    let after : List ℕ → List ProgrammeLeft = λ xs. map (shown_programme xs) (slice_set seats c.programme.inside.0 new) in
+    let rows : after c.push.new.notes.items ≡ slice_set (map (shown_programme notes) seats) c.programme.inside.0 (shown_programme written new) =
+    ap after c.push.ensures.notes
+    ∙ shown_pushed part shown_programme (λ s a b e. same_programme_left (shown_programme a s) (shown_programme b s) refl refl (ap (λ (xs : List ℕ). map answer_of xs) e) refl refl refl)
+    seats notes c.programme.inside.0 c.note_of.result seat new (shown_programme written new) h c.index_mut-seat.ensures.value c.self.invariant.laid c.self.invariant.rings more refl in
     record {
-      laid = laid_set part shown_programme seats (length c.push.new.notes.items) c.programme.inside.0 seat _ c.index_mut-seat.ensures.value (ap span c.push.ensures.part)
+      laid = laid_set part shown_programme seats (length c.push.new.notes.items) c.programme.inside.0 seat new c.index_mut-seat.ensures.value (ap span c.push.ensures.part)
           (subst (λ (n : ℕ). AreLaid (map programme_span seats) n) (sym (ap (λ (xs : List ℕ). length xs) c.push.ensures.notes ∙ length-set notes (place_in seat.part seat.part.len) c.note_of.result)) c.self.invariant.laid);
-      rings = rings_set part shown_programme seats c.programme.inside.0 _ (subst IsRing (sym c.push.ensures.part) (ring_pushed seat.part ring more)) c.self.invariant.rings;
+      rings = rings_set part shown_programme seats c.programme.inside.0 new (subst IsRing (sym c.push.ensures.part) (ring_pushed seat.part ring more)) c.self.invariant.rings;
+      few = omega (arith, c.self.invariant.few, length-set seats c.programme.inside.0 new);
+      answers_counted = counted_anew has_answers (shown_programme notes) seats c.programme.inside.0 c.self.inside.with_answers seat h c.index_mut-seat.ensures.value c.self.invariant.answers_counted
+          (after c.push.new.notes.items) (shown_programme written new) c.recounted-self-inside.result _ true rows (waits answer_of notes seat.part)
+          (sym (lt-ltb 0 c.push.new.self.len (omega (arith, ap (λ (p : Part). p.len) c.push.ensures.part))) ∙ waits answer_of written c.push.new.self) c.recounted-self-inside.ensures;
+      wishes_counted = counted_anew has_wish (shown_programme notes) seats c.programme.inside.0 c.self.inside.with_wish seat h c.index_mut-seat.ensures.value c.self.invariant.wishes_counted
+          (after c.push.new.notes.items) (shown_programme written new) c.self.inside.with_wish _ _ rows refl refl refl;
     }
 
 pub returns : goal.returns

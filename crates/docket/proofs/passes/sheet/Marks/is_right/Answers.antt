@@ -1,13 +1,13 @@
 use Rattle.std.proofs.Common.{◌∙◌, ◌+◌, ap, sym, refl, arith, rules, Some, take, length}
 use Rattle.std.specs.Prelude.{slice_index_or, ◌==◌}
-use Rattle.docket.specs.Words.{digits_worth}
+use Rattle.docket_names.specs.Words.{digits_worth}
 use Rattle.docket.specs.Fields.{field}
 use Rattle.docket.specs.Rows.{row_at}
 use Rattle.docket.specs.Contents.{programmes_of, quotas_of}
 use Rattle.docket.proofs.NumberFacts.{number_below}
 use Rattle.docket.proofs.RankingFacts.{place_at, length-quotas_of, sound_row}
 use Rattle.docket.proofs.SoundFacts.{filled_row_sound}
-use Rattle.docket.proofs.WordFacts.{number_worth}
+use Rattle.docket_names.proofs.WordFacts.{number_worth}
 use Rattle.docket.proofs.MarkFacts.{counts_at, counts_below, filled_is, filled_known, test_true, test_false}
 use Rattle.docket.proofs.passes.sheet.Marks.is_right.Goals as goal
 

@@ -1,6 +1,7 @@
 use Rattle.std.proofs.Common.{ap}
 use Rattle.docket.specs.FlatRows.{cut}
-use Rattle.docket.proofs.TextFacts.{flat_kept, texts_kept}
+use Rattle.docket.proofs.TextFacts.{flat_kept}
+use Rattle.docket_names.proofs.TextFacts.{texts_kept}
 use Rattle.docket.proofs.store.flat_rows.FlatRows.text_number.Goals as goal
 
 pub invariant_of-self : goal.invariant_of-self

@@ -1,0 +1,2 @@
+pub mod GrowFacts
+pub mod AnswerFacts

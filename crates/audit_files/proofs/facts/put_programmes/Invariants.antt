@@ -1,0 +1,8 @@
+use Rattle.std.specs.Prelude.{codes}
+use Rattle.docket.specs.Texts.{programme_name}
+use Rattle.docket_parts.specs.Lines.{Grows}
+use Rattle.audit_files.specs.Rows.{withdrawn_rows}
+use Rattle.audit_files.proofs.facts.put_programmes.Given as goal
+
+abbrev pub invariant-loop-p : goal.invariant-loop-p
+invariant-loop-p l = Grows l.fn.text l.text (withdrawn_rows (codes "P") (programme_name l.docket) l.docket.instance.programmes_withdrawn l.p)

@@ -1,0 +1,4 @@
+pub mod Place
+pub mod Rows
+pub mod Answer
+pub mod Status

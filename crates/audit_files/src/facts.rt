@@ -1,0 +1,119 @@
+//! The facts of the files: their digests, how many members there are, and who is withdrawn.
+ghost use Rattle.std.specs.Prelude.{◌≡◌, ◌≤◌, ◌++◌, OnOk, option_copied, codes, length};
+ghost use Rattle.docket_parts.specs.Lines.{Grows};
+ghost use Rattle.match_model.specs.Instance.{IsProgramme, IsResident};
+ghost use Rattle.docket.specs.Texts.{programme_name, resident_name};
+ghost use Rattle.audit_files.specs.Rows as spec;
+
+use crate::rows::put_long_row;
+use docket::Docket;
+use match_model::{ProgrammeNo, ResidentNo};
+use sha2::{Digest, Sha256};
+use std::alloc::{AllocError, Global};
+
+// Adds the digest of a file.
+fn put_digest(
+    alloc: Global,
+    text: &mut Vec<u8>,
+    part: &[u8],
+    bytes: &[u8],
+) -> Result<(), AllocError>
+    ensures { OnOk result (Grows text.old text.new (spec.digest_row part.now bytes.now)) }
+{
+    let digest = Sha256::digest(bytes);
+    let digits = hex::encode(alloc, digest)?;
+    put_long_row(text, b"H", part, digits.as_bytes())
+}
+
+// Adds the digest of the journal's file, where there is one.
+fn put_journal_digest(
+    alloc: Global,
+    text: &mut Vec<u8>,
+    journal: Option<&[u8]>,
+) -> Result<(), AllocError>
+    ensures { OnOk result (Grows text.old text.new (spec.journal_digest_row (option_copied journal.entry))) }
+{
+    match journal {
+        Some(bytes) => put_digest(alloc, text, b"journal", bytes),
+        None => Ok(()),
+    }
+}
+
+// Adds how many members there are.
+fn put_members(text: &mut Vec<u8>, docket: &Docket) -> Result<(), AllocError>
+    ensures { OnOk result (Grows text.old text.new (spec.members_row docket.now)) }
+{
+    let (mut first, mut second) = (itoa::Buffer::new(), itoa::Buffer::new());
+    let programmes = first.format(docket.instance().programmes());
+    let residents = second.format(docket.instance().residents());
+    put_long_row(text, b"T", programmes.as_bytes(), residents.as_bytes())
+}
+
+// Adds the row of a programme that is withdrawn.
+fn put_programme(
+    text: &mut Vec<u8>,
+    docket: &Docket,
+    programme: ProgrammeNo,
+) -> Result<(), AllocError>
+    requires { IsProgramme docket.now.instance programme }
+    ensures { OnOk result (Grows text.old text.new (spec.withdrawn_row (codes "P") (programme_name docket.now) docket.now.instance.programmes_withdrawn programme)) }
+{
+    let again = programme;
+    if docket.instance().programme_withdrawn(programme) {
+        put_long_row(text, b"W", b"P", docket.programme_name(again).as_bytes())
+    } else {
+        Ok(())
+    }
+}
+
+// Adds the row of a resident that is withdrawn.
+fn put_resident(text: &mut Vec<u8>, docket: &Docket, resident: ResidentNo) -> Result<(), AllocError>
+    requires { IsResident docket.now.instance resident }
+    ensures { OnOk result (Grows text.old text.new (spec.withdrawn_row (codes "R") (resident_name docket.now) docket.now.instance.residents_withdrawn resident)) }
+{
+    let again = resident;
+    if docket.instance().resident_withdrawn(resident) {
+        put_long_row(text, b"W", b"R", docket.resident_name(again).as_bytes())
+    } else {
+        Ok(())
+    }
+}
+
+// Adds the rows of the programmes that are withdrawn.
+fn put_programmes(text: &mut Vec<u8>, docket: &Docket) -> Result<(), AllocError>
+    ensures { OnOk result (Grows text.old text.new (spec.withdrawn_rows (codes "P") (programme_name docket.now) docket.now.instance.programmes_withdrawn (length docket.now.instance.quotas))) }
+{
+    for p in 0..docket.instance().programmes() {
+        put_programme(text, docket, ProgrammeNo(p))?;
+    }
+    Ok(())
+}
+
+// Adds the rows of the residents that are withdrawn.
+fn put_residents(text: &mut Vec<u8>, docket: &Docket) -> Result<(), AllocError>
+    ensures { OnOk result (Grows text.old text.new (spec.withdrawn_rows (codes "R") (resident_name docket.now) docket.now.instance.residents_withdrawn (length docket.now.instance.resident_lists))) }
+{
+    for r in 0..docket.instance().residents() {
+        put_resident(text, docket, ResidentNo(r))?;
+    }
+    Ok(())
+}
+
+/// Adds the facts.
+pub(crate) fn put_facts(
+    alloc: Global,
+    text: &mut Vec<u8>,
+    docket: &Docket,
+    docket_bytes: &[u8],
+    sheet: &[u8],
+    journal: Option<&[u8]>,
+) -> Result<(), AllocError>
+    ensures { OnOk result (Grows text.old text.new (spec.facts_text docket.now docket_bytes.now sheet.now (option_copied journal.entry))) }
+{
+    put_digest(alloc, text, b"docket", docket_bytes)?;
+    put_digest(alloc, text, b"sheet", sheet)?;
+    put_journal_digest(alloc, text, journal)?;
+    put_members(text, docket)?;
+    put_programmes(text, docket)?;
+    put_residents(text, docket)
+}

@@ -1,0 +1,28 @@
+//! A fault of the joined records, told in its file.
+ghost use Rattle.std.specs.Prelude.{◌≡◌};
+ghost use Rattle.audit_files.specs.Place as spec;
+
+use crate::fault::FilesFault;
+use docket::DocketFault;
+use docket_parts::{FileFault, Joined, file_fault};
+
+// A fault that is of no record.
+fn unplaced(fault: DocketFault) -> FilesFault
+    ensures { result ≡ spec.unplaced fault }
+{
+    match fault {
+        DocketFault::Memory => FilesFault::Memory,
+        _ => FilesFault::Write,
+    }
+}
+
+/// A fault of the joined records, in its file and at its place there.
+pub fn told(joined: &Joined, fault: DocketFault) -> FilesFault
+    ensures { result ≡ spec.told joined.now.docket joined.now.sheet fault }
+{
+    let again = fault;
+    match file_fault(joined, fault) {
+        Some(FileFault { file, fault }) => FilesFault::Docket { file, fault },
+        None => unplaced(again),
+    }
+}

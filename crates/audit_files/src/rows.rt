@@ -1,0 +1,59 @@
+//! The rows that an audit over files has beside those of an audit and a replay.
+ghost use Rattle.std.specs.Prelude.{◌≡◌, ℕ, OnOk};
+ghost use Rattle.docket_parts.specs.Lines.{Grows};
+ghost use Rattle.audit_files.specs.Rows as spec;
+ghost use Rattle.match_model.specs.Instance.{IsResident};
+
+use docket::Docket;
+use match_model::ResidentNo;
+use std::alloc::AllocError;
+
+/// Adds bytes.
+#[inline]
+pub(crate) fn put(text: &mut Vec<u8>, bytes: &[u8]) -> Result<(), AllocError>
+    ensures { OnOk result (Grows text.old text.new bytes.now) }
+{
+    text.extend_from_slice(bytes)
+}
+
+/// Adds a row of a letter and one more field.
+pub(crate) fn put_row(text: &mut Vec<u8>, letter: &[u8], field: &[u8]) -> Result<(), AllocError>
+    ensures { OnOk result (Grows text.old text.new (spec.short_row letter.now field.now)) }
+{
+    put(text, letter)?;
+    put(text, b",")?;
+    put(text, field)?;
+    put(text, b"\n")
+}
+
+/// Adds a row of a letter and two more fields.
+pub(crate) fn put_long_row(
+    text: &mut Vec<u8>,
+    letter: &[u8],
+    first: &[u8],
+    second: &[u8],
+) -> Result<(), AllocError>
+    ensures { OnOk result (Grows text.old text.new (spec.long_row letter.now first.now second.now)) }
+{
+    put(text, letter)?;
+    put(text, b",")?;
+    put(text, first)?;
+    put(text, b",")?;
+    put(text, second)?;
+    put(text, b"\n")
+}
+
+/// Adds the row that says whether a sheet is the result, or the first resident at whom it differs.
+pub(crate) fn put_result(
+    text: &mut Vec<u8>,
+    docket: &Docket,
+    first: Option<ResidentNo>,
+) -> Result<(), AllocError>
+    requires { (r : ℕ) → first ≡ Some r → IsResident docket.now.instance r }
+    ensures { OnOk result (Grows text.old text.new (spec.result_row docket.now first)) }
+{
+    match first {
+        None => put_row(text, b"Y", b"result"),
+        Some(resident) => put_row(text, b"D", docket.resident_name(resident).as_bytes()),
+    }
+}

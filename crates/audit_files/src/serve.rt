@@ -1,0 +1,195 @@
+//! From the bytes of files to the bytes of an answer.
+ghost use Rattle.std.specs.Prelude.{◌≡◌, ◌≢◌, ℕ, [], Some, List, IfOk, IfErr, option_copied, unwrap_or};
+ghost use Rattle.std.specs.Io.KnownBytes.{Appends};
+ghost use Rattle.docket_parts.specs.Lines.{Grows};
+ghost use Rattle.audit_text.specs.Serving.{WritesReport, WritesReplay};
+ghost use Rattle.audit_files.specs.Rows.{facts_if, result_row};
+ghost use Rattle.audit_files.specs.Answer.{Replays, Tells, AnswersFiles, IsAnswerFault, IsServingFault, TellsFirst, verdict_of};
+
+use crate::facts::put_facts;
+use crate::fault::FilesFault;
+use crate::reading::read_files;
+use crate::rows::put_result;
+use audit_text::{AnswerFault, Status, audit_docket, replay_docket};
+use docket::Docket;
+use match_audit::first_unlike_result;
+use match_model::ResidentNo;
+use std::alloc::Global;
+use std::io::Write;
+use std::random::RandomSource;
+
+/// What an audit over files found.
+#[derive(Clone, Copy, Debug, PartialEq, Eq)]
+pub enum Verdict {
+    /// The sheet is stable, and it is the match's result. Where there is a journal, it is a good exchange that gives the sheet.
+    Good,
+    /// Something of this is not so.
+    Bad,
+}
+
+// Adds the rows of an audit.
+fn add_audit(alloc: Global, docket: &Docket, text: &mut Vec<u8>) -> Result<Status, FilesFault>
+    ensures report { IfOk result (λ status. WritesReport docket.now status (Some text.old.items) (Some text.new.items)) }
+    ensures fault { IfErr result (IsAnswerFault docket.now) }
+{
+    match audit_docket(alloc, docket, text) {
+        Ok(status) => Ok(status),
+        Err(AnswerFault::NoSheet) => Err(FilesFault::NoSheet),
+        Err(_) => Err(FilesFault::Memory),
+    }
+}
+
+// Adds the row that says whether the sheet is the result.
+fn add_result(
+    alloc: Global,
+    docket: &Docket,
+    text: &mut Vec<u8>,
+) -> Result<Option<ResidentNo>, FilesFault>
+    ensures first { IfOk result (TellsFirst docket.now) }
+    ensures text { IfOk result (λ first. Grows text.old text.new (result_row docket.now first)) }
+    ensures fault { IfErr result (IsAnswerFault docket.now) }
+{
+    let Some(sheet) = docket.sheet() else {
+        return Err(FilesFault::NoSheet);
+    };
+    let Ok(first) = first_unlike_result(alloc, docket.instance(), sheet) else {
+        return Err(FilesFault::Memory);
+    };
+    let again = first;
+    match put_result(text, docket, first) {
+        Ok(()) => Ok(again),
+        Err(_) => Err(FilesFault::Memory),
+    }
+}
+
+// Adds the rows of a replay.
+fn add_replay(alloc: Global, docket: &Docket, text: &mut Vec<u8>) -> Result<Status, FilesFault>
+    ensures answer { IfOk result (λ status. WritesReplay docket.now status (Some text.old.items) (Some text.new.items)) }
+    ensures fault { IfErr result (IsAnswerFault docket.now) }
+{
+    match replay_docket(alloc, docket, text) {
+        Ok(status) => Ok(status),
+        Err(AnswerFault::NoJournal) => Err(FilesFault::NoJournal),
+        Err(_) => Err(FilesFault::Memory),
+    }
+}
+
+// Adds the rows of a replay, where there is a journal.
+fn add_replay_if(
+    alloc: Global,
+    docket: &Docket,
+    journal: Option<&[u8]>,
+    text: &mut Vec<u8>,
+) -> Result<Option<Status>, FilesFault>
+    ensures answer { IfOk result (λ status. Replays docket.now (option_copied journal.entry) text.old.items status text.new.items) }
+    ensures fault { IfErr result (IsAnswerFault docket.now) }
+{
+    match journal {
+        None => Ok(None),
+        Some(_) => match add_replay(alloc, docket, text) {
+            Ok(status) => Ok(Some(status)),
+            Err(fault) => Err(fault),
+        },
+    }
+}
+
+// What was found, all in all.
+fn verdict_on(audited: Status, first: Option<ResidentNo>, replayed: Option<Status>) -> Verdict
+    ensures { result ≡ verdict_of audited first replayed }
+{
+    match (audited, first, replayed) {
+        (Status::Stable, None, None | Some(Status::ReplayGood)) => Verdict::Good,
+        _ => Verdict::Bad,
+    }
+}
+
+// Adds all that is told of a docket but the facts.
+fn add_answer(
+    alloc: Global,
+    docket: &Docket,
+    journal: Option<&[u8]>,
+    text: &mut Vec<u8>,
+) -> Result<Verdict, FilesFault>
+    ensures answer { IfOk result (λ verdict. Tells docket.now (option_copied journal.entry) text.old.items verdict text.new.items) }
+    ensures fault { IfErr result (IsAnswerFault docket.now) }
+{
+    let audited = match add_audit(alloc, docket, text) {
+        Ok(audited) => audited,
+        Err(fault) => return Err(fault),
+    };
+    let first = match add_result(alloc, docket, text) {
+        Ok(first) => first,
+        Err(fault) => return Err(fault),
+    };
+    let replayed = match add_replay_if(alloc, docket, journal, text) {
+        Ok(replayed) => replayed,
+        Err(fault) => return Err(fault),
+    };
+    Ok(verdict_on(audited, first, replayed))
+}
+
+// The text of the facts, where they are wanted, and else an empty one.
+fn facts_of(
+    alloc: Global,
+    wants_facts: bool,
+    docket: &Docket,
+    docket_bytes: &[u8],
+    sheet: &[u8],
+    journal: Option<&[u8]>,
+) -> Result<Vec<u8>, FilesFault>
+    ensures text { IfOk result (λ text. text.items ≡ facts_if wants_facts docket.now docket_bytes.now sheet.now (option_copied journal.entry)) }
+    ensures fault { IfErr result (λ fault. fault ≡ FilesFault.Memory) }
+{
+    let mut text = Vec::new(alloc);
+    if wants_facts {
+        let Ok(()) = put_facts(alloc, &mut text, docket, docket_bytes, sheet, journal) else {
+            return Err(FilesFault::Memory);
+        };
+    }
+    Ok(text)
+}
+
+// The bytes of a file, or none where there is no file.
+fn bytes_of(file: Option<&[u8]>) -> &[u8]
+    ensures { result.now ≡ unwrap_or (option_copied file.entry) [] }
+{
+    match file {
+        Some(bytes) => bytes,
+        None => &[],
+    }
+}
+
+/// Audits a sheet against the docket of another file, and against the match's result, and replays a journal where there is
+/// one. Each file is read as its own part. All that is told is made before the first byte is written.
+///
+/// The facts, where they are wanted, come first: the SHA-256 of each file, how many members there are, and who is withdrawn.
+pub fn serve_files<W: Write, H: RandomSource>(
+    rt: &H,
+    alloc: Global,
+    wants_facts: bool,
+    docket: &[u8],
+    sheet: &[u8],
+    journal: Option<&[u8]>,
+    writer: &mut W,
+) -> Result<Verdict, FilesFault>
+    ensures answer { IfOk result (λ verdict. (text : List ℕ) × AnswersFiles wants_facts docket.now sheet.now (option_copied journal.entry) verdict text × Appends (W.contents writer.old) (W.contents writer.new) text) }
+    ensures fault { IfErr result (IsServingFault docket.now sheet.now (option_copied journal.entry)) }
+    ensures before { IfErr result (λ fault. fault ≢ FilesFault.Write → writer.new ≡ writer.old) }
+{
+    let read = match read_files(rt, alloc, docket, sheet, bytes_of(journal)) {
+        Ok(read) => read,
+        Err(fault) => return Err(fault),
+    };
+    let mut text = match facts_of(alloc, wants_facts, &read, docket, sheet, journal) {
+        Ok(text) => text,
+        Err(fault) => return Err(fault),
+    };
+    let verdict = match add_answer(alloc, &read, journal, &mut text) {
+        Ok(verdict) => verdict,
+        Err(fault) => return Err(fault),
+    };
+    match writer.write_all(text.as_slice()) {
+        Ok(()) => Ok(verdict),
+        Err(_) => Err(FilesFault::Write),
+    }
+}

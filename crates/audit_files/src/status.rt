@@ -1,0 +1,22 @@
+//! With which status the program ends.
+ghost use Rattle.std.specs.Prelude.{◌≡◌};
+ghost use Rattle.audit_files.specs.Status.{exit_status_of};
+
+use crate::fault::FilesFault;
+use crate::serve::Verdict;
+use docket_parts::PartFault;
+use program_shell::docket_status;
+
+/// The exit status after an audit over files. It is 0 where all is good, and 4 where something isn't. It is 1 where memory,
+/// reading or writing failed, and 3 where a file is at fault.
+pub(crate) fn exit_status(answer: &Result<Verdict, FilesFault>) -> u8
+    ensures { result ≡ exit_status_of answer.now }
+{
+    match answer {
+        Ok(Verdict::Good) => 0,
+        Ok(Verdict::Bad) => 4,
+        Err(FilesFault::Docket { fault, .. }) => docket_status(fault),
+        Err(FilesFault::Part(PartFault::Memory) | FilesFault::Memory | FilesFault::Write) => 1,
+        Err(FilesFault::Part(_) | FilesFault::NoSheet | FilesFault::NoJournal) => 3,
+    }
+}

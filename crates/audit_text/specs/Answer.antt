@@ -1,0 +1,94 @@
+-- The rows that a replay writes.
+use Rattle.std.specs.Prelude.{ℕ, ◌+◌, Option, Some, None, Result, Ok, Err, List, [], ◌∷◌, ◌++◌, length, codes, decimal}
+use Rattle.exchange_core.specs.declared.event.Pending.{Pending}
+use Rattle.exchange_core.specs.declared.event.Pending.TheVariants.{Offers, Due, Answers, Wish}
+use Rattle.exchange_core.specs.declared.event.Refused.{Refused}
+use Rattle.exchange_core.specs.declared.event.Refused.TheVariants.{Closed, NoSuchDesk, NoPlace, NotNext, AnswerDue, NothingWaiting, WrongFront, NotDue, MailboxFull, StillPending}
+use Rattle.docket.specs.Contents.{Contents, JournalParts}
+use Rattle.row_writer.specs.RowText.{row}
+use Rattle.docket.specs.Texts.{programme_name, resident_name}
+use Rattle.match_audit.specs.declared.replayer.Replayed.{Replayed}
+use Rattle.match_audit.specs.declared.replayer.ReplayFault.{ReplayFault}
+use Rattle.match_audit.specs.declared.replayer.ReplayFault.TheVariants.{BadCapacity, Memory, At, NotClosed, SheetDiffers}
+use Rattle.match_audit.specs.Replay.{NamesMember}
+
+-- the word of a refusal
+abbrev pub refusal_word : Refused → List ℕ
+refusal_word Closed = codes "closed"
+refusal_word NoSuchDesk = codes "no-such-desk"
+refusal_word NoPlace = codes "no-place"
+refusal_word NotNext = codes "not-next"
+refusal_word AnswerDue = codes "answer-due"
+refusal_word NothingWaiting = codes "nothing-waiting"
+refusal_word WrongFront = codes "wrong-front"
+refusal_word NotDue = codes "not-due"
+refusal_word MailboxFull = codes "mailbox-full"
+refusal_word (StillPending what) = codes "still-pending"
+
+-- what is pending
+abbrev pub pending_word : Pending → List ℕ
+pending_word (Offers r) = codes "offers"
+pending_word (Due r) = codes "due"
+pending_word (Answers p) = codes "answers"
+pending_word (Wish p) = codes "wish"
+
+-- the name of the desk where something is pending
+abbrev pub pending_name : Contents → Pending → List ℕ
+pending_name d (Offers r) = resident_name d r
+pending_name d (Due r) = resident_name d r
+pending_name d (Answers p) = programme_name d p
+pending_name d (Wish p) = programme_name d p
+
+-- what follows the word of a refusal: what is pending, where it refuses a close
+abbrev pub refusal_fields : Contents → Refused → List (List ℕ)
+refusal_fields d (StillPending what) = pending_word what ∷ pending_name d what ∷ []
+refusal_fields d refused = []
+
+-- the fields of the row of a close that was refused, since something of this kind is pending at the desk of this name
+abbrev pub pending_fields : List ℕ → List ℕ → List ℕ → List (List ℕ)
+pending_fields place kind name = codes "N" ∷ place ∷ codes "still-pending" ∷ kind ∷ name ∷ []
+
+-- the fields of the row of an event that was refused at this place
+abbrev pub refused_fields : Contents → List ℕ → Refused → List (List ℕ)
+refused_fields d place refused = codes "N" ∷ place ∷ refusal_word refused ∷ refusal_fields d refused
+
+-- how many events the journal has, or 0 where there is none
+abbrev pub event_count : Option JournalParts → ℕ
+event_count (Some journal) = length journal.events
+event_count None = 0
+
+-- the fields of a fault's row; the place is that of a refused event, from 1, or the one after the last event
+abbrev pub fault_fields : Contents → ReplayFault → List (List ℕ)
+fault_fields d BadCapacity = codes "N" ∷ codes "0" ∷ codes "bad-capacity" ∷ []
+fault_fields d Memory = codes "N" ∷ codes "0" ∷ codes "memory" ∷ []
+fault_fields d (At place refused) = codes "N" ∷ decimal place ∷ refusal_word refused ∷ refusal_fields d refused
+fault_fields d NotClosed = codes "N" ∷ decimal (event_count d.journal + 1) ∷ codes "not-closed" ∷ []
+fault_fields d (SheetDiffers r) = codes "D" ∷ resident_name d r ∷ []
+
+-- the fields of an answer's row
+abbrev pub answer_fields : Contents → Result Replayed ReplayFault → List (List ℕ)
+answer_fields d (Ok replayed) = codes "G" ∷ decimal replayed.events ∷ []
+answer_fields d (Err fault) = fault_fields d fault
+
+-- the row of a worker: its number, and how many events it made
+unfoldable pub worker_row : ℕ → ℕ → List ℕ
+worker_row worker events = row (codes "K" ∷ decimal worker ∷ decimal events ∷ [])
+
+-- a row for each count: the worker, from this number on, and its count
+unfoldable pub worker_rows : ℕ → List ℕ → List ℕ
+worker_rows first [] = []
+worker_rows first (events ∷ counts) = worker_row first events ++ worker_rows (first + 1) counts
+
+-- what follows the row of an answer: after a good one each worker's row, where there are counts
+unfoldable pub count_rows : Result Replayed ReplayFault → Option (List ℕ) → List ℕ
+count_rows (Ok replayed) (Some counts) = worker_rows 0 counts
+count_rows answer counts = []
+
+-- the rows of an answer
+unfoldable pub replay_text : Contents → Result Replayed ReplayFault → Option (List ℕ) → List ℕ
+replay_text d answer counts = row (answer_fields d answer) ++ count_rows answer counts
+
+-- whoever the answer names is a member of the docket
+abbrev pub IsAnswerOf : Contents → Result Replayed ReplayFault → Type 0
+IsAnswerOf d (Ok replayed) = Unit {0}
+IsAnswerOf d (Err fault) = NamesMember d.instance fault

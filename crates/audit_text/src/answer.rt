@@ -1,0 +1,241 @@
+//! Writing what a replay answered.
+ghost use Rattle.std.specs.Prelude.{◌≡◌, ◌≢◌, ◌++◌, ◌∷◌, [], ◌+◌, ◌<◌, ◌^◌, codes, decimal, option_copied, OnOk, IfErr};
+ghost use Rattle.row_writer.specs.RowText.{Adds, Writes, row};
+ghost use Rattle.match_audit.specs.Replay.{NamesMember, RefusesMember, IsPendingMember};
+ghost use Rattle.audit_text.specs.Answer.{replay_text, answer_fields, worker_row, worker_rows, count_rows, refusal_word as word_of, pending_fields, refused_fields, pending_word as kind_of, pending_name as name_of, event_count as count_of, fault_fields, IsAnswerOf};
+ghost use Rattle.audit_text.specs.Serving.{IsWriteFault};
+
+use docket::{Docket, DocketFault, RowWriter, WriteFailed, room_for_rows};
+use exchange_core::{Pending, Refused};
+use match_audit::{ReplayFault, Replayed};
+use std::alloc::Global;
+use std::io::Write;
+
+// The word of a refusal.
+fn refusal_word(refused: &Refused) -> &'static str
+    ensures { result.now ≡ word_of refused.now }
+{
+    match refused {
+        Refused::Closed => "closed",
+        Refused::NoSuchDesk => "no-such-desk",
+        Refused::NoPlace => "no-place",
+        Refused::NotNext => "not-next",
+        Refused::AnswerDue => "answer-due",
+        Refused::NothingWaiting => "nothing-waiting",
+        Refused::WrongFront => "wrong-front",
+        Refused::NotDue => "not-due",
+        Refused::MailboxFull => "mailbox-full",
+        Refused::StillPending(_) => "still-pending",
+    }
+}
+
+// What is pending.
+fn pending_word(what: &Pending) -> &'static str
+    ensures { result.now ≡ kind_of what.now }
+{
+    match what {
+        Pending::Offers(_) => "offers",
+        Pending::Due(_) => "due",
+        Pending::Answers(_) => "answers",
+        Pending::Wish(_) => "wish",
+    }
+}
+
+// The name of the desk where something is pending.
+fn pending_name<'a>(docket: &'a Docket, what: &Pending) -> &'a str
+    requires { IsPendingMember docket.now.instance what.now }
+    ensures { result.now ≡ name_of docket.now what.now }
+{
+    match what {
+        Pending::Offers(resident) | Pending::Due(resident) => docket.resident_name(*resident),
+        Pending::Answers(programme) | Pending::Wish(programme) => {
+            docket.programme_name(*programme)
+        }
+    }
+}
+
+// How many events the docket's journal has.
+fn event_count(docket: &Docket) -> usize
+    ensures count { result ≡ count_of docket.now.journal }
+    ensures within { result + 1 < 2 ^ 64 }
+{
+    match docket.journal() {
+        Some(journal) => journal.events.len(),
+        None => 0,
+    }
+}
+
+// Adds the row of a fault that is told by one word.
+fn push_word<W: Write>(
+    rows: &mut RowWriter<'_, W>,
+    place: &[u8],
+    word: &str,
+) -> Result<(), WriteFailed>
+    ensures { OnOk result (Adds W.contents rows.old rows.new (row (codes "N" ∷ place.now ∷ word.now ∷ []))) }
+{
+    rows.push(&[b"N", place, word.as_bytes()])
+}
+
+// Adds the row of a close that was refused, since something is pending.
+fn push_pending<W: Write>(
+    rows: &mut RowWriter<'_, W>,
+    place: &[u8],
+    kind: &str,
+    name: &str,
+) -> Result<(), WriteFailed>
+    ensures { OnOk result (Adds W.contents rows.old rows.new (row (pending_fields place.now kind.now name.now))) }
+{
+    rows.push(&[
+        b"N",
+        place,
+        b"still-pending",
+        kind.as_bytes(),
+        name.as_bytes(),
+    ])
+}
+
+// Adds the row of a refused event.
+fn push_refused<W: Write>(
+    rows: &mut RowWriter<'_, W>,
+    docket: &Docket,
+    place: &[u8],
+    refused: &Refused,
+) -> Result<(), WriteFailed>
+    requires member { RefusesMember docket.now.instance refused.now }
+    ensures { OnOk result (Adds W.contents rows.old rows.new (row (refused_fields docket.now place.now refused.now))) }
+{
+    match refused {
+        Refused::StillPending(what) => {
+            push_pending(rows, place, pending_word(what), pending_name(docket, what))
+        }
+        _ => push_word(rows, place, refusal_word(refused)),
+    }
+}
+
+// Adds the row of a fault.
+fn push_fault<W: Write>(
+    rows: &mut RowWriter<'_, W>,
+    docket: &Docket,
+    fault: &ReplayFault,
+) -> Result<(), WriteFailed>
+    requires member { NamesMember docket.now.instance fault.now }
+    ensures { OnOk result (Adds W.contents rows.old rows.new (row (fault_fields docket.now fault.now))) }
+{
+    let mut room = itoa::Buffer::new();
+    match fault {
+        ReplayFault::BadCapacity => push_word(rows, b"0", "bad-capacity"),
+        ReplayFault::Memory => push_word(rows, b"0", "memory"),
+        ReplayFault::At { place, refused } => {
+            let place = room.format(*place).as_bytes();
+            push_refused(rows, docket, place, refused)
+        }
+        ReplayFault::NotClosed => {
+            let place = room.format(event_count(docket) + 1).as_bytes();
+            push_word(rows, place, "not-closed")
+        }
+        ReplayFault::SheetDiffers(resident) => {
+            rows.push(&[b"D", docket.resident_name(*resident).as_bytes()])
+        }
+    }
+}
+
+// Adds the row of a good replay.
+fn push_good<W: Write>(rows: &mut RowWriter<'_, W>, events: usize) -> Result<(), WriteFailed>
+    ensures { OnOk result (Adds W.contents rows.old rows.new (row (codes "G" ∷ decimal events ∷ []))) }
+{
+    let mut room = itoa::Buffer::new();
+    let events = room.format(events);
+    rows.push(&[b"G", events.as_bytes()])
+}
+
+// Adds the row of an answer.
+fn push_answer<W: Write>(
+    rows: &mut RowWriter<'_, W>,
+    docket: &Docket,
+    answer: &Result<Replayed, ReplayFault>,
+) -> Result<(), WriteFailed>
+    requires member { IsAnswerOf docket.now answer.now }
+    ensures { OnOk result (Adds W.contents rows.old rows.new (row (answer_fields docket.now answer.now))) }
+{
+    match answer {
+        Ok(replayed) => push_good(rows, replayed.events),
+        Err(fault) => push_fault(rows, docket, fault),
+    }
+}
+
+// Adds the row of a worker.
+#[tactic(auto, unfolding(crate::specs::Answer::worker_row))]
+fn push_worker<W: Write>(
+    rows: &mut RowWriter<'_, W>,
+    worker: usize,
+    events: u64,
+) -> Result<(), WriteFailed>
+    ensures { OnOk result (Adds W.contents rows.old rows.new (worker_row worker events)) }
+{
+    let (mut first, mut second) = (itoa::Buffer::new(), itoa::Buffer::new());
+    let worker = first.format(worker);
+    let events = second.format(events);
+    rows.push(&[b"K", worker.as_bytes(), events.as_bytes()])
+}
+
+// Adds the row of each worker.
+fn push_workers<W: Write>(rows: &mut RowWriter<'_, W>, counts: &[u64]) -> Result<(), WriteFailed>
+    ensures { OnOk result (Adds W.contents rows.old rows.new (worker_rows 0 counts.now)) }
+{
+    for worker in 0..counts.len() {
+        push_worker(rows, worker, counts[worker])?;
+    }
+    Ok(())
+}
+
+// Adds what follows the row of an answer.
+#[tactic(auto, unfolding(crate::specs::Answer::count_rows))]
+fn push_counts<W: Write>(
+    rows: &mut RowWriter<'_, W>,
+    answer: &Result<Replayed, ReplayFault>,
+    counts: Option<&[u64]>,
+) -> Result<(), WriteFailed>
+    ensures { OnOk result (Adds W.contents rows.old rows.new (count_rows answer.now (option_copied counts.entry))) }
+{
+    match (answer, counts) {
+        (Ok(_), Some(counts)) => push_workers(rows, counts),
+        _ => Ok(()),
+    }
+}
+
+// Adds the row of an answer, and what follows it.
+fn push_replay<W: Write>(
+    rows: &mut RowWriter<'_, W>,
+    docket: &Docket,
+    answer: &Result<Replayed, ReplayFault>,
+    counts: Option<&[u64]>,
+) -> Result<(), WriteFailed>
+    requires { IsAnswerOf docket.now answer.now }
+    ensures { OnOk result (Adds W.contents rows.old rows.new (replay_text docket.now answer.now (option_copied counts.entry))) }
+{
+    push_answer(rows, docket, answer)?;
+    push_counts(rows, answer, counts)
+}
+
+/// Writes what a replay of the docket's journal answered, in one row. After a good answer with counts, a row for each
+/// worker says how many events it made.
+///
+/// Whoever the answer names is a member of the docket. Before a fault other than the writer's nothing was written.
+pub fn write_replay<W: Write>(
+    alloc: Global,
+    docket: &Docket,
+    answer: &Result<Replayed, ReplayFault>,
+    counts: Option<&[u64]>,
+    writer: &mut W,
+) -> Result<(), DocketFault>
+    requires { IsAnswerOf docket.now answer.now }
+    ensures ok { OnOk result (Writes W.contents writer.old writer.new (replay_text docket.now answer.now (option_copied counts.entry))) }
+    ensures fault { IfErr result IsWriteFault }
+    ensures before { IfErr result (λ fault. fault ≢ DocketFault.Write → writer.new ≡ writer.old) }
+{
+    let mut room = room_for_rows(alloc)?;
+    let mut rows = RowWriter::new(writer, &mut room);
+    push_replay(&mut rows, docket, answer, counts)?;
+    rows.send()?;
+    Ok(())
+}

@@ -1,0 +1,16 @@
+//! What an audit and a replay of a docket write, row by row.
+//!
+//! It stands on no thread, so the auditor's program needs none.
+#![tactic(auto)]
+
+mod answer;
+mod fault;
+mod report;
+mod serve;
+mod status;
+
+pub use answer::write_replay;
+pub use fault::AnswerFault;
+pub use report::write_report;
+pub use serve::{audit_docket, replay_docket};
+pub use status::Status;

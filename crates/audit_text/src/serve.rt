@@ -1,0 +1,107 @@
+//! What a docket's sheet and its journal are told to be.
+ghost use Rattle.std.specs.Prelude.{◌≡◌, ◌≢◌, ℕ, length, option_copied, option_map, IfOk, IfErr, IfSome};
+ghost use Rattle.std.specs.Global.{Vec};
+ghost use Rattle.match_audit.specs.Report.{Reports};
+ghost use Rattle.docket.specs.Whole.{IsByWorker};
+ghost use Rattle.audit_text.specs.Serving.{WritesReport, WritesReplay, IsAuditFault, IsReplayFault, IsBeforeWriting, counts_in};
+
+use crate::answer::write_replay;
+use crate::fault::AnswerFault;
+use crate::report::write_report;
+use crate::status::Status;
+use docket::{Docket, Journal};
+use match_audit::{AuditFault, AuditReport, ReplayFault, audit, check, counts, replay};
+use match_model::Assignment;
+use std::alloc::Global;
+use std::io::Write;
+
+// The report of an audit of the docket's sheet. An error is want of memory.
+fn report_of(alloc: Global, docket: &Docket, sheet: &Assignment) -> Result<AuditReport, AnswerFault>
+    requires { length sheet.now ≡ length docket.now.instance.resident_lists }
+    ensures report { IfOk result (Reports docket.now.instance sheet.now) }
+    ensures fault { IfErr result (λ fault. fault ≡ AnswerFault.Memory) }
+{
+    match audit(alloc, docket.instance(), sheet) {
+        Ok(report) => Ok(report),
+        Err(AuditFault::Memory) => Err(AnswerFault::Memory),
+        Err(AuditFault::WrongSize) => unreachable!("a docket's sheet is by resident"),
+    }
+}
+
+/// Writes what keeps a docket's sheet from being stable. Before a fault other than the writer's nothing was written.
+pub fn audit_docket<W: Write>(
+    alloc: Global,
+    docket: &Docket,
+    writer: &mut W,
+) -> Result<Status, AnswerFault>
+    ensures report { IfOk result (λ status. WritesReport docket.now status (W.contents writer.old) (W.contents writer.new)) }
+    ensures fault { IfErr result (IsAuditFault docket.now) }
+    ensures before { IfErr result (λ fault. IsBeforeWriting fault → writer.new ≡ writer.old) }
+{
+    let Some(sheet) = docket.sheet() else {
+        return Err(AnswerFault::NoSheet);
+    };
+    // For the proof alone: reading an instance tells that its rankings are mutual and within the limits.
+    let _instance = docket.instance().residents();
+    let report = report_of(alloc, docket, sheet)?;
+    match write_report(alloc, docket, &report, writer) {
+        Ok(()) if report.is_stable() => Ok(Status::Stable),
+        Ok(()) => Ok(Status::Unstable),
+        Err(fault) => Err(AnswerFault::Docket(fault)),
+    }
+}
+
+// How many events each worker made, where the journal is by worker. An error is want of memory.
+fn counts_of(alloc: Global, journal: &Journal) -> Result<Option<Vec<u64>>, AnswerFault>
+    requires { IfSome journal.now.by (IsByWorker journal.now.events) }
+    ensures counts { IfOk result (λ counts. option_map (λ (v : Vec ℕ). v.items) counts ≡ counts_in journal.now) }
+    ensures fault { IfErr result (λ fault. fault ≡ AnswerFault.Memory) }
+{
+    let Some(by) = &journal.by else {
+        return Ok(None);
+    };
+    match counts(alloc, by.workers, by.who.as_slice()) {
+        Ok(counts) => Ok(Some(counts)),
+        Err(_) => Err(AnswerFault::Memory),
+    }
+}
+
+// The counts, as they are lent.
+fn lent(counts: &Option<Vec<u64>>) -> Option<&[u64]>
+    ensures { option_copied result ≡ option_map (λ (v : Vec ℕ). v.items) counts.now }
+{
+    match counts {
+        Some(counts) => Some(counts.as_slice()),
+        None => None,
+    }
+}
+
+/// Writes whether a docket's journal is a good exchange, and whether it gives the docket's sheet, if there is one. Before a
+/// fault other than the writer's nothing was written.
+pub fn replay_docket<W: Write>(
+    alloc: Global,
+    docket: &Docket,
+    writer: &mut W,
+) -> Result<Status, AnswerFault>
+    ensures answer { IfOk result (λ status. WritesReplay docket.now status (W.contents writer.old) (W.contents writer.new)) }
+    ensures fault { IfErr result (IsReplayFault docket.now) }
+    ensures before { IfErr result (λ fault. IsBeforeWriting fault → writer.new ≡ writer.old) }
+{
+    let Some(journal) = docket.journal() else {
+        return Err(AnswerFault::NoJournal);
+    };
+    let events = journal.events.as_slice();
+    let answer = match docket.sheet() {
+        Some(sheet) => check(alloc, docket.instance(), journal.capacity, events, sheet),
+        None => replay(alloc, docket.instance(), journal.capacity, events),
+    };
+    if let Err(ReplayFault::Memory) = answer {
+        return Err(AnswerFault::Memory);
+    }
+    let counts = counts_of(alloc, journal)?;
+    match write_replay(alloc, docket, &answer, lent(&counts), writer) {
+        Ok(()) if answer.is_ok() => Ok(Status::ReplayGood),
+        Ok(()) => Ok(Status::ReplayBad),
+        Err(fault) => Err(AnswerFault::Docket(fault)),
+    }
+}

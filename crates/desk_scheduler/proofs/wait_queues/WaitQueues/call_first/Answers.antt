@@ -1,0 +1,14 @@
+use Rattle.std.proofs.Common.{◌≡◌, ◌≢◌, ℕ, ◌∷◌, List, Option, Some, None, refl, sym, ap, ◌∙◌, subst, arith, rules}
+use Rattle.desk_scheduler.specs.Waits.{Waits, AreQueues, linked_at, queue_of, without}
+use Rattle.desk_scheduler.proofs.Queues.{nobody, no_first}
+use Rattle.desk_scheduler.proofs.wait_queues.WaitQueues.call_first.Goals as goal
+
+pub returns-then-self-eq0-clause-first : goal.returns-then-self-eq0-clause-first
+returns-then-self-eq0-clause-first c =
+    let are : AreQueues c.args.self.now c.self.inside.count = subst (λ (w : Waits). AreQueues w c.self.inside.count) c.self.view_is c.self.invariant in
+    sym (no_first c.args.self.now c.self.inside.count are (omega (arith, c.if-self-eq0.true)) c.args.mailbox)
+
+pub returns-then-self-eq0-clause-queue : goal.returns-then-self-eq0-clause-queue
+returns-then-self-eq0-clause-queue c =
+    let are : AreQueues c.args.self.now c.self.inside.count = subst (λ (w : Waits). AreQueues w c.self.inside.count) c.self.view_is c.self.invariant in
+    nobody c.args.self.now c.self.inside.count are (omega (arith, c.if-self-eq0.true)) c.args.mailbox

@@ -1,0 +1,9 @@
+use Rattle.std.proofs.Common.{◌≡◌, ◌≢◌, ℕ, ◌∷◌, List, Option, Some, None, refl, sym, ap, ◌∙◌, subst, arith, rules}
+use Rattle.desk_scheduler.specs.Waits.{Waits, AreQueues, linked_at, queue_of, without}
+use Rattle.desk_scheduler.proofs.Queues.{nobody}
+use Rattle.desk_scheduler.proofs.wait_queues.WaitQueues.leave.Goals as goal
+
+pub returns-else-self-gt0-clause-queues : goal.returns-else-self-gt0-clause-queues
+returns-else-self-gt0-clause-queues c =
+    let are : AreQueues c.args.self.now c.self.inside.count = subst (λ (w : Waits). AreQueues w c.self.inside.count) c.self.view_is c.self.invariant in
+    λ m. let none = nobody c.args.self.now c.self.inside.count are (omega (arith, c.if-self-gt0.false)) m in none ∙ ap (without c.args.desk) (sym none)

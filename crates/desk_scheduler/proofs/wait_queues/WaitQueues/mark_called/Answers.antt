@@ -1,0 +1,7 @@
+use Rattle.std.proofs.Common.{◌≡◌, ℕ, refl, sym, subst, arith, rules}
+use Rattle.desk_scheduler.specs.Waits.{Waits, AreQueues}
+use Rattle.desk_scheduler.proofs.Queues.{marked}
+use Rattle.desk_scheduler.proofs.wait_queues.WaitQueues.mark_called.Goals as goal
+
+pub invariant_of-self : goal.invariant_of-self
+invariant_of-self c = marked _ c.self.inside.count _ c.self.invariant

@@ -1,0 +1,194 @@
+//! The workers of a run among its desks: one value, under one lock.
+ghost use Rattle.std.specs.Prelude.{◌≡◌, ◌+◌, ◌<◌, ◌≤◌, ◌||◌, ◌&&◌, [], false, true, fold, nat_lt, IfOk, IfErr, IfSome, IfNone};
+ghost use Rattle.desk_scheduler.specs.Desks.{letting_go};
+ghost use Rattle.desk_scheduler.specs.Shift.{GetDesks, next_in, desks_in};
+ghost use Rattle.desk_scheduler.specs.Turns.{IsInHand, at_desk, next_of, claim_or_next_of, waiting_now, ended_now, any_ready, woken_by};
+
+use crate::scheduler::{Next, Scheduler};
+use crate::turn::Turn;
+use crate::woken::Woken;
+use crate::workers::{Holding, Looking, Resting, Workers, WorkersIdentity};
+use std::marker::Model;
+
+/// A desk in a worker's hands. Only a worker that looked for one gets it, and only with it a desk is let go.
+#[derive(Drop)]
+pub struct Hand<J: WorkersIdentity> {
+    desk: u32,
+    held: Holding<J>,
+}
+
+impl<J: WorkersIdentity> Hand<J> {
+    /// The number of the desk.
+    #[inline(always)]
+    pub fn desk(&self) -> u32
+        ensures { result ≡ self.now.desk }
+    {
+        self.desk
+    }
+}
+
+/// What a worker of a run gets that looks for a desk.
+pub type TurnOf<J> = Turn<Hand<J>, Looking<J>>;
+
+/// The schedule of a run, and its workers. Each has a token of what it does: a hand with a desk, `Looking`, or `Resting`. Only
+/// a call of this value gives one, and the next call takes it. Never do all rest.
+#[derive(Drop)]
+pub struct Shift<J: WorkersIdentity> {
+    scheduler: Scheduler,
+    workers: Workers<J>,
+}
+
+impl<J: WorkersIdentity> Model for Shift<J> {
+    ghost use Rattle.std.specs.Prelude.{◌≡◌};
+    ghost use Rattle.desk_scheduler.specs.Shift.{Manned};
+
+    ghost Value = { Manned };
+
+    ghost view = { λ s. record {
+      schedule = s.scheduler;
+      begun = s.workers.begun;
+      holding = s.workers.holding.total;
+      looking = s.workers.looking.total;
+      resting = s.workers.resting.total;
+    } };
+
+    ghost invariant = { λ s. s.scheduler.waiting ≡ s.workers.resting.total };
+}
+
+impl<J: WorkersIdentity> Shift<J> {
+    /// This schedule, for workers that have not begun.
+    pub fn new(scheduler: Scheduler, workers: Workers<J>) -> Shift<J>
+        requires nobody_waits { scheduler.waiting ≡ 0 }
+        requires nobody { workers.begun ≡ 0 }
+        ensures schedule { result.schedule ≡ scheduler }
+        ensures nobody { result.begun ≡ 0 }
+    {
+        Shift { scheduler, workers }
+    }
+
+    /// One more worker begins: it looks for a desk. None where 63 have.
+    pub fn begins(&mut self) -> Option<Looking<J>>
+        ensures begun { IfSome result (λ _. self.new.begun ≡ self.old.begun + 1) }
+        ensures looks { IfSome result (λ _. self.new.looking ≡ self.old.looking + 1) }
+        ensures others { (self.new.holding ≡ self.old.holding) × (self.new.resting ≡ self.old.resting) }
+        ensures none { IfNone result ((63 ≤ self.old.begun) × (self.new ≡ self.old)) }
+        ensures schedule { self.new.schedule ≡ self.old.schedule }
+    {
+        self.workers.begins()
+    }
+
+    /// All these desks may have work. They are noted no more.
+    #[inline(always)]
+    pub fn list_all(&mut self, woken: &mut Woken)
+        ensures listed { self.new.schedule ≡ fold woken_by self.old.schedule woken.old }
+        ensures goes_on { self.new.schedule.ended ≡ self.old.schedule.ended }
+        ensures counted { GetDesks self.old self.new 0 }
+        ensures none_left { woken.new ≡ [] }
+    {
+        self.scheduler.list_all(woken);
+    }
+
+    /// A worker lets its desk go, which is listed where it may have work again. It looks for another.
+    #[inline(always)]
+    pub fn let_go(&mut self, hand: Hand<J>, again: bool) -> Looking<J>
+        ensures let_go { self.new.schedule ≡ at_desk (λ desks d. letting_go desks d again) self.old.schedule hand.desk }
+        ensures goes_on { self.new.schedule.ended ≡ self.old.schedule.ended }
+        ensures counted { GetDesks self.new self.old 1 }
+    {
+        let Hand { desk, held } = hand;
+        self.scheduler.let_go(desk, again);
+        self.workers.lets_go(held)
+    }
+
+    /// A worker that looks gets the desk on top of the list, while the run goes on.
+    #[inline(always)]
+    pub fn next(&mut self, own: Looking<J>) -> TurnOf<J>
+        ensures next { (next_in (λ hand. hand.desk) result, self.new.schedule) ≡ next_of self.old.schedule }
+        ensures goes_on { self.new.schedule.ended ≡ self.old.schedule.ended }
+        ensures counted { GetDesks self.old self.new (desks_in result) }
+    {
+        let next = self.scheduler.next();
+        self.gets(next, own)
+    }
+
+    /// A worker that looks gets this desk, if nobody has it and it isn't listed; else the one on top of the list. It gets
+    /// nothing only where this desk is in a hand and none is listed.
+    pub fn claim_or_next(&mut self, own: Looking<J>, desk: u32) -> TurnOf<J>
+        ensures next { (next_in (λ hand. hand.desk) result, self.new.schedule) ≡ claim_or_next_of self.old.schedule desk }
+        ensures in_hand { next_in (λ hand. hand.desk) result ≡ Next.Nothing → IsInHand self.old.schedule desk }
+        ensures none { next_in (λ hand. hand.desk) result ≡ Next.Nothing → any_ready self.old.schedule ≡ false }
+        ensures goes_on { self.new.schedule.ended ≡ self.old.schedule.ended }
+        ensures counted { GetDesks self.old self.new (desks_in result) }
+    {
+        let next = self.scheduler.claim_or_next(desk);
+        self.gets(next, own)
+    }
+
+    // What a worker that looks gets, to which the scheduler gave this.
+    #[inline(always)]
+    fn gets(&mut self, next: Next, own: Looking<J>) -> TurnOf<J>
+        ensures next { next_in (λ hand. hand.desk) result ≡ next }
+        ensures schedule { self.new.schedule ≡ self.old.schedule }
+        ensures counted { GetDesks self.old self.new (desks_in result) }
+    {
+        match next {
+            Next::Desk(desk) => Turn::Desk(Hand {
+                desk,
+                held: self.workers.takes(own),
+            }),
+            Next::Nothing => Turn::Nothing(own),
+            Next::Ended => Turn::Ended(own),
+        }
+    }
+
+    /// A worker that looks rests, if another has a desk in its hands. Else it has to look on.
+    pub fn rests(&mut self, own: Looking<J>) -> Result<Resting<J>, Looking<J>>
+        ensures rests { IfOk result (λ _. (self.new.resting ≡ self.old.resting + 1)
+            × (self.new.looking + 1 ≡ self.old.looking)) }
+        ensures another { IfOk result (λ _. (0 < self.old.holding) × (self.new.holding ≡ self.old.holding)) }
+        ensures awake { IfOk result (λ _. self.new.resting < self.new.begun) }
+        ensures waits { IfOk result (λ _. self.new.schedule ≡ waiting_now self.old.schedule self.new.resting) }
+        ensures alone { IfErr result (λ _. (self.old.holding ≡ 0) × (self.new ≡ self.old)) }
+        ensures goes_on { self.new.schedule.ended ≡ self.old.schedule.ended }
+    {
+        let resting = self.workers.rests(own)?;
+        self.scheduler.wait_begins();
+        Ok(resting)
+    }
+
+    /// A worker that rested looks again.
+    pub fn wakes(&mut self, own: Resting<J>) -> Looking<J>
+        ensures resting { self.new.resting + 1 ≡ self.old.resting }
+        ensures looking { self.new.looking ≡ self.old.looking + 1 }
+        ensures holding { (self.new.holding ≡ self.old.holding) × (self.new.begun ≡ self.old.begun) }
+        ensures waits { self.new.schedule ≡ waiting_now self.old.schedule self.new.resting }
+        ensures goes_on { self.new.schedule.ended ≡ self.old.schedule.ended }
+    {
+        self.scheduler.wait_ends();
+        self.workers.wakes(own)
+    }
+
+    /// The run ends: no desk comes into a hand any more.
+    pub fn end(&mut self)
+        ensures ended { self.new.schedule ≡ ended_now self.old.schedule }
+        ensures counted { GetDesks self.old self.new 0 }
+    {
+        self.scheduler.end();
+    }
+
+    /// Whether a worker that rests has something to wake for.
+    #[inline(always)]
+    pub fn has_news(&self) -> bool
+        ensures { result ≡ (self.now.schedule.ended || any_ready self.now.schedule) }
+    {
+        self.scheduler.has_news()
+    }
+
+    /// Whether a worker rests for whom there is something to do.
+    #[inline(always)]
+    pub fn wakes_one(&self) -> bool
+        ensures { result ≡ (nat_lt 0 self.now.resting && any_ready self.now.schedule) }
+    {
+        self.scheduler.wakes_one()
+    }
+}

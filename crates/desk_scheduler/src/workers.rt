@@ -1,0 +1,334 @@
+//! The workers of a run, counted under the scheduler's lock: each has a desk in its hands, looks for one, or rests.
+ghost use Rattle.std.specs.Prelude.{◌≡◌, ◌+◌, ◌-◌, ◌<◌, ◌≤◌, ℕ, IfOk, IfErr, IfSome, IfNone};
+
+use std::marker::{Brand, PhantomData};
+use std::sync::ledger::{Blank, Book, Ledger, Share};
+
+/// How many workers begin at most.
+const MOST: u64 = 63;
+
+/// Into how many parts each of the three ledgers is cut.
+pub const WORKER_PARTS: u64 = 64;
+
+/// The names of the three ledgers that count the workers of a run. Each run has its own.
+pub trait WorkersIdentity {
+    ghost holding: { ℕ };
+
+    ghost looking: { ℕ };
+
+    ghost resting: { ℕ };
+}
+
+impl WorkersIdentity for Brand {
+    ghost holding = { 0 };
+
+    ghost looking = { 0 };
+
+    ghost resting = { 0 };
+}
+
+/// Three ledgers without a name, for the counts of one run's workers.
+#[derive(Drop)]
+pub struct WorkerBlanks {
+    /// For those that have a desk in their hands.
+    pub holding: Blank,
+    /// For those that look for one.
+    pub looking: Blank,
+    /// For those that rest.
+    pub resting: Blank,
+    pub ghost parts: { (holding.parts ≡ 64) × (looking.parts ≡ 64) × (resting.parts ≡ 64) },
+}
+
+impl WorkerBlanks {
+    /// Three ledgers that nobody has opened.
+    pub fn new() -> WorkerBlanks {
+        WorkerBlanks {
+            holding: Blank::new(WORKER_PARTS),
+            looking: Blank::new(WORKER_PARTS),
+            resting: Blank::new(WORKER_PARTS),
+        }
+    }
+
+    /// The counts of a run that the type names, in which no worker has begun.
+    pub fn open<J: WorkersIdentity>(self) -> Workers<J>
+        requires holding { self.holding.name ≡ J.holding }
+        requires looking { self.looking.name ≡ J.looking }
+        requires resting { self.resting.name ≡ J.resting }
+        ensures { (result.begun ≡ 0) × (result.without ≡ 0) }
+    {
+        let WorkerBlanks {
+            holding,
+            looking,
+            resting,
+        } = self;
+        Workers::none(holding, looking, resting)
+    }
+}
+
+/// The ledger of the workers that have a desk in their hands.
+pub struct HoldingLedger<J: WorkersIdentity>(PhantomData<J>);
+
+/// The ledger of those that look for one.
+pub struct LookingLedger<J: WorkersIdentity>(PhantomData<J>);
+
+/// The ledger of those that rest.
+pub struct RestingLedger<J: WorkersIdentity>(PhantomData<J>);
+
+impl<J: WorkersIdentity> Ledger for HoldingLedger<J> {
+    ghost name = { J.holding };
+
+    ghost parts = { 64 };
+}
+
+impl<J: WorkersIdentity> Ledger for LookingLedger<J> {
+    ghost name = { J.looking };
+
+    ghost parts = { 64 };
+}
+
+impl<J: WorkersIdentity> Ledger for RestingLedger<J> {
+    ghost name = { J.resting };
+
+    ghost parts = { 64 };
+}
+
+/// What a worker has that holds a desk. It takes no bytes, and only a worker that looked and took a desk has it.
+#[derive(Drop)]
+pub struct Holding<J: WorkersIdentity> {
+    holds: Share<HoldingLedger<J>>,
+    looks: Share<LookingLedger<J>>,
+    rests: Share<RestingLedger<J>>,
+    ghost parts: { (holds.parts ≡ 1) × (looks.parts ≡ 1) × (rests.parts ≡ 1) },
+    ghost amounts: { (holds.amount ≡ 1) × (looks.amount ≡ 0) × (rests.amount ≡ 0) },
+}
+
+/// What a worker has that looks for a desk.
+#[derive(Drop)]
+pub struct Looking<J: WorkersIdentity> {
+    holds: Share<HoldingLedger<J>>,
+    looks: Share<LookingLedger<J>>,
+    rests: Share<RestingLedger<J>>,
+    ghost parts: { (holds.parts ≡ 1) × (looks.parts ≡ 1) × (rests.parts ≡ 1) },
+    ghost amounts: { (holds.amount ≡ 0) × (looks.amount ≡ 1) × (rests.amount ≡ 0) },
+}
+
+/// What a worker has that rests.
+#[derive(Drop)]
+pub struct Resting<J: WorkersIdentity> {
+    holds: Share<HoldingLedger<J>>,
+    looks: Share<LookingLedger<J>>,
+    rests: Share<RestingLedger<J>>,
+    ghost parts: { (holds.parts ≡ 1) × (looks.parts ≡ 1) × (rests.parts ≡ 1) },
+    ghost amounts: { (holds.amount ≡ 0) × (looks.amount ≡ 0) × (rests.amount ≡ 1) },
+}
+
+/// How many workers have begun, and how many of them have no desk: they look or rest. The three ledgers count the workers that
+/// hold a desk, that look and that rest, and have what each of them has as its part. Never do all rest.
+#[derive(Drop)]
+pub struct Workers<J: WorkersIdentity> {
+    begun: u64,
+    without: u64,
+    holding: Book<HoldingLedger<J>>,
+    looking: Book<LookingLedger<J>>,
+    resting: Book<RestingLedger<J>>,
+    holds: Share<HoldingLedger<J>>,
+    looks: Share<LookingLedger<J>>,
+    rests: Share<RestingLedger<J>>,
+    ghost all: { holding.total + looking.total + resting.total ≡ begun },
+    ghost without_are: { looking.total + resting.total ≡ without },
+    ghost awake: { resting.total ≤ begun - 1 },
+    ghost parts: { (holds.parts + begun ≡ 64) × (looks.parts + begun ≡ 64) × (rests.parts + begun ≡ 64) },
+    ghost amounts: { (holds.amount ≡ 0) × (looks.amount ≡ 0) × (rests.amount ≡ 0) },
+}
+
+impl<J: WorkersIdentity> Workers<J> {
+    /// No worker has begun.
+    pub fn none(holding: Blank, looking: Blank, resting: Blank) -> Workers<J>
+        requires names { (holding.name ≡ J.holding) × (looking.name ≡ J.looking) × (resting.name ≡ J.resting) }
+        requires parts { (holding.parts ≡ 64) × (looking.parts ≡ 64) × (resting.parts ≡ 64) }
+        ensures { (result.begun ≡ 0) × (result.without ≡ 0) }
+    {
+        let (holding, holds) = holding.open::<HoldingLedger<J>>();
+        let (looking, looks) = looking.open::<LookingLedger<J>>();
+        let (resting, rests) = resting.open::<RestingLedger<J>>();
+        Workers {
+            begun: 0,
+            without: 0,
+            holding,
+            looking,
+            resting,
+            holds,
+            looks,
+            rests,
+        }
+    }
+
+    /// One more worker begins: it looks for a desk. None where 63 have.
+    pub fn begins(&mut self) -> Option<Looking<J>>
+        ensures begun { IfSome result (λ _. self.new.begun ≡ self.old.begun + 1) }
+        ensures looks { IfSome result (λ _. self.new.looking.total ≡ self.old.looking.total + 1) }
+        ensures others { (self.new.holding.total ≡ self.old.holding.total)
+            × (self.new.resting.total ≡ self.old.resting.total) }
+        ensures none { IfNone result ((63 ≤ self.old.begun) × (self.new ≡ self.old)) }
+    {
+        if self.begun >= MOST {
+            return None;
+        }
+        Some(self.cut())
+    }
+
+    // A part of each ledger for one more worker, which looks.
+    fn cut(&mut self) -> Looking<J>
+        requires { self.old.begun < 63 }
+        ensures begun { self.new.begun ≡ self.old.begun + 1 }
+        ensures looks { self.new.looking.total ≡ self.old.looking.total + 1 }
+        ensures others { (self.new.holding.total ≡ self.old.holding.total)
+            × (self.new.resting.total ≡ self.old.resting.total) }
+    {
+        let Workers {
+            begun,
+            without,
+            looking,
+            holds,
+            looks,
+            rests,
+            ..
+        } = self;
+        let held = holds.split_off(1, 0);
+        let mut looked = looks.split_off(1, 0);
+        let rested = rests.split_off(1, 0);
+        looking.add(&mut looked, 1);
+        *begun += 1;
+        *without += 1;
+        Looking {
+            holds: held,
+            looks: looked,
+            rests: rested,
+        }
+    }
+
+    /// A worker that looks gets a desk into its hands.
+    pub fn takes(&mut self, own: Looking<J>) -> Holding<J>
+        ensures holding { self.new.holding.total ≡ self.old.holding.total + 1 }
+        ensures looking { self.new.looking.total + 1 ≡ self.old.looking.total }
+        ensures rest { (self.new.resting.total ≡ self.old.resting.total) × (self.new.begun ≡ self.old.begun) }
+    {
+        let Workers {
+            without,
+            holding,
+            looking,
+            ..
+        } = self;
+        let Looking {
+            mut holds,
+            mut looks,
+            rests,
+        } = own;
+        looking.audit(&mut looks);
+        looking.sub(&mut looks, 1);
+        holding.add(&mut holds, 1);
+        *without -= 1;
+        Holding {
+            holds,
+            looks,
+            rests,
+        }
+    }
+
+    /// A worker lets its desk go, and looks for another.
+    pub fn lets_go(&mut self, own: Holding<J>) -> Looking<J>
+        ensures holding { self.new.holding.total + 1 ≡ self.old.holding.total }
+        ensures looking { self.new.looking.total ≡ self.old.looking.total + 1 }
+        ensures rest { (self.new.resting.total ≡ self.old.resting.total) × (self.new.begun ≡ self.old.begun) }
+    {
+        let Workers {
+            without,
+            holding,
+            looking,
+            ..
+        } = self;
+        let Holding {
+            mut holds,
+            mut looks,
+            rests,
+        } = own;
+        holding.audit(&mut holds);
+        holding.sub(&mut holds, 1);
+        looking.add(&mut looks, 1);
+        *without += 1;
+        Looking {
+            holds,
+            looks,
+            rests,
+        }
+    }
+
+    /// A worker that looks rests, if another has a desk in its hands. Else it has to look on.
+    pub fn rests(&mut self, own: Looking<J>) -> Result<Resting<J>, Looking<J>>
+        ensures rests { IfOk result (λ _. (self.new.resting.total ≡ self.old.resting.total + 1)
+            × (self.new.looking.total + 1 ≡ self.old.looking.total)) }
+        ensures another { IfOk result (λ _. 0 < self.old.holding.total) }
+        ensures holding { self.new.holding.total ≡ self.old.holding.total }
+        ensures awake { IfOk result (λ _. self.new.resting.total < self.new.begun) }
+        ensures alone { IfErr result (λ _. (self.old.holding.total ≡ 0) × (self.new ≡ self.old)) }
+    {
+        if self.without >= self.begun {
+            return Err(own);
+        }
+        Ok(self.lies_down(own))
+    }
+
+    // A worker that looks rests, where another has a desk.
+    fn lies_down(&mut self, own: Looking<J>) -> Resting<J>
+        requires { self.old.without < self.old.begun }
+        ensures rests { self.new.resting.total ≡ self.old.resting.total + 1 }
+        ensures looking { self.new.looking.total + 1 ≡ self.old.looking.total }
+        ensures holding { self.new.holding.total ≡ self.old.holding.total }
+        ensures begun { self.new.begun ≡ self.old.begun }
+    {
+        let Workers {
+            looking,
+            resting,
+            ..
+        } = self;
+        let Looking {
+            holds,
+            mut looks,
+            mut rests,
+        } = own;
+        looking.audit(&mut looks);
+        looking.sub(&mut looks, 1);
+        resting.add(&mut rests, 1);
+        Resting {
+            holds,
+            looks,
+            rests,
+        }
+    }
+
+    /// A worker that rested looks again.
+    pub fn wakes(&mut self, own: Resting<J>) -> Looking<J>
+        ensures resting { self.new.resting.total + 1 ≡ self.old.resting.total }
+        ensures looking { self.new.looking.total ≡ self.old.looking.total + 1 }
+        ensures holding { (self.new.holding.total ≡ self.old.holding.total) × (self.new.begun ≡ self.old.begun) }
+    {
+        let Workers {
+            looking,
+            resting,
+            ..
+        } = self;
+        let Resting {
+            holds,
+            mut looks,
+            mut rests,
+        } = own;
+        resting.audit(&mut rests);
+        resting.sub(&mut rests, 1);
+        looking.add(&mut looks, 1);
+        Looking {
+            holds,
+            looks,
+            rests,
+        }
+    }
+}

@@ -1,0 +1,6 @@
+pub mod WordFacts
+pub mod FourFacts
+pub mod NameKeyFacts
+pub mod NameFacts
+pub mod TextFacts
+pub mod MemberFacts

@@ -1,0 +1,8 @@
+use Rattle.std.proofs.Common.{ap, length}
+use Rattle.docket_names.specs.Texts.{NamesBySide}
+use Rattle.docket_names.proofs.TextFacts.{place_of_number}
+use Rattle.docket_names.proofs.names.Names.programme_name.Goals as goal
+
+pub name_of-requires-clause-member : goal.name_of-requires-clause-member
+name_of-requires-clause-member c =
+    place_of_number c.self.inside.texts c.self.inside.programmes c.args.number (rw (ap (λ (v : NamesBySide). length v.programmes) c.self.view_is) c.requires)

@@ -1,0 +1,105 @@
+//! Texts that have a place of their own among a docket's, as the members of one side.
+ghost use Rattle.std.specs.Prelude.{◌≡◌, ◌<◌, ◌++◌, ◌∷◌, [], not, if◌then◌else◌, is_some, nat_eq, length, position, slice_index_or, List, ℕ, IfOk, OnOk};
+ghost use Rattle.docket_names.specs.Texts.{AreFoundBy};
+
+use std::alloc::{AllocError, Global};
+use std::marker::Model;
+
+/// Some of the texts of a docket, each once and by its number, in the order in which they were added: a member has its place
+/// there as its own number.
+#[derive(Drop)]
+pub struct Members {
+    texts: Vec<usize>,
+    // By text which member it is, if it is one. No text past the end is one.
+    by_text: Vec<Option<u32>>,
+}
+
+impl Model for Members {
+    ghost use Rattle.std.specs.Prelude.{List, ℕ};
+    ghost use Rattle.docket_names.specs.Texts.{AreFoundBy};
+
+    ghost Value = { List ℕ };
+
+    ghost view = { λ m. m.texts.items };
+
+    ghost invariant = { λ m. AreFoundBy m.by_text.items m.texts.items };
+}
+
+// Makes room as far as a text, which no text gets a place by.
+fn reach(by_text: &mut Vec<Option<u32>>, text: usize) -> Result<(), AllocError>
+    ensures kept { (texts : List ℕ) → AreFoundBy by_text.old.items texts → AreFoundBy by_text.new.items texts }
+    ensures within { OnOk result (text < length by_text.new.items) }
+{
+    if text < by_text.len() {
+        return Ok(());
+    }
+    let Some(len) = text.checked_add(1) else {
+        return Err(AllocError);
+    };
+    by_text.resize(len, None)?;
+    Ok(())
+}
+
+impl Members {
+    /// Nobody yet.
+    pub fn new(alloc: Global) -> Members
+        ensures { result ≡ [] }
+    {
+        Members {
+            texts: Vec::new(alloc),
+            by_text: Vec::new(alloc),
+        }
+    }
+
+    /// How many there are.
+    pub fn len(&self) -> usize
+        ensures { result ≡ length self.now }
+    {
+        self.texts.len()
+    }
+
+    /// The text of a member.
+    pub fn text(&self, member: usize) -> usize
+        requires { member < length self.now }
+        ensures { result ≡ slice_index_or self.now member 0 }
+    {
+        self.texts[member]
+    }
+
+    /// Which member a text is, if it is one.
+    #[inline(always)]
+    pub fn member(&self, text: usize) -> Option<u32>
+        ensures { result ≡ position (nat_eq text) self.now }
+    {
+        match self.by_text.get(text) {
+            Some(member) => *member,
+            None => None,
+        }
+    }
+
+    /// Adds a text, and says whether it is new.
+    pub fn add(&mut self, text: usize) -> Result<bool, AllocError>
+        ensures fresh { IfOk result (λ fresh. fresh ≡ not (is_some (position (nat_eq text) self.old))) }
+        ensures added { IfOk result (λ fresh. self.new ≡ (if fresh then self.old ++ text ∷ [] else self.old)) }
+    {
+        if self.member(text).is_some() {
+            return Ok(false);
+        }
+        self.give_place(text)?;
+        Ok(true)
+    }
+
+    // Adds a text that isn't among them.
+    fn give_place(&mut self, text: usize) -> Result<(), AllocError>
+        requires { position (nat_eq text) self.old ≡ None }
+        ensures { OnOk result (self.new ≡ self.old ++ text ∷ []) }
+    {
+        let Ok(member) = u32::try_from(self.texts.len()) else {
+            return Err(AllocError);
+        };
+        reach(&mut self.by_text, text)?;
+        self.texts.push(text)?;
+        self.by_text[text] = Some(member);
+        Ok(())
+    }
+}

@@ -1,0 +1,203 @@
+//! What a name is found by.
+ghost use Rattle.std.specs.Prelude.{◌≡◌, ◌≤◌, ◌+◌, ◌∷◌, [], true, length, take, drop, bytes_eq};
+ghost use Rattle.std.specs.Int.{w64, to_le_bytes, from_le_bytes};
+ghost use Rattle.std.specs.Cmp.{partial_equiv_from_equiv};
+ghost use Rattle.std.specs.Cmp.Lexicographic.{nat_list_eq_equiv};
+ghost use Rattle.std.specs.Cmp.Rules.{hashing};
+ghost use Rattle.std.proofs.Common.{rules};
+ghost use Rattle.docket_names.specs.NameKeys.{filled, hashed, width_hashed};
+
+use std::hash::{Hash, Hasher};
+use std::marker::Model;
+
+/// The most bytes of a name.
+pub(crate) const MAX_NAME: usize = 32;
+
+/// How many places a table of guesses has.
+pub(crate) const PLACES: usize = 65_536;
+
+/// A text of at most as many bytes as a name, with zeros after it: it is hashed by whole words, which is one for most
+/// names, and so compared.
+#[derive(Drop)]
+pub(crate) struct NameKey {
+    bytes: [u8; MAX_NAME],
+    len: u8,
+}
+
+impl Model for NameKey {
+    ghost use Rattle.std.specs.Prelude.{List, ℕ, take};
+    ghost use Rattle.docket_names.specs.NameKeys.{IsFilled};
+
+    ghost Value = { List ℕ };
+
+    ghost view = { λ k. take k.len k.bytes };
+
+    ghost invariant = { λ k. IsFilled k.len k.bytes };
+}
+
+impl NameKey {
+    /// What a text is found by.
+    pub(crate) fn new(text: &[u8]) -> NameKey
+        requires { length text.now ≤ MAX_NAME }
+        ensures { result ≡ text.now }
+    {
+        let mut bytes = [0; MAX_NAME];
+        bytes[..text.len()].copy_from_slice(text);
+        NameKey {
+            bytes,
+            len: text.len() as u8,
+        }
+    }
+
+    /// The text.
+    pub(crate) fn text(&self) -> &[u8]
+        ensures { result.now ≡ self.now }
+    {
+        &self.bytes[..self.len as usize]
+    }
+
+    /// Whether it is this text of at most eight bytes, which has this word.
+    #[inline(always)]
+    pub(crate) fn is_short(&self, text: &[u8], word: u64) -> bool
+        requires short { length text.now ≤ 8 }
+        requires word { to_le_bytes w64 word ≡ take 8 (filled text.now) }
+        ensures { result ≡ true → self.now ≡ text.now }
+    {
+        self.len as usize == text.len() && first_word(&self.bytes) == word
+    }
+
+    /// The place of the text in a table of guesses. Texts that share a place cost a guess that fails, and no more.
+    #[inline(always)]
+    pub(crate) fn place(&self) -> usize {
+        let first = first_word(&self.bytes);
+        let second = word_at(&self.bytes, 8).rotate_left(7);
+        let third = word_at(&self.bytes, 16).rotate_left(14);
+        let fourth = word_at(&self.bytes, 24).rotate_left(21);
+        place_of(first ^ second ^ third ^ fourth)
+    }
+}
+
+// Eight bytes as one number.
+#[inline(always)]
+fn word_of(bytes: &[u8; 8]) -> u64
+    ensures { to_le_bytes w64 result ≡ bytes.now }
+{
+    u64::from_le_bytes([
+        bytes[0], bytes[1], bytes[2], bytes[3], bytes[4], bytes[5], bytes[6], bytes[7],
+    ])
+}
+
+/// The bytes of a text of at most eight as one number, with zeros after them.
+#[inline(always)]
+pub(crate) fn short_word(text: &[u8]) -> u64
+    requires { length text.now ≤ 8 }
+    ensures { to_le_bytes w64 result ≡ take 8 (filled text.now) }
+{
+    match text.len() {
+        8 => word_of(&[
+            text[0], text[1], text[2], text[3], text[4], text[5], text[6], text[7],
+        ]),
+        7 => word_of(&[
+            text[0], text[1], text[2], text[3], text[4], text[5], text[6], 0,
+        ]),
+        6 => word_of(&[text[0], text[1], text[2], text[3], text[4], text[5], 0, 0]),
+        5 => word_of(&[text[0], text[1], text[2], text[3], text[4], 0, 0, 0]),
+        4 => word_of(&[text[0], text[1], text[2], text[3], 0, 0, 0, 0]),
+        3 => word_of(&[text[0], text[1], text[2], 0, 0, 0, 0, 0]),
+        2 => word_of(&[text[0], text[1], 0, 0, 0, 0, 0, 0]),
+        1 => word_of(&[text[0], 0, 0, 0, 0, 0, 0, 0]),
+        _ => word_of(&[0; 8]),
+    }
+}
+
+/// The place in a table of guesses of a text of at most eight bytes, by its word. A longer one has all its words in one.
+#[inline(always)]
+pub(crate) fn place_of(word: u64) -> usize {
+    (word.wrapping_mul(0x9E37_79B9_7F4A_7C15) >> 48) as usize
+}
+
+// The first eight bytes as one number.
+fn first_word(bytes: &[u8; MAX_NAME]) -> u64
+    ensures value { result ≡ from_le_bytes w64 (take 8 bytes.now) }
+    ensures bytes { to_le_bytes w64 result ≡ take 8 bytes.now }
+{
+    u64::from_le_bytes([
+        bytes[0], bytes[1], bytes[2], bytes[3], bytes[4], bytes[5], bytes[6], bytes[7],
+    ])
+}
+
+// The eight bytes from place `i` on as one number.
+#[inline(always)]
+fn word_at(bytes: &[u8; MAX_NAME], i: usize) -> u64
+    requires { i + 8 ≤ MAX_NAME }
+    ensures value { result ≡ from_le_bytes w64 (take 8 (drop i bytes.now)) }
+    ensures bytes { to_le_bytes w64 result ≡ take 8 (drop i bytes.now) }
+{
+    u64::from_le_bytes([
+        bytes[i],
+        bytes[i + 1],
+        bytes[i + 2],
+        bytes[i + 3],
+        bytes[i + 4],
+        bytes[i + 5],
+        bytes[i + 6],
+        bytes[i + 7],
+    ])
+}
+
+// Whether the bytes are equal, word by word.
+fn same_words(a: &[u8; MAX_NAME], b: &[u8; MAX_NAME]) -> bool
+    ensures { result ≡ bytes_eq a.now b.now }
+{
+    let first = word_at(a, 0) == word_at(b, 0);
+    let second = word_at(a, 8) == word_at(b, 8);
+    let third = word_at(a, 16) == word_at(b, 16);
+    let fourth = word_at(a, 24) == word_at(b, 24);
+    first & second & third & fourth
+}
+
+// How many bytes are hashed of a text of this length: one word, two, or all four.
+fn hashed_width(len: u8) -> usize
+    requires { len ≤ MAX_NAME }
+    ensures width { result ≡ width_hashed len }
+    ensures within { result ≤ MAX_NAME }
+{
+    if len <= 8 {
+        8
+    } else if len <= 16 {
+        16
+    } else {
+        MAX_NAME
+    }
+}
+
+// Two texts have one key exactly where they are equal.
+impl PartialEq for NameKey {
+    ghost eq = { bytes_eq };
+
+    ghost laws = { partial_equiv_from_equiv nat_list_eq_equiv };
+
+    fn eq(&self, other: &NameKey) -> bool {
+        if self.len != other.len {
+            return false;
+        }
+        if first_word(&self.bytes) != first_word(&other.bytes) {
+            return false;
+        }
+        self.len <= 8 || same_words(&self.bytes, &other.bytes)
+    }
+}
+
+impl Eq for NameKey {
+    ghost laws = { nat_list_eq_equiv };
+}
+
+impl Hash for NameKey {
+    ghost hash_input = { λ text. hashed text ∷ [] };
+
+    ghost respects_eq = { Prim.search (hashing, rules) };
+
+    fn hash<H: Hasher>(&self, state: &mut H) {
+        state.write(&self.bytes[..hashed_width(self.len)]);
+    }
+}

@@ -1,0 +1,305 @@
+//! The different texts of a docket, each kept once.
+ghost use Rattle.std.specs.Prelude.{◌≡◌, ◌≤◌, ◌<◌, [], Some, true, is_some, bytes_eq, length, slice_get, take, IfOk, IfSome};
+ghost use Rattle.std.specs.Int.{w64, to_le_bytes};
+ghost use Rattle.std.specs.List.{IsDistinct, list_all};
+ghost use Rattle.docket_names.specs.NameKeys.{filled};
+ghost use Rattle.docket_names.specs.Texts.{number_in, StartsWith, IsJoined};
+ghost use Rattle.docket_names.specs.Words as words;
+
+use crate::name_key::{MAX_NAME, NameKey, PLACES, place_of, short_word};
+use crate::words::is_name;
+use indexmap::IndexSet;
+use std::alloc::{AllocError, Global};
+use std::hash::RandomState;
+use std::marker::Model;
+
+// From how many different texts on numbers are guessed: a small docket needs no table.
+const FEW: usize = 64;
+
+/// The different texts, numbered from 0 in the order in which they were first seen. Each of them is a name.
+///
+/// Where texts come in the order of their numbers the next number is tried, else those of the text's two places in the table
+/// of guesses. A guess is compared and never taken on trust. A text is looked up by its hash where no guess is right.
+pub struct Texts {
+    alloc: Global,
+    seen: IndexSet<NameKey, RandomState>,
+    // The number after the last one found, and whether that one came in order.
+    next: usize,
+    in_order: bool,
+    guesses: Vec<u32>,
+}
+
+impl Model for Texts {
+    ghost use Rattle.std.specs.Prelude.{List, ℕ, ◌≡◌, true};
+    ghost use Rattle.std.specs.List.{list_all};
+    ghost use Rattle.docket_names.specs.Words.{is_name};
+
+    ghost Value = { List (List ℕ) };
+
+    ghost view = { λ a. a.seen.keys };
+
+    ghost invariant = { λ a. list_all is_name a.seen.keys ≡ true };
+}
+
+// As one call, so that whoever lets texts go proves nothing of their parts.
+impl Drop for Texts {
+    fn drop(self) {
+        let Texts {
+            alloc: _,
+            seen: _,
+            next: _,
+            in_order: _,
+            guesses: _,
+        } = self;
+    }
+}
+
+impl Texts {
+    /// No texts yet. They are hashed by these keys.
+    pub fn new(alloc: Global, keys: RandomState) -> Texts
+        ensures { result ≡ [] }
+    {
+        Texts {
+            alloc,
+            seen: IndexSet::with_hasher(alloc, keys),
+            next: 0,
+            in_order: false,
+            guesses: Vec::new(alloc),
+        }
+    }
+
+    /// How many there are. No text has two numbers.
+    pub fn len(&self) -> usize
+        ensures count { result ≡ length self.now }
+        ensures distinct { IsDistinct bytes_eq self.now }
+    {
+        self.seen.len()
+    }
+
+    /// The text of this number.
+    pub fn text(&self, number: usize) -> &[u8]
+        requires { number < length self.now }
+        ensures { slice_get self.now number ≡ Some result.now }
+    {
+        match self.seen.get_index(number) {
+            Some(key) => key.text(),
+            None => unreachable!("each number below the count has a text"),
+        }
+    }
+
+    /// The number of a text, if it was seen.
+    pub fn find(&self, text: &[u8]) -> Option<usize>
+        ensures { result ≡ number_in self.now text.now }
+    {
+        let seen = &self.seen;
+        if text.len() > MAX_NAME {
+            return None;
+        }
+        seen.get_index_of(&NameKey::new(text))
+    }
+
+    // Whether this text of at most eight bytes, which has this word, is the one of this number.
+    #[inline(always)]
+    fn is_short(&self, number: usize, text: &[u8], word: u64) -> bool
+        requires short { length text.now ≤ 8 }
+        requires word { to_le_bytes w64 word ≡ take 8 (filled text.now) }
+        ensures { result ≡ true → slice_get self.now number ≡ Some text.now }
+    {
+        match self.seen.get_index(number) {
+            Some(key) => key.is_short(text, word),
+            None => false,
+        }
+    }
+
+    // Whether this is the text of this number, if there is one.
+    #[inline(always)]
+    fn is_text(&self, number: usize, text: &NameKey) -> bool
+        ensures { result ≡ true → slice_get self.now number ≡ Some text.now }
+    {
+        match self.seen.get_index(number) {
+            Some(key) => key == text,
+            None => false,
+        }
+    }
+
+    // The guess in a place. Where there is no table it is no text's number.
+    #[inline(always)]
+    fn guess(&self, place: usize) -> usize {
+        match self.guesses.get(place) {
+            Some(guess) => *guess as usize,
+            None => usize::MAX,
+        }
+    }
+
+    // The number of a text of at most eight bytes, which has this word, where a guess finds it.
+    #[inline(always)]
+    fn guess_short(&self, text: &[u8], word: u64) -> Option<usize>
+        requires short { length text.now ≤ 8 }
+        requires word { to_le_bytes w64 word ≡ take 8 (filled text.now) }
+        ensures { IfSome result (λ n. slice_get self.now n ≡ Some text.now) }
+    {
+        let next = self.next;
+        if self.in_order && self.is_short(next, text, word) {
+            return Some(next);
+        }
+        let place = place_of(word);
+        let first = self.guess(place);
+        if self.is_short(first, text, word) {
+            return Some(first);
+        }
+        let second = self.guess(place ^ 1);
+        if self.is_short(second, text, word) {
+            return Some(second);
+        }
+        None
+    }
+
+    // The number of a text, where a guess finds it.
+    #[inline(always)]
+    fn guess_text(&self, text: &NameKey) -> Option<usize>
+        ensures { IfSome result (λ n. slice_get self.now n ≡ Some text.now) }
+    {
+        let next = self.next;
+        if self.in_order && self.is_text(next, text) {
+            return Some(next);
+        }
+        let place = text.place();
+        let first = self.guess(place);
+        if self.is_text(first, text) {
+            return Some(first);
+        }
+        let second = self.guess(place ^ 1);
+        if self.is_text(second, text) {
+            return Some(second);
+        }
+        None
+    }
+
+    // The number of a text of any length, where a guess finds it. A short text is compared by one word.
+    #[inline(always)]
+    fn guessed(&self, text: &[u8]) -> Option<usize>
+        ensures { IfSome result (λ n. slice_get self.now n ≡ Some text.now) }
+    {
+        let len = text.len();
+        if len <= 8 {
+            self.guess_short(text, short_word(text))
+        } else if len <= MAX_NAME {
+            self.guess_text(&NameKey::new(text))
+        } else {
+            None
+        }
+    }
+
+    // Notes which text was found last.
+    #[inline(always)]
+    fn note(&mut self, number: usize)
+        ensures { self.new ≡ self.old }
+    {
+        self.in_order = number == self.next;
+        self.next = number.saturating_add(1);
+    }
+
+    /// The number of a text that is known already, where a guess finds it. So it is a name.
+    #[inline(always)]
+    pub fn known(&mut self, text: &[u8]) -> Option<usize>
+        ensures kept { self.new ≡ self.old }
+        ensures number { IfSome result (λ n. slice_get self.new n ≡ Some text.now) }
+        ensures named { is_some result ≡ true → words.is_name text.now ≡ true }
+    {
+        // For the proof alone: each text is a name.
+        let _seen = &self.seen;
+        let number = self.guessed(text)?;
+        self.note(number);
+        Some(number)
+    }
+
+    /// The number of a name, which joins where it is new. No text leaves.
+    #[inline(always)]
+    pub fn number(&mut self, name: &[u8]) -> Result<usize, AllocError>
+        requires { words.is_name name.now ≡ true }
+        ensures number { IfOk result (λ n. slice_get self.new n ≡ Some name.now) }
+        ensures kept { StartsWith self.old self.new }
+        ensures joined { IfOk result (λ n. IsJoined self.old self.new name.now) }
+    {
+        match self.known(name) {
+            Some(number) => Ok(number),
+            None => self.join(name),
+        }
+    }
+
+    /// The number of a text, which joins where it is new; none where it is no name. A known text needs no test.
+    #[inline(always)]
+    pub fn name(&mut self, text: &[u8]) -> Result<Option<usize>, AllocError>
+        ensures named { IfOk result (λ n. is_some n ≡ words.is_name text.now) }
+        ensures number { IfOk result (λ n. IfSome n (λ n. slice_get self.new n ≡ Some text.now)) }
+        ensures kept { StartsWith self.old self.new }
+        ensures joined { IfOk result (λ n. IsJoined self.old self.new text.now) }
+    {
+        if let Some(number) = self.known(text) {
+            return Ok(Some(number));
+        }
+        if !is_name(text) {
+            return Ok(None);
+        }
+        let number = self.join(text)?;
+        Ok(Some(number))
+    }
+
+    // The number of a name, which joins where it is new, by its hash. It is the next guess for its place.
+    #[inline(never)]
+    fn join(&mut self, name: &[u8]) -> Result<usize, AllocError>
+        requires { words.is_name name.now ≡ true }
+        ensures number { IfOk result (λ n. slice_get self.new n ≡ Some name.now) }
+        ensures kept { StartsWith self.old self.new }
+        ensures joined { IfOk result (λ n. IsJoined self.old self.new name.now) }
+    {
+        let key = NameKey::new(name);
+        let place = key.place();
+        let number = insert(&mut self.seen, key)?;
+        if number >= FEW {
+            make_room(self.alloc, &mut self.guesses)?;
+        }
+        set_guess(&mut self.guesses, place, number);
+        self.note(number);
+        Ok(number)
+    }
+}
+
+// The number of a text among those that were seen, which it joins where it is new.
+fn insert(seen: &mut IndexSet<NameKey, RandomState>, name: NameKey) -> Result<usize, AllocError>
+    requires names { list_all words.is_name seen.old.keys ≡ true }
+    requires name { words.is_name name ≡ true }
+    ensures number { IfOk result (λ n. slice_get seen.new.keys n ≡ Some name) }
+    ensures kept { StartsWith seen.old.keys seen.new.keys }
+    ensures joined { IfOk result (λ n. IsJoined seen.old.keys seen.new.keys name) }
+    ensures names { list_all words.is_name seen.new.keys ≡ true }
+{
+    let (number, _) = seen.insert_full(name)?;
+    Ok(number)
+}
+
+// Makes the table of guesses, if there is none yet.
+fn make_room(alloc: Global, guesses: &mut Vec<u32>) -> Result<(), AllocError> {
+    if guesses.is_empty() {
+        *guesses = Vec::from_elem(alloc, 0, PLACES)?;
+    }
+    Ok(())
+}
+
+// The guess in a place, or 0.
+fn guess_at(guesses: &Vec<u32>, place: usize) -> u32 {
+    match guesses.get(place) {
+        Some(guess) => *guess,
+        None => 0,
+    }
+}
+
+// The next guess for a place, or for the other of its pair where that one is free.
+fn set_guess(guesses: &mut Vec<u32>, place: usize, number: usize) {
+    let other = place ^ 1;
+    let is_taken = guess_at(guesses, place) != 0;
+    let is_other = is_taken && guess_at(guesses, other) == 0;
+    if let Some(guess) = guesses.get_mut(if is_other { other } else { place }) {
+        *guess = u32::try_from(number).unwrap_or(0);
+    }
+}

@@ -1,0 +1,5 @@
+pub mod ReadFacts
+pub mod GatherInvariant
+pub mod LineFacts
+pub mod RoundFacts
+pub mod GatherFacts

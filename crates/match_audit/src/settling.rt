@@ -1,0 +1,177 @@
+//! The match's result, found by nobody but the caller, and whether a sheet is it.
+//!
+//! The exchange goes on in one order, with mailboxes that are never full. Nothing here waits, so every call returns.
+ghost use Rattle.std.specs.Prelude.{◌≡◌, ◌↔◌, List, IfOk, IfErr, IfSome, IsTrue, MatchOption};
+ghost use Rattle.match_model.specs.Instance.{IsProgramme, IsResident};
+ghost use Rattle.exchange_core.specs.declared.event.Event.{Event};
+ghost use Rattle.exchange_core.specs.Legal.{IsAllowed, IsClosed};
+ghost use Rattle.exchange_core.specs.Shown.{Shows};
+ghost use Rattle.exchange_core.specs.Steps.{IsCoreOf};
+ghost use Rattle.settle_law.specs.Stable.{IsStable, IsSettled};
+ghost use Rattle.match_audit.specs.Result.{IsReached, IsUnlikeResult};
+
+use crate::auditor::AuditFault;
+use crate::replayer::first_difference;
+use exchange_core::{Capacity, Core, Event};
+use match_model::{Assignment, Instance, ProgrammeNo, ResidentNo};
+use settle_law::{law_bound, law_one_settled, law_settled};
+use std::alloc::Global;
+
+/// The settled assignment of an instance, which is stable. There is one, and it is what every closed exchange gives. The
+/// only fault is want of memory.
+pub fn settle(alloc: Global, inst: &Instance) -> Result<Assignment, AuditFault>
+    ensures stable { IfOk result (IsStable inst.now) }
+    ensures settled { IfOk result (IsSettled inst.now) }
+    ensures memory { IfErr result (λ fault. fault ≡ AuditFault.Memory) }
+{
+    // What a closed legal list gives is stable and settled.
+    law_settled();
+    let Ok(mut core) = Core::new(alloc, inst, Capacity::Full) else {
+        return Err(AuditFault::Memory);
+    };
+    let Ok(mut assignment) = Assignment::new(alloc, inst.residents()) else {
+        return Err(AuditFault::Memory);
+    };
+    offer_down_the_lists(&mut core, inst);
+    step_to_the_close(&mut core, inst);
+    core.assignment(&mut assignment);
+    Ok(assignment)
+}
+
+/// The first resident at whom a sheet differs from the match's result, or none where the sheet is the result. A missing
+/// place is a difference. It needs no journal. The only fault is want of memory.
+pub fn first_unlike_result(
+    alloc: Global,
+    inst: &Instance,
+    sheet: &Assignment,
+) -> Result<Option<ResidentNo>, AuditFault>
+    ensures exact { IfOk result (λ first. MatchOption first (IsSettled inst.now sheet.now) (IsUnlikeResult inst.now sheet.now)) }
+    ensures memory { IfErr result (λ fault. fault ≡ AuditFault.Memory) }
+{
+    match settle(alloc, inst) {
+        Ok(settled) => Ok(first_difference(sheet, &settled)),
+        Err(fault) => Err(fault),
+    }
+}
+
+/// Whether a sheet is the match's result. It needs no journal. The only fault is want of memory.
+pub fn is_result(alloc: Global, inst: &Instance, sheet: &Assignment) -> Result<bool, AuditFault>
+    ensures exact { IfOk result (λ yes. IsTrue yes ↔ IsSettled inst.now sheet.now) }
+    ensures memory { IfErr result (λ fault. fault ≡ AuditFault.Memory) }
+{
+    // An instance has one settled assignment.
+    law_one_settled();
+    match first_unlike_result(alloc, inst, sheet) {
+        Ok(None) => Ok(true),
+        Ok(Some(_)) => Ok(false),
+        Err(fault) => Err(fault),
+    }
+}
+
+/// Lets one programme after another offer down its list. A programme that is let go offers on at once, so in the end
+/// nobody has a wish. The close doesn't rest on that: whatever is left is done after it.
+fn offer_down_the_lists(core: &mut Core, inst: &Instance)
+    requires core { IsCoreOf inst.now core.old }
+    requires reached { IsReached inst.now core.old }
+    ensures core { IsCoreOf inst.now core.new }
+    ensures reached { IsReached inst.now core.new }
+{
+    for p in 0..inst.programmes() {
+        let mut programme = ProgrammeNo(p);
+        // Each turn is an offer, or the end of a row of displacements.
+        for _turn in 0..2 * inst.pairs() + 1 {
+            match offer_once(core, inst, programme) {
+                Some(answered) => programme = answered,
+                None if programme.0 == p => break,
+                None => programme = ProgrammeNo(p),
+            }
+        }
+    }
+}
+
+/// Does the next offer of a programme with all that follows from it, and tells which programme was answered last. None
+/// where there is no such offer, or one of the events may not follow.
+fn offer_once(core: &mut Core, inst: &Instance, programme: ProgrammeNo) -> Option<ProgrammeNo>
+    requires core { IsCoreOf inst.now core.old }
+    requires reached { IsReached inst.now core.old }
+    requires member { IsProgramme inst.now programme }
+    ensures core { IsCoreOf inst.now core.new }
+    ensures reached { IsReached inst.now core.new }
+    ensures member { IfSome result (IsProgramme inst.now) }
+{
+    let resident = core.next_offer(inst, programme)?;
+    let offer = Event::Offer {
+        programme,
+        resident,
+    };
+    let take = Event::Take {
+        resident,
+        programme,
+    };
+    if !goes_on(core, inst, offer) || !goes_on(core, inst, take) {
+        return None;
+    }
+    let first = answer_once(core, inst, resident)?;
+    // After a hold whoever was held before is let go.
+    match answer_once(core, inst, resident) {
+        Some(second) => Some(second),
+        None => Some(first),
+    }
+}
+
+/// Gives the first answer that a resident owes, has it heard, and tells by whom. None where no answer is due, or one of the
+/// events may not follow.
+fn answer_once(core: &mut Core, inst: &Instance, resident: ResidentNo) -> Option<ProgrammeNo>
+    requires core { IsCoreOf inst.now core.old }
+    requires reached { IsReached inst.now core.old }
+    requires member { IsResident inst.now resident }
+    ensures core { IsCoreOf inst.now core.new }
+    ensures reached { IsReached inst.now core.new }
+    ensures member { IfSome result (IsProgramme inst.now) }
+{
+    let (programme, kind) = core.next_answer(resident)?;
+    let answer = Event::Answer {
+        resident,
+        programme,
+        kind,
+    };
+    let hear = Event::Hear {
+        programme,
+        resident,
+        kind,
+    };
+    if !goes_on(core, inst, answer) || !goes_on(core, inst, hear) {
+        return None;
+    }
+    Some(programme)
+}
+
+/// Does an event where it may follow, and tells whether it did.
+fn goes_on(core: &mut Core, inst: &Instance, event: Event) -> bool
+    requires core { IsCoreOf inst.now core.old }
+    requires reached { IsReached inst.now core.old }
+    ensures core { IsCoreOf inst.now core.new }
+    ensures reached { IsReached inst.now core.new }
+    ensures allowed { IsTrue result → (j : List Event) × IsAllowed inst.now Capacity.Full j event }
+{
+    core.step(inst, event).is_ok()
+}
+
+/// Does events until the exchange is closed, which are at most as many as a legal list has.
+fn step_to_the_close(core: &mut Core, inst: &Instance)
+    requires core { IsCoreOf inst.now core.old }
+    requires reached { IsReached inst.now core.old }
+    ensures core { IsCoreOf inst.now core.new }
+    ensures closed { (j : List Event) × Shows inst.now Capacity.Full j core.new × IsClosed j }
+{
+    law_bound();
+    for _done in 0..6 * inst.pairs() + 2 {
+        let Some(event) = core.some_enabled(inst) else {
+            return;
+        };
+        let Ok(()) = core.step(inst, event) else {
+            unreachable!("the event may follow");
+        };
+    }
+    unreachable!("a legal list has no more events")
+}

@@ -1,0 +1,148 @@
+-- The instance of a docket without a fault has strict and mutual lists.
+use Rattle.std.proofs.Common.{◌≡◌, ◌≤◌, ◌<◌, ℕ, List, [], ◌∷◌, ◌++◌, Bool, true, false, length, drop, find, get_or, subst, sym, ◌∙◌, refl, rules, arith, Option, Some, None}
+use Rattle.std.specs.Prelude.{if◌then◌else◌, ◌&&◌, nat_le, nat_lt, bytes_eq, unwrap_or, option_map, IfSome}
+use Rattle.std.specs.List.{All, list_all, list_any}
+use Rattle.std.specs.Option.{option_or}
+use Rattle.std.proofs.lemmas.Bool.{and_parts}
+use Rattle.std.proofs.lemmas.List.{length-map}
+use Rattle.std.proofs.lemmas.List.Elements.{All-map}
+use Rattle.match_model.specs.Instance.{IsInstance, pair_count}
+use Rattle.match_model.specs.Draft.{IsDraft, given_lists, has_no_repeats, instance_of}
+use Rattle.match_model.specs.declared.limits.TheConstants.{MAX_PROGRAMMES, MAX_RESIDENTS, MAX_PAIRS}
+use Rattle.match_model.specs.declared.fault.ModelFault.TheVariants as model
+use Rattle.match_model.proofs.Kept.{IsWellFormed-instance_of}
+use Rattle.docket.specs.Fields.{Fields, field, is_kind, is_row_of, unless, withdrawal_kind}
+use Rattle.docket_names.specs.Texts.{is_declared}
+use Rattle.docket.specs.Contents.{programmes_of, residents_of, quotas_of, listed_in, lists_of, draft_of, withdrawn_of, is_withdrawal_of}
+use Rattle.docket.specs.Passes.{first_from, reading_fault, ranking_fault, listing_fault, unknown_fault, pairs_fault, sheet_fault, event_fault, later_fault, fault_of, next_place, names_on, rows_in, first_fault}
+use Rattle.docket.specs.declared.fault.DocketFault.{DocketFault}
+use Rattle.docket.specs.declared.fault.DocketFault.TheVariants.{UnknownName, Model}
+use Rattle.docket.proofs.SoundFacts.{both_none, unless_none}
+use Rattle.docket.proofs.RankingFacts.{length-quotas_of, length-lists_of, items_below}
+use Rattle.match_theorem.proofs.Limits.{programme_letter, resident_letter, one_kind, programmes_within, residents_within, quotas_within}
+
+-- every number of the list is below n, and stands there once
+abbrev IsList : ℕ → List ℕ → Type 0
+IsList n list = (list_all (λ x. nat_lt x n) list ≡ true) × (has_no_repeats list ≡ true)
+
+-- what every record without a fault has that passes the test, the record that is found has too
+found : (f : List Fields → Fields → Option DocketFault) (p : Fields → Bool) (R : Fields → Type 0)
+    → ((before : List Fields) (row : Fields) → f before row ≡ None → p row ≡ true → R row)
+    → (before rows : List Fields) → first_from f before rows ≡ None → IfSome (find p rows) R
+unfolding first_from
+found f p R each before [] none = tt
+found f p R each before (row ∷ rest) none =
+    let parts = both_none (f before row) (first_from f (before ++ row ∷ []) rest) none in
+    by parts.0 (p row) refl (found f p R each (before ++ row ∷ []) rest parts.1)
+  where
+    by : f before row ≡ None → (b : Bool) → p row ≡ b → IfSome (find p rest) R → IfSome (if b then Some row else find p rest) R
+    by here true e h = each before row here e
+    by here false e h = h
+
+-- a record without a fault of listing lists members, each once
+listing_sound : (n : ℕ) (others : List (List ℕ)) (row : Fields) → listing_fault n others row ≡ None → IsList (length others) (listed_in others row)
+unfolding listed_in
+listing_sound n others row none =
+    let parts = both_none (unknown_fault n others row) (unless (has_no_repeats (listed_in others row)) (Model n model.ListedTwice)) none in (
+      items_below others (drop 2 row) (unless_none (list_all (is_declared others) (drop 2 row)) (UnknownName n) parts.0),
+      unless_none (has_no_repeats (listed_in others row)) (Model n model.ListedTwice) parts.1,
+    )
+
+programme_sound : (rows before : List Fields) (row : Fields) → ranking_fault rows before row ≡ None → is_kind programme_letter row ≡ true
+    → IsList (length (residents_of rows)) (listed_in (residents_of rows) row)
+unfolding ranking_fault
+programme_sound rows before row none kind = by _ (is_kind programme_letter row) kind none
+  where
+    owner : Option DocketFault
+    owner = unless (is_declared (programmes_of rows) (field row 1)) (UnknownName (next_place before))
+
+    by : (rest : Option DocketFault) (b : Bool) → b ≡ true → (if b then option_or owner (listing_fault (next_place before) (residents_of rows) row) else rest) ≡ None
+        → IsList (length (residents_of rows)) (listed_in (residents_of rows) row)
+    by rest true t e = listing_sound (next_place before) (residents_of rows) row (both_none owner (listing_fault (next_place before) (residents_of rows) row) e).1
+    by rest false t e = absurd (cc t)
+
+resident_sound : (rows before : List Fields) (row : Fields) → ranking_fault rows before row ≡ None → is_kind resident_letter row ≡ true
+    → IsList (length (programmes_of rows)) (listed_in (programmes_of rows) row)
+unfolding ranking_fault
+resident_sound rows before row none kind = by _ _ (is_kind programme_letter row) (is_kind resident_letter row) refl kind none
+  where
+    by : (first rest : Option DocketFault) (a b : Bool) → is_kind programme_letter row ≡ a → b ≡ true
+        → (if a then first else if b then listing_fault (next_place before) (programmes_of rows) row else rest) ≡ None
+        → IsList (length (programmes_of rows)) (listed_in (programmes_of rows) row)
+    by first rest true b p t e = let same : programme_letter ≡ resident_letter = one_kind row programme_letter resident_letter p kind in absurd (omega (arith, same))
+    by first rest false true p t e = listing_sound (next_place before) (programmes_of rows) row e
+    by first rest false false p t e = absurd (cc t)
+
+-- of each owner the list that is given is one of members, each once
+given : (kind n : ℕ) (owners others : List (List ℕ)) (rows : List Fields)
+    → ((name : List ℕ) → IfSome (find (is_row_of kind name) rows) (λ row. IsList n (listed_in others row)))
+    → All (IsList n) (given_lists (lists_of kind owners others rows))
+unfolding lists_of
+given kind n owners others rows sound =
+    All-map (IsList n) (λ list. unwrap_or list []) (lists_of kind owners others rows)
+    (All-map (λ (list : Option (List ℕ)). IsList n (unwrap_or list [])) (λ name. option_map (listed_in others) (find (is_row_of kind name) rows)) owners
+    (λ i d lt. by (find (is_row_of kind (get_or owners i d)) rows) (sound (get_or owners i d))))
+  where
+    by : (o : Option Fields) → IfSome o (λ row. IsList n (listed_in others row)) → IsList n (unwrap_or (option_map (listed_in others) o) [])
+    by None h = (refl, refl)
+    by (Some row) h = h
+
+all_below : (n : ℕ) (lists : List (List ℕ)) → All (IsList n) lists → All (λ list. list_all (λ x. nat_lt x n) list ≡ true) lists
+all_below n lists h = λ i d lt. (h i d lt).0
+
+all_once : (n : ℕ) (lists : List (List ℕ)) → All (IsList n) lists → All (λ list. has_no_repeats list ≡ true) lists
+all_once n lists h = λ i d lt. (h i d lt).1
+
+-- the kind of a row of an owner
+kind_of_owned : (kind : ℕ) (name : List ℕ) (row : Fields) → is_row_of kind name row ≡ true → is_kind kind row ≡ true
+kind_of_owned kind name row e = (and_parts (is_kind kind row) (bytes_eq name (field row 1)) e).0
+
+-- as many flags as names
+flags_each : (side : List ℕ) (names : List (List ℕ)) (rows : List Fields) → length (withdrawn_of side names rows) ≡ length names
+unfolding withdrawn_of
+flags_each side names rows = length-map names (λ (name : List ℕ). list_any (is_withdrawal_of side name) rows)
+
+-- what the records of a docket hand in is what a builder keeps
+draft_kept : (rows : List Fields) → first_from reading_fault [] rows ≡ None → first_from (ranking_fault rows) [] rows ≡ None → IsDraft (draft_of rows)
+draft_kept rows reading ranking =
+    let programmes = programmes_of rows in
+    let residents = residents_of rows in
+    let many = length-quotas_of rows in
+    let ours = given programme_letter (length residents) programmes residents rows
+    (λ name. found (ranking_fault rows) (is_row_of programme_letter name) (λ row. IsList (length residents) (listed_in residents row))
+    (λ before row none e. programme_sound rows before row none (kind_of_owned programme_letter name row e)) [] rows ranking) in
+    let theirs = given resident_letter (length programmes) residents programmes rows
+    (λ name. found (ranking_fault rows) (is_row_of resident_letter name) (λ row. IsList (length programmes) (listed_in programmes row))
+    (λ before row none e. resident_sound rows before row none (kind_of_owned resident_letter name row e)) [] rows ranking) in
+    let their_lists = length-lists_of resident_letter residents programmes rows in
+    record {
+      one_list_each = length-lists_of programme_letter programmes residents rows ∙ sym many;
+      programmes_within = subst (λ n. n ≤ MAX_PROGRAMMES) (sym many) (programmes_within rows reading);
+      residents_within = subst (λ n. n ≤ MAX_RESIDENTS) (sym their_lists) (residents_within rows reading);
+      quotas_within = quotas_within rows reading;
+      programme_lists = record {
+        items_below = subst (λ n. All (λ list. list_all (λ x. nat_lt x n) list ≡ true) (given_lists (lists_of programme_letter programmes residents rows))) (sym their_lists) (all_below _ _ ours);
+        no_repeats = all_once _ _ ours;
+      };
+      resident_lists = record {
+        items_below = subst (λ n. All (λ list. list_all (λ x. nat_lt x n) list ≡ true) (given_lists (lists_of resident_letter residents programmes rows))) (sym many) (all_below _ _ theirs);
+        no_repeats = all_once _ _ theirs;
+      };
+      one_flag_each_programme = flags_each _ programmes rows ∙ sym many;
+      one_flag_each_resident = flags_each _ residents rows ∙ sym their_lists;
+    }
+
+-- no more pairs than there may be
+pairs_within : (rows : List Fields) → pairs_fault rows ≡ None → pair_count (instance_of (draft_of rows)) ≤ MAX_PAIRS
+unfolding pairs_fault
+pairs_within rows none = search (rules, unless_none (nat_le (pair_count (instance_of (draft_of rows))) MAX_PAIRS) (Model (length rows) model.TooManyPairs) none)
+
+-- the instance of a docket without a fault is strict, mutual and within the limits
+pub docket_instance : (bytes : List ℕ) → first_fault bytes ≡ None → IsInstance (instance_of (draft_of (rows_in bytes)))
+unfolding later_fault
+docket_instance bytes none =
+    let rows = rows_in bytes in
+    let passes = both_none (first_from reading_fault [] rows) (later_fault rows) none in
+    let ranked = both_none (first_from (ranking_fault rows) [] rows) (option_or (pairs_fault rows) (option_or (sheet_fault rows) (first_from (event_fault rows) [] rows))) passes.1 in
+    let paired = both_none (pairs_fault rows) (option_or (sheet_fault rows) (first_from (event_fault rows) [] rows)) ranked.1 in
+    (IsWellFormed-instance_of (draft_of rows) (pair_count (instance_of (draft_of rows))) (draft_kept rows passes.0 ranked.0) (pairs_within rows paired.0) refl).is_instance

@@ -1,0 +1,28 @@
+-- What a match has written, as laws: each is the contract of the function of its name.
+use Rattle.std.specs.Prelude.{◌≡◌, ℕ, Option, Some, List, []}
+use Rattle.residency.specs.declared.options.MatchOptions.{MatchOptions}
+use Rattle.residency.specs.declared.options.JournalForm.TheVariants.{Absent}
+use Rattle.residency.specs.declared.options.Order.TheVariants.{Match}
+use Rattle.residency.specs.Serving.{AreDocket, WritesMatch}
+use Rattle.residency.specs.Program.{EndsServing}
+use Rattle.match_theorem.specs.Theorem.{market_of, WritesResult}
+
+-- the sheet of the result was appended, and nothing after it where no journal is wanted
+pub record WritesSheet (bytes : List ℕ) (o : MatchOptions) (old new : Option (List ℕ)) : Type 0 where
+  pub journal : List ℕ
+  pub no_more : o.journal ≡ Absent → journal ≡ []
+  pub writes : WritesResult (market_of bytes) journal old new
+
+-- whatever a match of a docket of these bytes has written is the sheet of its result
+abbrev pub MatchLaw : Type 0
+MatchLaw =
+    (bytes : List ℕ) (o : MatchOptions) (old new : Option (List ℕ)) →
+    AreDocket (λ d. WritesMatch d o old new) bytes →
+    WritesSheet bytes o old new
+
+-- where the program has served a match over these bytes with status 0, it has written the sheet of their result
+abbrev pub ProgramLaw : Type 0
+ProgramLaw =
+    (bytes : List ℕ) (o : MatchOptions) (old new : Option (List ℕ)) →
+    EndsServing (Match o) (Some bytes) old new 0 →
+    WritesSheet bytes o old new

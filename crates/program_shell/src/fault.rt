@@ -1,0 +1,53 @@
+//! Why words order nothing.
+ghost use Rattle.std.specs.Prelude.{◌≡◌};
+ghost use Rattle.clap.specs.Values.{kind_of};
+ghost use Rattle.program_shell.specs.Faults.{IsErrorOf, IsLineFault};
+ghost use Rattle.program_shell.specs.declared.fault.LineFault.TheVariants.{Memory};
+
+use clap::error::ErrorKind;
+use std::alloc::AllocError;
+use thiserror::Error;
+
+/// Why a command line orders nothing.
+#[derive(Debug, Drop, Error)]
+pub enum LineFault {
+    /// A growth was refused.
+    #[error("out of memory")]
+    Memory,
+    /// The words aren't those of a command, or help or the version was asked for.
+    #[error(transparent)]
+    Line(clap::Error),
+    /// The capacity is neither `full` nor a number from 1 to 1,024.
+    #[error("bad capacity")]
+    BadCapacity,
+}
+
+impl From<AllocError> for LineFault {
+    ghost from_gives = { λ _ fault. fault ≡ Memory };
+
+    fn from(_: AllocError) -> LineFault {
+        LineFault::Memory
+    }
+}
+
+/// Why the words after the program's name order nothing.
+#[derive(Debug, Drop, Error)]
+pub enum UsageFault {
+    /// A word is no text.
+    #[error("a word of the command line is no text")]
+    NoText,
+    /// The words are no command line, or help or the version was asked for.
+    #[error(transparent)]
+    Line(LineFault),
+}
+
+/// The fault that an error of the parser is.
+pub fn line_fault(error: clap::Error) -> LineFault
+    ensures fault { IsLineFault result }
+    ensures kind { IsErrorOf (λ kind. kind ≡ kind_of error) result }
+{
+    match error.kind() {
+        ErrorKind::OutOfMemory => LineFault::Memory,
+        _ => LineFault::Line(error),
+    }
+}

@@ -1,0 +1,41 @@
+//! With which status a program ends.
+ghost use Rattle.std.specs.Prelude.{◌≡◌};
+ghost use Rattle.program_shell.specs.Status.{docket_status_of, line_status_of, usage_status_of};
+
+use crate::fault::{LineFault, UsageFault};
+use clap::error::ErrorKind;
+use docket::DocketFault;
+
+/// The exit status after a docket at fault: 1 where memory, the reader or the writer failed, and else 3.
+pub fn docket_status(fault: &DocketFault) -> u8
+    ensures { result ≡ docket_status_of fault.now }
+{
+    match fault {
+        DocketFault::Read { .. } | DocketFault::Memory | DocketFault::Write => 1,
+        _ => 3,
+    }
+}
+
+/// The exit status after a command line that orders nothing: 0 where help or the version was asked for.
+pub fn line_status(fault: &LineFault) -> u8
+    ensures { result ≡ line_status_of fault.now }
+{
+    match fault {
+        LineFault::Memory => 1,
+        LineFault::BadCapacity => 2,
+        LineFault::Line(error) => match error.kind() {
+            ErrorKind::DisplayHelp | ErrorKind::DisplayVersion => 0,
+            _ => 2,
+        },
+    }
+}
+
+/// The exit status after words that order nothing: 2 where one of them is no text.
+pub fn usage_status(fault: &UsageFault) -> u8
+    ensures { result ≡ usage_status_of fault.now }
+{
+    match fault {
+        UsageFault::NoText => 2,
+        UsageFault::Line(fault) => line_status(fault),
+    }
+}

@@ -1,0 +1,41 @@
+//! The words after a program's name: their texts, and what is told where they order nothing.
+ghost use Rattle.std.specs.Prelude.{◌≡◌, IfErr, IfOk, Ok};
+ghost use Rattle.std.specs.Process.{exit_status as exit_status_in};
+ghost use Rattle.program_shell.specs.Ends.{IsRefusedStatus, IsTextFaultOf};
+
+use crate::fault::{LineFault, UsageFault};
+use crate::status::usage_status;
+use docket::DocketFault;
+use std::io;
+use std::process::ExitCode;
+
+/// The texts of the words, or why they are none.
+pub fn texts_of(words: io::Result<Vec<String>>) -> Result<Vec<String>, UsageFault>
+    ensures texts { IfOk result (λ texts. words ≡ Ok texts) }
+    ensures fault { IfErr result (IsTextFaultOf words) }
+{
+    match words {
+        Ok(texts) => Ok(texts),
+        Err(error) if error.kind() == io::ErrorKind::OutOfMemory => {
+            Err(UsageFault::Line(LineFault::Memory))
+        }
+        Err(_) => Err(UsageFault::NoText),
+    }
+}
+
+/// Tells why the words order nothing, and gives the exit status. Help and the version are an answer, so it is a fault if
+/// their text can't be written.
+pub fn refuse<T: Print + Eprint>(told: &T, fault: &UsageFault) -> ExitCode
+    ensures { IsRefusedStatus fault.now (exit_status_in result) }
+{
+    let is_told = match fault {
+        UsageFault::Line(LineFault::Line(error)) => error.print(told).is_ok(),
+        fault => eprintln!(told; "residency: {fault}").is_ok(),
+    };
+    let status = usage_status(fault);
+    if status == 0 && !is_told {
+        let _ = eprintln!(told; "residency: {}", DocketFault::Write);
+        return ExitCode::from(1);
+    }
+    ExitCode::from(status)
+}

@@ -1,0 +1,37 @@
+-- Faults of memory, and of a key that couldn't be read.
+use Rattle.std.proofs.Common.{Bor, ◌≡◌, List, ℕ, Option, Some, None, inl, inr, refl}
+use Rattle.std.specs.Prelude.{◌⊎◌, IfSome, IsSomeAnd, is_some, option_map}
+use Rattle.docket.specs.Answers.{Refuses}
+use Rattle.docket.specs.Contents.{Contents}
+use Rattle.docket.specs.Passes.{first_fault}
+use Rattle.docket.specs.declared.fault.DocketFault.{DocketFault}
+use Rattle.docket.specs.declared.fault.DocketFault.TheVariants as docket
+use Rattle.reasons_text.specs.Faults.{IsDocketFault, IsKeyFault}
+use Rattle.reasons_text.specs.Keys.{HasBadRow, unnamed}
+use Rattle.reasons_text.specs.Program.{IsFailed, IsUnreadKey}
+use Rattle.reasons_text.specs.declared.fault.WhyFault.{WhyFault}
+use Rattle.reasons_text.specs.declared.fault.WhyFault.TheVariants.{Docket}
+use Rattle.reasons_text.specs.declared.question.Question.{Question}
+
+memory_refused : (bytes : Option (List ℕ)) → IfSome bytes (λ b. Refuses (first_fault b) docket.Memory)
+memory_refused None = tt
+memory_refused (Some b) = inl refl
+
+pub memory : (bytes : Option (List ℕ)) → IsDocketFault bytes docket.Memory
+memory bytes = inr (memory_refused bytes)
+
+same_path : (path : Option (Bor (List ℕ))) → is_some (option_map (λ file. file.now) path) ≡ is_some path
+same_path None = refl
+same_path (Some path) = refl
+
+-- the key's file couldn't be read
+pub key_unread : (question : Question) (input old : Option (List ℕ)) (fault : WhyFault) → IsUnreadKey question fault → IsFailed question input old old fault
+key_unread question input old fault unread =
+    record { key = option_map (λ path. path.now) question.key; keyed = same_path question.key; holds = inr unread; before = λ other. refl }
+
+-- a key that gives no names is one with a bad row, or memory failed
+pub key_fault : (d : Contents) (key : Option (List ℕ)) (fault : WhyFault) → IsSomeAnd key (λ bytes. IsKeyFault d bytes fault)
+    → (fault ≡ Docket docket.Memory) ⊎ IsSomeAnd key (λ bytes. HasBadRow d (unnamed d) bytes fault)
+key_fault d None fault h = absurd h
+key_fault d (Some bytes) fault (inl memory) = inl memory
+key_fault d (Some bytes) fault (inr bad) = inr bad

@@ -1,0 +1,151 @@
+-- Who has a name, and whose label is shown.
+use Rattle.std.proofs.Common.{◌≡◌, ◌≢◌, ◌∙◌, ◌<◌, ◌≤◌, ◌+◌, inl, inr, ℕ, Bool, true, false, List, [], ◌∷◌, ◌++◌, length, eq-eqb, Option, Some, None, refl, sym, ap, subst, arith, rules}
+use Rattle.std.proofs.lemmas.List.{length-append, length-map}
+use Rattle.std.specs.Prelude.{◌&&◌, ◌||◌, ◌==◌, if◌then◌else◌, nat_lt, unwrap_or, slice_get, map, string_bytes, String}
+use Rattle.std.specs.Str.{bytes_eq}
+use Rattle.std.proofs.lemmas.Bool.{cases_Bool, cases_lt, eqb-true, ne_eqb}
+use Rattle.std.proofs.lemmas.Option.{slice_get_past}
+use Rattle.std.proofs.lemmas.Slice.Eq.{bytes_eq-Decides}
+use Rattle.docket.specs.Contents.{Contents}
+use Rattle.reasons_text.specs.Keys.{AreLabelsBelow, IsLabel, IsShared, has_name, is_this, own_name}
+use Rattle.reasons_text.specs.Naming.{IsMeantBelow, SideNames, also_of, label_of, member_count, text_at}
+use Rattle.reasons_text.specs.Numbers.{IsOwner, label_if, label_where, owner_with}
+use Rattle.reasons_text.specs.declared.names.Meant.{Meant}
+use Rattle.reasons_text.specs.declared.names.Meant.TheVariants.{Nobody, One, Several}
+use Rattle.reasons_text.specs.declared.side.Side.{Side}
+use Rattle.match_model.proofs.Prefixes.{slice_get_push_parts}
+use Rattle.reasons_text.proofs.MeantFacts.{meant_also, meant_skip}
+
+no_both : {b : Bool} → b ≡ true → b ≡ false → ⊥
+no_both one other = search rules
+
+owner_same : (r n : ℕ) → (r == n) ≡ true → owner_with (One r) n ≡ One r
+owner_same r n is = rw is refl
+
+owner_apart : (r n : ℕ) → (r == n) ≡ false → owner_with (One r) n ≡ Several
+owner_apart r n not = rw not refl
+
+-- one after all before is another one
+owner_also : (test : ℕ → Bool) (n : ℕ) (owner : Meant) → IsMeantBelow test n owner → owner_with owner n ≡ also_of owner n
+owner_also test n Nobody h = refl
+owner_also test n (One r) h = let lt = h.0 in owner_apart r n (ne_eqb r n (λ same. absurd (omega (arith, lt, same))))
+owner_also test n Several h = refl
+
+-- the next one has the name, or not
+pub owner_more : (test : ℕ → Bool) (n : ℕ) (owner : Meant) → IsMeantBelow test n owner
+    → IsMeantBelow test (n + 1) (if test n then owner_with owner n else owner)
+owner_more test n owner h = elim (cases_Bool (test n)) [
+  | inl has ↦ rw (has, owner_also test n owner h) (meant_also test n owner h has)
+  | inr not ↦ rw not (meant_skip test n owner h not)
+]
+
+-- noting one twice is noting it once
+owner_twice : (owner : Meant) (n : ℕ) → owner_with (owner_with owner n) n ≡ owner_with owner n
+owner_twice Nobody n = owner_same n n (eq-eqb n n refl)
+owner_twice (One r) n = elim (cases_Bool (r == n)) [
+  | inl is ↦ ap (λ (o : Meant). owner_with o n) (owner_same r n is)
+  | inr not ↦ ap (λ (o : Meant). owner_with o n) (owner_apart r n not) ∙ sym (owner_apart r n not)
+]
+owner_twice Several n = refl
+
+two_notes : (a b : Bool) (old mid new : Meant) (n : ℕ) → mid ≡ (if a then owner_with old n else old) → new ≡ (if b then owner_with mid n else mid)
+    → new ≡ (if a || b then owner_with old n else old)
+two_notes true true old mid new n h k = k ∙ rw h (owner_twice old n)
+two_notes true false old mid new n h k = k ∙ h
+two_notes false true old mid new n h k = k ∙ rw h refl
+two_notes false false old mid new n h k = k ∙ h
+
+-- the names of one were noted, in the docket and by its row
+pub noted_both : (d : Contents) (side : Side) (names : List (List ℕ)) (text : List ℕ) (old mid new : Meant) (n : ℕ)
+    → mid ≡ (if is_this (own_name d side n) text then owner_with old n else old) → new ≡ (if is_this (text_at names n) text then owner_with mid n else mid)
+    → new ≡ (if has_name d side names text n then owner_with old n else old)
+unfolding has_name
+noted_both d side names text old mid new n h k = two_notes (is_this (own_name d side n) text) (is_this (text_at names n) text) old mid new n h k
+
+-- nobody past the docket's members and the rows has a name
+pub named_within : (d : Contents) (side : Side) (names : List (List ℕ)) (name : List ℕ) (n k : ℕ) → member_count d side ≤ n → length names ≤ n
+    → has_name d side names name k ≡ true → k < n
+unfolding has_name text_at
+named_within d side names name n k count rows has = elim (cases_lt k n) [
+  | inl lt ↦ lt
+  | inr past ↦
+      let outside : nat_lt k (member_count d side) ≡ false = grind (arith, count, past) in
+      let gone = slice_get_past names k (omega (arith, rows, past)) in
+      absurd (no_both has (rw (outside, gone) refl))
+]
+
+pub named_rows : {A : Type 0} (d : Contents) (side : Side) (rows : List (String A)) (name : List ℕ) (n k : ℕ) → member_count d side ≤ n → length rows ≤ n
+    → has_name d side (map string_bytes rows) name k ≡ true → k < n
+named_rows d side rows name n k count past has =
+    let same = length-map rows string_bytes in named_within d side (map string_bytes rows) name n k count (omega (arith, same, past)) has
+
+-- a member has the name of its row
+row_name : (d : Contents) (side : Side) (names : List (List ℕ)) (name : List ℕ) (n : ℕ) → text_at names n ≡ Some name → has_name d side names name n ≡ true
+unfolding has_name
+row_name d side names name n is = rw (is, (bytes_eq-Decides name name).1 refl) (either _)
+  where
+    either : (a : Bool) → (a || true) ≡ true
+    either true = refl
+    either false = refl
+
+-- one of two is another than this one
+other_of_two : (test : ℕ → Bool) (n : ℕ) (a b : ℕ) → a < b → test a ≡ true → test b ≡ true → (k : ℕ) × ((k ≢ n) × (test k ≡ true))
+other_of_two test n a b lt one other = elim (cases_Bool (a == n)) [
+  | inl is ↦ (b, ((λ same. absurd (omega (arith, lt, same, eqb-true a n is))), other))
+  | inr not ↦ (a, ((λ same. absurd (no_both (eq-eqb a n same) not)), one))
+]
+
+module _ (d : Contents) (side : Side) (read : SideNames) (n : ℕ) where
+  -- where another has the name the label is shown, by whoever has it
+  shown_where : (name sign : List ℕ) (owner : Meant) → IsOwner d side read.names name owner → text_at read.names n ≡ Some name
+      → IsShared d side read.names name n → label_where owner name sign ≡ label_of name sign
+  shown_where name sign Several h own shared = refl
+  shown_where name sign (One r) h own shared =
+      let mine = row_name d side read.names name n own in
+      let here = h.is.1.1 n (h.all n mine) mine in
+      let there = h.is.1.1 shared.0 (h.all shared.0 shared.1.1) shared.1.1 in
+      absurd (shared.1.0 (there ∙ sym here))
+  shown_where name sign Nobody h own shared = let mine = row_name d side read.names name n own in absurd (no_both mine (h.is n (h.all n mine)))
+
+  hidden_where : (name sign : List ℕ) (owner : Meant) → IsOwner d side read.names name owner → (IsShared d side read.names name n → ⊥)
+      → label_where owner name sign ≡ []
+  hidden_where name sign Several h alone =
+      absurd (alone (other_of_two (has_name d side read.names name) n h.is.0 h.is.1.0 h.is.1.1.0 h.is.1.1.1.1.0 h.is.1.1.1.1.1))
+  hidden_where name sign (One r) h alone = refl
+  hidden_where name sign Nobody h alone = refl
+
+  -- the label by who has each name is the member's label
+  pub is_label : (owner : List ℕ → Meant) (label : List ℕ) → ((name : List ℕ) → IsOwner d side read.names name (owner name))
+      → label ≡ label_if owner (text_at read.names n) (unwrap_or (text_at read.signs n) []) → IsLabel d side read n label
+  is_label owner label owners is = record {
+    shared = λ name own shared. is ∙ rw own (shown_where name _ (owner name) (owners name) own shared);
+    alone = λ name own alone. is ∙ rw own (hidden_where name _ (owner name) (owners name) alone);
+    nameless = λ none. is ∙ rw none refl;
+  }
+
+-- no label, and a label more
+pub labels_none : (d : Contents) (side : Side) (read : SideNames) → AreLabelsBelow d side read 0 []
+labels_none d side read = record { each = refl; label = λ n label at. absurd (cc at) }
+
+pub labels_more : (d : Contents) (side : Side) (read : SideNames) (count : ℕ) (labels : List (List ℕ)) (label : List ℕ)
+    → AreLabelsBelow d side read count labels → IsLabel d side read count label → AreLabelsBelow d side read (count + 1) (labels ++ label ∷ [])
+labels_more d side read count labels label h new = record {
+  each = length-append labels (label ∷ []) ∙ ap (λ n. n + 1) h.each;
+  label = λ n other at. elim (slice_get_push_parts labels label n other at) [
+    | inl old ↦ h.label n other old
+    | inr (last, same) ↦
+        let here : count ≡ n = sym h.each ∙ sym last in
+        subst (λ (l : List ℕ). IsLabel d side read n l) same (subst (λ k. IsLabel d side read k label) here new)
+  ];
+}
+
+-- one has a name, and of others nothing changes
+pub noted_one : (lookup now : List ℕ → Option Meant) (name : List ℕ) (n : ℕ) (owner : Meant) → owner ≡ owner_with (unwrap_or (lookup name) Nobody) n
+    → ((text : List ℕ) → now text ≡ (if bytes_eq name text then Some owner else lookup text)) → (text : List ℕ)
+    → unwrap_or (now text) Nobody ≡ (if bytes_eq name text then owner_with (unwrap_or (lookup text) Nobody) n else unwrap_or (lookup text) Nobody)
+noted_one lookup now name n owner is put text = elim (cases_Bool (bytes_eq name text)) [
+  | inl here ↦
+      let same = (bytes_eq-Decides name text).0 here in
+      rw (put text, here) (is ∙ ap (λ (t : List ℕ). owner_with (unwrap_or (lookup t) Nobody) n) same)
+  | inr not ↦ rw (put text, not) refl
+]

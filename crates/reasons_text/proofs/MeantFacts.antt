@@ -1,0 +1,90 @@
+-- Whom a text means, of the first members of a side.
+use Rattle.std.proofs.Common.{◌≡◌, ◌≤◌, ◌<◌, ◌+◌, ◌⊎◌, ℕ, Bool, true, false, inl, inr, List, [], length, Option, Some, None, refl, sym, ap, ◌∙◌, subst, arith, rules}
+use Rattle.std.specs.Prelude.{◌&&◌, ◌||◌, nat_lt, slice_get}
+use Rattle.std.specs.Str.{bytes_eq}
+use Rattle.std.proofs.lemmas.Bool.{cases_lt}
+use Rattle.std.proofs.lemmas.Option.{slice_get_past}
+use Rattle.std.proofs.lemmas.Slice.Eq.{bytes_eq-Decides}
+use Rattle.reasons_text.specs.Naming.{IsMeantBelow, Naming, also_of, docket_name, is_by_key, means, member_count, names_in, no_names, text_at}
+use Rattle.reasons_text.specs.declared.names.Meant.{Meant}
+use Rattle.reasons_text.specs.declared.names.Meant.TheVariants.{Nobody, One, Several}
+use Rattle.reasons_text.specs.declared.side.Side.{Side}
+
+pub meant_none : (test : ℕ → Bool) → IsMeantBelow test 0 Nobody
+meant_none test k h = absurd (omega (arith, h))
+
+-- a number is one of the first ones, or the next
+next_or : (k n : ℕ) → k < n + 1 → (k < n) ⊎ (k ≡ n)
+next_or k n h = elim (cases_lt k n) [
+  | inl below ↦ inl below
+  | inr past ↦ inr (omega (arith, h, past))
+]
+
+no_both : {b : Bool} → b ≡ true → b ≡ false → ⊥
+no_both one other = search rules
+
+-- the next one isn't meant
+pub meant_skip : (test : ℕ → Bool) (n : ℕ) (meant : Meant) → IsMeantBelow test n meant → test n ≡ false → IsMeantBelow test (n + 1) meant
+meant_skip test n Nobody h unmet = λ k lt. elim (next_or k n lt) [
+  | inl below ↦ h k below
+  | inr here ↦ rw here unmet
+]
+meant_skip test n (One r) h unmet = (
+  let lt = h.0 in omega (arith, lt),
+  (
+    h.1.0,
+    λ k lt met. elim (next_or k n lt) [
+      | inl below ↦ h.1.1 k below met
+      | inr here ↦ absurd (no_both met (rw here unmet))
+    ],
+  ),
+)
+meant_skip test n Several h unmet = (h.0, (h.1.0, (h.1.1.0, (let lt = h.1.1.1.0 in omega (arith, lt), h.1.1.1.1))))
+
+-- the next one is meant too
+pub meant_also : (test : ℕ → Bool) (n : ℕ) (meant : Meant) → IsMeantBelow test n meant → test n ≡ true → IsMeantBelow test (n + 1) (also_of meant n)
+meant_also test n Nobody h met = (
+  omega arith,
+  (
+    met,
+    λ k lt also. elim (next_or k n lt) [
+      | inl below ↦ absurd (no_both also (h k below))
+      | inr here ↦ here
+    ],
+  ),
+)
+meant_also test n (One r) h met = (r, (n, (h.0, (omega arith, (h.1.0, met)))))
+meant_also test n Several h met = (h.0, (h.1.0, (h.1.1.0, (let lt = h.1.1.1.0 in omega (arith, lt), h.1.1.1.1))))
+
+not_below : (k n : ℕ) → n ≤ k → nat_lt k n ≡ false
+not_below k n h = grind (arith, h)
+
+-- nobody past the docket's members and the key's rows is meant
+unmeant : (names : Naming) (side : Side) (text : List ℕ) (k : ℕ) → member_count names.docket side ≤ k → length (names_in names side).names ≤ k
+    → means names side text k ≡ false
+unfolding means text_at is_by_key
+unmeant names side text k count rows =
+    let past = slice_get_past (names_in names side).names k rows in
+    let outside = not_below k (member_count names.docket side) count in
+    rw (past, outside) refl
+
+pub meant_within : (names : Naming) (side : Side) (text : List ℕ) (n k : ℕ) → member_count names.docket side ≤ n → length (names_in names side).names ≤ n
+    → means names side text k ≡ true → k < n
+meant_within names side text n k count rows met = elim (cases_lt k n) [
+  | inl lt ↦ lt
+  | inr past ↦ absurd (no_both met (unmeant names side text k (omega (arith, count, past)) (omega (arith, rows, past))))
+]
+
+-- without real names it is the docket's name
+pub by_docket : (names : Naming) (side : Side) (text : List ℕ) (k : ℕ) → names_in names side ≡ no_names → means names side text k ≡ true
+    → docket_name names.docket side k ≡ text
+unfolding means text_at is_by_key
+by_docket names side text k none met = (bytes_eq-Decides (docket_name names.docket side k) text).0 (second _ _ (left_of _ (rw none at met)))
+  where
+    left_of : (a : Bool) → (a || false) ≡ true → a ≡ true
+    left_of true h = refl
+    left_of false h = h
+
+    second : (a b : Bool) → (a && b) ≡ true → b ≡ true
+    second true b h = h
+    second false b h = search (rules, h)

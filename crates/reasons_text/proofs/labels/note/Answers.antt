@@ -1,0 +1,14 @@
+use Rattle.std.proofs.Common.{◌∙◌, ap, ℕ, List, Option, bytes_eq}
+use Rattle.std.specs.HashMap.{get_by}
+use Rattle.reasons_text.specs.Numbers.{owner_with}
+use Rattle.reasons_text.specs.declared.names.Meant.{Meant}
+use Rattle.reasons_text.proofs.LabelFacts.{noted_one}
+use Rattle.reasons_text.proofs.labels.note.Goals as goal
+
+pub returns : goal.returns
+returns c text =
+    let old : List ℕ → Option Meant = λ t. get_by (λ own. bytes_eq t own.now) c.args.owners.now in
+    let new : List ℕ → Option Meant = λ t. get_by (λ own. bytes_eq t own.now) c.insert.new.self in
+    rw c.in-Some.is (noted_one old new c.in-Some.name.now c.args.number c.owner_with.result
+    (c.owner_with.ensures ∙ ap (λ (o : Meant). owner_with o c.args.number) c.owner-known.ensures)
+    (λ t. c.in_ok-insert.ensures.updates.0 (record c.in-Some.name { now = t })) text)

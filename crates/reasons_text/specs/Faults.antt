@@ -1,0 +1,87 @@
+-- Why nothing, or not all, was told.
+use Rattle.std.specs.Prelude.{◌≡◌, ◌≢◌, ◌⊎◌, ℕ, Option, Some, None, List, IfSome, IsSomeAnd}
+use Rattle.docket.specs.Answers.{Refuses}
+use Rattle.docket.specs.Contents.{Contents}
+use Rattle.docket.specs.Passes.{first_fault}
+use Rattle.docket.specs.Read.{IsReadFault}
+use Rattle.docket.specs.WithLists.{IsReadWithLists}
+use Rattle.docket.specs.declared.fault.DocketFault.{DocketFault}
+use Rattle.docket.specs.declared.fault.DocketFault.TheVariants as docket
+use Rattle.match_model.specs.Written.{Written}
+use Rattle.reasons_text.specs.Answers.{CaseParts}
+use Rattle.reasons_text.specs.Keys.{AreNames, HasBadRow, unnamed}
+use Rattle.reasons_text.specs.Naming.{MeansNoMember, MeansTwo, Naming}
+use Rattle.reasons_text.specs.declared.fault.WhyFault.{WhyFault}
+use Rattle.reasons_text.specs.declared.fault.WhyFault.TheVariants.{Docket, NoSheet, BadKey, DoubledKey, NoResident, NoProgramme, ManyResidents, ManyProgrammes}
+use Rattle.reasons_text.specs.declared.question.Asked.{Asked}
+use Rattle.reasons_text.specs.declared.question.Asked.TheVariants as asked
+use Rattle.reasons_text.specs.declared.side.Side.{Side}
+use Rattle.reasons_text.specs.declared.side.Side.TheVariants.{Programmes, Residents}
+
+-- the reader's fault, want of memory, or the first fault of the bytes, where they are known
+abbrev pub IsDocketFault : Option (List ℕ) → DocketFault → Type 0
+IsDocketFault bytes e = IsReadFault e ⊎ IfSome bytes (λ b. Refuses (first_fault b) e)
+
+-- the bytes are a docket without a sheet
+pub record HasNoSheet (bytes : Option (List ℕ)) : Type 0 where
+  pub docket : Contents
+  pub written : Written
+  pub read : IsReadWithLists bytes docket written
+  pub none : docket.sheet ≡ None
+
+-- why no docket with a sheet was read
+abbrev pub IsCaseFault : Option (List ℕ) → WhyFault → Type 0
+IsCaseFault bytes (Docket e) = IsDocketFault bytes e
+IsCaseFault bytes NoSheet = HasNoSheet bytes
+IsCaseFault bytes fault = ⊥
+
+-- the fault is this one, or want of memory
+abbrev pub IsFaultOrMemory : Option WhyFault → WhyFault → Type 0
+IsFaultOrMemory first fault = (fault ≡ Docket docket.Memory) ⊎ (first ≡ Some fault)
+
+-- why a key's bytes give no names: want of memory, or their first bad row
+abbrev pub IsKeyFault : Contents → List ℕ → WhyFault → Type 0
+IsKeyFault d bytes fault = (fault ≡ Docket docket.Memory) ⊎ HasBadRow d (unnamed d) bytes fault
+
+-- the fault says that nobody of the side has a name, or more than one
+abbrev pub IsUnknownName : Side → WhyFault → Type 0
+IsUnknownName Residents (NoResident told) = Unit {0}
+IsUnknownName Programmes (NoProgramme told) = Unit {0}
+IsUnknownName side fault = ⊥
+
+abbrev pub IsSharedName : Side → WhyFault → Type 0
+IsSharedName Residents (ManyResidents told) = Unit {0}
+IsSharedName Programmes (ManyProgrammes told) = Unit {0}
+IsSharedName side fault = ⊥
+
+-- why a name means no one member: want of memory, or it means none of the docket, or two
+abbrev pub IsNameFault : Naming → Side → List ℕ → WhyFault → Type 0
+IsNameFault names side text fault = (fault ≡ Docket docket.Memory)
+    ⊎ ((IsUnknownName side fault × MeansNoMember names side text) ⊎ (IsSharedName side fault × MeansTwo names side text))
+
+-- why a question means nobody: a name of it means no one member
+abbrev pub IsAskedFault : Naming → Asked → WhyFault → Type 0
+IsAskedFault names asked.All fault = ⊥
+IsAskedFault names (asked.Resident name) fault = IsNameFault names Residents name.now fault
+IsAskedFault names (asked.Pair resident programme) fault =
+    IsNameFault names Residents resident.now fault ⊎ IsNameFault names Programmes programme.now fault
+
+-- a name of the question means no one member, by the names of this docket and this key
+pub record IsUnmet (c : CaseParts) (key : Option (List ℕ)) (question : Asked) (fault : WhyFault) : Type 0 where
+  pub names : Naming
+  pub names_are : AreNames c.docket key names
+  pub fails : IsAskedFault names question fault
+
+-- why a docket with a sheet was read, and nothing told: want of memory, the key's first bad row, or a name that means no one member
+abbrev pub IsTextFault : CaseParts → Option (List ℕ) → Asked → WhyFault → Type 0
+IsTextFault c key question fault = (fault ≡ Docket docket.Memory)
+    ⊎ (IsSomeAnd key (λ bytes. HasBadRow c.docket (unnamed c.docket) bytes fault) ⊎ IsUnmet c key question fault)
+
+-- why nothing was told over the docket of these bytes
+abbrev pub IsTellFault : Option (List ℕ) → Option (List ℕ) → Asked → WhyFault → Type 0
+IsTellFault bytes key question fault = IsCaseFault bytes fault
+    ⊎ ((c : CaseParts) × (IsReadWithLists bytes c.docket c.written × ((c.docket.sheet ≡ Some c.sheet) × IsTextFault c key question fault)))
+
+-- and the writer's fault beside
+abbrev pub IsServeFault : Option (List ℕ) → Option (List ℕ) → Asked → WhyFault → Type 0
+IsServeFault bytes key question fault = (fault ≡ Docket docket.Write) ⊎ IsTellFault bytes key question fault

@@ -1,0 +1,55 @@
+-- What is answered over a docket and a sheet's file, each read as its own part.
+use Rattle.std.specs.Prelude.{◌≡◌, ◌⊎◌, ℕ, Bool, Option, Some, None, List, [], length}
+use Rattle.docket.specs.Passes.{rows_in}
+use Rattle.docket.specs.declared.fault.DocketFault.{DocketFault}
+use Rattle.docket.specs.declared.fault.DocketFault.TheVariants.{Memory}
+use Rattle.docket_parts.specs.Parts.{fault_of_all, rows_of, rows_of_all}
+use Rattle.docket_parts.specs.Place.{file_fault}
+use Rattle.docket_parts.specs.declared.fault.PartFault.{PartFault}
+use Rattle.docket_parts.specs.declared.place.FileFault.{FileFault}
+use Rattle.reasons_text.specs.Faults.{IsServeFault}
+use Rattle.reasons_text.specs.Texts.{AnswersFrom}
+use Rattle.reasons_text.specs.declared.fault.WhyFault.{WhyFault}
+use Rattle.reasons_text.specs.declared.fault.WhyFault.TheVariants.{Docket, EmptySheet, NoSheet, Part, Records}
+use Rattle.reasons_text.specs.declared.question.Asked.{Asked}
+
+-- each record of the docket and of the sheet's file is of its own part, and a text has the docket's records and then the sheet's
+pub record Joins (docket sheet joined : List ℕ) : Type 0 where
+  pub own : fault_of_all docket sheet [] ≡ None
+  pub rows : rows_in joined ≡ rows_of_all docket sheet []
+
+-- the text answers the question over the docket and the sheet of these files
+pub record AnswersFiles (docket sheet : List ℕ) (key : Option (List ℕ)) (question : Asked) (without_ranks : Bool) (text : List ℕ) : Type 0 where
+  pub joined : List ℕ
+  pub joins : Joins docket sheet joined
+  pub answers : AnswersFrom (Some joined) key question without_ranks text
+
+-- the fault is the first record of another part, or of none
+pub record HasPartFault (docket sheet : List ℕ) (fault : WhyFault) : Type 0 where
+  pub first : PartFault
+  pub is_first : fault_of_all docket sheet [] ≡ Some first
+  pub is_told : fault ≡ Part first
+
+-- a docket's fault, in its file where it has a place
+abbrev pub placed : DocketFault → Option FileFault → WhyFault
+placed fault None = Docket fault
+placed fault (Some there) = Records there.file there.fault
+
+-- a fault over both, told in its file, where the docket and the sheet have so many records
+abbrev pub in_its_file : ℕ → ℕ → WhyFault → WhyFault
+in_its_file docket sheet (Docket fault) = placed fault (file_fault docket sheet fault)
+in_its_file docket sheet NoSheet = EmptySheet
+in_its_file docket sheet fault = fault
+
+-- the fault is one of the docket's and the sheet's records put together, told in its file
+pub record HasJoinedFault (docket sheet : List ℕ) (key : Option (List ℕ)) (question : Asked) (fault : WhyFault) : Type 0 where
+  pub joined : List ℕ
+  pub joins : Joins docket sheet joined
+  pub whole : WhyFault
+  pub holds : IsServeFault (Some joined) key question whole
+  pub is_told : fault ≡ in_its_file (length (rows_of docket)) (length (rows_of sheet)) whole
+
+-- why nothing, or not all, was told over files
+abbrev pub IsFilesFault : List ℕ → List ℕ → Option (List ℕ) → Asked → WhyFault → Type 0
+IsFilesFault docket sheet key question fault =
+    (fault ≡ Docket Memory) ⊎ (HasPartFault docket sheet fault ⊎ HasJoinedFault docket sheet key question fault)

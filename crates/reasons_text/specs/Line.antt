@@ -1,0 +1,60 @@
+-- What words ask, as the parser of command lines reads them.
+use Rattle.std.specs.Prelude.{◌≡◌, ◌≢◌, ◌⊎◌, true, false, codes, List, Option, Some, None, option_map}
+use Rattle.clap.specs.Words.{App, IsAmong, Row, Rule, Text, first_of, fault_of, matches_of, new_app, new_rule, with_rule}
+use Rattle.clap.specs.Simple.{on_top}
+use Rattle.clap.specs.declared.error.kind.ErrorKind.{ErrorKind}
+use Rattle.clap.specs.declared.error.kind.ErrorKind.TheVariants.{ArgumentConflict, MissingRequiredArgument}
+use Rattle.program_shell.specs.Faults.{IsErrorOf}
+use Rattle.program_shell.specs.Flags.{IsFlagged, IsUnflagged, flag_rule}
+use Rattle.program_shell.specs.declared.fault.LineFault.{LineFault}
+use Rattle.reasons_text.specs.declared.question.Asked.{Asked}
+use Rattle.reasons_text.specs.declared.question.Asked.TheVariants as asked
+use Rattle.reasons_text.specs.declared.question.Question.{Question}
+
+-- a word in its place, and an option with a value
+abbrev pub word_rule : Text → Rule
+word_rule id = record (new_rule id) { value_names = 1 }
+
+abbrev pub value_rule : Text → Rule
+value_rule id = record (new_rule id) { long = Some id; value_names = 1 }
+
+-- the program; its own name isn't among the words
+abbrev pub program_app : App
+program_app = on_top (λ s. record s { no_binary_name = true; has_version = true }) (new_app (codes "residency-why"))
+
+-- the program with its two words, its two flags, and its two options that name a file
+abbrev pub flagged_app : App
+flagged_app = with_rule (with_rule (with_rule (with_rule program_app (word_rule (codes "resident"))) (word_rule (codes "programme")))
+    (flag_rule (codes "all"))) (flag_rule (codes "without-ranks"))
+
+abbrev pub why_app : App
+why_app = with_rule (with_rule flagged_app (value_rule (codes "key"))) (value_rule (codes "sheet"))
+
+-- about whom is asked, where not about all: the resident and maybe the programme of the words
+abbrev pub IsAskedBy : Option Text → Option Text → Asked → Type 0
+IsAskedBy resident programme asked.All = ⊥
+IsAskedBy resident programme (asked.Resident name) = (resident ≡ Some name.now) × (programme ≡ None)
+IsAskedBy resident programme (asked.Pair name other) = (resident ≡ Some name.now) × (programme ≡ Some other.now)
+
+-- the values ask the question
+pub record GivesQuestion (rows : List Row) (question : Question) : Type 0 where
+  pub all : IsFlagged (codes "all") rows → question.asked ≡ asked.All
+  pub one : IsUnflagged (codes "all") rows → IsAskedBy (first_of (codes "resident") rows) (first_of (codes "programme") rows) question.asked
+  pub without_ranks : IsFlagged (codes "without-ranks") rows → question.without_ranks ≡ true
+  pub with_ranks : IsUnflagged (codes "without-ranks") rows → question.without_ranks ≡ false
+  pub key : option_map (λ path. path.now) question.key ≡ first_of (codes "key") rows
+  pub sheet : option_map (λ path. path.now) question.sheet ≡ first_of (codes "sheet") rows
+
+-- the words ask the question
+abbrev pub Asks : List Text → Question → Type 0
+Asks words = GivesQuestion (matches_of why_app words)
+
+-- the values ask about a resident and about all, or about nobody
+pub record AsksNone (rows : List Row) : Type 0 where
+  pub both : IsFlagged (codes "all") rows → first_of (codes "resident") rows ≢ None
+  pub neither : IsUnflagged (codes "all") rows → first_of (codes "resident") rows ≡ None
+
+-- the words ask no question, for this fault: memory failed, the parser refuses them, or they ask about nobody or too much
+abbrev pub Refuses : List Text → LineFault → Type 0
+Refuses words fault = IsErrorOf (λ kind. IsAmong kind (fault_of why_app words)) fault
+    ⊎ (AsksNone (matches_of why_app words) × IsErrorOf (λ kind. (kind ≡ ArgumentConflict) ⊎ (kind ≡ MissingRequiredArgument)) fault)

@@ -1,0 +1,89 @@
+//! What parts the fields of a key.
+ghost use Rattle.std.specs.Prelude.{◌≡◌};
+ghost use Rattle.reasons_text.specs.Delimiter as spec;
+
+/// How often each mark stands in the bytes so far, outside quotes, and whether the next byte is inside.
+#[derive(Clone, Copy, Debug, PartialEq, Eq)]
+pub(crate) struct Marks {
+    /// How many commas.
+    pub commas: u64,
+    /// How many semicolons.
+    pub semicolons: u64,
+    /// How many tabs.
+    pub tabs: u64,
+    /// Whether a quote is open.
+    pub is_quoted: bool,
+}
+
+impl Marks {
+    // No byte.
+    fn none() -> Marks
+        ensures { result ≡ spec.no_marks }
+    {
+        Marks {
+            commas: 0,
+            semicolons: 0,
+            tabs: 0,
+            is_quoted: false,
+        }
+    }
+
+    // Whether the byte ends a line that has a mark.
+    fn ends_line(&self, byte: u8) -> bool
+        ensures { result ≡ spec.ends_line self.now byte }
+    {
+        let has_mark = self.commas > 0 || self.semicolons > 0 || self.tabs > 0;
+        byte == b'\n' && !self.is_quoted && has_mark
+    }
+
+    // Counts one byte more.
+    #[tactic(auto, unfolding(crate::specs::Delimiter::counted))]
+    fn count(&mut self, byte: u8)
+        ensures { self.new ≡ spec.counted self.old byte }
+    {
+        if byte == b'"' {
+            self.is_quoted = !self.is_quoted;
+        } else if self.is_quoted {} else if byte == b',' {
+            self.commas = self.commas.saturating_add(1);
+        } else if byte == b';' {
+            self.semicolons = self.semicolons.saturating_add(1);
+        } else if byte == b'\t' {
+            self.tabs = self.tabs.saturating_add(1);
+        }
+    }
+
+    // The mark that is there most often.
+    fn chosen(&self) -> u8
+        ensures { result ≡ spec.chosen self.now }
+    {
+        if self.semicolons > self.commas && self.semicolons > self.tabs {
+            b';'
+        } else if self.tabs > self.commas {
+            b'\t'
+        } else {
+            b','
+        }
+    }
+}
+
+// The marks of the first line that has one.
+fn marks_of(bytes: &[u8]) -> Marks
+    ensures { result ≡ spec.marks_of spec.no_marks bytes.now }
+{
+    let mut marks = Marks::none();
+    for byte in bytes {
+        if marks.ends_line(*byte) {
+            return marks;
+        }
+        marks.count(*byte);
+    }
+    marks
+}
+
+/// What parts the fields of a key: the one of comma, semicolon and tab that its first line with one has most often, outside
+/// quotes.
+pub(crate) fn delimiter_of(bytes: &[u8]) -> u8
+    ensures { result ≡ spec.delimiter_of bytes.now }
+{
+    marks_of(bytes).chosen()
+}

@@ -1,0 +1,165 @@
+//! The members' names as they are shown and asked about.
+ghost use Rattle.std.specs.Prelude.{◌≡◌, ◌≤◌, length, IfOk};
+ghost use Rattle.reasons_text.specs.Lines.{has_withdrawn};
+ghost use Rattle.reasons_text.specs.Naming.{IsMeant, also_of, means, naming_of, names_in, shown, shown_programme, shown_resident, side_of};
+ghost use Rattle.reasons_text.specs.Naming.{member_count as member_count_in};
+
+use crate::key::{Key, SideKey, label_text, text_in};
+use crate::side::{Side, docket_name, member_count};
+use docket::Docket;
+use match_model::{ProgrammeNo, ResidentNo};
+use std::alloc::{AllocError, Global};
+
+/// Whom a text means, by number.
+#[derive(Clone, Copy, Debug, PartialEq, Eq)]
+pub(crate) enum Meant {
+    /// Nobody.
+    Nobody,
+    /// One member alone.
+    One(usize),
+    /// More than one.
+    Several,
+}
+
+/// The members' names as they are shown: the key's, where it has one, and else the docket's. Where another has the name, the
+/// label is shown.
+#[derive(Clone, Copy)]
+pub(crate) struct Names<'a> {
+    pub(crate) docket: &'a Docket,
+    pub(crate) key: &'a Key,
+}
+
+// Whom a text means that means this member too.
+fn also(meant: Meant, number: usize) -> Meant
+    ensures { result ≡ also_of meant number }
+{
+    match meant {
+        Meant::Nobody => Meant::One(number),
+        Meant::One(_) | Meant::Several => Meant::Several,
+    }
+}
+
+impl Names<'_> {
+    // The key's names of a side.
+    fn side(&self, side: Side) -> &SideKey
+        ensures { side_of result.now ≡ names_in (naming_of self.now) side }
+    {
+        match side {
+            Side::Programmes => &self.key.programmes,
+            Side::Residents => &self.key.residents,
+        }
+    }
+
+    // How many members have names: the docket's, and those that only the key has.
+    pub(crate) fn named(&self, side: Side) -> usize
+        ensures members { member_count_in self.now.docket.now side ≤ result }
+        ensures rows { length (names_in (naming_of self.now) side).names ≤ result }
+    {
+        let members = member_count(self.docket, side) as usize;
+        members.max(self.side(side).names.len())
+    }
+
+    /// The name by which a member is shown, which is empty for a number that is nobody's.
+    #[tactic(auto, unfolding(crate::specs::Naming::shown))]
+    pub(crate) fn shown(&self, side: Side, number: u32) -> &str
+        ensures { result.now ≡ shown (naming_of self.now) side number }
+    {
+        let key = self.side(side);
+        let place = number as usize;
+        if let Some(label) = text_in(key.labels.as_slice(), place) {
+            return label;
+        }
+        match text_in(key.names.as_slice(), place) {
+            Some(name) => name,
+            None => docket_name(self.docket, side, number),
+        }
+    }
+
+    /// The real name of a member, or the docket's of one who has none.
+    pub(crate) fn real(&self, side: Side, number: u32) -> &str {
+        match text_in(self.side(side).names.as_slice(), number as usize) {
+            Some(name) => name,
+            None => docket_name(self.docket, side, number),
+        }
+    }
+
+    /// The name of a resident.
+    pub(crate) fn resident(&self, resident: ResidentNo) -> &str
+        ensures { result.now ≡ shown_resident (naming_of self.now) resident }
+    {
+        self.shown(Side::Residents, resident.0)
+    }
+
+    /// The name of a programme.
+    pub(crate) fn programme(&self, programme: ProgrammeNo) -> &str
+        ensures { result.now ≡ shown_programme (naming_of self.now) programme }
+    {
+        self.shown(Side::Programmes, programme.0)
+    }
+
+    /// Whether a resident withdrew.
+    pub(crate) fn resident_withdrew(&self, resident: ResidentNo) -> bool
+        ensures { result ≡ has_withdrawn (naming_of self.now) resident }
+    {
+        let inst = self.docket.instance();
+        resident.0 < inst.residents() && inst.resident_withdrawn(resident)
+    }
+
+    /// What a member is called where its name doesn't tell it apart: the label, or the docket's name of one without a row.
+    pub(crate) fn label(
+        &self,
+        alloc: Global,
+        side: Side,
+        number: usize,
+    ) -> Result<String, AllocError> {
+        let key = self.side(side);
+        let Some(name) = text_in(key.names.as_slice(), number) else {
+            return match u32::try_from(number) {
+                Ok(number) => String::from_str(alloc, docket_name(self.docket, side, number)),
+                Err(_) => Ok(String::new(alloc)),
+            };
+        };
+        let sign = text_in(key.signs.as_slice(), number).unwrap_or("");
+        label_text(alloc, name, sign)
+    }
+
+    /// Whether a text means a member: it is the docket's name, the real one, the ID, or the label.
+    #[tactic(auto, unfolding(crate::specs::Naming::means, crate::specs::Naming::is_by_key))]
+    pub(crate) fn means(
+        &self,
+        alloc: Global,
+        side: Side,
+        text: &str,
+        number: usize,
+    ) -> Result<bool, AllocError>
+        ensures { IfOk result (λ is. is ≡ means (naming_of self.now) side text.now number) }
+    {
+        let members = member_count(self.docket, side) as usize;
+        if number < members && docket_name(self.docket, side, number as u32) == text {
+            return Ok(true);
+        }
+        let key = self.side(side);
+        let Some(name) = text_in(key.names.as_slice(), number) else {
+            return Ok(false);
+        };
+        let sign = text_in(key.signs.as_slice(), number).unwrap_or("");
+        if name == text || sign == text {
+            return Ok(true);
+        }
+        let label = label_text(alloc, name, sign)?;
+        Ok(label.as_str() == text)
+    }
+
+    /// Whom a text means.
+    pub(crate) fn meant(&self, alloc: Global, side: Side, text: &str) -> Result<Meant, AllocError>
+        ensures { IfOk result (IsMeant (naming_of self.now) side text.now) }
+    {
+        let mut meant = Meant::Nobody;
+        for number in 0..self.named(side) {
+            if self.means(alloc, side, text, number)? {
+                meant = also(meant, number);
+            }
+        }
+        Ok(meant)
+    }
+}

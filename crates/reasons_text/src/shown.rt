@@ -1,0 +1,22 @@
+//! Texts as a terminal may show them.
+ghost use Rattle.std.specs.Prelude.{◌≡◌, ◌++◌, OnOk, string_bytes};
+ghost use Rattle.reasons_text.specs.Shown.{shown_char, shown_text};
+
+use std::alloc::AllocError;
+
+// A character, or a question mark for a control character.
+fn shown_letter(c: char) -> char
+    ensures { result ≡ shown_char c }
+{
+    if c.is_control() { '?' } else { c }
+}
+
+/// Adds a text, with a question mark for each control character.
+pub(crate) fn push_shown(text: &mut String, part: &str) -> Result<(), AllocError>
+    ensures { OnOk result (string_bytes text.new ≡ string_bytes text.old ++ shown_text part.now) }
+{
+    for c in part.chars() {
+        text.push(shown_letter(c))?;
+    }
+    Ok(())
+}

@@ -1,9 +1,0 @@
-use Rattle.std.proofs.Common.{take}
-use Rattle.std.specs.List.{flat_map}
-use Rattle.docket.specs.RowText.{Adds}
-use Rattle.residency.specs.Report.{over_row}
-use Rattle.residency.proofs.report.push_all_over.Given as goal
-
-abbrev pub invariant-loop-programme : goal.invariant-loop-programme
-invariant-loop-programme g l =
-    Adds g.W.Write.contents l.fn.rows l.rows (flat_map (over_row l.docket) (take l.programme-index l.all))

@@ -1,0 +1,183 @@
+//! A writer of rows of CSV, with a buffer that is made before the first byte goes out: from then on nothing can be refused
+//! but by the writer.
+ghost use Rattle.std.specs.Prelude.{◌≡◌, ◌∷◌, [], map, OnOk, IfOk};
+ghost use Rattle.csv.specs.Writing.{needs_byte, needs_quotes, escaped, quoted, field_text, next_sep, is_blank as shows_nothing};
+ghost use Rattle.row_writer.specs.RowText.{Adds, IsOver, Writes, row_setup, row, row_end};
+
+use std::alloc::{AllocError, Global};
+use std::io::Write;
+
+// How many bytes wait at most until they are handed to the writer.
+const ROOM: usize = 16_384;
+
+/// The writer answered a fault.
+#[derive(Clone, Copy, Debug, PartialEq, Eq)]
+pub struct WriteFailed;
+
+/// Room for the rows that wait to be handed to a writer: 16,384 bytes, which never grow.
+pub fn room_for_rows(alloc: Global) -> Result<Vec<u8>, AllocError>
+    ensures { IfOk result (λ room. room.items ≡ []) }
+{
+    let room = Vec::with_capacity(alloc, ROOM)?;
+    Ok(room)
+}
+
+/// A writer, and rows that wait in their room to be handed to it.
+#[derive(Drop)]
+pub struct RowWriter<'a, W> {
+    writer: &'a mut W,
+    waiting: &'a mut Vec<u8>,
+}
+
+// Whether a byte of a field calls for quotes round the field.
+fn is_marked(b: u8) -> bool
+    ensures { result ≡ needs_byte row_setup b }
+{
+    b == b',' || b == b'"' || b == b'\r' || b == b'\n'
+}
+
+// Whether a field calls for quotes.
+fn is_quoted(field: &[u8]) -> bool
+    ensures { result ≡ needs_quotes row_setup field.now }
+{
+    field.iter().any(|b| is_marked(*b))
+}
+
+// Whether the row would show no byte, and gets two quotes to stand for its one empty field.
+fn is_blank(fields: &[&[u8]]) -> bool
+    ensures { result ≡ shows_nothing row_setup (map (λ f. f.now) fields.now) }
+{
+    if fields.len() == 1 {
+        return fields[0].is_empty();
+    }
+    fields.is_empty()
+}
+
+impl<'a, W: Write> RowWriter<'a, W> {
+    /// No rows yet, where the room is empty.
+    pub fn new(writer: &'a mut W, room: &'a mut Vec<u8>) -> RowWriter<'a, W>
+        ensures { IsOver result writer.entry room.old.items }
+    {
+        RowWriter {
+            writer,
+            waiting: room,
+        }
+    }
+
+    // Hands what waits to the writer, and then these bytes where there still isn't room for them. It stands apart from
+    // `put`, so that the test for room is inlined.
+    #[cold]
+    #[inline(never)]
+    fn put_past(&mut self, bytes: &[u8]) -> Result<(), WriteFailed>
+        ensures { OnOk result (Adds W.contents self.old self.new bytes.now) }
+    {
+        let Ok(()) = self.writer.write_all(self.waiting.as_slice()) else {
+            return Err(WriteFailed);
+        };
+        self.waiting.clear();
+        if bytes.len() <= self.waiting.capacity() {
+            let Ok(()) = self.waiting.extend_from_slice(bytes) else {
+                unreachable!("there is room")
+            };
+            return Ok(());
+        }
+        let Ok(()) = self.writer.write_all(bytes) else {
+            return Err(WriteFailed);
+        };
+        Ok(())
+    }
+
+    // Adds bytes.
+    #[inline]
+    fn put(&mut self, bytes: &[u8]) -> Result<(), WriteFailed>
+        ensures { OnOk result (Adds W.contents self.old self.new bytes.now) }
+    {
+        if bytes.len() > self.waiting.capacity() - self.waiting.len() {
+            return self.put_past(bytes);
+        }
+        let Ok(()) = self.waiting.extend_from_slice(bytes) else {
+            unreachable!("there is room")
+        };
+        Ok(())
+    }
+
+    // Adds a byte of a field that stands between quotes: a quote twice.
+    fn put_escaped(&mut self, byte: u8) -> Result<(), WriteFailed>
+        ensures { OnOk result (Adds W.contents self.old self.new (escaped row_setup (byte ∷ []))) }
+    {
+        if byte == b'"' {
+            self.put(b"\"\"")
+        } else {
+            self.put(&[byte])
+        }
+    }
+
+    // Adds a field between quotes.
+    #[cold]
+    #[inline(never)]
+    fn put_quoted(&mut self, field: &[u8]) -> Result<(), WriteFailed>
+        ensures { OnOk result (Adds W.contents self.old self.new (quoted row_setup field.now)) }
+    {
+        self.put(b"\"")?;
+        for i in 0..field.len() {
+            self.put_escaped(field[i])?;
+        }
+        self.put(b"\"")
+    }
+
+    // Adds a field.
+    #[inline]
+    fn put_field(&mut self, field: &[u8]) -> Result<(), WriteFailed>
+        ensures { OnOk result (Adds W.contents self.old self.new (field_text row_setup field.now)) }
+    {
+        if is_quoted(field) {
+            self.put_quoted(field)
+        } else {
+            self.put(field)
+        }
+    }
+
+    // Adds what stands before the field at this place: a comma, if it isn't the first.
+    #[inline]
+    fn put_comma(&mut self, place: usize) -> Result<(), WriteFailed>
+        ensures { OnOk result (Adds W.contents self.old self.new (next_sep row_setup place)) }
+    {
+        match place {
+            0 => Ok(()),
+            _ => self.put(b","),
+        }
+    }
+
+    // Ends a row of these fields.
+    fn put_end(&mut self, fields: &[&[u8]]) -> Result<(), WriteFailed>
+        ensures { OnOk result (Adds W.contents self.old self.new (row_end (map (λ f. f.now) fields.now))) }
+    {
+        if is_blank(fields) {
+            self.put(b"\"\"\n")
+        } else {
+            self.put(b"\n")
+        }
+    }
+
+    /// Adds a row, and hands to the writer what there is no room for.
+    pub fn push(&mut self, fields: &[&[u8]]) -> Result<(), WriteFailed>
+        ensures { OnOk result (Adds W.contents self.old self.new (row (map (λ f. f.now) fields.now))) }
+    {
+        for i in 0..fields.len() {
+            self.put_comma(i)?;
+            self.put_field(fields[i])?;
+        }
+        self.put_end(fields)
+    }
+
+    /// Hands to the writer what still waits.
+    pub fn send(self) -> Result<(), WriteFailed>
+        ensures { OnOk result (Writes W.contents self.entry.writer.now self.exit.0.now self.entry.waiting.now.items) }
+    {
+        let RowWriter { writer, waiting } = self;
+        match writer.write_all(waiting.as_slice()) {
+            Ok(()) => Ok(()),
+            Err(_) => Err(WriteFailed),
+        }
+    }
+}

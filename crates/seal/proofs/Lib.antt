@@ -1,0 +1,10 @@
+pub mod Lists
+pub mod OneLeaf
+pub mod Parents
+pub mod Climbs
+pub mod OneDocket
+pub mod Steps
+pub mod AllLevels
+pub mod Pushes
+pub mod Openings
+pub mod HashedBytes

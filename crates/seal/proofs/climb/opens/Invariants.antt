@@ -1,0 +1,12 @@
+use Rattle.std.proofs.Common.{◌≡◌, ◌<◌, ◌≤◌, length, drop}
+use Rattle.seal.specs.Tree.{sides_from, climb_by}
+use Rattle.seal.proofs.climb.opens.Given as goal
+
+-- what is left of the climb is the whole climb
+abbrev pub invariant-loop-nodes : goal.invariant-loop-nodes
+invariant-loop-nodes l =
+    (l.place < l.nodes) × (l.used ≤ length l.path)
+    × (climb_by (sides_from l.nodes l.place l.nodes) l.hash (drop l.used l.path) ≡ climb_by (sides_from l.count l.index l.count) l.leaf l.path)
+
+abbrev pub decreases-loop-nodes : goal.decreases-loop-nodes
+decreases-loop-nodes l = l.nodes

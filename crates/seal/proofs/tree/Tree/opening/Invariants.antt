@@ -1,0 +1,12 @@
+use Rattle.std.proofs.Common.{take}
+use Rattle.seal.specs.Tree.{path_of}
+use Rattle.seal.proofs.Openings.{IsRead}
+use Rattle.seal.proofs.tree.Tree.opening.Given as goal
+
+-- what is left of the nodes is all levels from this one on, and the path goes on from the place in it
+abbrev pub invariant-loop-count : goal.invariant-loop-count
+invariant-loop-count l =
+    IsRead l.self-inside.nodes.items l.path.items (path_of l.index (take l.self-inside.count l.self-inside.nodes.items)) l.start l.count l.place
+
+abbrev pub decreases-loop-count : goal.decreases-loop-count
+decreases-loop-count l = l.count

@@ -1,0 +1,3 @@
+pub mod Hashes
+pub mod Tree
+pub mod SealLaws

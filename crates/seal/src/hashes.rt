@@ -1,0 +1,42 @@
+//! What is hashed: a leaf with the salt that keeps it from being guessed, and a node over two others.
+
+ghost use Rattle.std.specs.Prelude.{◌≡◌, ◌∷◌, ◌++◌};
+ghost use Rattle.std.specs.Int.{w64, to_be_bytes};
+ghost use Rattle.sha2.specs.Sha256.{sha256};
+ghost use Rattle.seal.specs.Hashes.{node};
+ghost use Rattle.seal.specs.Hashes as hashes;
+
+use sha2::{Digest, Sha256};
+
+/// The salt of a leaf: the digest of the secret, the tree's tag and the leaf's place, from 0.
+pub fn salt(secret: &[u8; 32], tag: u8, index: u64) -> [u8; 32]
+    ensures { result ≡ sha256 (secret.now ++ tag ∷ to_be_bytes w64 index) }
+{
+    let mut hasher = Sha256::new();
+    hasher.update(&secret[..]);
+    hasher.update(&[tag][..]);
+    hasher.update(&index.to_be_bytes()[..]);
+    hasher.finalize()
+}
+
+/// The hash of a leaf: of the byte 0, its salt and its text.
+pub fn leaf_hash(salt: &[u8; 32], text: &[u8]) -> [u8; 32]
+    ensures { result ≡ hashes.leaf_hash (record { salt = salt.now; text = text.now }) }
+{
+    let mut hasher = Sha256::new();
+    hasher.update(&[0u8][..]);
+    hasher.update(&salt[..]);
+    hasher.update(text);
+    hasher.finalize()
+}
+
+// The hash of a node over two others: of the byte 1 and both.
+pub(crate) fn node_of(left: &[u8; 32], right: &[u8; 32]) -> [u8; 32]
+    ensures { result ≡ node left.now right.now }
+{
+    let mut hasher = Sha256::new();
+    hasher.update(&[1u8][..]);
+    hasher.update(&left[..]);
+    hasher.update(&right[..]);
+    hasher.finalize()
+}

@@ -1,0 +1,37 @@
+//! The root of a tree, level by level.
+
+ghost use Rattle.std.specs.Prelude.{◌≡◌, IfOk};
+ghost use Rattle.seal.specs.Tree.{pair_up};
+ghost use Rattle.seal.specs.Tree as tree;
+
+use crate::hashes::node_of;
+use sha2::{Digest, Sha256};
+use std::alloc::{AllocError, Global};
+
+// Makes a level into the next one, in its own place.
+fn pair_level(level: &mut Vec<[u8; 32]>)
+    ensures { level.new.items ≡ pair_up level.old.items }
+{
+    let count = level.len();
+    for k in 0..count / 2 {
+        level[k] = node_of(&level[2 * k], &level[2 * k + 1]);
+    }
+    if count % 2 == 1 {
+        level[count / 2] = level[count - 1];
+    }
+    level.truncate(count / 2 + count % 2);
+}
+
+/// The root of the tree over these leaf hashes; over none it is the digest of nothing. Errs only for memory.
+pub fn root(alloc: Global, hashes: &[[u8; 32]]) -> Result<[u8; 32], AllocError>
+    ensures { IfOk result (λ r. r ≡ tree.root hashes.now) }
+{
+    let mut level = hashes.to_vec(alloc)?;
+    while level.len() > 1 {
+        pair_level(&mut level);
+    }
+    Ok(match level.first() {
+        Some(top) => *top,
+        None => Sha256::digest(&[][..]),
+    })
+}

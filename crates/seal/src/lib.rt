@@ -1,0 +1,17 @@
+//! Hash trees over SHA-256: a root, the openings of its leaves, and the check that a leaf opens a root.
+#![tactic(auto)]
+
+mod climb;
+mod hashes;
+mod laws;
+mod levels;
+mod tree;
+
+pub use climb::opens;
+pub use hashes::{leaf_hash, salt};
+pub use laws::{law_complete, law_hashed_bytes, law_one_docket, law_one_leaf, law_receipt};
+pub use levels::root;
+pub use tree::Tree;
+
+#[cfg(test)]
+mod tests;

@@ -1,0 +1,102 @@
+-- What is handed to a writer, and what residents are told after the match.
+use Rattle.std.proofs.Common.{◌≡◌, ℕ, ◌+◌, Bool, find, List, [], ◌∷◌, ◌++◌, Option, Some, true, false, length, refl, sym, ap, ◌∙◌, subst, inl, inr, append_assoc, append-nil, rules}
+use Rattle.std.specs.Prelude.{bytes_eq, codes, slice_get}
+use Rattle.std.specs.Global.{Vec}
+use Rattle.std.specs.Io.KnownBytes.{Appends}
+use Rattle.std.proofs.lemmas.List.{length_push}
+use Rattle.match_model.proofs.Prefixes.{slice_get_push_parts}
+use Rattle.row_writer.specs.RowText.{Adds, Writes}
+use Rattle.row_writer.specs.declared.writer.RowWriter.{RowWriter}
+use Rattle.row_writer.proofs.RowTextFacts.{adds_both, adds_none, sent}
+use Rattle.match_model.specs.Placement.{holds, member_count, programme_of}
+use Rattle.docket.specs.Contents.{Contents}
+use Rattle.docket.specs.Fields.{field}
+use Rattle.docket.specs.Texts.{mark_row, programme_name, programme_row, resident_name}
+use Rattle.docket_parts.specs.Lines.{Grows}
+use Rattle.docket_parts.specs.Parts.{Fields}
+use Rattle.docket_parts.proofs.LineFacts.{grows_both}
+use Rattle.match_model.specs.Instance.{is_withdrawn, quota}
+use Rattle.reasons_text.specs.Texts.{AppendsText}
+use Rattle.seal_text.specs.Records.{AreListsOf, rows_in}
+use Rattle.seal_text.specs.declared.records.ListRecords.{ListRecords}
+use Rattle.seal_text.proofs.Steps.{grows_three}
+use Rattle.docket.proofs.WriteFacts.{rows_next}
+use Rattle.reasons_text.specs.Answers.{CaseParts}
+use Rattle.seal_text.specs.Texts.{IsResidentResult, PushesResults, line_if, list_of_programme, member_row, member_rows, programme_lists, programme_result, quota_row, records_of, resident_lists, withdrawal_if}
+
+-- a text was added to no rows over a writer, and what then waited was handed to it
+pub handed_over : {W : Type 0} (contents : W → Option (List ℕ)) (start last : RowWriter W) (old new : W) (none text : List ℕ) → start.writer.now ≡ old →
+    start.waiting.now.items ≡ none → none ≡ [] → Adds contents start last text → Writes contents last.writer.now new last.waiting.now.items
+    → Appends (contents old) (contents new) text
+handed_over contents start last old new none text over holds empty added handed =
+    sent contents start last (record { ref_ptr = start.writer.ref_ptr; ghost_name = start.writer.ghost_name; now = old }) new none text (refl, over, holds) empty
+    added handed
+
+-- no residents
+pub results_none : (c : CaseParts) (texts : List (List ℕ)) → PushesResults c 0 texts texts
+results_none c texts = record { texts = []; are = record { each = refl; are = nothing }; pushed = sym (append-nil texts) }
+  where
+    nothing : (r : ℕ) (text : List ℕ) → slice_get [] r ≡ Some text → IsResidentResult c r text
+    nothing r text at = search rules
+
+-- one resident more
+pub results_more : (c : CaseParts) (n : ℕ) (old mid new : List (List ℕ)) (t : List ℕ) → PushesResults c n old mid → IsResidentResult c n t → new ≡ mid ++ t ∷ []
+    → PushesResults c (n + 1) old new
+results_more c n old mid new t h is more = record {
+  texts = h.texts ++ t ∷ [];
+  are = record { each = length_push h.texts t ∙ ap (λ k. k + 1) h.are.each; are = each };
+  pushed = more ∙ ap (λ (u : List (List ℕ)). u ++ t ∷ []) h.pushed ∙ append_assoc old h.texts (t ∷ []);
+}
+  where
+    each : (r : ℕ) (text : List ℕ) → slice_get (h.texts ++ t ∷ []) r ≡ Some text → IsResidentResult c r text
+    each r text at = elim (slice_get_push_parts h.texts t r text at) [
+      | inl old ↦ h.are.are r text old
+      | inr (i, same) ↦
+          let here : n ≡ r = sym h.are.each ∙ sym i in
+          subst (λ (v : List ℕ). IsResidentResult c r v) same (subst (λ q. IsResidentResult c q t) here is)
+    ]
+
+-- the rows of the first residents who have a programme, and of one more, or no row
+pub members_yes : {W : Type 0} (contents : W → Option (List ℕ)) (d : Contents) (m : List (Option ℕ)) (p n : ℕ) (a b c : RowWriter W)
+    → Adds contents a b (member_rows d m p n) → holds p (programme_of m n) ≡ true → Adds contents b c (mark_row d n (Some p)) → Adds contents a c (member_rows d m p (n + 1))
+members_yes contents d m p n a b c h is_so k =
+    let row_is : member_row d m p n ≡ mark_row d n (Some p) = rw is_so refl in
+    rows_next contents (member_row d m p) a b c n h (rw row_is k)
+
+pub members_no : {W : Type 0} (contents : W → Option (List ℕ)) (d : Contents) (m : List (Option ℕ)) (p n : ℕ) (a b : RowWriter W)
+    → Adds contents a b (member_rows d m p n) → holds p (programme_of m n) ≡ false → Adds contents a b (member_rows d m p (n + 1))
+members_no contents d m p n a b h is_not =
+    let row_is : member_row d m p n ≡ [] = rw is_not refl in
+    rows_next contents (member_row d m p) a b b n h (rw row_is (adds_none contents b))
+
+-- what is sealed of a programme: its row, and those of its residents
+pub result_made : {W : Type 0} (contents : W → Option (List ℕ)) (d : Contents) (m : List (Option ℕ)) (p filled : ℕ) (a b c : RowWriter W) → filled ≡ member_count m p
+    → Adds contents a b (programme_row d (codes "F") p filled) → Adds contents b c (member_rows d m p (length d.instance.resident_lists)) → Adds contents a c (programme_result d m p)
+unfolding programme_result
+result_made contents d m p filled a b c e h k = adds_both contents a b c _ _ (rw e at h) k
+
+-- what is sealed of a programme before the match: its row, its record and its withdrawal
+pub programme_made : (d : Contents) (rows : List Fields) (p : ℕ) (records : ListRecords) (a b c e : Vec ℕ) (name : List ℕ) (places : ℕ) (found : Option Fields) (gone : Bool)
+    → AreListsOf rows records → a.items ≡ [] → name ≡ programme_name d p → places ≡ quota d.instance p
+    → found ≡ find (λ (r : Fields). bytes_eq (field r 1) name) (rows_in records.programmes.items) → gone ≡ is_withdrawn d.instance.programmes_withdrawn p
+    → Grows a b (quota_row name places) → Grows b c (line_if found) → Grows c e (withdrawal_if gone (codes "P") name) → e.items ≡ programme_lists d rows p
+unfolding programme_lists
+programme_made d rows p records a b c e name places found gone are none n q f g h k l =
+    let found_is : found ≡ list_of_programme d rows p =
+    f ∙ ap (λ (x : List ℕ). find (λ (r : Fields). bytes_eq (field r 1) x) (rows_in records.programmes.items)) n
+    ∙ ap (find (λ (r : Fields). bytes_eq (field r 1) (programme_name d p))) are.programmes in
+    grows_three a b c e _ _ _ h k l ∙ rw (none, n, q, found_is, g) refl
+
+-- what is sealed of a resident before the match: its record and its withdrawal
+pub resident_made : (d : Contents) (rows : List Fields) (r : ℕ) (records : ListRecords) (a b c : Vec ℕ) (name : List ℕ) (found : Option Fields) (gone : Bool)
+    → AreListsOf rows records → a.items ≡ [] → name ≡ resident_name d r → found ≡ slice_get (rows_in records.residents.items) r
+    → gone ≡ is_withdrawn d.instance.residents_withdrawn r
+    → Grows a b (line_if found) → Grows b c (withdrawal_if gone (codes "R") name) → c.items ≡ resident_lists d rows r
+unfolding resident_lists
+resident_made d rows r records a b c name found gone are none n f g h k =
+    let found_is : found ≡ slice_get (records_of (codes "R") rows) r = f ∙ ap (λ (xs : List Fields). slice_get xs r) are.residents in
+    grows_both a b c _ _ h k ∙ rw (none, n, found_is, g) refl
+
+-- a text of this kind that was added to nothing
+pub of_new : (P : List ℕ → Type 0) (old new text : List ℕ) → text ≡ new → old ≡ [] → AppendsText P (Some old) (Some new) → P text
+of_new P old new text e none h = subst P (sym (e ∙ h.appended ∙ ap (λ (t : List ℕ). t ++ h.text) none)) h.wanted

@@ -1,0 +1,8 @@
+use Rattle.std.proofs.Common.{take}
+use Rattle.std.specs.List.{flat_map}
+use Rattle.docket_parts.specs.Lines.{Grows}
+use Rattle.seal_text.specs.Sealed.{digest_field}
+use Rattle.seal_text.proofs.grown.put_path.Given as goal
+
+abbrev pub invariant-loop-k : goal.invariant-loop-k
+invariant-loop-k l = Grows l.fn.text l.text (flat_map digest_field (take l.k l.path))

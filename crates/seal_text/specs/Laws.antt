@@ -1,0 +1,41 @@
+-- The laws of receipts and of texts: each is the contract of the function of its name.
+use Rattle.std.specs.Prelude.{◌≡◌, ℕ, ◌<◌, ◌≤◌, List, Some, codes, length, slice_get}
+use Rattle.match_model.specs.Instance.{is_withdrawn, quota}
+use Rattle.docket.specs.Contents.{Contents}
+use Rattle.docket.specs.Texts.{programme_name}
+use Rattle.docket_parts.specs.Parts.{Fields}
+use Rattle.seal_text.specs.Texts.{list_of_programme, lists_texts, records_of}
+use Rattle.seal.specs.Hashes.{leaf_hash}
+use Rattle.seal.specs.Tree.{root, climb, path_of}
+use Rattle.seal_text.specs.Sealed.{leaf_of, hashes_of}
+use Rattle.seal_text.specs.declared.leaves.Section.{Section}
+
+-- the opening that a receipt has of a member's leaf climbs from that leaf to the root that the receipt names
+abbrev pub ReceiptOpensLaw : Type 0
+ReceiptOpensLaw =
+    (secret : List ℕ) (section : Section) (texts : List (List ℕ)) (i : ℕ) (text : List ℕ) → slice_get texts i ≡ Some text →
+    climb i (length texts) (leaf_hash (leaf_of secret section i text)) (path_of i (hashes_of secret section texts)) ≡ Some (root (hashes_of secret section texts))
+
+-- programme p has one name, quota and list in two dockets, and is withdrawn from both or neither
+pub record IsOneProgramme (d d' : Contents) (rows rows' : List Fields) (p : ℕ) : Type 0 where
+  pub name : programme_name d p ≡ programme_name d' p
+  pub quota_is : quota d.instance p ≡ quota d'.instance p
+  pub list : list_of_programme d rows p ≡ list_of_programme d' rows' p
+  pub withdrawn : is_withdrawn d.instance.programmes_withdrawn p ≡ is_withdrawn d'.instance.programmes_withdrawn p
+
+-- resident r has one `R` record in two dockets, which has its name and its list, and is withdrawn from both or neither
+pub record IsOneResident (d d' : Contents) (rows rows' : List Fields) (r : ℕ) : Type 0 where
+  pub list : slice_get (records_of (codes "R") rows) r ≡ slice_get (records_of (codes "R") rows') r
+  pub withdrawn : is_withdrawn d.instance.residents_withdrawn r ≡ is_withdrawn d'.instance.residents_withdrawn r
+
+-- two dockets of as many programmes, whose members' texts are the same, have as many residents, and the same members
+pub record AreOneDocket (d d' : Contents) (rows rows' : List Fields) : Type 0 where
+  pub count : length d.instance.resident_lists ≡ length d'.instance.resident_lists
+  pub programmes : (p : ℕ) → p < length d.instance.quotas → IsOneProgramme d d' rows rows' p
+  pub residents : (r : ℕ) → r < length d.instance.resident_lists → IsOneResident d d' rows rows' r
+
+abbrev pub SameTextsLaw : Type 0
+SameTextsLaw =
+    (d d' : Contents) (rows rows' : List Fields) →
+    ((p : ℕ) → quota d.instance p ≤ 10000) → ((p : ℕ) → quota d'.instance p ≤ 10000) → length d.instance.quotas ≡ length d'.instance.quotas →
+    lists_texts d rows ≡ lists_texts d' rows' → AreOneDocket d d' rows rows'

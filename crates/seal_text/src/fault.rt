@@ -1,0 +1,26 @@
+//! Why nothing was sealed.
+
+use audit_files::FilesFault;
+use thiserror::Error;
+
+/// Why a text is no secret.
+#[derive(Clone, Copy, Debug, PartialEq, Eq, Error)]
+pub enum SecretFault {
+    /// It isn't 64 hexadecimal digits, and maybe a line feed.
+    #[error("not 64 hexadecimal digits")]
+    NotDigits,
+    /// All its digits are zeros.
+    #[error("a secret of zeros is none")]
+    Zeros,
+}
+
+/// Why nothing was sealed.
+#[derive(Clone, Copy, Debug, PartialEq, Eq, Error)]
+pub enum SealFault {
+    /// The secret is none.
+    #[error(transparent)]
+    Secret(SecretFault),
+    /// The docket's or the sheet's file is at fault, or memory or the writer failed.
+    #[error(transparent)]
+    Files(FilesFault),
+}

@@ -1,0 +1,124 @@
+//! A tree with the texts of its leaves.
+ghost use Rattle.std.specs.Prelude.{◌≡◌, ◌<◌, IfOk, OnOk, length};
+ghost use Rattle.docket_parts.specs.Lines.{Grows};
+ghost use Rattle.seal.specs.Tree as tree;
+ghost use Rattle.seal_text.specs.Sealed.{root_row, opening_row, path_fields, part_text, word_of};
+ghost use Rattle.seal_text.specs.Grown.{IsGrown, texts_in};
+
+use crate::grow::{put, put_digest, put_number, put_row};
+use crate::leaves::{Section, leaf_hashes};
+use seal::{Tree, salt};
+use std::alloc::{AllocError, Global};
+
+/// A tree with the texts of its leaves.
+#[derive(Drop)]
+pub(crate) struct Grown {
+    /// Which tree it is.
+    pub(crate) section: Section,
+    /// The texts of its leaves.
+    pub(crate) texts: Vec<Vec<u8>>,
+    /// The tree.
+    pub(crate) tree: Tree,
+}
+
+// Adds the row of a root.
+fn put_root_row(
+    alloc: Global,
+    text: &mut Vec<u8>,
+    section: Section,
+    count: usize,
+    root: &[u8; 32],
+) -> Result<(), AllocError>
+    ensures { OnOk result (Grows text.old text.new (root_row section count root.now)) }
+{
+    let mut room = itoa::Buffer::new();
+    let count = room.format(count).as_bytes();
+    let digits = hex::encode(alloc, *root)?;
+    put_row(alloc, text, &[section.word(), count, digits.as_bytes()])
+}
+
+// Adds the hashes of a path, and ends the row.
+fn put_path(alloc: Global, text: &mut Vec<u8>, path: &[[u8; 32]]) -> Result<(), AllocError>
+    ensures { OnOk result (Grows text.old text.new (path_fields path.now)) }
+{
+    for k in 0..path.len() {
+        put_digest(alloc, text, &path[k])?;
+    }
+    put(text, b"\n")
+}
+
+// Adds the word of a tree's rows.
+fn put_word(text: &mut Vec<u8>, section: Section) -> Result<(), AllocError>
+    ensures { OnOk result (Grows text.old text.new (word_of section)) }
+{
+    put(text, section.word())
+}
+
+// Adds the row of an opening.
+fn put_opening(
+    alloc: Global,
+    text: &mut Vec<u8>,
+    section: Section,
+    index: usize,
+    salt: &[u8; 32],
+    path: &[[u8; 32]],
+) -> Result<(), AllocError>
+    ensures { OnOk result (Grows text.old text.new (opening_row section index salt.now path.now)) }
+{
+    put(text, b"opens,")?;
+    put_word(text, section)?;
+    put(text, b",")?;
+    put_number(text, index)?;
+    put_digest(alloc, text, salt)?;
+    put_path(alloc, text, path)
+}
+
+impl Grown {
+    /// The tree over these texts.
+    pub(crate) fn new(
+        alloc: Global,
+        secret: &[u8; 32],
+        section: Section,
+        texts: Vec<Vec<u8>>,
+    ) -> Result<Grown, AllocError>
+        ensures grown { IfOk result (IsGrown secret.now) }
+        ensures section { IfOk result (λ grown. grown.section ≡ section) }
+        ensures texts { IfOk result (λ grown. grown.texts.items ≡ texts.items) }
+    {
+        let hashes = leaf_hashes(alloc, secret, section, texts.as_slice())?;
+        let tree = Tree::new(alloc, hashes.as_slice())?;
+        Ok(Grown {
+            section,
+            texts,
+            tree,
+        })
+    }
+
+    /// Adds the row of its root.
+    pub(crate) fn put_root(&self, alloc: Global, text: &mut Vec<u8>) -> Result<(), AllocError>
+        ensures { OnOk result (Grows text.old text.new (root_row self.now.section (length self.now.texts.items) (tree.root self.now.tree))) }
+    {
+        let root = self.tree.root();
+        put_root_row(alloc, text, self.section, self.texts.len(), &root)
+    }
+
+    /// Adds what a receipt has of this tree: its root, the opening of a leaf, and the leaf's text.
+    pub(crate) fn put_part(
+        &self,
+        alloc: Global,
+        text: &mut Vec<u8>,
+        secret: &[u8; 32],
+        index: usize,
+    ) -> Result<(), AllocError>
+        requires grown { IsGrown secret.now self.now }
+        requires index { index < length self.now.texts.items }
+        ensures { OnOk result (Grows text.old text.new (part_text secret.now self.now.section (texts_in self.now) index)) }
+    {
+        self.put_root(alloc, text)?;
+        let salt = salt(secret, self.section.tag(), index as u64);
+        let path = self.tree.opening(alloc, index)?;
+        put_opening(alloc, text, self.section, index, &salt, path.as_slice())?;
+        let texts = self.texts.as_slice();
+        put(text, texts[index].as_slice())
+    }
+}

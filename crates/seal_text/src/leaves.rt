@@ -1,0 +1,55 @@
+//! From texts to leaves.
+ghost use Rattle.std.specs.Prelude.{◌≡◌, ◌≤◌, ◌^◌, ℕ, List, IfOk, length, map};
+ghost use Rattle.std.specs.Global.{Vec};
+ghost use Rattle.seal_text.specs.Sealed.{tag_of, word_of, hashes_of};
+
+use seal::{leaf_hash, salt};
+use std::alloc::{AllocError, Global};
+
+/// One of the two trees of a docket.
+#[derive(Clone, Copy, Debug, PartialEq, Eq)]
+pub(crate) enum Section {
+    /// The lists that members handed in.
+    Lists,
+    /// What the match gave them, and why.
+    Outcome,
+}
+
+impl Section {
+    /// The byte that tells the salts of the two trees apart.
+    pub(crate) fn tag(self) -> u8
+        ensures { result ≡ tag_of self }
+    {
+        match self {
+            Section::Lists => b'L',
+            Section::Outcome => b'R',
+        }
+    }
+
+    /// The word of its rows.
+    pub(crate) fn word(self) -> &'static [u8]
+        ensures { result.now ≡ word_of self }
+    {
+        match self {
+            Section::Lists => b"lists",
+            Section::Outcome => b"result",
+        }
+    }
+}
+
+/// The hashes of the leaves of these texts.
+pub(crate) fn leaf_hashes(
+    alloc: Global,
+    secret: &[u8; 32],
+    section: Section,
+    texts: &[Vec<u8>],
+) -> Result<Vec<[u8; 32]>, AllocError>
+    ensures { IfOk result (λ hashes. hashes.items ≡ hashes_of secret.now section (map (λ (v : Vec ℕ). v.items) texts.now)) }
+{
+    let mut hashes = Vec::new(alloc);
+    for i in 0..texts.len() {
+        let salt = salt(secret, section.tag(), i as u64);
+        hashes.push(leaf_hash(&salt, texts[i].as_slice()))?;
+    }
+    Ok(hashes)
+}

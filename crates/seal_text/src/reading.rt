@@ -1,0 +1,32 @@
+//! Reading what is to be sealed, each part from its own file.
+ghost use Rattle.std.specs.Prelude.{IfErr, IfOk};
+ghost use Rattle.seal_text.specs.Serving.{IsCaseIn, IsCaseFault};
+
+use audit_files::{FilesFault, told};
+use docket_parts::{PartFault, join};
+use reasons_text::{Case, WhyFault};
+use std::alloc::Global;
+use std::random::RandomSource;
+
+/// The docket and the sheet that two files say, each read as its own part.
+pub(crate) fn read_case<H: RandomSource>(
+    rt: &H,
+    alloc: Global,
+    docket: &[u8],
+    sheet: &[u8],
+) -> Result<Case, FilesFault>
+    ensures case { IfOk result (IsCaseIn docket.now sheet.now) }
+    ensures fault { IfErr result (IsCaseFault docket.now sheet.now) }
+{
+    let joined = match join(alloc, docket, sheet, &[]) {
+        Ok(joined) => joined,
+        Err(PartFault::Memory) => return Err(FilesFault::Memory),
+        Err(fault) => return Err(FilesFault::Part(fault)),
+    };
+    match Case::read(rt, alloc, joined.text.as_slice(), true) {
+        Ok(case) => Ok(case),
+        Err(WhyFault::Docket(fault)) => Err(told(&joined, fault)),
+        Err(WhyFault::NoSheet) => Err(FilesFault::NoSheet),
+        Err(_) => Err(FilesFault::Memory),
+    }
+}

@@ -1,0 +1,185 @@
+//! Checking a receipt.
+ghost use Rattle.std.specs.Prelude.{◌≡◌, ◌≢◌, ◌≤◌, ◌⊎◌, IfErr, length};
+
+use crate::leaves::Section;
+use crate::opening::{Opened, read_opening};
+use crate::points::{Kind, Lists, Member, lists_in, result_fault};
+use crate::records::{field, has, read_rows};
+use crate::told::{put_lists, put_result};
+use crate::wrong::{ReceiptFault, Wrong, at};
+use csv::ByteRecord;
+use docket_parts::put_line;
+use std::alloc::{AllocError, Global};
+use std::io::Write;
+
+// The first row, from 0, that isn't written as its fields are, if there is one.
+fn unlike_written(
+    alloc: Global,
+    bytes: &[u8],
+    rows: &[ByteRecord],
+) -> Result<Option<usize>, AllocError> {
+    let mut left = bytes;
+    for k in 0..rows.len() {
+        let mut line = Vec::new(alloc);
+        put_line(&mut line, &rows[k])?;
+        match left.strip_prefix(line.as_slice()) {
+            Some(rest) => left = rest,
+            None => return Ok(Some(k)),
+        }
+    }
+    Ok(if left.is_empty() {
+        None
+    } else {
+        Some(rows.len())
+    })
+}
+
+// The member of a receipt's first row.
+fn member_of(row: &ByteRecord) -> Option<Member<'_>> {
+    if row.len() != 4 || !has(row, 0, b"receipt") || !has(row, 1, b"1") {
+        return None;
+    }
+    let name = field(row, 3);
+    match field(row, 2) {
+        b"P" => Some(Member {
+            kind: Kind::Programme,
+            name,
+        }),
+        b"R" => Some(Member {
+            kind: Kind::Resident,
+            name,
+        }),
+        _ => None,
+    }
+}
+
+// Where the result begins, or how many rows there are. The first three rows are of the lists.
+fn result_start(rows: &[ByteRecord]) -> usize
+    ensures within { result ≤ length rows.now }
+    ensures past { (3 ≤ result) ⊎ (result ≡ length rows.now) }
+{
+    for k in 3..rows.len() {
+        if has(&rows[k], 0, b"result") {
+            return k;
+        }
+    }
+    rows.len()
+}
+
+// A receipt that is good: the member, its rows before the match, and those after it, if there are any.
+#[derive(Clone, Copy)]
+struct Good<'a> {
+    member: Member<'a>,
+    lists: Lists<'a>,
+    result: Option<&'a [ByteRecord]>,
+}
+
+// The rows of the result, if they open this root at the place of the lists, and are what they have to be.
+fn good_result<'a>(
+    alloc: Global,
+    root: &[u8; 32],
+    rows: &'a [ByteRecord],
+    place: usize,
+    good: &Good,
+    opened: Opened,
+) -> Result<&'a [ByteRecord], ReceiptFault> {
+    let told = read_opening(alloc, Section::Outcome, root, rows, place)?;
+    if told.count != opened.count {
+        return Err(at(place, 0, Wrong::Count));
+    }
+    if told.index != opened.index {
+        return Err(at(place, 1, Wrong::Place));
+    }
+    match result_fault(
+        &rows[2..],
+        place.saturating_add(2),
+        good.member,
+        &good.lists,
+    ) {
+        Some(fault) => Err(fault),
+        None => Ok(&rows[2..]),
+    }
+}
+
+// The rows of the result, if a root of one was published. Else there may be none.
+fn good_result_if<'a>(
+    alloc: Global,
+    root: Option<&[u8; 32]>,
+    rows: &'a [ByteRecord],
+    place: usize,
+    good: &Good,
+    opened: Opened,
+) -> Result<Option<&'a [ByteRecord]>, ReceiptFault> {
+    match root {
+        Some(root) => Ok(Some(good_result(alloc, root, rows, place, good, opened)?)),
+        None if rows.is_empty() => Ok(None),
+        None => Err(at(place, 0, Wrong::Unasked)),
+    }
+}
+
+// What a receipt shows of a member, if it is good.
+fn good_receipt<'a>(
+    alloc: Global,
+    rows: &'a [ByteRecord],
+    lists_root: &[u8; 32],
+    result_root: Option<&[u8; 32]>,
+) -> Result<Good<'a>, ReceiptFault> {
+    if rows.is_empty() {
+        return Err(at(0, 0, Wrong::Header));
+    }
+    let Some(member) = member_of(&rows[0]) else {
+        return Err(at(0, 0, Wrong::Header));
+    };
+    let start = result_start(rows);
+    let opened = read_opening(alloc, Section::Lists, lists_root, &rows[1..start], 1)?;
+    let lists = lists_in(&rows[3..start], 3, member)?;
+    let early = Good {
+        member,
+        lists,
+        result: None,
+    };
+    let shown = good_result_if(alloc, result_root, &rows[start..], start, &early, opened)?;
+    Ok(Good {
+        member,
+        lists,
+        result: shown,
+    })
+}
+
+// What a good receipt shows, in words.
+fn words_of(
+    alloc: Global,
+    bytes: &[u8],
+    lists_root: &[u8; 32],
+    result_root: Option<&[u8; 32]>,
+) -> Result<Vec<u8>, ReceiptFault> {
+    let rows = read_rows(alloc, bytes)?;
+    if let Some(place) = unlike_written(alloc, bytes, rows.as_slice())? {
+        return Err(at(place, 0, Wrong::Written));
+    }
+    let good = good_receipt(alloc, rows.as_slice(), lists_root, result_root)?;
+    let mut text = Vec::new(alloc);
+    put_lists(alloc, &mut text, good.member, &good.lists)?;
+    if let Some(result) = good.result {
+        put_result(alloc, &mut text, good.member, result)?;
+    }
+    Ok(text)
+}
+
+/// Checks a receipt against the published roots, and writes what it shows in words. Where it isn't good, the fault is the first
+/// thing that is wrong, and nothing is written.
+pub fn serve_receipt<W: Write>(
+    alloc: Global,
+    receipt: &[u8],
+    lists_root: &[u8; 32],
+    result_root: Option<&[u8; 32]>,
+    writer: &mut W,
+) -> Result<(), ReceiptFault>
+    ensures { IfErr result (λ fault. fault ≢ ReceiptFault.Write → writer.new ≡ writer.old) }
+{
+    let text = words_of(alloc, receipt, lists_root, result_root)?;
+    match writer.write_all(text.as_slice()) {
+        Ok(()) => Ok(()),
+        Err(_) => Err(ReceiptFault::Write),
+    }
+}
