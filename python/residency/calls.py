@@ -1,12 +1,15 @@
 """The questions to the built program: a match, an audit, a replay, and why; each answered in the caller's names."""
 from __future__ import annotations
 
-from typing import TYPE_CHECKING, Dict, Iterator, List, Mapping, Optional, Tuple, Union
+from typing import TYPE_CHECKING, Dict, Mapping, Optional, Tuple, Union
 
+from .answers import cut, read_audit, read_replay, rows_of
+from .dictionaries import dictionary, told_name
 from .docket import read_docket, sheet_rows
-from .errors import DocketFault, MarketFault, UnknownStatus
-from .names import Names
+from .errors import DocketFault, MarketFault, NotValid, UnknownStatus
+from .ordered import is_nothing
 from .program import DEFAULT_TIMEOUT, run_program
+from .records import records
 from .results import Audit, Match, Replay, Why
 from .text import shown
 
@@ -14,6 +17,8 @@ if TYPE_CHECKING:
     from .market import Market, Places
 
 _WHY_COLUMNS = "resident,programme,choice,answer,rank,last_rank,quota"
+# The kinds of records, and those of a sheet and of a journal.
+_KINDS, _SHEET, _JOURNAL = tuple("VQPRWMUFCE"), tuple("MUF"), tuple("CE")
 
 
 def match(market: Market, workers: int = 2, capacity: Optional[int] = None, journal: Union[bool, str] = False,
@@ -24,9 +29,8 @@ def match(market: Market, workers: int = 2, capacity: Optional[int] = None, jour
         raise ValueError(f"{journal!r} is no form of a journal: False, True or 'by worker'")
     words += ["--journal" if journal is True else "--journal-by-worker"] if journal else []
     status, answer = run_program("residency", words, market.docket(), timeout)
-    cut = 0 if answer.startswith(b"C,") else answer.find(b"\nC,") + 1 or len(answer)
     try:
-        found = read_match(market, answer[:cut], answer[cut:])
+        found = read_match(market, *cut(answer))
     except DocketFault as fault:
         raise UnknownStatus(status, f"an answer that is no sheet of the market: {fault}") from fault
     if status != 0 or bool(found.journal) != bool(journal):
@@ -36,6 +40,7 @@ def match(market: Market, workers: int = 2, capacity: Optional[int] = None, jour
 
 def read_match(market: Market, sheet: bytes, journal: bytes = b"") -> Match:
     """A match of the market from a sheet's bytes; see `Market.read_match`."""
+    _refuse_others(sheet, _SHEET, market.docket())
     places = read_docket(market.docket() + sheet).sheet
     if places is None:
         raise DocketFault(0, "no sheet in the docket")
@@ -50,13 +55,21 @@ def read_match(market: Market, sheet: bytes, journal: bytes = b"") -> Match:
     return Match(called, filled, dict(market.quotas), sheet, journal)
 
 
+def _refuse_others(rows: bytes, own: Tuple[str, ...], before: bytes) -> None:
+    """DocketFault for a record of another part among these rows, since it would change what the rows before them say."""
+    for number, row in enumerate(records(rows), before.count(b"\n") + 1):
+        if row[0] in _KINDS and row[0] not in own:
+            raise DocketFault(number, "belongs to another part", 1, row[0], f"cell 1: {row[0]}")
+
+
 def _sheet(market: Market, places: Places) -> bytes:
     """The sheet's rows of these places; MarketFault for one that lacks a resident or has a name that no member has."""
-    given: Mapping[str, Optional[str]] = places.places if isinstance(places, Match) else places
+    given: Mapping[str, Optional[str]] = places.places if isinstance(places, Match) else {
+        resident: None if is_nothing(name) else name for resident, name in dictionary("the residents' places", places).items()}
     faults = [f"resident {shown(name)} has no place, and no None" for name in market.resident_lists if name not in given]
-    faults += [f"no resident is named {shown(str(name))}" for name in given if name not in market.resident_lists]
-    faults += [f"resident {shown(str(resident))}: no programme is named {shown(str(name))}" for resident, name in given.items()
-               if name is not None and name not in market.quotas]
+    faults += [f"no resident is named {told_name(name)}" for name in given if name not in market.resident_lists]
+    faults += [f"resident {told_name(resident)}: no programme is named {told_name(name)}" for resident, name in given.items()
+               if name is not None and (not isinstance(name, str) or name not in market.quotas)]
     if faults:
         raise MarketFault(faults)
     made = market.names.docket_name
@@ -64,29 +77,21 @@ def _sheet(market: Market, places: Places) -> bytes:
                                                  for resident, name in given.items()})
 
 
-def _rows(answer: bytes) -> Iterator[List[str]]:
-    """The rows of an answer, each its fields."""
-    return (line.split(",") for line in answer.decode("ascii", "replace").splitlines())
-
-
 def audit(market: Market, places: Places, timeout: float = DEFAULT_TIMEOUT) -> Audit:
     """Whether these places are stable; see `Market.audit`."""
     status, answer = run_program("residency", ["audit"], market.docket() + _sheet(market, places), timeout)
-    rows = list(_rows(answer))
-    found: Dict[str, List[Tuple]] = {"X": [], "O": [], "B": []}
-    names = market.names
     try:
-        stable = {0: ["S", "stable"], 4: ["S", "unstable"]}[status] == rows[0] and status == 0
-        for row in rows[1:]:
-            if row[0] == "O":
-                found["O"].append((names.name("P", row[1]), int(row[2]), int(row[3])))
-            else:
-                found[row[0]].append((names.name("R", row[1]), names.name("P", row[2])))
-        if rows[0] != ["S", "stable" if stable else "unstable"] or stable == any(found.values()):
-            raise ValueError(rows[0])
+        return read_audit(status, answer, market.names.name)
     except (IndexError, KeyError, ValueError) as error:
         raise UnknownStatus(status, "an answer that isn't an audit's") from error
-    return Audit(stable, tuple(found["X"]), tuple(found["O"]), tuple(found["B"]))
+
+
+def check_validity(market: Market, places: Places, timeout: float = DEFAULT_TIMEOUT) -> bool:
+    """True for a valid match, else NotValid; see `Market.check_validity`."""
+    found = audit(market, places, timeout)
+    if found.unacceptable or found.over_quota:
+        raise NotValid(found.unacceptable, found.over_quota)
+    return True
 
 
 def replay(market: Market, journal: Union[Match, bytes], places: Optional[Places] = None,
@@ -95,31 +100,14 @@ def replay(market: Market, journal: Union[Match, bytes], places: Optional[Places
     rows = journal if isinstance(journal, bytes) else journal.journal
     if places is None and isinstance(journal, Match):
         places = journal
-    sheet = b"" if places is None else _sheet(market, places)
-    status, answer = run_program("residency", ["replay"], market.docket() + sheet + rows, timeout)
+    given = market.docket() + (b"" if places is None else _sheet(market, places))
+    # What `residency match --journal` writes is a sheet with its journal, and may be given as it is.
+    _refuse_others(rows, _JOURNAL if places is not None else _SHEET + _JOURNAL, given)
+    status, answer = run_program("residency", ["replay"], given + rows, timeout)
     try:
-        return _replay(market.names, status, list(_rows(answer)))
+        return read_replay(status, answer, market.names.name)
     except (IndexError, KeyError, ValueError) as error:
         raise UnknownStatus(status, "an answer that isn't a replay's") from error
-
-
-def _replay(names: Names, status: int, rows: List[List[str]]) -> Replay:
-    kind, first = rows[0][0], rows[0][1]
-    if (kind == "G") != (status == 0) or kind != "G" and len(rows) > 1:
-        raise ValueError(kind)
-    if kind == "G":
-        if any(row[:2] != ["K", str(worker)] for worker, row in enumerate(rows[1:])):
-            raise ValueError(rows)
-        return Replay(True, int(first), tuple(int(row[2]) for row in rows[1:]))
-    if kind == "D":
-        return Replay(False, differs=names.name("R", first))
-    if kind != "N":
-        raise KeyError(kind)
-    if rows[0][2] != "still-pending":
-        return Replay(False, place=int(first), word=rows[0][2])
-    what, at = rows[0][3:]
-    side = {"offers": "R", "due": "R", "answers": "P", "wish": "P"}[what]
-    return Replay(False, place=int(first), word="still-pending", pending=what, at=names.name(side, at))
 
 
 def why(market: Market, places: Places, resident: str, programme: Optional[str] = None,
@@ -145,7 +133,7 @@ def why_all(market: Market, places: Places, timeout: float = DEFAULT_TIMEOUT) ->
 def _why_all(market: Market, data: bytes, timeout: float) -> Dict[Tuple[str, str], Why]:
     """The table of `why --all`, by resident and programme in the caller's names."""
     status, answer = run_program("why", ["--all"], data, timeout)
-    rows = list(_rows(answer))
+    rows = rows_of(answer)
     names = market.names
     told: Dict[Tuple[str, str], Why] = {}
     try:

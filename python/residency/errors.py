@@ -3,9 +3,17 @@ from __future__ import annotations
 
 from typing import Optional, Sequence, Tuple
 
+from .text import shown
+
 
 class ResidencyError(Exception):
     """What every exception of the package is."""
+
+
+def _in_part(lines: Sequence[str]) -> str:
+    """The first twenty lines, and how many more there are."""
+    more = len(lines) - 20
+    return "\n".join([*lines[:20], *([f"and {more} more"] if more > 0 else [])])
 
 
 class DocketFault(ResidencyError):
@@ -46,8 +54,41 @@ class MarketFault(ResidencyError, ValueError):
         self.faults: Tuple[str, ...] = tuple(faults)
 
     def __str__(self) -> str:
-        more = len(self.faults) - 20
-        return "\n".join(self.faults[:20] + ((f"and {more} more",) if more > 0 else ()))
+        return _in_part(self.faults)
+
+
+class NotValid(ResidencyError):
+    """Places that are no valid match: pairs that aren't acceptable (`unacceptable`), and programmes over their places
+    (`over_quota`), as an audit has them."""
+
+    def __init__(self, unacceptable: Sequence[Tuple[str, str]], over_quota: Sequence[Tuple[str, int, int]]) -> None:
+        super().__init__(tuple(unacceptable), tuple(over_quota))
+        self.unacceptable: Tuple[Tuple[str, str], ...] = tuple(unacceptable)
+        self.over_quota: Tuple[Tuple[str, int, int], ...] = tuple(over_quota)
+
+    def __str__(self) -> str:
+        lines = [f"{shown(resident)} and {shown(programme)} don't both rank one another, or one is withdrawn"
+                 for resident, programme in self.unacceptable]
+        lines += [f"{shown(programme)} has {filled} residents, over its quota of {quota}"
+                  for programme, filled, quota in self.over_quota]
+        return _in_part(lines)
+
+
+class OtherOptimum(ResidencyError, ValueError):
+    """An optimum that isn't answered: `wanted` is the word that was given, and `answered` the one to give."""
+
+    def __init__(self, wanted: object, answered: str = "programmes") -> None:
+        super().__init__(wanted, answered)
+        self.wanted = wanted
+        self.answered = answered
+
+    def __str__(self) -> str:
+        told = shown(self.wanted) if isinstance(self.wanted, str) else shown(repr(self.wanted))
+        if self.wanted not in ("residents", "resident"):
+            return f"there is no optimum {told}; {self.answered} is the one that is answered"
+        return (f"the {told} optimum isn't answered: here programmes propose, so the match gives each programme its best "
+                "achievable residents, and each resident its worst achievable programme. Where a market has several stable "
+                f"matches, the residents' best is another one. optimal={self.answered!r} asks for the one that is answered")
 
 
 class KeyFault(ResidencyError, ValueError):

@@ -7,7 +7,8 @@ Names that a spreadsheet would take for a formula are escaped, in a way that rea
 """
 from __future__ import annotations
 
-from typing import Iterable, List, Optional
+import re
+from typing import Iterable, List, Match, Optional, Tuple
 
 from .errors import KeyFault
 from .names import PROGRAMME, RESIDENT, Member, Names
@@ -16,31 +17,55 @@ from .text import BadQuotes, decode, rows
 
 # What a spreadsheet takes for the start of a formula; the last four are the same signs in full width.
 _FORMULA = ("=", "+", "-", "@", "\t", "\r", "\n", "\uff1d", "\uff0b", "\uff0d", "\uff20")
+_SIGN = "([=+\\-@\uff1d\uff0b\uff0d\uff20])"
+# Where a formula may begin within a name, since a spreadsheet that parts cells by another sign than the file does begins a
+# cell there, after any spaces and quotes. A space or a colon parts cells only where somebody chooses so, and before a sign
+# that stands alone, as in `North - East`, it begins no formula.
+_WITHIN = re.compile(f"((?:^[\\s\"]|[,;|\\t\\r\\n])[\\s\"]*)('*){_SIGN}|([ :]\"*)('*){_SIGN}(?=\\S)")
 
 
 def _needs_apostrophe(name: str) -> bool:
     return name.startswith(_FORMULA) or name.startswith(tuple("'" + sign for sign in ("'", *_FORMULA)))
 
 
+def _places(found: Match[str]) -> Tuple[str, str, str]:
+    """What stands before a formula within a name, its apostrophes, and its sign."""
+    before, marks, sign = found.group(1, 2, 3) if found.group(3) else found.group(4, 5, 6)
+    return before, marks, sign
+
+
+def _more(found: Match[str]) -> str:
+    before, marks, sign = _places(found)
+    return f"{before}'{marks}{sign}"
+
+
+def _less(found: Match[str]) -> str:
+    before, marks, sign = _places(found)
+    return before + marks[1:] + sign
+
+
 def to_cell(name: str) -> str:
-    """The name as a cell of a CSV file that a spreadsheet takes for text and never for a formula.
+    """The name as a cell of a CSV file that a spreadsheet takes for text and never for a formula, whatever it parts cells by.
 
     A name that begins with `=`, `+`, `-`, `@`, a tab or a line's end gets an apostrophe before it, and so does one that
-    begins with an apostrophe before one of these or before another apostrophe. `from_cell` reads it back exactly.
+    begins with an apostrophe before one of these or before another apostrophe. Within a name `=`, `+`, `-` and `@` get one
+    where a cell may begin: after a comma, a semicolon, a bar, a colon, a space or a tab. `from_cell` reads it back exactly.
 
-    >>> [to_cell(name) for name in ("=SUM(A1)", "-", "'t Hooft", "'=x", "Zoë")]
-    ["'=SUM(A1)", "'-", "'t Hooft", "''=x", 'Zoë']
+    >>> [to_cell(name) for name in ("=SUM(A1)", "-", "'t Hooft", "''=x", "Zoë", "Kim;=2+3;", "North - East")]
+    ["'=SUM(A1)", "'-", "'t Hooft", "'''=x", 'Zoë', "Kim;'=2+3;", 'North - East']
     """
-    return "'" + name if _needs_apostrophe(name) else name
+    inside = _WITHIN.sub(_more, name)
+    return "'" + inside if _needs_apostrophe(inside) else inside
 
 
 def from_cell(cell: str) -> str:
-    """The name that `to_cell` made the cell of: one apostrophe is dropped where one of its signs or another follows it.
+    """The name that `to_cell` made the cell of: an apostrophe is dropped at each place where that puts one.
 
-    >>> [from_cell(cell) for cell in ("'=SUM(A1)", "'-", "'t Hooft", "''=x", "Zoë", "=SUM(A1)")]
-    ['=SUM(A1)', '-', "'t Hooft", "'=x", 'Zoë', '=SUM(A1)']
+    >>> [from_cell(cell) for cell in ("'=SUM(A1)", "'-", "'t Hooft", "''=x", "Zoë", "=SUM(A1)", "Kim;'=2+3;")]
+    ['=SUM(A1)', '-', "'t Hooft", "'=x", 'Zoë', '=SUM(A1)', 'Kim;=2+3;']
     """
-    return cell[1:] if cell.startswith("'") and _needs_apostrophe(cell) else cell
+    inside = cell[1:] if cell.startswith("'") and _needs_apostrophe(cell) else cell
+    return _WITHIN.sub(_less, inside)
 
 
 def csv_row(cells: Iterable[object]) -> str:

@@ -1,19 +1,16 @@
 """A market in the caller's own names: programmes with quotas and lists, residents with lists, and who is withdrawn."""
 from __future__ import annotations
 
-import operator
-from typing import Dict, Iterable, List, Mapping, Optional, Sequence, Tuple, Union
+from typing import Dict, Iterable, Mapping, Optional, Sequence, Tuple, Union
 
 from . import calls
+from .dictionaries import Reader, limits, told_name, withdrawals
 from .docket import Docket, read_docket, write_docket
-from .errors import KeyFault, MarketFault
+from .errors import KeyFault, MarketFault, OtherOptimum
 from .names import Member, Names
-from .near import MOST_NEAR, NearNames
-from .passes import MOST_PAIRS, MOST_PLACES, MOST_PROGRAMMES, MOST_RESIDENTS
 from .program import DEFAULT_TIMEOUT
 from .results import Audit, Match, Replay, Why
 from .tables import Cell, Read, read_long, read_wide
-from .text import shown
 
 Places = Union[Match, Mapping[str, Optional[str]]]
 
@@ -29,8 +26,10 @@ class Market:
 
     `quotas`, `programme_lists`, `resident_lists`, `withdrawn_programmes` and `withdrawn_residents` are in the caller's
     names, which may be any text, in the caller's order; `names` says who is who in the docket. A programme without a list
-    ranks nobody. MarketFault tells everything that is wrong at once: a name that nobody has, a name listed twice, a number
-    of places that isn't from 0 to 10,000, and more members or pairs than are matched at once.
+    ranks nobody. A list is a list, a tuple, an iterator, a Series of pandas or an array of numpy; a dictionary may be a
+    Series, too. MarketFault tells everything that is wrong at once: what has no order (a set, a mapping, a text) in a
+    list's place, a name that nobody has, a name listed twice, a number of places that is missing or isn't a whole one
+    from 0 to 10,000, and more members or pairs than are matched at once.
 
     >>> market = Market.from_dictionaries({"Zoë Weiß": ["Köln", "Łódź"], "Ana": ["Köln"]},
     ...                                   {"Köln": ["Ana", "Zoë Weiß"], "Łódź": ["Zoë Weiß"]}, {"Köln": 1, "Łódź": 2})
@@ -51,23 +50,22 @@ class Market:
     def __init__(self, quotas: Mapping[str, int], programme_lists: Mapping[str, Sequence[str]],
                  resident_lists: Mapping[str, Sequence[str]], withdrawn_programmes: Iterable[str] = (),
                  withdrawn_residents: Iterable[str] = (), names: Optional[Names] = None) -> None:
-        faults = _Faults(quotas, resident_lists)
-        self.quotas: Dict[str, int] = faults.quotas(quotas)
-        self.programme_lists = faults.lists("programme", programme_lists, "resident")
-        self.resident_lists = faults.lists("resident", resident_lists, "programme")
-        self.withdrawn_programmes = faults.withdrawn("programme", withdrawn_programmes)
-        self.withdrawn_residents = faults.withdrawn("resident", withdrawn_residents)
-        if not faults.told:
-            faults.limits(self)
-        if faults.told:
-            raise MarketFault(faults.told)
+        read = Reader(quotas, programme_lists, resident_lists)
+        self.quotas: Dict[str, int] = read.quotas()
+        self.programme_lists = read.lists("programme")
+        self.resident_lists = read.lists("resident")
+        self.withdrawn_programmes = read.withdrawn("programme", withdrawn_programmes)
+        self.withdrawn_residents = read.withdrawn("resident", withdrawn_residents)
+        told = read.told or limits(self.quotas, self.programme_lists, self.resident_lists, self.withdrawn_programmes,
+                                   self.withdrawn_residents)
+        if told:
+            raise MarketFault(told)
         self.names: Names = Names.of(self.quotas, self.resident_lists) if names is None else names
         self._docket = self._in_docket_names()
 
     def _in_docket_names(self) -> Docket:
-        made = {side: {name: self._made(side, name) for name in names}
-                for side, names in (("P", self.quotas), ("R", self.resident_lists))}
-        programmes, residents = made["P"], made["R"]
+        programmes = {name: self._made("P", name) for name in self.quotas}
+        residents = {name: self._made("R", name) for name in self.resident_lists}
         return Docket({programmes[name]: quota for name, quota in self.quotas.items()},
                       _renamed(self.programme_lists, programmes, residents), _renamed(self.resident_lists, residents, programmes),
                       frozenset(map(programmes.__getitem__, self.withdrawn_programmes)),
@@ -77,7 +75,7 @@ class Market:
         try:
             return self.names.docket_name(side, name)
         except KeyError:
-            raise KeyFault(0, f"the key has no {'programme' if side == 'P' else 'resident'} {shown(name)}") from None
+            raise KeyFault(0, f"the key has no {'programme' if side == 'P' else 'resident'} {told_name(name)}") from None
 
     @classmethod
     def from_dictionaries(cls, resident_prefs: Mapping[str, Sequence[str]], programme_prefs: Mapping[str, Sequence[str]],
@@ -108,8 +106,9 @@ class Market:
                    residents: Iterable[Union[Cell, Sequence[Cell]]] = ()) -> Market:
         """From long rows without headings: (programme, places); (programme, rank, resident); (resident, rank, programme).
 
-        The ranks of a list are whole numbers, each once, the least of them the best. `residents` has every resident, each
-        a name or a pair of a name and an ID; without it the residents are those who rank somebody.
+        The ranks of a list are whole numbers, each once, the least of them the best. A row whose rank and last cell are
+        empty says that its member is there, and ranks nobody; a row of empty cells is none. `residents` has every
+        resident, each a name or a pair of a name and an ID; without it the residents are those who have a row.
 
         >>> Market.from_ranks([("North", 1)], [("North", 2, "Kim"), ("North", 1, "Lee")], [("Kim", 1, "North")],
         ...                   ["Kim", "Lee"]).programme_lists
@@ -158,9 +157,10 @@ class Market:
         return self._docket
 
     def withdraw(self, programmes: Iterable[str] = (), residents: Iterable[str] = ()) -> Market:
-        """This market with these members withdrawn besides; MarketFault for a name that no member has."""
-        return Market(self.quotas, self.programme_lists, self.resident_lists, (*self.withdrawn_programmes, *programmes),
-                      (*self.withdrawn_residents, *residents), self.names)
+        """This market with these members withdrawn besides; MarketFault for a name that no member has, or for no list."""
+        gone, left = withdrawals("programme", programmes), withdrawals("resident", residents)
+        return Market(self.quotas, self.programme_lists, self.resident_lists, (*self.withdrawn_programmes, *gone),
+                      (*self.withdrawn_residents, *left), self.names)
 
     def match(self, workers: int = 2, capacity: Optional[int] = None, journal: Union[bool, str] = False,
               timeout: float = DEFAULT_TIMEOUT) -> Match:
@@ -171,10 +171,31 @@ class Market:
         """
         return calls.match(self, workers, capacity, journal, timeout)
 
+    def solve(self, optimal: str = "programmes", timeout: float = DEFAULT_TIMEOUT) -> Match:
+        """The match, as `match` gives it: the programmes' optimum, the one that is answered here.
+
+        OtherOptimum for `"residents"`, and for any other word, with what to do.
+        """
+        if optimal != "programmes":
+            raise OtherOptimum(optimal)
+        return self.match(timeout=timeout)
+
+    def check_validity(self, places: Places, timeout: float = DEFAULT_TIMEOUT) -> bool:
+        """True where each pair is acceptable and no programme is over its places; NotValid with every cause otherwise.
+
+        As in the package `matching`, but that the places are given. Raises as `audit`.
+        """
+        return calls.check_validity(self, places, timeout)
+
+    def check_stability(self, places: Places, timeout: float = DEFAULT_TIMEOUT) -> bool:
+        """Whether no pair blocks: `audit` lists those that do. As in the package `matching`; raises as `audit`."""
+        return not self.audit(places, timeout).blocking
+
     def read_match(self, sheet: bytes, journal: bytes = b"") -> Match:
         """A match of this market from a sheet's bytes, as `Match.sheet` has them.
 
-        DocketFault where they are no sheet of this market; its records are counted from the docket's first.
+        DocketFault where they are no sheet of this market, or have a record of another part; its records are counted from
+        the docket's first.
         """
         return calls.read_match(self, sheet, journal)
 
@@ -190,7 +211,8 @@ class Market:
                timeout: float = DEFAULT_TIMEOUT) -> Replay:
         """Whether a journal is a good exchange that gives its sheet: a match's own journal and sheet, or these.
 
-        DocketFault, `no journal in the docket`, for a match without one. Raises as `match`.
+        The bytes may have the journal's own sheet, where no places are given. DocketFault, `no journal in the docket`, for a
+        match without one, and for a record of another part. Raises as `match`.
         """
         return calls.replay(self, journal, places, timeout)
 
@@ -201,92 +223,3 @@ class Market:
         MarketFault for a name that no member has. Raises as `match`.
         """
         return calls.why(self, places, resident, programme, timeout)
-
-
-class _Faults:
-    """What is wrong with a market's dictionaries, in the caller's names."""
-
-    def __init__(self, quotas: Mapping[str, int], resident_lists: Mapping[str, Sequence[str]]) -> None:
-        self.told: List[str] = []
-        self._known: Dict[str, Mapping[str, object]] = {"programme": quotas, "resident": resident_lists}
-        self._near: Dict[str, NearNames] = {}
-
-    def quotas(self, quotas: Mapping[str, int]) -> Dict[str, int]:
-        for who in ("programme", "resident"):
-            self.told += [f"a {who} is called {_shown(name)}, which is no name" for name in self._known[who]
-                          if not _is_text(name)]
-        read = {name: _number(quota) for name, quota in quotas.items()}
-        self.told += [f"programme {_shown(name)}: {_shown(quotas[name])} is no number of places from 0 to {MOST_PLACES}"
-                      for name, quota in read.items() if not 0 <= quota <= MOST_PLACES]
-        return read
-
-    def unknown(self, who: str, name: object) -> str:
-        """What is wrong with a name that no member of a side has."""
-        if who not in self._near:
-            self._near[who] = NearNames((name for name in self._known[who] if isinstance(name, str)), MOST_NEAR)
-        near = self._near[who].near(name) if isinstance(name, str) else None
-        return f"no {who} is named {_shown(name)}" + (f"; is it {shown(near)}?" if near else "")
-
-    def lists(self, who: str, lists: Mapping[str, Sequence[str]], other: str) -> Dict[str, Tuple[str, ...]]:
-        read = {}
-        for owner, listed in lists.items():
-            if owner not in self._known[who]:
-                self.told.append(f"a list of {_shown(owner)}: {self.unknown(who, owner)}")
-            if isinstance(listed, (str, bytes)) or not isinstance(listed, Iterable):
-                self.told.append(f"{who} {_shown(owner)}: {_shown(listed)} is no list")
-                continue
-            read[owner] = tuple(listed)
-            self._choices(who, owner, read[owner], other)
-        return read
-
-    def _choices(self, who: str, owner: object, listed: Tuple[str, ...], other: str) -> None:
-        seen = set()
-        for place, name in enumerate(listed, 1):
-            if not isinstance(name, str) or name not in self._known[other]:
-                self.told.append(f"{who} {_shown(owner)}, choice {place}: {self.unknown(other, name)}")
-            elif name in seen:
-                self.told.append(f"{who} {_shown(owner)}, choice {place}: {_shown(name)} is listed twice")
-            seen.add(name if isinstance(name, str) else repr(name))
-
-    def withdrawn(self, who: str, names: Iterable[str]) -> Tuple[str, ...]:
-        if isinstance(names, (str, bytes)):
-            self.told.append(f"{_shown(names)} is no list of the withdrawn {who}s")
-            return ()
-        gone = tuple(dict.fromkeys(names))
-        self.told += [f"withdrawn: {self.unknown(who, name)}" for name in gone if name not in self._known[who]]
-        return gone
-
-    def limits(self, market: Market) -> None:
-        if len(market.quotas) > MOST_PROGRAMMES:
-            self.told.append(f"{len(market.quotas)} programmes, of at most {MOST_PROGRAMMES}")
-        if len(market.resident_lists) > MOST_RESIDENTS:
-            self.told.append(f"{len(market.resident_lists)} residents, of at most {MOST_RESIDENTS}")
-        gone, left = set(market.withdrawn_residents), set(market.withdrawn_programmes)
-        ranked = {name: set(listed) for name, listed in market.resident_lists.items() if name not in gone}
-        pairs = sum(programme in ranked.get(name, ()) for programme, listed in market.programme_lists.items()
-                    if programme not in left for name in listed)
-        if pairs > MOST_PAIRS:
-            self.told.append(f"{pairs} acceptable pairs, of at most {MOST_PAIRS}")
-
-
-def _is_text(name: object) -> bool:
-    """Whether a member may be called that: a text that isn't empty and that UTF-8 can write."""
-    if not isinstance(name, str) or not name:
-        return False
-    try:
-        name.encode("utf-8")
-    except UnicodeEncodeError:
-        return False
-    return True
-
-
-def _number(quota: object) -> int:
-    """A whole number, Python's own or that of a data frame; -1 for anything else."""
-    try:
-        return -1 if isinstance(quota, bool) else operator.index(quota)  # type: ignore[arg-type]
-    except TypeError:
-        return -1
-
-
-def _shown(name: object) -> str:
-    return shown(name) if isinstance(name, str) and name else shown(repr(name))

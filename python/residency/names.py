@@ -9,6 +9,7 @@ import unicodedata
 from typing import Dict, Iterable, Iterator, List, NamedTuple, Optional, Sequence, Tuple, Union
 
 from .errors import KeyFault
+from .ordered import as_members
 from .text import shown
 
 PROGRAMME = "P"
@@ -92,13 +93,13 @@ def docket_names(names: Iterable[str], letter: str = "n") -> Dict[str, str]:
     """A docket name for each of these texts, unlike one another: a dictionary from text to docket name, in their order.
 
     Names are in small letters. What has no plain letters (another script) is called by the letter and a number. The time
-    grows with the number of names, whatever they are.
+    grows with the number of names, whatever they are. NotRead, a TypeError, for a text, a set or what is no list.
 
     >>> made = docket_names(["St. Mary's, East", "St Marys East", "Universitätsklinik Köln – Chirurgie", "王芳", "李娜"], "p")
     >>> list(made.values())
     ['st-marys-east', 'st-marys-east-2', 'universitatsklini-koln-chirurgie', 'p', 'p-2']
     """
-    texts = list(dict.fromkeys(names))
+    texts = list(dict.fromkeys(as_members(names)))
     return dict(zip(texts, _made(texts, letter)))
 
 
@@ -138,10 +139,13 @@ class Names:
 
     @classmethod
     def of(cls, programmes: Iterable[Named], residents: Iterable[Named]) -> Names:
-        """Names for these members, each a name or a pair of a name and an ID; docket names are made."""
+        """Names for these members, each a name or a pair of a name and an ID; docket names are made.
+
+        NotRead, a TypeError, for a text, a set or what is no list.
+        """
         members: List[Member] = []
         for side, named in ((PROGRAMME, programmes), (RESIDENT, residents)):
-            pairs = [(one, "") if isinstance(one, str) else (one[0], one[1]) for one in named]
+            pairs = [(one, "") if isinstance(one, str) else (one[0], one[1]) for one in as_members(named)]
             made = _made((name for name, _ in pairs), side.lower())
             members += [Member(side, docket_name, *pair) for docket_name, pair in zip(made, pairs)]
         return cls(members)

@@ -4,9 +4,12 @@ A program is looked for in this order:
 
 1. what the environment's `RESIDENCY_BIN` names, a folder or the file of the program `residency`; where it is set, nothing
    else is looked at;
-2. the clone that this package is part of: `crates/residency_cli/out/residency_cli`, `crates/residency_why/out/residency_why`;
-3. an unpacked release: the one that this package is part of, or the newest beside the clone (`residency-*/bin/residency`);
-4. PATH: `residency`, `residency-why`.
+2. the package itself, where it was installed from a wheel that has the programs;
+3. the clone that this package is part of: `crates/residency_cli/out/residency_cli`, `crates/residency_why/out/residency_why`,
+   `crates/residency_audit/out/residency_audit`;
+4. the clone or the release from which pip installed the package, as the package's file `HOME` tells;
+5. an unpacked release: the one that this package is part of, or the newest beside the clone (`residency-*/bin/residency`);
+6. PATH: `residency`, `residency-why`, `residency-audit`.
 """
 from __future__ import annotations
 
@@ -21,16 +24,21 @@ from .docket import first_fault
 from .errors import DocketFault, ProgramFailed, ProgramMissing, ProgramTimeout, UnknownStatus
 
 DEFAULT_TIMEOUT = 600.0
-# By the name of a program its crate, and the name of its file in a release.
-_PROGRAMS = {"residency": ("residency_cli", "residency"), "why": ("residency_why", "residency-why")}
+# The package's folder of programs, in a wheel.
+WITHIN = "programs"
 _FAULT = re.compile(r"record ([0-9]+): (.*)")
 # Large pages, and memory that is kept once it is had, spare a large match an eighth of its time.
 _TUNABLES = "glibc.malloc.hugetlb=1:glibc.malloc.mmap_threshold=33554432"
 
 
+def _files(name: str) -> Tuple[str, str]:
+    """Of a program, which is called `residency` or by the word after `residency-`, its crate and its file in a release."""
+    return ("residency_cli", "residency") if name == "residency" else (f"residency_{name}", f"residency-{name}")
+
+
 def _in_folder(name: str, folder: Path) -> Iterator[Path]:
     """Where a folder that a person names may have a program: a clone, a release or its `bin`, a crate's `out`."""
-    crate, file = _PROGRAMS[name]
+    crate, file = _files(name)
     yield folder / "crates" / crate / "out" / crate
     if (folder / "crates").is_dir():
         # A clone's own `residency` builds the program first, and is none of those that are built.
@@ -57,34 +65,39 @@ def _version(path: Path) -> Tuple[List[int], str]:
 
 def _places(name: str) -> Iterator[Path]:
     """Where a program may be without `RESIDENCY_BIN`, but for PATH."""
-    crate, file = _PROGRAMS[name]
+    crate, file = _files(name)
     package = Path(__file__).resolve().parent
     clone = package.parent.parent
+    yield package / WITHIN / file
     yield clone / "crates" / crate / "out" / crate
-    for folder in (folder for folder in package.parents[:4] if folder.name):
+    if (package / "HOME").is_file():
+        yield from _in_folder(name, Path(os.fsdecode((package / "HOME").read_bytes())))
+    for folder in (folder for folder in list(package.parents)[:4] if folder.name):
         yield folder / "bin" / file
     yield from sorted(clone.parent.glob(f"residency-*/bin/{file}"), key=_version, reverse=True)
 
 
 def find_program(name: str = "residency") -> Path:
-    """The path of a built program, `residency` or `why`; ProgramMissing says where it was looked for."""
+    """The path of a built program: `residency`, or `why` and `audit` for `residency-why` and `residency-audit`. ProgramMissing says
+    where it was looked for."""
     named = os.environ.get("RESIDENCY_BIN")
     if named:
         places = _named(name, Path(named))
     else:
         places = list(_places(name))
-        on_path = shutil.which(_PROGRAMS[name][1])
+        on_path = shutil.which(_files(name)[1])
         places += [Path(on_path)] if on_path else []
     for place in places:
         if place.is_file() and os.access(place, os.X_OK):
             return place.absolute()
     if named:
         raise ProgramMissing(f"RESIDENCY_BIN names {named}, and there is no program {name}")
-    raise ProgramMissing(f"there is no built program {name}: looked for {', '.join(map(str, places))} and on PATH; "
-                         "RESIDENCY_BIN may name its folder")
+    raise ProgramMissing(f"there is no built program {name}: looked for {', '.join(map(str, places))} and on PATH. "
+                         "A wheel of a release has it; or RESIDENCY_BIN may name its folder")
 
 
-def _environment() -> Dict[str, str]:
+def environment() -> Dict[str, str]:
+    """The environment that a program is run in: this one, with what spares a large match time where nothing is said of it."""
     return {"GLIBC_TUNABLES": _TUNABLES, **os.environ}
 
 
@@ -97,7 +110,7 @@ def run_program(name: str, words: Sequence[str], data: bytes, timeout: float = D
     path = str(find_program(name))
     try:
         done = subprocess.run([path, *words], input=data, stdout=subprocess.PIPE, stderr=subprocess.PIPE, timeout=timeout,
-                              env=_environment(), check=False)
+                              env=environment(), check=False)
     except subprocess.TimeoutExpired as error:
         raise ProgramTimeout(path, timeout) from error
     except OSError as error:

@@ -40,7 +40,7 @@ def workers_of(text: str) -> Optional[int]:
 def _quoted(text: str, at: int) -> Tuple[str, int]:
     """The field whose opening quote stands before `at`, and the place after it: text after its closing quote belongs to
     it, and without a closing quote all that is left does."""
-    parts = []
+    parts: List[str] = []
     while True:
         end = text.find('"', at)
         if end < 0:

@@ -1,15 +1,48 @@
 """What the program answers, in the caller's names: frozen dataclasses for a match, an audit, a replay and a why."""
 from __future__ import annotations
 
-from dataclasses import dataclass
-from typing import Mapping, Optional, Tuple
+from dataclasses import asdict, dataclass
+from html import escape
+from typing import Dict, List, Mapping, Optional, Sequence, Tuple
+
+from .text import shown
+
+# The rows that a notebook shows of an answer.
+_MOST_ROWS = 10
+# A row of a table by its columns: what `pandas.DataFrame` and `csv.DictWriter` take.
+Row = Dict[str, object]
 
 
-@dataclass(frozen=True)
+def _html(said: str, rows: Sequence[Row]) -> str:
+    """What is said of an answer, and a table of its first ten rows with how many more there are; nothing of it is markup."""
+    head = "".join(f"<th>{escape(name.replace('_', ' '))}</th>" for name in (rows[0] if rows else ()))
+    body = "".join("<tr>" + "".join(f"<td>{_cell(one)}</td>" for one in row.values()) + "</tr>" for row in rows[:_MOST_ROWS])
+    more = len(rows) - _MOST_ROWS
+    after = f"<p>and {more:,} more</p>" if more > 0 else ""
+    table = f"<table><thead><tr>{head}</tr></thead><tbody>{body}</tbody></table>" if rows else ""
+    return f"<div><p>{escape(said)}</p>{table}{after}</div>"
+
+
+def _cell(one: object) -> str:
+    return "&ndash;" if one is None else escape(shown(str(one), 200))
+
+
+def _counted(count: int, what: str) -> str:
+    return f"{count:,} {what}" + ("" if count == 1 else "s")
+
+
+@dataclass(frozen=True, repr=False)
 class Match:
     """A match. `places` has the programme of each resident, or None, in the residents' order; `filled` how many places
     each programme has given, in the programmes' order, and `quotas` how many it has. `sheet` and `journal` are the bytes
-    that the program wrote, in the docket's names; the journal is empty where none was asked for."""
+    that the program wrote, in the docket's names; the journal is empty where none was asked for.
+
+    >>> match = Match({"Kim": "North", "Lee": None}, {"North": 1}, {"North": 1}, b"")
+    >>> match
+    <Match of 2 residents: 1 matched, 1 unmatched; 1 of 1 place filled>
+    >>> match.to_rows()
+    [{'resident': 'Kim', 'programme': 'North'}, {'resident': 'Lee', 'programme': None}]
+    """
 
     places: Mapping[str, Optional[str]]
     filled: Mapping[str, int]
@@ -26,12 +59,35 @@ class Match:
         """The residents matched with a programme, in the residents' order."""
         return tuple(r for r, p in self.places.items() if p == programme)
 
+    def _said(self) -> str:
+        left = len(self.unmatched)
+        return (f"Match of {_counted(len(self.places), 'resident')}: {len(self.places) - left:,} matched, {left:,} unmatched; "
+                f"{sum(self.filled.values()):,} of {_counted(sum(self.quotas.values()), 'place')} filled")
 
-@dataclass(frozen=True)
+    def __repr__(self) -> str:
+        return f"<{self._said()}>"
+
+    def _repr_html_(self) -> str:
+        return _html(self._said(), self.to_rows())
+
+    def to_dict(self) -> Dict[str, object]:
+        """All of it as `json.dumps` takes it; the sheet and the journal as text."""
+        return {"places": dict(self.places), "filled": dict(self.filled), "quotas": dict(self.quotas),
+                "unmatched": list(self.unmatched), "sheet": self.sheet.decode("ascii"), "journal": self.journal.decode("ascii")}
+
+    def to_rows(self) -> List[Row]:
+        """A row for each resident, in their order: `resident` and `programme`, which is None for the unmatched."""
+        return [{"resident": resident, "programme": programme} for resident, programme in self.places.items()]
+
+
+@dataclass(frozen=True, repr=False)
 class Audit:
     """What an audit says of a sheet: `stable`, or every cause why not.
 
     `unacceptable` and `blocking` have pairs (resident, programme); `over_quota` has (programme, filled, quota).
+
+    >>> Audit(False, blocking=(("Kim", "North"),))
+    <Audit: unstable; 1 blocking pair, 0 unacceptable pairs, 0 programmes over quota>
     """
 
     stable: bool
@@ -39,13 +95,50 @@ class Audit:
     over_quota: Tuple[Tuple[str, int, int], ...] = ()
     blocking: Tuple[Tuple[str, str], ...] = ()
 
+    def _said(self) -> str:
+        if self.stable:
+            return "Audit: stable"
+        return (f"Audit: unstable; {_counted(len(self.blocking), 'blocking pair')}, "
+                f"{_counted(len(self.unacceptable), 'unacceptable pair')}, "
+                f"{_counted(len(self.over_quota), 'programme')} over quota")
 
-@dataclass(frozen=True)
+    def __repr__(self) -> str:
+        return f"<{self._said()}>"
+
+    def _repr_html_(self) -> str:
+        return _html(self._said(), self.to_rows())
+
+    def to_dict(self) -> Dict[str, object]:
+        """All of it as `json.dumps` takes it: `stable`, and lists of causes, each by its parts' names."""
+        def pairs(found: Tuple[Tuple[str, str], ...]) -> List[Row]:
+            return [{"resident": resident, "programme": programme} for resident, programme in found]
+
+        return {"stable": self.stable, "unacceptable": pairs(self.unacceptable),
+                "over_quota": [{"programme": programme, "filled": filled, "quota": quota}
+                               for programme, filled, quota in self.over_quota],
+                "blocking": pairs(self.blocking)}
+
+    def to_rows(self) -> List[Row]:
+        """A row for each cause, in the program's order; none where it is stable. A column that has no part in it is None."""
+        rows: List[Row] = [_cause("unacceptable", resident, programme) for resident, programme in self.unacceptable]
+        rows += [_cause("over quota", None, programme, filled, quota) for programme, filled, quota in self.over_quota]
+        return rows + [_cause("blocking", resident, programme) for resident, programme in self.blocking]
+
+
+def _cause(cause: str, resident: Optional[str], programme: str, filled: Optional[int] = None,
+           quota: Optional[int] = None) -> Row:
+    return {"cause": cause, "resident": resident, "programme": programme, "filled": filled, "quota": quota}
+
+
+@dataclass(frozen=True, repr=False)
 class Replay:
     """What a replay says of a journal: `good` with the number of its `events` (and those `by_worker`), or why not.
 
     A refused event has its `place` among the events from 1 and the `word` (`not-next`); of a refused close `pending` is
     what was left to do and `at` at whom. `differs` is the first resident at whom the sheet differs from a good journal.
+
+    >>> Replay(True, 9), Replay(False, place=3, word="not-next"), Replay(False, differs="Kim")
+    (<Replay: good; 9 events>, <Replay: event 3 may not follow, not-next>, <Replay: the sheet differs at Kim>)
     """
 
     good: bool
@@ -56,6 +149,31 @@ class Replay:
     pending: Optional[str] = None
     at: Optional[str] = None
     differs: Optional[str] = None
+
+    def _said(self) -> str:
+        if self.good:
+            by = f" by {_counted(len(self.by_worker), 'worker')}" if self.by_worker else ""
+            return f"Replay: good; {_counted(self.events or 0, 'event')}{by}"
+        if self.differs is not None:
+            return f"Replay: the sheet differs at {shown(self.differs)}"
+        pending = f", {self.pending} at {shown(self.at or '')}" if self.pending is not None else ""
+        return f"Replay: event {self.place:,} may not follow, {self.word}{pending}"
+
+    def __repr__(self) -> str:
+        return f"<{self._said()}>"
+
+    def _repr_html_(self) -> str:
+        return _html(self._said(), self.to_rows() if self.by_worker else [])
+
+    def to_dict(self) -> Dict[str, object]:
+        """All of it as `json.dumps` takes it."""
+        return {**asdict(self), "by_worker": list(self.by_worker)}
+
+    def to_rows(self) -> List[Row]:
+        """A row for each worker that the journal names, with its `events`; else one row of all that `to_dict` has."""
+        if self.by_worker:
+            return [{"worker": worker, "events": events} for worker, events in enumerate(self.by_worker)]
+        return [self.to_dict()]
 
 
 @dataclass(frozen=True)

@@ -1,18 +1,20 @@
 """Rows of cells, wide or long, made into dictionaries in the caller's names; what is wrong is told with its row and cell."""
 from __future__ import annotations
 
-import math
-from typing import Dict, Iterable, List, NamedTuple, Optional, Sequence, Set, Tuple, Union
+from typing import Any, Dict, Iterable, Iterator, List, NamedTuple, Optional, Sequence, Set, Tuple, Union
 
 from .errors import MarketFault
 from .names import Member, Named, Names
 from .near import MOST_NEAR, NearNames
+from .ordered import NotRead, as_list, is_nothing
 from .passes import MOST_PLACES
 from .text import shown, tidy
 
 # A cell of a row: text, a whole number, or nothing (None, or the NaN of a data frame).
 Cell = Union[str, int, float, None]
 Lists = Dict[str, Tuple[str, ...]]
+# Up to here each whole number is a float of its own; beyond, a float may stand for another number than was written.
+_EXACT = 2 ** 53
 
 
 class Read(NamedTuple):
@@ -25,19 +27,22 @@ class Read(NamedTuple):
 
 
 def text_of(cell: Cell) -> str:
-    """A cell as text: a whole number as its digits, nothing as an empty text; TypeError for anything else.
+    """A cell as text: a whole number as its digits, nothing as an empty text; TypeError for anything else, a float that
+    isn't whole or that is too large to be exact among it.
 
     >>> text_of("  Zoë  Weiß "), text_of(7), text_of(7.0), text_of(float("nan")), text_of(None)
     ('Zoë Weiß', '7', '7', '', '')
     """
     if isinstance(cell, str):
         return tidy(cell)
-    if cell is None or isinstance(cell, float) and math.isnan(cell) or type(cell).__name__ == "NAType":
+    if is_nothing(cell):
         return ""
     # A data frame's own numbers are Python's by their index or their value.
     number = cell if isinstance(cell, (int, float)) else getattr(cell, "item", lambda: None)()
     if isinstance(number, bool) or not isinstance(number, (int, float)) or number != number // 1:
         raise TypeError(f"{cell!r} is neither text nor a whole number")
+    if isinstance(number, float) and abs(number) > _EXACT:
+        raise TypeError(f"{cell!r} is a float that is too large to be exact; give it as text")
     return str(int(number))
 
 
@@ -109,11 +114,31 @@ class Tables:
 
     def __init__(self) -> None:
         self.faults: List[str] = []
+        # The cells that are told already: of each the first fault is told, and what follows from it isn't.
+        self._told: Set[Tuple[str, int, int]] = set()
         self.sides = {"P": Side("P"), "R": Side("R")}
         self.places: List[int] = []
 
     def tell(self, table: str, row: int, cell: int, what: str) -> None:
-        self.faults.append(f"{table}, row {row}, cell {cell}: {what}")
+        if (table, row, cell) not in self._told:
+            self.faults.append(f"{table}, row {row}, cell {cell}: {what}")
+        self._told.add((table, row, cell))
+
+    def rows(self, table: str, rows: Any) -> Iterator[Tuple[int, List[str]]]:
+        """The rows of a table that have a cell which isn't empty, with their numbers. What is no table, or no row, is told."""
+        for number, cells in enumerate(self.members(table, 0, rows), 1):
+            texts = self.texts(table, number, self.members(table, number, cells))
+            if any(texts):
+                yield number, texts
+
+    def members(self, table: str, row: int, given: Any) -> List[Any]:
+        """What stands in a table (row 0) or in a row of it; what is no list is told, and taken for empty."""
+        try:
+            return as_list(given, 1 if row else 2)
+        except NotRead as why:
+            self.faults.append(f"{table}, row {row}: {why}" if row else
+                               f"{table}: {why} of rows; of a data frame give itertuples(index=False, name=None)")
+            return []
 
     def texts(self, table: str, row: int, cells: Sequence[Cell]) -> List[str]:
         """The cells of a row as text, one that is no cell told and taken for empty."""
@@ -137,7 +162,8 @@ class Tables:
     def add_programme(self, table: str, row: int, name: str, id: str, places: str, cell: int) -> Optional[int]:
         quota = number_in(places, MOST_PLACES)
         if quota is None:
-            self.tell(table, row, cell, f"{shown(places) or 'an empty cell'} is no number of places from 0 to {MOST_PLACES}")
+            self.tell(table, row, cell, f"{shown(places)} is no number of places from 0 to {MOST_PLACES}" if places else
+                      f"programme {shown(name) or 'without a name'} has no places")
         owner = self.add("P", table, row, name, id)
         if owner is not None:
             self.places.append(quota or 0)
@@ -175,10 +201,7 @@ def read_wide(programmes: Iterable[Sequence[Cell]], residents: Iterable[Sequence
     tables = Tables()
     wide: List[Tuple[str, int, int, List[str], int]] = []
     for side, table, rows, ids in (("P", "programmes", programmes, programme_ids), ("R", "residents", residents, resident_ids)):
-        for number, cells in enumerate(rows, 1):
-            row = tables.texts(table, number, cells)
-            if not any(row):
-                continue
+        for number, row in tables.rows(table, rows):
             row += [""] * (2 + ids - len(row))
             id = row[1] if ids else ""
             if side == "P":
@@ -197,35 +220,39 @@ def read_long(places: Iterable[Sequence[Cell]], programme_ranks: Iterable[Sequen
               resident_ranks: Iterable[Sequence[Cell]], residents: Iterable[Union[Cell, Sequence[Cell]]]) -> Read:
     """What three long tables say; see `Market.from_ranks`."""
     tables = Tables()
-    for number, cells in enumerate(places, 1):
-        row = tables.texts("places", number, cells) + ["", ""]
+    for number, row in tables.rows("places", places):
+        row += [""]
         tables.add_programme("places", number, row[0], "", row[1], 2)
-    for number, who in enumerate(residents, 1):
-        row = tables.texts("residents", number, who if isinstance(who, (tuple, list)) else (who,)) + [""]  # type: ignore
-        tables.add("R", "residents", number, row[0], row[1])
-    choices = [tables.texts("resident ranks", number, cells) + [""] * 3 for number, cells in enumerate(resident_ranks, 1)]
+    whole = (who if isinstance(who, Iterable) and not isinstance(who, str) else (who,)
+             for who in tables.members("residents", 0, residents))
+    for number, row in tables.rows("residents", whole):
+        tables.add("R", "residents", number, row[0], (row + [""])[1])
+    choices = list(tables.rows("resident ranks", resident_ranks))
     if not tables.sides["R"].members:
-        # Without a table of residents they are those who rank somebody.
-        for name in dict.fromkeys(row[0] for row in choices if row[0]):
+        # Without a table of residents they are those who have a row.
+        for name in dict.fromkeys(row[0] for _, row in choices if row[0]):
             tables.sides["R"].add(name)
-    ranks = [tables.texts("programme ranks", number, cells) + [""] * 3 for number, cells in enumerate(programme_ranks, 1)]
+    ranks = list(tables.rows("programme ranks", programme_ranks))
     return tables.read(_by_rank(tables, "programme ranks", "P", "R", ranks),
                        _by_rank(tables, "resident ranks", "R", "P", choices))
 
 
-def _by_rank(tables: Tables, table: str, side: str, other: str, rows: Sequence[Sequence[str]]) -> Dict[int, List[int]]:
-    """The lists that rows (owner, rank, member) say."""
+def _by_rank(tables: Tables, table: str, side: str, other: str, rows: Iterable[Tuple[int, List[str]]]) -> Dict[int, List[int]]:
+    """The lists that rows (owner, rank, member) say; one that has an owner alone says that it ranks nobody."""
     ranked: Dict[int, Dict[int, int]] = {}
     listed: Set[Tuple[int, int]] = set()
-    for number, row in enumerate(rows, 1):
-        owner, member = tables.sides[side].find(row[0]), tables.sides[other].find(row[2])
+    for number, cells in rows:
+        row = cells + [""] * 3
+        owner = _found(tables, table, number, side, row, 0)
+        if not row[1] and not row[2]:
+            if owner is not None:
+                ranked.setdefault(owner, {})
+            continue
+        member = _found(tables, table, number, other, row, 2)
         rank = number_in(row[1], 10 ** 9)
-        for cell, wrong in ((1, owner), (3, member)):
-            if isinstance(wrong, str):
-                tables.tell(table, number, cell, wrong if row[cell - 1] else "an empty cell")
         if rank is None:
-            tables.tell(table, number, 2, f"{shown(row[1]) or 'an empty cell'} is no rank")
-        if isinstance(owner, str) or isinstance(member, str) or rank is None:
+            tables.tell(table, number, 2, f"{shown(row[1])} is no rank" if row[1] else f"{shown(row[2])} has no rank")
+        if owner is None or member is None or rank is None:
             continue
         if rank in ranked.setdefault(owner, {}):
             tables.tell(table, number, 2, f"{shown(row[0])} has two of rank {rank}")
@@ -234,3 +261,15 @@ def _by_rank(tables: Tables, table: str, side: str, other: str, rows: Sequence[S
         ranked[owner].setdefault(rank, member)
         listed.add((owner, member))
     return {owner: [member for _, member in sorted(by_rank.items())] for owner, by_rank in ranked.items()}
+
+
+def _found(tables: Tables, table: str, number: int, side: str, row: List[str], cell: int) -> Optional[int]:
+    """The member that a cell of a row names; what is wrong with it is told."""
+    if not row[cell]:
+        tables.tell(table, number, cell + 1, f"nobody stands at rank {shown(row[1])} of {shown(row[0])}" if cell else "no name")
+        return None
+    found = tables.sides[side].find(row[cell])
+    if isinstance(found, str):
+        tables.tell(table, number, cell + 1, found)
+        return None
+    return found

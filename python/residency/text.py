@@ -107,7 +107,8 @@ def rows(text: str, delimiter: str = ",") -> Iterator[Tuple[int, List[str]]]:
     plain = re.compile("[^\\r\\n" + re.escape(delimiter) + "]*")
     at, number = 0, 0
     while at < len(text):
-        start, cells = at, []
+        start = at
+        cells: List[str] = []
         number += 1
         while not cells or text.startswith(delimiter, at):
             at += len(delimiter) if cells else 0

@@ -2,7 +2,7 @@
 import re
 import unicodedata
 from dataclasses import dataclass
-from typing import Callable, Dict, Iterable, List, Optional, Tuple
+from typing import Callable, Dict, Iterable, Iterator, List, Optional, Tuple
 
 from ..text import BadQuotes, rows, tidy
 from .faults import Faults, OfficeError, shown
@@ -22,13 +22,16 @@ IsHeading = Callable[[List[str]], bool]
 @dataclass
 class Rows:
     """Rows that aren't blank, of tidy cells, each with its number in a spreadsheet, which counts from 1 and leaves out a
-    line `sep=`; `declared` where there is such a line."""
+    line `sep=`; `declared` where there is such a line, and `sheet` the name of a workbook's sheet."""
 
-    rows: List[Tuple[int, List[str]]]
+    rows: Iterator[Tuple[int, List[str]]]
     delimiter: str
     declared: bool
+    sheet: Optional[str] = None
 
     def title(self) -> str:
+        if self.sheet is not None:
+            return f"sheet {shown(self.sheet, 40)}"
         title = DELIMITERS.get(self.delimiter, f"parted by {shown(self.delimiter)}")
         return title + (" by its line sep=" if self.declared else "")
 
@@ -55,38 +58,57 @@ def sep_line(text: str) -> Tuple[Optional[str], str]:
 def found_delimiter(text: str, is_heading: IsHeading) -> str:
     """What parts the cells: that by which the first row is a heading, or else that which most lines have."""
     bare = QUOTED.sub("x", text)
-    lines = [line for line in LINE_END.split(bare) if line.strip()]
-    first = next((line for line in LINE_END.split(text) if line.strip()), "")
-    counts = {mark: sum(mark in line for line in lines) for mark in DELIMITERS}
+    counts = {mark: sum(1 for _ in re.finditer(f"{re.escape(mark)}[^\\r\\n]*", bare)) for mark in DELIMITERS}
     often = sorted(DELIMITERS, key=lambda mark: (-counts[mark], -bare.count(mark)))
+    first = next((line for _, line in lines_of(text) if line.strip()), "")
     heading = (mark for mark in often if mark in first and is_heading([name_of(cell.strip('"')) for cell in first.split(mark)]))
     return next(heading, often[0])
+
+
+def lines_of(text: str) -> Iterator[Tuple[int, str]]:
+    """The lines of a text with their numbers, one at a time."""
+    at, number = 0, 1
+    for end in LINE_END.finditer(text):
+        yield number, text[at:end.start()]
+        at, number = end.end(), number + 1
+    yield number, text[at:]
 
 
 def numbered(text: str, delimiter: str) -> Iterable[Tuple[int, List[str]]]:
     """The rows that aren't blank with their numbers; without a quote in the whole text they are its lines."""
     if '"' in text:
-        return rows(text, delimiter)
-    return ((number, line.split(delimiter)) for number, line in enumerate(LINE_END.split(text), 1) if line)
+        # All of them before the first is read, since an open quote leaves none of them sound.
+        return list(rows(text, delimiter))
+    return ((number, line.split(delimiter)) for number, line in lines_of(text) if line)
 
 
 def rows_of(text: str, table: str, delimiter: Optional[str], is_heading: IsHeading, faults: Faults) -> Rows:
     """The rows of this text. Quotes that aren't closed, lines within names, and cells that are no names are faults."""
     declared, rest = sep_line(text)
     chosen = delimiter or declared or found_delimiter(rest, is_heading)
-    cells = Cells(table, chosen, faults)
     try:
-        kept = [(number, [cells.name(number, cell, text) for cell, text in enumerate(row, 1)])
-                for number, row in numbered(rest, chosen)]
+        found = numbered(rest, chosen)
     except BadQuotes as fault:
         faults.tell("file", table, fault.row, fault.cell, f"{fault.text}: it may swallow the rows below")
-        kept = []
-    return Rows([one for one in kept if any(one[1])], chosen, declared is not None)
+        found = ()
+    return Rows(tidied(found, Cells(table, chosen, faults)), chosen, declared is not None)
+
+
+def tidied(found: Iterable[Tuple[int, List[str]]], cells: "Cells") -> Iterator[Tuple[int, List[str]]]:
+    """Rows of tidy cells, without the blank ones."""
+    known = cells.good
+    for number, row in found:
+        try:
+            tidy_row = [known[text] for text in row]
+        except KeyError:
+            tidy_row = [cells.name(number, cell, text) for cell, text in enumerate(row, 1)]
+        if any(tidy_row):
+            yield number, tidy_row
 
 
 def other_mark(row: List[str], delimiter: str) -> Optional[str]:
     """What a row of one cell is parted by, where that is another sign than the table's; one comma may stand in a name."""
-    if len(row) != 1:
+    if len(row) != 1 or len(row[0]) < 2:
         return None
     marks = [mark for mark in DELIMITERS if mark != delimiter and row[0].count(mark) > (mark == ",")]
     return DELIMITERS[max(marks, key=row[0].count)] if marks else None
@@ -116,10 +138,11 @@ class Cells:
         """Why a text is no name, or none. A heading may have line ends, as `Rank` over `1`."""
         inside = text.strip()
         begin = shown(LINE_END.split(inside)[0], 40)
+        quote = "; is a quote left open?" if self.delimiter else ""
         if len(text) > MOST_LETTERS_OF_A_CELL and not inside.isdecimal():
-            return f"{begin} is too long for a name; is a quote left open?"
-        if LINE_END.search(inside) and (number > 1 or self.delimiter in inside):
-            return f"the cell goes on over a line's end after {begin}; is a quote left open?"
+            return f"{begin} is too long for a name{quote}"
+        if LINE_END.search(inside) and (number > 1 or (self.delimiter or "\0") in inside):
+            return f"the cell goes on over a line's end after {begin}{quote}"
         if "\t" in inside:
             return f"{shown(text)} has a tab in it"
         if "\ufffd" in text:

@@ -6,21 +6,28 @@ from datetime import date
 from typing import Callable, Dict, List, Optional, Sequence, Tuple
 
 from ..errors import DocketFault, MarketFault, ResidencyError
-from ..lint import lint
 from ..market import Market
-from . import compare, folder, running
-from .cells import known_delimiter
-from .faults import MOST_LINES, Faults, OfficeError, TablesError, counted, shown
+from ..passes import Passes
+from ..records import records
+from ..text import decode
+from . import compare, folder, running, sealing, seal, sheets, stopping, writing
+from .cells import DELIMITERS, known_delimiter
+from .faults import MOST_SHOWN, Faults, OfficeError, TablesError, counted, shown
 from .headings import Words
 from .letters import Letters, checked_template
 from .line import parser
 from .lists import market_of
-from .outcome import UNMATCHED, Standing
+from .outcome import UNMATCHED, Details, Standing
 from .page import About
 from .running import Run, Wishes
 from .tables import Options, Table, read_table
 from .telling import complain, failed, say, silence
 from .text import bytes_of, decoded, known_encoding
+from .verify import verify
+
+
+# So many bytes of a file are looked at for a heading.
+MOST_HEADING = 1 << 16
 
 
 def main(words: Optional[Sequence[str]] = None) -> int:
@@ -28,6 +35,12 @@ def main(words: Optional[Sequence[str]] = None) -> int:
     for stream in (sys.stdout, sys.stderr):
         if stream is not None and hasattr(stream, "reconfigure"):
             stream.reconfigure(errors="backslashreplace")
+    with stopping.stoppable():
+        return ended(words)
+
+
+def ended(words: Optional[Sequence[str]]) -> int:
+    """The exit status of what the words say, and a line for each way in which it may end amiss."""
     try:
         status = dispatch(words)
         if sys.stdout is not None:
@@ -48,7 +61,8 @@ def main(words: Optional[Sequence[str]] = None) -> int:
         return failed(f"the output could not be written: {(error.strerror or str(error)).lower()}", 1)
     except MemoryError:
         return failed("out of memory", 1)
-    except (KeyboardInterrupt, folder.Stopped):
+    except (KeyboardInterrupt, stopping.Stopped):
+        stopping.clean()
         return failed("interrupted", 1)
 
 
@@ -69,8 +83,11 @@ def as_text(word: str) -> str:
 
 
 def options_of(given: argparse.Namespace) -> Options:
-    words = Words([as_text(one) for one in given.heading], [as_text(one) for one in given.ignore])
-    return Options(words, by_table(given.encoding, known_encoding), by_table(given.delimiter, known_delimiter), given.allow_gaps)
+    words = Words(*([as_text(one) for one in said] for said in (given.heading, given.ignore, given.keep)))
+    expected = {"programmes": given.expect_programmes, "residents": given.expect_residents}
+    return Options(words, by_table(given.encoding, known_encoding), by_table(given.delimiter, known_delimiter), given.allow_gaps,
+                   by_table(given.sheet, as_text), given.allow_short, given.allow_alone,
+                   {table: count for table, count in expected.items() if count is not None})
 
 
 def by_table(given: Sequence[str], known: Callable[[str], str]) -> Dict[str, str]:
@@ -87,9 +104,12 @@ def by_table(given: Sequence[str], known: Callable[[str], str]) -> Dict[str, str
 def read_tables(programmes: str, residents: str, options: Options) -> Tuple[Tuple[Table, Table], Market]:
     """Both tables and their market; TablesError with all faults."""
     faults = Faults()
+    if programmes == residents and not options.sheets or os.path.exists(programmes) and os.path.exists(residents) \
+            and not options.sheets and os.path.samefile(programmes, residents):
+        raise OfficeError(f"only one table was given, {shown(programmes)}, twice: PROGRAMMES and RESIDENTS are two", 2)
     tables = (read_table(programmes, "programmes", "programme", options, faults),
               read_table(residents, "residents", "resident", options, faults))
-    market = market_of(tables[0], tables[1], faults)
+    market = market_of(tables[0], tables[1], faults, options)
     if market is None:
         raise TablesError(faults, [table.how() for table in tables])
     return tables, market
@@ -97,7 +117,7 @@ def read_tables(programmes: str, residents: str, options: Options) -> Tuple[Tupl
 
 def tables_at_fault(error: TablesError, all_of_them: bool, tell: Callable[[str], None]) -> int:
     """Tells the faults of tables, and answers the status."""
-    for line in error.how + error.faults.report(all_of_them, MOST_LINES - len(error.how)):
+    for line in error.how + error.faults.report(all_of_them):
         tell(line)
     count = len(error.faults)
     tell(f"{counted(count, 'fault')} in the tables")
@@ -106,14 +126,16 @@ def tables_at_fault(error: TablesError, all_of_them: bool, tell: Callable[[str],
 
 def describe(tables: Sequence[Table], market: Market) -> List[str]:
     programmes, residents = tables
-    lines = [f"{programmes.how()}; {len(market.quotas):,} programmes, {sum(market.quotas.values()):,} places",
-             f"{residents.how()}; {len(market.resident_lists):,} residents"]
+    lines = [f"{programmes.how()}; {counted(len(market.quotas), 'programme')}, {counted(sum(market.quotas.values()), 'place')}",
+             f"{residents.how()}; {counted(len(market.resident_lists), 'resident')}"]
     return lines + [f"note: {note}" for table in tables for note in table.notes]
 
 
 def check(given: argparse.Namespace) -> int:
     if len(given.files) == 1:
-        return tell_docket(bytes_of(given.files[0]), shown(given.files[0]), given.all)
+        data = bytes_of(given.files[0])
+        refuse_one_table(given.files[0], data)
+        return tell_docket(data, shown(given.files[0]), given.all)
     if len(given.files) != 2:
         raise OfficeError("check takes two tables, PROGRAMMES and RESIDENTS, or one docket", 2)
     try:
@@ -134,55 +156,139 @@ def lint_command(given: argparse.Namespace) -> int:
 
 
 def tell_docket(data: bytes, label: str, all_of_them: bool) -> int:
-    """Tells a docket's faults. One without a member has none for the program, and is told here, since it is a file that a
-    failed command left empty."""
-    faults = lint(data)
-    if not faults and not any(line[:1] in (b"Q", b"R", b'"') for line in data.removeprefix(b"\xef\xbb\xbf").splitlines()):
+    """Tells a docket's faults, one at a time as they are found. A docket without a member has none for the program, and is
+    told here, since it is a file that a failed command left empty."""
+    more: Dict[str, int] = {}
+    count = 0
+    for fault in Passes().faults(records(data)):
+        count += 1
+        if all_of_them or count <= MOST_SHOWN:
+            say(str(fault))
+        else:
+            more[fault.text] = more.get(fault.text, 0) + 1
+    if more:
+        kinds = ", ".join(f"{number:,} {text}" for text, number in sorted(more.items(), key=lambda one: -one[1]))
+        say(f"and {sum(more.values()):,} more faults: {kinds} (--all tells each)")
+    if not count and not any(line[:1] in (b"Q", b"R", b'"') for line in data.removeprefix(b"\xef\xbb\xbf").splitlines()):
         say(f"{label} has no programme and no resident: it is empty, or no docket")
         return 3
-    shown_faults = faults if all_of_them else faults[:MOST_LINES]
-    for fault in shown_faults:
-        say(str(fault))
-    if len(faults) > len(shown_faults):
-        say(f"and {len(faults) - len(shown_faults):,} more faults (--all tells each)")
-    if not faults:
+    if not count:
         say("no fault")
-    return 3 if faults else 0
+    return 3 if count else 0
 
 
-def wishes_of(given: argparse.Namespace, title: str) -> Wishes:
-    return Wishes(title, given.date or date.today(), given.order, template_of(given.template), given.timeout)
+def refuse_one_table(path: str, data: bytes) -> None:
+    """OfficeError where what is given as a docket is one table of the two."""
+    words = Words()
+    try:
+        is_table = sheets.is_book(data)
+        if not is_table:
+            begin = decode(data[:MOST_HEADING], "latin-1" if data[:3] == b"\xef\xbb\xbf" else None)[0].lstrip("\xef\xbb\xbf")
+            first = next((line for line in begin.splitlines() if line.strip(",;\t |")), "")
+            is_table = any(words.is_heading([cell.strip('" ') for cell in first.split(mark)]) for mark in DELIMITERS)
+    except (sheets.BadBook, UnicodeError):
+        is_table = False
+    if is_table:
+        raise OfficeError(f"only one table was given, {shown(path)}: check takes two, PROGRAMMES and RESIDENTS, or one docket", 2)
 
 
-def template_of(path: Optional[str]) -> Optional[str]:
-    """The text of a template's file, tried before anything else is done."""
+def details_of(residents: Table, market: Market) -> Details:
+    """What the table of residents has besides, in the market's names, which are in its order."""
+    named = list(zip(market.resident_lists, residents.entries))
+    return Details({name: entry.family for name, entry in named if entry.family}, tuple(residents.kept),
+                   {name: tuple(entry.kept) for name, entry in named if entry.kept})
+
+
+def wishes_of(given: argparse.Namespace, title: str, columns: Sequence[str]) -> Wishes:
+    return Wishes(title, given.date or date.today(), given.order, template_of(given.template, columns), given.timeout, given.cut_offs)
+
+
+def title_of(given: argparse.Namespace, otherwise: str = running.TITLE) -> str:
+    """The title that is given, else another one. OfficeError for one that can't be shown."""
+    title = " ".join(as_text(given.title or "").split()) or otherwise
+    if not title.isprintable():
+        raise OfficeError(f"the title {shown(title)} has a character that is no letter", 2)
+    return title
+
+
+def template_of(path: Optional[str], columns: Sequence[str]) -> Optional[str]:
+    """The text of a template's file, tried before anything else is done; `columns` are those that are kept."""
     if path is None:
         return None
     faults = Faults()
     text = decoded(bytes_of(path), shown(path), None, faults).text
     if len(faults):
         raise OfficeError(faults.report()[0], 3)
-    checked_template(text)
+    checked_template(text, columns)
     return text
 
 
-def run(given: argparse.Namespace) -> int:
-    title = " ".join(as_text(given.title).split()) or running.TITLE
-    if not title.isprintable():
-        raise OfficeError(f"the title {shown(title)} has a character that is no letter", 2)
-    wishes = wishes_of(given, title)
-    folder.refuse(given.out)
+def tables_of(given: argparse.Namespace) -> Optional[Tuple[Tuple[Table, Table], Market]]:
+    """Both tables and their market; none where they are at fault, which is told."""
     try:
-        tables, market = read_tables(given.programmes, given.residents, options_of(given))
+        return read_tables(given.programmes, given.residents, options_of(given))
     except TablesError as error:
         tables_at_fault(error, given.all, complain)
         complain("nothing was written")
+        return None
+
+
+def how_read(tables: Sequence[Table]) -> Dict[str, object]:
+    """What a manifest says of the tables."""
+    return {"tables": [{"file": shown(os.path.basename(table.path)), "sha256": table.sha256, "read": table.how()} for table in tables]}
+
+
+def seal_command(given: argparse.Namespace) -> int:
+    wishes = Wishes(title_of(given), given.date or date.today(), timeout=given.timeout)
+    writing.refuse(given.out)
+    found = tables_of(given)
+    if found is None:
         return 3
-    result = running.matched(market, wishes.timeout)
-    read = [{"file": shown(os.path.basename(table.path)), "sha256": table.sha256, "read": table.how()} for table in tables]
+    tables, market = found
+    roots = sealing.seal(given.out, market, details_of(tables[1], market), wishes, how_read(tables))
+    for line in [*describe(tables, market), sealing.written(given.out, roots), *sealing.told(roots)]:
+        say(line)
+    return 0
+
+
+def run(given: argparse.Namespace) -> int:
+    if given.residents is None and not os.path.isdir(given.programmes):
+        raise OfficeError("only one table was given: PROGRAMMES and RESIDENTS are two, and one word alone is a folder that seal made", 2)
+    if given.residents is None and given.seal is not None:
+        raise OfficeError("FOLDER and --seal are the same: give one of them", 2)
+    path = given.seal if given.residents is not None else given.programmes
+    writing.refuse(given.out)
+    if path is not None:
+        return run_sealed(given, sealing.sealed_folder(path))
+    wishes = wishes_of(given, title_of(given), [as_text(one) for one in given.keep])
+    found = tables_of(given)
+    if found is None:
+        return 3
+    tables, market = found
+    result = running.matched(market, wishes.timeout, details_of(tables[1], market))
     with folder.new_folder(given.out) as draft:
-        running.fill(draft, result, wishes, {"tables": read})
+        running.fill(draft, result, wishes, how_read(tables))
     for line in describe(tables, market) + told(given.out, result):
+        say(line)
+    return 0
+
+
+def run_sealed(given: argparse.Namespace, sealed: running.Kept) -> int:
+    """Matches the very docket that was sealed; tables, where they are given, have to say the same."""
+    lines: List[str] = []
+    details, manifest = sealed.details, {"from": sealed.digests()}
+    if given.residents is not None:
+        found = tables_of(given)
+        if found is None:
+            return 3
+        tables, market = found
+        sealing.refuse_others(sealed, market, given.all)
+        lines, details = describe(tables, market), details_of(tables[1], market)
+    wishes = wishes_of(given, title_of(given, sealed.title()), details.columns)
+    result = running.matched(sealed.market, wishes.timeout, details)
+    with folder.new_folder(given.out, private=True) as draft:
+        roots = sealing.same_lists(sealed, running.fill(draft, result, wishes, manifest, sealed.secret()))
+    for line in lines + told(given.out, result) + sealing.told(roots):
         say(line)
     return 0
 
@@ -201,43 +307,64 @@ def told(out: str, result: running.Matched) -> List[str]:
 def withdraw(given: argparse.Namespace) -> int:
     if not given.names and not given.programme and not given.resident:
         raise OfficeError("who withdraws? give a name", 2)
-    before = Run(given.folder)
-    out = given.out or folder.free_name(given.folder)
-    folder.refuse(out)
-    named = ([as_text(name) for name in names] for names in (given.programme, given.resident, given.names))
-    market = running.withdrawn(before, *named)
-    result = running.matched(market, given.timeout)
+    before = running.opened(given.folder)
+    out = folder.free_name(given.folder) if given.out is None else given.out
+    writing.refuse(out)
+    market = running.withdrawn(before, *([as_text(name) for name in names] for names in (given.programme, given.resident, given.names)))
+    if not isinstance(before, Run):
+        return withdraw_sealed(given, before, market, out)
+    result = running.matched(market, given.timeout, before.details)
     found = compare.changes(before.outcome, result.outcome)
-    with folder.new_folder(out) as draft:
+    with folder.new_folder(out, private=before.is_sealed()) as draft:
         draft.write(folder.CHANGES, compare.changes_table(found))
-        running.fill(draft, result, wishes_of(given, before.title()), {"from": before.digests()})
-    for line in [one.line() for one in found] + told(out, result):
+        wishes = wishes_of(given, before.title(), before.details.columns)
+        roots = running.fill(draft, result, wishes, {"from": before.digests()}, seal.new_secret() if before.is_sealed() else b"")
+    for line in [one.line() for one in found] + told(out, result) + ([] if roots is None else sealing.told_anew(roots)):
+        say(line)
+    return 0
+
+
+def withdraw_sealed(given: argparse.Namespace, kept: running.Kept, market: Market, out: str) -> int:
+    """Seals a folder's market anew, with members withdrawn before the match."""
+    wishes = Wishes(kept.title(), given.date or date.today(), timeout=given.timeout)
+    roots = sealing.seal(out, market, kept.details, wishes, {"from": kept.digests()})
+    lines = [sealing.written(out, roots), *sealing.told_anew(roots)]
+    gone = [name for name in (*market.withdrawn_programmes, *market.withdrawn_residents)
+            if name not in (*kept.market.withdrawn_programmes, *kept.market.withdrawn_residents)]
+    for line in [f"{shown(name)}: withdrawn" for name in gone] + lines:
         say(line)
     return 0
 
 
 def compare_command(given: argparse.Namespace) -> int:
-    if given.out:
-        folder.refuse(given.out)
+    if given.out is not None:
+        writing.refuse(given.out)
     before, now = Run(given.before), Run(given.now)
     found = compare.changes(before.outcome, now.outcome)
-    if given.out:
-        folder.new_file(given.out, compare.changes_table(found))
-    for line in [compare.summary(before.outcome, now.outcome, found)] + [one.line() for one in found]:
+    if given.out is not None:
+        writing.new_file(given.out, compare.changes_table(found))
+    lines = [*compare.figures(before.outcome, now.outcome), compare.summary(before.outcome, now.outcome, found, given.names)]
+    for line in lines + [one.line() for one in found if given.names]:
         say(line)
     return 0
 
 
 def letters(given: argparse.Namespace) -> int:
-    template = template_of(given.template)
+    writing.refuse(given.out)
     run_before = Run(given.folder)
-    about = About(run_before.title(), given.date or run_before.day(), run_before.digests())
-    with folder.new_folder(given.out) as draft:
+    template = template_of(given.template, run_before.details.columns)
+    about = About(run_before.title(), given.date or run_before.day(), run_before.digests(), run_before.roots())
+    with folder.new_folder(given.out, private=True) as draft:
         count = running.write_letters(draft, Letters(run_before.market, run_before.outcome, about, template), "")
     say(f"{counted(count, 'letter')} written to {shown(given.out)}")
     return 0
 
 
+def verify_command(given: argparse.Namespace) -> int:
+    return verify(given.folder, given.timeout, given.lists or "", given.result or "")
+
+
 DOES: Dict[str, Callable[[argparse.Namespace], int]] = {
-    "check": check, "lint": lint_command, "run": run, "withdraw": withdraw, "compare": compare_command, "letters": letters,
+    "check": check, "lint": lint_command, "seal": seal_command, "run": run, "withdraw": withdraw, "compare": compare_command, "letters": letters,
+    "verify": verify_command,
 }

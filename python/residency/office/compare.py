@@ -1,6 +1,8 @@
-"""What changed between two matches, by name: who moved, who came and went, and which programmes filled otherwise."""
+"""What changed between two matches: ten lines of figures, and by name who moved, who came and went, and which programmes
+filled otherwise."""
+from collections import Counter
 from dataclasses import dataclass
-from typing import Dict, List, Mapping, Optional, Sequence, Tuple, TypeVar
+from typing import Dict, Iterable, List, Mapping, Optional, Sequence, Tuple, TypeVar
 
 from .faults import shown
 from .outcome import Outcome, Programme, Resident, Standing, alphabetical, ordinal
@@ -22,7 +24,36 @@ class Change:
     now: str
 
     def line(self) -> str:
-        return f"{shown(self.name, 200)}: {self.what}; {shown(self.before, 300)} -> {shown(self.now, 300)}"
+        named = not self.id or self.name.endswith(f"({self.id})")
+        name = self.name if named else f"{self.name} ({self.id})"
+        return f"{shown(name, 200)}: {self.what}; {shown(self.before, 300)} -> {shown(self.now, 300)}"
+
+
+def share(count: int, whole: int) -> str:
+    """A count with its part of the whole: `28 (72%)`."""
+    return f"{count:,} ({100 * count / whole:.0f}%)" if whole else f"{count:,}"
+
+
+def figures_of(one: Outcome) -> List[Tuple[str, str]]:
+    """The ten figures of a match; parts are parts of the residents who take part."""
+    there = one.taking_part()
+    choices = one.choices()
+    kinds = {standing: len(one.standing(standing)) for standing in Standing}
+    of_all = [("matched", kinds[Standing.MATCHED]), ("with their first choice", sum(choices[:1])),
+              ("with their second choice", sum(choices[1:2])), ("with their third choice", sum(choices[2:3])),
+              ("with a later choice", sum(choices[3:])), ("unmatched, though ranked back", kinds[Standing.LOST_OUT]),
+              ("unmatched, ranked back by nobody or with an empty list",
+               kinds[Standing.NOT_RANKED_BACK] + kinds[Standing.RANKED_NOBODY])]
+    programmes = sum(not programme.withdrawn for programme in one.programmes.values())
+    left = sum(programme.unfilled for programme in one.programmes.values())
+    return [("residents who take part", f"{there:,}"), *((what, share(count, there)) for what, count in of_all),
+            ("programmes that take part", f"{programmes:,}"), ("places unfilled", f"{left:,} of {one.places():,}")]
+
+
+def figures(before: Outcome, now: Outcome) -> List[str]:
+    """Ten lines of figures, each of both matches."""
+    return [f"{what}: {was} before, {is_now} now"
+            for (what, was), (_, is_now) in zip(figures_of(before), figures_of(now))]
 
 
 def keyed(members: Mapping[str, One], others: Mapping[str, One]) -> Dict[str, One]:
@@ -36,7 +67,8 @@ def stood(one: Optional[Resident]) -> str:
         return "not there"
     if one.standing is Standing.MATCHED:
         return f"{one.programme} ({ordinal(one.choice or 0)} of {one.ranked:,})"
-    return one.standing.value if one.standing is Standing.WITHDRAWN else f"unmatched ({one.standing.value})"
+    standing = str(one.standing.value)
+    return standing if one.standing is Standing.WITHDRAWN else f"unmatched ({standing})"
 
 
 def filled(one: Optional[Programme]) -> str:
@@ -90,14 +122,17 @@ def changes(before: Outcome, now: Outcome) -> List[Change]:
     return sorted(found, key=lambda one: (one.side == "programme", order.get(one.what, 0), alphabetical(one.name), one.id))
 
 
-def summary(before: Outcome, now: Outcome, found: Sequence[Change]) -> str:
-    """One line of counts."""
-    counts: Dict[str, int] = {}
-    for one in found:
-        if one.side == "resident":
-            counts[one.what] = counts.get(one.what, 0) + 1
+def has_ids(outcomes: Iterable[Outcome]) -> bool:
+    """Whether every resident of these matches has an ID."""
+    return all(one.id for outcome in outcomes for one in outcome.residents.values())
+
+
+def summary(before: Outcome, now: Outcome, found: Sequence[Change], are_listed: bool) -> str:
+    """One line on who stands otherwise, and how they are known."""
+    counts = Counter(one.what for one in found if one.side == "resident")
     told = ", ".join(f"{counts[what]:,} {what}" for what in ORDER if what in counts) or "nobody stands otherwise"
-    return f"residents: {len(before.residents):,} before, {len(now.residents):,} now; {told}"
+    known = "by their IDs" if has_ids((before, now)) else "by their names, since not all have an ID"
+    return f"residents {known}: {told}" + ("" if are_listed or not found else "; --names lists them")
 
 
 def changes_table(found: Sequence[Change]) -> bytes:

@@ -2,19 +2,21 @@
 import hashlib
 import json
 import os
-import secrets
-import shutil
-import signal
-import threading
 from contextlib import contextmanager
 from pathlib import Path
 from typing import Any, Dict, Iterable, Iterator, List, Set
 
+from . import stopping
 from .faults import OfficeError, shown
+from .writing import PRIVATE, SHARED, cause_of, draft_of, refuse, umask, write_new
 
 DOCKET, KEY, SHEET, JOURNAL, PAGE = "docket.csv", "key.csv", "sheet.csv", "journal.csv", "page.html"
 AUDIT, REPLAY, MATCHES, UNFILLED, CHANGES = "audit.csv", "replay.csv", "matches.csv", "unfilled.csv", "changes.csv"
 MANIFEST, SUMS, LETTERS, ROSTERS = "manifest.json", "SHA256SUMS", "letters", "rosters"
+# Of a sealed match: the secret, the roots, each member's receipt, what may be published, and what the tables have besides.
+SECRET, ROOTS, RECEIPTS, PUBLIC, DETAILS = "secret.txt", "root.txt", "receipts", "public", "details.csv"
+# What is readable by its owner alone: who is who, and what is for one member alone.
+OWNERS = {KEY, MATCHES, LETTERS, "letters.html", SECRET, RECEIPTS, DETAILS}
 RESERVED = {"con", "prn", "aux", "nul"} | {f"{port}{number}" for port in ("com", "lpt") for number in range(1, 10)}
 
 
@@ -26,32 +28,39 @@ def file_names(docket_names: Iterable[str], ending: str) -> Dict[str, str]:
     """A file's name for each of a docket's names: any system takes it, and none is another one in capitals."""
     made: Dict[str, str] = {}
     used: Set[str] = set()
+    # The last number that a name has after it, so that names that differ in capitals alone are no more work than others.
+    last: Dict[str, int] = {}
     for name in docket_names:
         stem = name.strip(".") or "dots"
         if stem.lower().split(".")[0] in RESERVED:
             stem += "_"
-        free, count = stem, 1
+        free, count = stem, last.get(stem.lower(), 1)
         while free.lower() in used:
             count += 1
             free = f"{stem}_{count}"
+        last[stem.lower()] = count
         used.add(free.lower())
         made[name] = free + ending
     return made
 
 
 class Draft:
-    """A folder that is being filled beside the place where it will stand."""
+    """A folder that is being filled beside the place where it will stand. Key and letters are for their owner alone; where
+    the folder is `private`, all of it is but what may be published."""
 
-    def __init__(self, path: Path) -> None:
+    def __init__(self, path: Path, private: bool = False) -> None:
         self.path = path
+        self.private = private
         self.sums: Dict[str, str] = {}
 
     def write(self, name: str, data: bytes) -> str:
         """Writes a file and answers its digest."""
+        part = name.split("/")[0]
+        private = self.private and part != PUBLIC or part in OWNERS
         target = self.path / name
-        target.parent.mkdir(exist_ok=True)
-        with open(target, "xb") as file:
-            file.write(data)
+        if "/" in name:
+            target.parent.mkdir(mode=0o700 if private else 0o777, exist_ok=True)
+        write_new(target, data, PRIVATE if private else SHARED)
         self.sums[name] = digest(data)
         return self.sums[name]
 
@@ -63,76 +72,26 @@ class Draft:
         self.write(SUMS, "".join(lines).encode("utf-8"))
 
 
-class Stopped(BaseException):
-    """A signal asked the command to end."""
-
-
-def stop(number: int, frame: object) -> None:
-    raise Stopped(number)
-
-
 @contextmanager
-def new_folder(out: str) -> Iterator[Draft]:
-    """A draft of the folder `out`, which appears under its name when all has been written, and else not at all.
+def new_folder(out: str, private: bool = False) -> Iterator[Draft]:
+    """A draft of the folder `out`, which appears under its name when all has been written, and else not at all; for its owner
+    alone where it is `private`.
 
     OfficeError where it is there already or can't be written; no half of it is left behind, whatever ends the command.
     """
-    target = Path(os.path.abspath(out))
     refuse(out)
-    # Its name stands before the folder does, so that no signal comes between the two.
-    part = target.with_name(f".{target.name[:100]}.part-{secrets.token_hex(8)}")
-    before = stopping()
-    try:
-        part.mkdir(mode=0o700)
-        yield Draft(part)
-        part.chmod(0o777 & ~umask())
-        refuse(out)
-        os.rename(part, target)
-    except OSError as error:
-        raise OfficeError(f"{shown(out)} can't be written: {cause_of(error)}; nothing was left there") from None
-    finally:
-        for number in before:
-            signal.signal(number, signal.SIG_IGN)
-        shutil.rmtree(part, ignore_errors=True)
-        for number, handler in before.items():
-            signal.signal(number, handler)
-
-
-def refuse(out: str) -> None:
-    """OfficeError where something stands at this path, or where it is none."""
-    if "\0" in out:
-        raise OfficeError(f"{shown(out)} can't be written: it is no path")
-    if os.path.lexists(out):
-        raise OfficeError(f"{shown(out)} is there already; nothing was written", 2)
-
-
-def stopping() -> Dict[int, Any]:
-    """Makes signals that end a process clean up first; answers what they did before."""
-    if threading.current_thread() is not threading.main_thread():
-        return {}
-    return {number: signal.signal(number, stop) for number in (signal.SIGTERM, signal.SIGHUP, signal.SIGINT)}
-
-
-def new_file(out: str, data: bytes) -> None:
-    """Writes a file that isn't there yet, whole or not at all."""
     target = Path(os.path.abspath(out))
-    part = target.with_name(f".{target.name[:100]}.part-{os.getpid()}")
-    try:
-        part.write_bytes(data)
-        os.rename(part, target)
-    except (OSError, ValueError) as error:
-        part.unlink(missing_ok=True)
-        raise OfficeError(f"{shown(out)} can't be written: {cause_of(error)}") from None
-
-
-def umask() -> int:
-    now = os.umask(0o022)
-    os.umask(now)
-    return now
-
-
-def cause_of(error: Exception) -> str:
-    return (getattr(error, "strerror", None) or str(error)).lower()
+    # Its name stands before the folder does, so that no signal comes between the two.
+    with stopping.unfinished(draft_of(out)) as part:
+        try:
+            part.mkdir(mode=0o700)
+            yield Draft(part, private)
+            if not private:
+                part.chmod(0o777 & ~umask())
+            refuse(out)
+            os.rename(part, target)
+        except OSError as error:
+            raise OfficeError(f"{shown(out)} can't be written: {cause_of(error)}; nothing was left there") from None
 
 
 def free_name(folder: str) -> str:

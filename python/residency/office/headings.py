@@ -2,10 +2,14 @@
 import re
 import unicodedata
 from dataclasses import dataclass, field
-from typing import Dict, FrozenSet, List, Optional, Sequence, Tuple
+from typing import Dict, FrozenSet, List, Optional, Sequence, Tuple, TypeVar
 
 from ..docket import MOST_RESIDENTS
+from ..near import edits
 from .faults import Faults, OfficeError, shown
+
+# What a heading is known by: its role, or a rank.
+Key = TypeVar("Key", str, int)
 
 # What each column may be headed, without accents, capitals and points.
 WORDS: Dict[str, Tuple[str, ...]] = {
@@ -13,16 +17,19 @@ WORDS: Dict[str, Tuple[str, ...]] = {
     "resident": ("applicant", "resident", "candidate", "applicant name", "resident name", "candidate name", "doctor",
                   "student", "trainee"),
     "name": ("name", "full name"),
+    "given": ("first name", "given name", "forename", "firstname", "given names", "first names"),
+    "family": ("last name", "family name", "surname", "lastname"),
     "places": ("places", "place", "quota", "capacity", "positions", "seats", "slots", "vacancies", "number of places"),
     "rank": ("rank", "choice", "preference", "priority", "order"),
     "id": ("id", "applicant id", "resident id", "candidate id", "programme id", "program id", "code", "programme code",
            "program code", "applicant number"),
 }
 # What the report calls a column that is missing.
-TITLES = {"programme": "Programme", "resident": "Applicant", "places": "Places", "rank": "Rank", "id": "ID"}
+TITLES = {"programme": "Programme", "resident": "Applicant", "places": "Places", "rank": "Rank", "id": "ID",
+          "given": "First name", "family": "Last name"}
 # The longest list has as many columns as there are residents at most, and a few stand before it.
 MOST_COLUMNS = MOST_RESIDENTS + 100
-ROLES = ("programme", "resident", "places", "rank", "id")
+ROLES = ("programme", "resident", "places", "rank", "id", "given", "family")
 ORDINALS = {word: number for number, word in enumerate(
     ("first", "second", "third", "fourth", "fifth", "sixth", "seventh", "eighth", "ninth", "tenth"), 1)}
 NUMBERED = re.compile(r"(?P<before>.*?)\s*(?:no|#)?\s*0*(?P<number>[0-9]{1,5})(?:st|nd|rd|th)?\s*(?P<after>.*)")
@@ -37,11 +44,13 @@ def plain(heading: str) -> str:
 
 
 class Words:
-    """The words that columns may be headed by: the known ones, and those that the command line adds."""
+    """The words that columns may be headed by: the known ones, and those that the command line adds; and which columns it
+    leaves out or keeps."""
 
-    def __init__(self, added: Sequence[str] = (), ignored: Sequence[str] = ()) -> None:
+    def __init__(self, added: Sequence[str] = (), ignored: Sequence[str] = (), kept: Sequence[str] = ()) -> None:
         self.roles = {word: role for role, words in WORDS.items() for word in words}
         self.ignored = {plain(word) for word in ignored}
+        self.kept = {plain(word): word for word in kept}
         for one in added:
             role, _, word = one.partition("=")
             if role not in ROLES or not plain(word):
@@ -70,13 +79,21 @@ class Words:
         """Whether two cells or more are headings that either table may have."""
         known = sum(bool(cell) and (self.role(cell) is not None or plain(cell) in self.ignored
                                     or any(self.rank(cell, items) for items in OTHER)) for cell in cells)
-        return known >= 2 and any(self.role(cell) in ("programme", "resident", "name", "id") for cell in cells)
+        return known >= 2 and any(self.role(cell) in ("programme", "resident", "name", "id", "family") for cell in cells)
+
+    def near(self, heading: str) -> bool:
+        """Whether a heading is nearly a known one, so that a misspelt column isn't left out: `Rnak 3`, `Choice three`."""
+        bare = re.sub("[0-9]+", "", plain(heading)).strip()
+        words = [(word, role) for word, role in self.roles.items() if role in ("rank", "places", "programme", "resident")]
+        return any(len(word) > 3 and edits(bare, word, 2) <= (1 if len(word) < 6 else 2)
+                   or role == "rank" and bare.startswith(word + " ") for word, role in words)
 
 
 @dataclass
 class Columns:
     """Which cells of a row are what, counted from 0. A wide table has `ranks`, a long one `rank` and `item`; `known` are the
-    cells that have a heading, and `width` is how many cells the heading has."""
+    cells that have a heading, and `width` is how many cells the heading has. Where first and last name stand in two columns,
+    `owner` or `item` is the first name's. `kept` are the columns that are asked for, `unread` those that nothing is read of."""
 
     owner: int
     places: Optional[int] = None
@@ -86,6 +103,11 @@ class Columns:
     item: Optional[int] = None
     known: FrozenSet[int] = frozenset()
     width: int = 0
+    family: Optional[int] = None
+    owner_family: Optional[int] = None
+    item_family: Optional[int] = None
+    kept: List[Tuple[int, str]] = field(default_factory=list)
+    unread: List[Tuple[int, str]] = field(default_factory=list)
 
     @property
     def is_long(self) -> bool:
@@ -102,7 +124,9 @@ class Reader:
         self.at: Dict[str, int] = {}
         self.ranks: Dict[int, int] = {}
         self.unknown: List[int] = []
+        self.kept: List[Tuple[int, str]] = []
         self.told = False
+        self.is_parted = False
 
     def tell(self, cell: int, cause: str) -> None:
         self.told = True
@@ -128,8 +152,32 @@ class Reader:
         if self.looks_exchanged():
             self.tell(1, f"this is headed as a table of {self.items}s; are the two tables exchanged?")
             return None
+        self.two_names()
         self.missing()
+        self.missing_kept()
         return None if self.told else self.made()
+
+    def missing_kept(self) -> None:
+        """Tells a column that is to be kept and isn't there."""
+        there = {plain(heading) for heading in self.heading}
+        for folded, word in self.words.kept.items() if self.owners == "resident" else ():
+            if folded not in there:
+                self.absent(f"no column is headed {shown(word)}, which --keep names")
+
+    def two_names(self) -> None:
+        """Takes a first and a last name in two columns for the column of residents; `Name` beside a first name is the last."""
+        whose = "resident"
+        at = self.at
+        if "given" in at and "family" not in at and whose in at and self.words.role(self.heading[at[whose]]) == "name":
+            at["family"] = at.pop(whose)
+        if "given" in at and "family" in at and whose not in at:
+            at[whose] = at["given"]
+            self.is_parted = True
+        elif "given" in at and "family" not in at and whose not in at:
+            self.absent(f"no column is headed Last name, where cell {at['given'] + 1} is headed {shown(self.heading[at['given']])}")
+        elif "family" in at and "given" not in at and whose not in at:
+            self.absent(f"no column is headed First name, where cell {at['family'] + 1} is headed "
+                        f"{shown(self.heading[at['family']])}")
 
     def wanted(self) -> str:
         begin = TITLES[self.owners] + (", Places" if self.owners == "programme" else "")
@@ -140,6 +188,10 @@ class Reader:
         role = self.words.role(heading)
         if role == "name":
             role = self.owners
+        if plain(heading) in self.words.kept and self.owners == "resident":
+            if role is not None:
+                return self.tell(cell + 1, f"{shown(heading)} is read already: there is nothing to keep (--keep)")
+            return self.kept.append((cell, heading))
         if role in (None, "rank", self.items):
             number = self.words.rank(heading, self.items)
             if number is not None:
@@ -149,7 +201,7 @@ class Reader:
         elif plain(heading) not in self.words.ignored:
             self.unknown.append(cell)
 
-    def once(self, at: Dict, what: object, cell: int) -> None:
+    def once(self, at: Dict[Key, int], what: Key, cell: int) -> None:
         if what in at:
             heading = shown(self.heading[cell])
             self.tell(cell + 1, f"two columns are headed {heading}: cells {at[what] + 1} and {cell + 1}")
@@ -169,11 +221,12 @@ class Reader:
             self.tell(self.at["places"] + 1, "a table of residents has no column of places")
         self.missing_ranks()
         wanted = (self.owners,) + (("places",) if self.owners == "programme" else ()) + ("rank",)
-        absent = [role for role in wanted if role not in self.at]
+        absent = [role for role in wanted if role not in self.at and not (role == "rank" and self.ranks)]
         for cell in self.unknown:
-            heading = shown(self.heading[cell])
-            self.tell(cell + 1, f"{heading} is no heading of this table; mend it, say what it is (--heading "
-                      f"'{absent[0] if absent else 'id'}={heading}'), or leave the column out (--ignore '{heading}')")
+            if self.told or self.words.near(self.heading[cell]):
+                heading = shown(self.heading[cell])
+                self.tell(cell + 1, f"{heading} is no heading of this table; mend it, say what it is (--heading "
+                          f"'{absent[0] if absent else 'rank'}={heading}'), or leave the column out (--ignore '{heading}')")
 
     def missing_ranks(self) -> None:
         rank, item = self.at.get("rank"), self.at.get(self.items)
@@ -195,8 +248,11 @@ class Reader:
     def made(self) -> Columns:
         at = self.at
         known = frozenset(cell for cell, heading in enumerate(self.heading) if heading)
+        family, owns = at.get("family"), self.owners == "resident"
         return Columns(at[self.owners], at.get("places"), at.get("id"), sorted(self.ranks.items()), at.get("rank"),
-                       at.get(self.items) if "rank" in at else None, known, len(self.heading))
+                       at.get(self.items) if "rank" in at else None, known, max(known) + 1, family,
+                       family if self.is_parted and owns else None, family if self.is_parted and not owns else None,
+                       self.kept, [(cell, self.heading[cell]) for cell in self.unknown])
 
 
 def columns_of(table: str, owners: str, row: int, heading: List[str], words: Words, faults: Faults) -> Optional[Columns]:

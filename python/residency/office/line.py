@@ -1,34 +1,41 @@
 """The command line: its words, their help and their faults. Man pages and completions may be made of `parser`."""
 import argparse
+import re
 import textwrap
 from datetime import date
 from typing import Any, NoReturn
 
 from ..program import DEFAULT_TIMEOUT
+from ..version import is_release
 from .faults import OfficeError, shown
 from .letters import FIELDS
 from .running import TITLE
 from .telling import say
 
+# A release has the command by a name that says whose it is.
+CALLED = "residency-office" if is_release() else "office"
 EXAMPLES = {
     "check": "office check programmes.csv residents.csv",
     "lint": "office lint docket.csv",
+    "seal": "office seal programmes.csv residents.csv --out sealed-2026",
     "run": "office run programmes.csv residents.csv --out match-2026",
     "withdraw": "office withdraw match-2026 'Greta Weiß' --out match-2026-b",
     "compare": "office compare match-2025 match-2026",
     "letters": "office letters match-2026 --template letter.txt --out letters-2026",
+    "verify": "office verify match-2026",
 }
+EXAMPLES = {name: CALLED + line[len("office"):] for name, line in EXAMPLES.items()}
 # What argparse adds commands to; its type has no public name.
 Commands = Any
 
 STATUSES = ("exit statuses: 0 done; 1 a file, the output or the built program failed; 2 a wrong command line, or a folder that "
             "is there already; 3 a fault in the tables, the docket or a folder, with nothing written.")
-ABOUT = ("Matches residents with programmes from two tables as a spreadsheet saves them (CSV), by the built program.\n"
-         "`office COMMAND --help` says more of each command.")
+ABOUT = ("Matches residents with programmes from two tables as a spreadsheet saves them (.xlsx or CSV), by the built program.\n"
+         f"`{CALLED} COMMAND --help` says more of each command.")
 TABLES = ("A table is wide (a row for each member: Programme, Places, Rank 1, Rank 2, ..; Applicant, Rank 1, Rank 2, ..) or long "
           "(a row for each rank: Programme, Places, Rank, Applicant; Applicant, Rank, Programme). Both have a heading row. A "
-          "column headed ID tells two people of one name apart. What parts the cells and the character set are found from the "
-          "whole file.")
+          "column headed ID tells two people of one name apart. First and last name may stand in two columns. What parts the cells, "
+          "and whether the text is UTF-8, UTF-16 or Windows-1252, is found from the whole file.")
 
 
 class Parser(argparse.ArgumentParser):
@@ -38,6 +45,8 @@ class Parser(argparse.ArgumentParser):
         say(self.format_help().rstrip())
 
     def error(self, message: str) -> NoReturn:
+        if message == "the following arguments are required: RESIDENTS":
+            message = "only one table was given: PROGRAMMES and RESIDENTS are two"
         raise OfficeError(f"{shown(message, 300)} ({self.prog} --help says more)", 2)
 
 
@@ -48,10 +57,10 @@ def wrapped(*paragraphs: str) -> str:
 def parser() -> argparse.ArgumentParser:
     """The whole command line."""
     examples = "\n".join(f"  {example}" for example in EXAMPLES.values())
-    top = Parser(prog="office", description=wrapped(ABOUT), epilog=f"examples:\n{examples}\n\n{wrapped(STATUSES)}",
+    top = Parser(prog=CALLED, description=wrapped(ABOUT), epilog=f"examples:\n{examples}\n\n{wrapped(STATUSES)}",
                  formatter_class=argparse.RawDescriptionHelpFormatter)
     commands = top.add_subparsers(dest="command", metavar="COMMAND", required=True)
-    for add in (add_check, add_lint, add_run, add_withdraw, add_compare, add_letters):
+    for add in (add_check, add_lint, add_seal, add_run, add_withdraw, add_compare, add_letters, add_verify):
         add(commands)
     return top
 
@@ -71,10 +80,19 @@ def add_tables(one: argparse.ArgumentParser) -> None:
     one.add_argument("--encoding", action="append", default=[], metavar="[TABLE=]SET",
                      help="the character set, as utf-8, windows-1252 or utf-16; of both tables or of one (residents=iso-8859-2)")
     one.add_argument("--heading", action="append", default=[], metavar="ROLE=WORD",
-                     help="a word that heads a column, besides the known ones; ROLE is programme, resident, places, rank or id "
+                     help="a word that heads a column, besides the known ones; ROLE is programme, resident, places, rank, id, given or family "
                      "(--heading rank=Rang)")
-    one.add_argument("--ignore", action="append", default=[], metavar="HEADING", help="a column to leave out")
+    one.add_argument("--ignore", action="append", default=[], metavar="HEADING", help="a column to leave out, without a word")
+    one.add_argument("--keep", action="append", default=[], metavar="HEADING",
+                     help="a column to keep for matches.csv and the letters' template (--keep Email)")
+    one.add_argument("--sheet", action="append", default=[], metavar="[TABLE=]NAME",
+                     help="the sheet of a workbook that has several (residents=Sheet2)")
+    one.add_argument("--expect-programmes", type=count, metavar="NUMBER", help="how many programmes there are; another is a fault")
+    one.add_argument("--expect-residents", type=count, metavar="NUMBER", help="how many residents there are; another is a fault")
     one.add_argument("--allow-gaps", action="store_true", help="in long tables, take ranks in their order where one is left out")
+    one.add_argument("--allow-short", action="store_true", help="take rows with fewer cells than the heading")
+    one.add_argument("--allow-alone", action="store_true",
+                     help="take a row that looks like a remark, without a list and in no list, for a resident")
     one.add_argument("--all", action="store_true", help="tell every fault on a line of its own, however many there are")
 
 
@@ -82,6 +100,11 @@ def add_wishes(one: argparse.ArgumentParser) -> None:
     one.add_argument("--date", type=day, default=None, metavar="YYYY-MM-DD", help="the day that page and letters name (today)")
     one.add_argument("--order", choices=("name", "table"), default="name", help="the order of names in the page (name)")
     one.add_argument("--template", metavar="FILE", help="the text of the letters, with $name, $outcome, $list and others")
+    one.add_argument("--cut-offs", action="store_true", help="of a sealed match, publish the last rank that each programme took, too")
+    add_timeout(one)
+
+
+def add_timeout(one: argparse.ArgumentParser) -> None:
     one.add_argument("--timeout", type=seconds, default=DEFAULT_TIMEOUT, metavar="SECONDS",
                      help=f"how long the program may take at each step ({DEFAULT_TIMEOUT:g})")
 
@@ -91,6 +114,18 @@ def day(text: str) -> date:
         return date.fromisoformat(text)
     except ValueError:
         raise argparse.ArgumentTypeError(f"{shown(text)} is no day; it is written as 2026-03-20") from None
+
+
+def root(text: str) -> str:
+    if re.fullmatch("[0-9a-f]{64}", text) is None:
+        raise argparse.ArgumentTypeError(f"{shown(text)} is no root, which has 64 small hexadecimal digits")
+    return text
+
+
+def count(text: str) -> int:
+    if not (text.isascii() and text.isdecimal() and len(text) < 10):
+        raise argparse.ArgumentTypeError(f"{shown(text)} is no number")
+    return int(text)
 
 
 def seconds(text: str) -> float:
@@ -116,16 +151,34 @@ def add_lint(commands: Commands) -> None:
     one.add_argument("--all", action="store_true", help="tell every fault, however many there are")
 
 
-def add_run(commands: Commands) -> None:
+def add_seal(commands: Commands) -> None:
     one = add_command(
-        commands, "run", "Matches two tables into a new folder.",
-        "The folder has the docket, the key from its names to the real ones, the sheet, the journal, audit and replay, a page, "
-        "a letter for each resident, a roster for each programme, the unfilled places and a row for each resident for a "
-        "database. It appears complete or not at all.", TABLES)
+        commands, "seal", "Seals two tables before their match, into a new folder.",
+        "The folder has the docket, its key, a new secret, a receipt for each member, and in public/ what may be published: the root "
+        "of all lists, and a page on which a member checks a receipt. `run FOLDER` then matches exactly this docket. It appears "
+        "complete or not at all, and is for its owner alone.", TABLES)
     one.add_argument("programmes", metavar="PROGRAMMES", help="the table of programmes")
     one.add_argument("residents", metavar="RESIDENTS", help="the table of residents")
     one.add_argument("--out", required=True, metavar="FOLDER", help="the folder to make, which isn't there yet")
-    one.add_argument("--title", default=TITLE, help=f"the page's title ({TITLE})")
+    one.add_argument("--title", default=None, help=f"the page's title ({TITLE})")
+    one.add_argument("--date", type=day, default=None, metavar="YYYY-MM-DD", help="the day that the page names (today)")
+    add_tables(one)
+    add_timeout(one)
+
+
+def add_run(commands: Commands) -> None:
+    one = add_command(
+        commands, "run", "Matches two tables, or what was sealed, into a new folder.",
+        "The folder has the docket, the key from its names to the real ones, the sheet, the journal, audit and replay, a page, "
+        "a letter for each resident, a roster for each programme, the unfilled places and a row for each resident for a "
+        "database. It appears complete or not at all.",
+        "`run FOLDER` matches exactly the docket that seal made. So does `--seal FOLDER` with two tables, which have to say the "
+        "same. Then each member's receipt has the result too, and public/ has what may be published.", TABLES)
+    one.add_argument("programmes", metavar="PROGRAMMES", help="the table of programmes, or a folder that seal made")
+    one.add_argument("residents", nargs="?", metavar="RESIDENTS", help="the table of residents")
+    one.add_argument("--seal", metavar="FOLDER", help="the folder that seal made of these tables")
+    one.add_argument("--out", required=True, metavar="FOLDER", help="the folder to make, which isn't there yet")
+    one.add_argument("--title", default=None, help=f"the page's title ({TITLE}, or that of what was sealed)")
     add_tables(one)
     add_wishes(one)
 
@@ -133,8 +186,9 @@ def add_run(commands: Commands) -> None:
 def add_withdraw(commands: Commands) -> None:
     one = add_command(
         commands, "withdraw", "Matches a folder's docket again with members withdrawn, into a new folder, and tells what changed.",
-        "A name is the one of the tables, the ID, or the docket's name.")
-    one.add_argument("folder", metavar="FOLDER", help="a folder that run or withdraw made")
+        "A name is the one of the tables, the ID, or the docket's name. What was sealed is sealed anew, with another secret, and "
+        "every member needs a new receipt. A folder without a match stays without one.")
+    one.add_argument("folder", metavar="FOLDER", help="a folder that run, withdraw or seal made")
     one.add_argument("names", nargs="*", metavar="NAME", help="who withdraws")
     one.add_argument("--programme", action="append", default=[], metavar="NAME", help="a programme that withdraws")
     one.add_argument("--resident", action="append", default=[], metavar="NAME", help="a resident who withdraws")
@@ -144,10 +198,13 @@ def add_withdraw(commands: Commands) -> None:
 
 def add_compare(commands: Commands) -> None:
     one = add_command(
-        commands, "compare", "Tells who stands otherwise in the second of two folders: two runs, or two years.",
-        "Members are known by their IDs where all have one, else by their names.")
+        commands, "compare", "Tells the figures of two folders side by side: two runs, or two years.",
+        "Ten lines tell how many take part, how many are matched and with which choice, and how many places stay unfilled. "
+        "With --names a line for each member who stands otherwise follows. Members are known by their IDs where all have one, "
+        "else by their names.")
     one.add_argument("before", metavar="BEFORE", help="the folder of before")
     one.add_argument("now", metavar="NOW", help="the folder of now")
+    one.add_argument("--names", action="store_true", help="list each member who stands otherwise, too")
     one.add_argument("--out", metavar="FILE", help="a CSV file to write the changes to, which isn't there yet")
 
 
@@ -159,3 +216,19 @@ def add_letters(commands: Commands) -> None:
     one.add_argument("--out", required=True, metavar="FOLDER", help="the folder to make, which isn't there yet")
     one.add_argument("--template", metavar="FILE", help="the text of the letters (the one of run)")
     one.add_argument("--date", type=day, default=None, metavar="YYYY-MM-DD", help="the day that the letters name (that of the run)")
+
+
+def add_verify(commands: Commands) -> None:
+    one = add_command(
+        commands, "verify",
+        "Checks a folder of results, whoever made it.",
+        "Each part is read from a file of its own, and no key is needed. It tells the digests against SHA256SUMS, who is withdrawn, "
+        "how many members there are, the audit, whether the sheet is the result, the replay, the second opinion, and the reasons "
+        "against matches.csv and the letters. With the secret of a sealed match it makes both roots and all receipts again, by the "
+        "program and by code of its own, and compares the roots with those that were published. It ends with 'everything holds', or "
+        "with what does not hold and status 4.")
+    one.add_argument("folder", metavar="FOLDER", help="a folder that run or withdraw made, here or elsewhere")
+    one.add_argument("--lists", type=root, metavar="ROOT", help="the root of the lists that was published")
+    one.add_argument("--result", type=root, metavar="ROOT", help="the root of the result that was published")
+    one.add_argument("--timeout", type=seconds, default=DEFAULT_TIMEOUT, metavar="SECONDS",
+                     help=f"how long each check may take ({DEFAULT_TIMEOUT:.0f})")

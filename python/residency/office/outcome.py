@@ -1,9 +1,9 @@
 """How a match went, in the office's own names: who is where, at which ranks of the lists as written, and why not."""
 import unicodedata
 from collections import Counter
-from dataclasses import dataclass
+from dataclasses import dataclass, field
 from enum import Enum
-from typing import Dict, Iterable, List, Mapping, Optional, Sequence, Tuple
+from typing import Dict, Iterable, List, Mapping, Optional, Sequence, Tuple, TypeVar, Union
 
 from ..market import Market
 from ..names import PROGRAMME, RESIDENT
@@ -21,13 +21,26 @@ class Standing(Enum):
     WITHDRAWN = "withdrawn"
 
 
+class Became(Enum):
+    """What became of one programme on a resident's list: the first of these that holds."""
+
+    YOU_WITHDREW = "you withdrew"
+    IT_WITHDREW = "it withdrew"
+    MATCHED = "matched"
+    NOT_NEEDED = "not needed"
+    NOT_RANKED = "not ranked back"
+    NO_PLACES = "no places"
+    FULL = "full"
+
+
 UNMATCHED = (Standing.LOST_OUT, Standing.NOT_RANKED_BACK, Standing.RANKED_NOBODY)
 
 
 @dataclass(frozen=True)
 class Resident:
     """A resident's outcome. `choice` is the programme's rank on the resident's list as written, `rank` the resident's on
-    the programme's, both from 1; `ranked` is how many the resident's list has."""
+    the programme's, both from 1; `ranked` is how many the resident's list has. `family` is the family name, where the table
+    has it in a column of its own, and `kept` are the cells of the columns that are kept."""
 
     name: str
     id: str
@@ -37,6 +50,17 @@ class Resident:
     choice: Optional[int]
     rank: Optional[int]
     ranked: int
+    family: str = ""
+    kept: Tuple[str, ...] = ()
+
+
+@dataclass(frozen=True)
+class Details:
+    """What the table of residents has besides, by resident: family names, and the cells of the columns that are kept."""
+
+    families: Mapping[str, str] = field(default_factory=dict)
+    columns: Tuple[str, ...] = ()
+    kept: Mapping[str, Tuple[str, ...]] = field(default_factory=dict)
 
 
 @dataclass(frozen=True)
@@ -64,10 +88,11 @@ class Programme:
 
 @dataclass(frozen=True)
 class Outcome:
-    """A whole match's outcome, members in the order of the tables."""
+    """A whole match's outcome, members in the order of the tables; `columns` are the headings of the columns that are kept."""
 
     residents: Dict[str, Resident]
     programmes: Dict[str, Programme]
+    columns: Tuple[str, ...] = ()
 
     def standing(self, standing: Standing) -> List[Resident]:
         return [one for one in self.residents.values() if one.standing is standing]
@@ -79,6 +104,10 @@ class Outcome:
 
     def unfilled(self) -> List[Programme]:
         return [one for one in self.programmes.values() if one.unfilled]
+
+    def taking_part(self) -> int:
+        """How many residents aren't withdrawn."""
+        return sum(one.standing is not Standing.WITHDRAWN for one in self.residents.values())
 
     def places(self) -> int:
         return sum(one.places for one in self.programmes.values() if not one.withdrawn)
@@ -95,7 +124,7 @@ def alphabetical(name: str) -> Tuple[str, str]:
     return "".join(c for c in plain if not unicodedata.combining(c)), name
 
 
-def outcome_of(market: Market, places: Mapping[str, Optional[str]]) -> Outcome:
+def outcome_of(market: Market, places: Mapping[str, Optional[str]], details: Details = Details()) -> Outcome:
     """The outcome of these places, in the market's names."""
     gone = set(market.withdrawn_residents)
     gone_programmes = set(market.withdrawn_programmes)
@@ -113,7 +142,8 @@ def outcome_of(market: Market, places: Mapping[str, Optional[str]]) -> Outcome:
         standing = (Standing.WITHDRAWN if name in gone else Standing.MATCHED if programme is not None
                     else Standing.RANKED_NOBODY if not listed else Standing.LOST_OUT if back else Standing.NOT_RANKED_BACK)
         made = market.names.docket_name(RESIDENT, name)
-        residents[name] = Resident(name, market.names.id(RESIDENT, made), made, standing, programme, choice, rank, len(listed))
+        residents[name] = Resident(name, market.names.id(RESIDENT, made), made, standing, programme, choice, rank, len(listed),
+                                   details.families.get(name, ""), details.kept.get(name, ("",) * len(details.columns)))
     programmes = {}
     for name, quota in market.quotas.items():
         taken = sorted(members[name])
@@ -121,9 +151,45 @@ def outcome_of(market: Market, places: Mapping[str, Optional[str]]) -> Outcome:
         last, ranked = taken[-1][0] if taken else None, len(market.programme_lists.get(name, ()))
         programmes[name] = Programme(name, market.names.id(PROGRAMME, made), made, quota, tuple(one for _, one in taken),
                                      last, ranked, name in gone_programmes)
-    return Outcome(residents, programmes)
+    return Outcome(residents, programmes, details.columns)
 
 
-def by_name(members: Iterable, order: str = "name") -> Sequence:
+def name_key(one: Union[Resident, Programme]) -> Tuple[Tuple[str, str], Tuple[str, str]]:
+    """What a member is sorted by: the family name first, where there is one."""
+    whole = alphabetical(one.name)
+    family = getattr(one, "family", "")
+    return alphabetical(family) if family else whole, whole
+
+
+Member = TypeVar("Member", Resident, Programme)
+
+
+def by_name(members: Iterable[Member], order: str = "name") -> Sequence[Member]:
     """Members in the order that is asked for: by name, or as the table has them."""
-    return sorted(members, key=lambda one: alphabetical(one.name)) if order == "name" else list(members)
+    return sorted(members, key=name_key) if order == "name" else list(members)
+
+
+class Lists:
+    """The lists of a market, as they tell what became of each programme on a resident's."""
+
+    def __init__(self, market: Market) -> None:
+        self.ranked_by = {programme: frozenset(listed) for programme, listed in market.programme_lists.items()}
+        self.quotas, self.lists, self.gone = market.quotas, market.resident_lists, frozenset(market.withdrawn_programmes)
+
+    def became(self, resident: Resident) -> List[Tuple[str, Became]]:
+        """Each programme on the list, best first, with what became of it."""
+        return [(programme, self.of_choice(resident, choice, programme))
+                for choice, programme in enumerate(self.lists[resident.name], 1)]
+
+    def of_choice(self, resident: Resident, choice: int, programme: str) -> Became:
+        if resident.standing is Standing.WITHDRAWN:
+            return Became.YOU_WITHDREW
+        if programme in self.gone:
+            return Became.IT_WITHDREW
+        if choice == resident.choice:
+            return Became.MATCHED
+        if resident.choice is not None and choice > resident.choice:
+            return Became.NOT_NEEDED
+        if resident.name not in self.ranked_by.get(programme, ()):
+            return Became.NOT_RANKED
+        return Became.FULL if self.quotas[programme] else Became.NO_PLACES

@@ -5,11 +5,12 @@ It is one file that needs nothing else, without a script; it reads on a telephon
 import html
 from dataclasses import dataclass
 from datetime import date
-from typing import Dict, Iterable, List, Sequence, Tuple, Union
+from typing import Dict, Iterable, List, Optional, Sequence, Tuple, Union
 
 from .faults import counted
 from .outcome import UNMATCHED, Outcome, Programme, Resident, Standing, by_name, ordinal
 from .style import STYLE
+from .tree import Roots
 
 MONTHS = ("January", "February", "March", "April", "May", "June", "July", "August", "September", "October", "November",
           "December")
@@ -19,8 +20,8 @@ MOST_BARS = 10
 PARTS = (("unfilled", "Unfilled places"), ("figures", "In short"), ("choices", "Choices"), ("unmatched", "Unmatched"),
          ("withdrawn", "Withdrawn"), ("matched", "Matched"), ("programmes", "Programmes"), ("made", "Digests"))
 TOLD = {
-    Standing.LOST_OUT: ("Lost out", "Programmes that they ranked also ranked them, and all places there went to others, whom these "
-                        "programmes rank before them."),
+    Standing.LOST_OUT: ("No place left", "Programmes that they ranked also ranked them, and all places there went to others, whom "
+                        "these programmes rank before them."),
     Standing.NOT_RANKED_BACK: ("Ranked back by nobody", "No programme on their lists that takes part has them on its own list."),
     Standing.RANKED_NOBODY: ("Ranked nobody", "Their lists are empty."),
 }
@@ -28,11 +29,13 @@ TOLD = {
 
 @dataclass(frozen=True)
 class About:
-    """What the page says of itself: its title, its day, and the digest of each file that it was made from."""
+    """What the page says of itself: its title, its day, the digest of each file that it was made from, and where the match was
+    sealed the roots."""
 
     title: str
     day: date
     digests: Dict[str, str]
+    roots: Optional[Roots] = None
 
 
 def long_day(day: date) -> str:
@@ -45,12 +48,17 @@ def bdi(text: str) -> str:
 
 
 def label(member: Union[Programme, Resident]) -> str:
-    """A member's name, with its ID where it has one."""
+    """A member's name, with its ID where it has one; the family name stands out where it is known, since it gives the order."""
     named = not member.id or member.name.endswith(f"({member.id})")
-    return bdi(member.name if named else f"{member.name} ({member.id})")
+    text = member.name if named else f"{member.name} ({member.id})"
+    family = getattr(member, "family", "")
+    before, space, after = text.rpartition(f" {family}") if family else ("", "", "")
+    if not space:
+        return bdi(text)
+    return f"<bdi>{html.escape(before)} <b>{html.escape(family)}</b>{html.escape(after)}</bdi>"
 
 
-def table(caption: str, heads: Sequence[Tuple[str, str]], rows: Iterable[str], kind: str = "") -> str:
+def table(caption: str, heads: Sequence[Tuple[str, str]], rows: Iterable[str], kind: str) -> str:
     """A table; a head is its class, which may be empty, and its text."""
     head = "".join(f'<th scope="col"{of_class(name)}>{text}</th>' for name, text in heads)
     body = "\n".join(f"<tr>{row}</tr>" for row in rows)
@@ -76,13 +84,16 @@ class Page:
 
     def __init__(self, outcome: Outcome, about: About, order: str = "name") -> None:
         self.outcome, self.about, self.order = outcome, about, order
+        self.parts: Sequence[Tuple[str, str]] = PARTS
         self.matched = by_name(outcome.standing(Standing.MATCHED), order)
         self.withdrawn = by_name(outcome.standing(Standing.WITHDRAWN), order)
         self.programmes = by_name(outcome.programmes.values(), order)
         self.taking_part = len(outcome.residents) - len(self.withdrawn)
 
-    def in_order(self) -> str:
-        return "in alphabetical order" if self.order == "name" else "in the order of the table"
+    def in_order(self, members: Sequence[Union[Programme, Resident]]) -> str:
+        if self.order != "name":
+            return "in the order of the table"
+        return "by family name" if any(getattr(one, "family", "") for one in members) else "in alphabetical order"
 
     def unfilled(self) -> str:
         short = [one for one in self.programmes if one.unfilled]
@@ -91,9 +102,10 @@ class Page:
         rows = (row(label(one), ("n", f"{one.places:,}"), ("n", f"{one.filled:,}"), ("n short", f"{one.unfilled:,}"))
                 for one in short)
         left = sum(one.unfilled for one in short)
-        told = f"{left:,} of {counted(self.outcome.places(), 'place')}, at {counted(len(short), 'programme')}, {self.in_order()}"
+        told = (f"{left:,} of {counted(self.outcome.places(), 'place')}, at {counted(len(short), 'programme')}, "
+                f"{self.in_order(short)}")
         return section("unfilled", "Unfilled places",
-                       table(told, (("", "Programme"), ("n", "Places"), ("n", "Filled"), ("n", "Unfilled")), rows))
+                       table(told, (("", "Programme"), ("n", "Places"), ("n", "Filled"), ("n", "Unfilled")), rows, "stack open"))
 
     def figures(self) -> str:
         counts = [(len(self.matched), "residents matched")]
@@ -128,59 +140,71 @@ class Page:
         return section("unmatched", "Unmatched residents", *parts)
 
     @staticmethod
-    def list_of(members: Iterable) -> str:
+    def list_of(members: Iterable[Union[Resident, Programme]]) -> str:
         return '<ul class="names">\n' + "\n".join(f"<li>{label(one)}</li>" for one in members) + "\n</ul>"
 
     def gone(self) -> str:
         programmes = [one for one in self.programmes if one.withdrawn]
-        parts = [f"<h3>{title}: {len(who):,}</h3>\n{self.list_of(who)}"
-                 for title, who in (("Residents", self.withdrawn), ("Programmes", programmes)) if who]
+        sides: List[Tuple[str, Sequence[Union[Resident, Programme]]]] = [("Residents", self.withdrawn), ("Programmes", programmes)]
+        parts = [f"<h3>{title}: {len(who):,}</h3>\n{self.list_of(who)}" for title, who in sides if who]
         return section("withdrawn", "Withdrawn", *(parts or ["<p>Nobody.</p>"]))
 
     def residents(self) -> str:
-        rows = (row(label(one), ("", label(self.outcome.programmes[one.programme])),
-                    ("n", f"{ordinal(one.choice)} of {one.ranked:,}")) for one in self.matched)
+        rows = (row(label(one), ("", label(self.outcome.programmes[one.programme or ""])),
+                    ("n", f"{ordinal(one.choice or 0)} of {one.ranked:,}")) for one in self.matched)
         return section("matched", "Matched residents",
-                       table(f"{counted(len(self.matched), 'resident')}, {self.in_order()}",
-                             (("", "Resident"), ("", "Programme"), ("n", "Choice")), rows))
+                       table(f"{counted(len(self.matched), 'resident')}, {self.in_order(self.matched)}",
+                             (("", "Resident"), ("", "Programme"), ("n", "Choice")), rows, "stack matched"))
+
+    @staticmethod
+    def last_taken(one: Programme) -> str:
+        """The last rank that a full programme took; one with unfilled places took all who wanted it, so no rank was the last."""
+        if one.withdrawn or not one.places:
+            return "–"
+        return "open" if one.unfilled else f"{ordinal(one.last_rank or 0)} of {one.ranked:,}"
 
     def programme_row(self, one: Programme) -> str:
-        last = f"{ordinal(one.last_rank)} of {one.ranked:,}" if one.last_rank else f"– of {one.ranked:,}"
         name = label(one) + (" (withdrawn)" if one.withdrawn else "")
         return row(name, ("n", f"{one.places:,}"), ("n", f"{one.filled:,}"),
-                   ("n short" if one.unfilled else "n", f"{one.unfilled:,}"), ("n", last))
+                   ("n short" if one.unfilled else "n", f"{one.unfilled:,}"), ("n", self.last_taken(one)))
 
     def all_programmes(self) -> str:
         heads = (("", "Programme"), ("n", "Places"), ("n", "Filled"), ("n", "Unfilled"), ("n", "Last rank taken"))
-        told = (f"{counted(len(self.programmes), 'programme')}, {self.in_order()}; the last rank is on the programme's list as "
-                "written")
-        return section("programmes", "Programmes", table(told, heads, map(self.programme_row, self.programmes), "wide"))
+        told = (f"{counted(len(self.programmes), 'programme')}, {self.in_order(self.programmes)}; the last rank taken is on the "
+                "programme's list as written, and a programme with unfilled places is open")
+        return section("programmes", "Programmes", table(told, heads, map(self.programme_row, self.programmes), "stack programmes"))
 
     def made_of(self) -> str:
         rows = (row(f"<code>{html.escape(name)}</code>", ("", f"<code>{digest}</code>"))
                 for name, digest in self.about.digests.items())
         told = "Each file and its SHA-256, which <code>sha256sum</code> prints, too"
-        return section("made", "What this page was made of", table(told, (("", "File"), ("", "SHA-256")), rows))
+        return section("made", "What this page was made of", table(told, (("", "File"), ("", "SHA-256")), rows, "stack digests"))
 
     def head(self) -> str:
         title = html.escape(self.about.title)
         day = f'<time datetime="{self.about.day.isoformat()}">{long_day(self.about.day)}</time>'
-        links = "".join(f'<li><a href="#{name}">{what}</a></li>' for name, what in PARTS)
+        links = "".join(f'<li><a href="#{name}">{what}</a></li>' for name, what in self.parts)
         return (f'<header>\n<h1>{title}</h1>\n<p class="soft">{day}. {counted(len(self.outcome.residents), "resident")}, '
                 f'{counted(len(self.programmes), "programme")}.</p>\n</header>\n'
                 f'<nav aria-label="Parts of this page"><ul>{links}</ul></nav>')
 
-    def style(self) -> str:
+    def foot(self) -> str:
+        """What each sheet of paper says."""
         docket = next(iter(self.about.digests.values()), "")[:16]
-        foot = f"{self.about.title}, {self.about.day.isoformat()}, docket {docket}"
-        plain = "".join(c for c in foot if c.isprintable() and c not in '"\\<>&{}')
+        return f"{self.about.title}, {self.about.day.isoformat()}, docket {docket}"
+
+    def style(self) -> str:
+        plain = "".join(c for c in self.foot() if c.isprintable() and c not in '"\\<>&{}')
         return STYLE.replace("@FOOT@", plain)
+
+    def sections(self) -> Sequence[str]:
+        """The parts of the page, in order."""
+        return (self.unfilled(), self.figures(), self.choices(), self.unmatched(), self.gone(), self.residents(),
+                self.all_programmes(), self.made_of())
 
     def text(self) -> str:
         """The whole page."""
-        parts = (self.unfilled(), self.figures(), self.choices(), self.unmatched(), self.gone(), self.residents(),
-                 self.all_programmes(), self.made_of())
-        inside = "\n".join(parts)
+        inside = "\n".join(self.sections())
         return ('<!doctype html>\n<html lang="en">\n<head>\n<meta charset="utf-8">\n'
                 '<meta name="viewport" content="width=device-width, initial-scale=1">\n'
                 f"<title>{html.escape(self.about.title)}, {self.about.day.isoformat()}</title>\n"

@@ -1,27 +1,41 @@
 """The tables of a match that a spreadsheet or a database takes: rosters, unfilled places, and a row for each resident."""
 import csv
 import io
-from typing import Iterable, List, Sequence
+from typing import Iterable, List, Mapping, Sequence
 
 from ..key import to_cell
-from .outcome import Outcome, Programme, by_name
+from .outcome import Details, Outcome, Programme, by_name
 
 # A mark at the start, by which spreadsheets know that a file is UTF-8.
 MARK = "\ufeff"
+# The columns of the table for programs; those that are kept follow.
+MATCH_COLUMNS = ("resident_docket_name", "resident_id", "resident", "standing", "programme_docket_name", "programme_id",
+                 "programme", "choice", "rank_at_programme", "programmes_listed", "family_name")
+# The columns of what a sealed folder keeps of the table of residents; those that are kept follow.
+DETAIL_COLUMNS = ("resident_docket_name", "family_name")
 
 
-def cell_of(value: object) -> object:
-    """A value as a cell: numbers as they are, nothing as an empty cell, names so that no spreadsheet takes them for formulas."""
+def neutral(value: object) -> object:
+    """A value as a cell that no spreadsheet takes for a formula: numbers as they are, nothing as an empty cell."""
     return value if isinstance(value, int) else "" if value is None else to_cell(str(value))
 
 
-def table_bytes(heading: Sequence[str], rows: Iterable[Sequence[object]], mark: bool = True) -> bytes:
-    """A CSV table of these rows; no cell of it is a formula."""
+def table_bytes(heading: Sequence[str], rows: Iterable[Sequence[object]]) -> bytes:
+    """A CSV table of these rows for a spreadsheet: with a mark, lines ended by CR and LF, and no cell that is a formula."""
+    return (MARK + csv_text(heading, ([neutral(cell) for cell in row] for row in rows), "\r\n")).encode("utf-8")
+
+
+def raw_bytes(heading: Sequence[str], rows: Iterable[Sequence[object]]) -> bytes:
+    """A CSV table of these rows for a program: no mark, lines ended by LF, and each text exactly as it is."""
+    return csv_text(heading, rows, "\n").encode("utf-8")
+
+
+def csv_text(heading: Sequence[str], rows: Iterable[Sequence[object]], end: str) -> str:
     text = io.StringIO()
-    writer = csv.writer(text, lineterminator="\r\n" if mark else "\n")
+    writer = csv.writer(text, lineterminator=end)
     writer.writerow(heading)
-    writer.writerows([cell_of(cell) for cell in row] for row in rows)
-    return ((MARK if mark else "") + text.getvalue()).encode("utf-8")
+    writer.writerows(rows)
+    return text.getvalue()
 
 
 def roster(outcome: Outcome, programme: Programme, ranks: Sequence[str]) -> bytes:
@@ -38,12 +52,26 @@ def unfilled(outcome: Outcome) -> bytes:
 
 
 def matches(outcome: Outcome) -> bytes:
-    """A row for each resident, in the order of the table, for a database: without a mark, lines ended by LF."""
+    """A row for each resident, in the order of the table, for programs: raw, so that names are as the tables have them."""
     rows: List[Sequence[object]] = []
     for one in outcome.residents.values():
         programme = outcome.programmes[one.programme] if one.programme is not None else None
         rows.append((one.docket_name, one.id, one.name, one.standing.value,
                      programme.docket_name if programme else "", programme.id if programme else "", one.programme,
-                     one.choice, one.rank, one.ranked))
-    return table_bytes(("resident_docket_name", "resident_id", "resident", "standing", "programme_docket_name", "programme_id",
-                        "programme", "choice", "rank_at_programme", "programmes_listed"), rows, mark=False)
+                     one.choice, one.rank, one.ranked, one.family, *one.kept))
+    return raw_bytes((*MATCH_COLUMNS, *outcome.columns), rows)
+
+
+def details_table(details: Details, names: Mapping[str, str]) -> bytes:
+    """The family names and kept columns, for a folder without a match; `names` has each resident's docket name."""
+    kept = ("",) * len(details.columns)
+    rows = [(made, details.families.get(name, ""), *details.kept.get(name, kept)) for name, made in names.items()]
+    return raw_bytes((*DETAIL_COLUMNS, *details.columns), rows)
+
+
+def details_of(data: bytes, names: Mapping[str, str], before: int = len(MATCH_COLUMNS)) -> Details:
+    """The family names and kept columns of a table that `matches` wrote, or `details_table` with fewer columns before those that
+    are kept; `names` has each resident's by the docket's."""
+    heading, *rows = csv.reader(io.StringIO(data.decode("utf-8"), newline=""))
+    return Details({names[row[0]]: row[before - 1] for row in rows if row[before - 1]}, tuple(heading[before:]),
+                   {names[row[0]]: tuple(row[before:]) for row in rows})

@@ -1,33 +1,36 @@
 """A run: from a market to a folder with all that an office, an auditor and each member wants of its match."""
 from dataclasses import dataclass, field
 from datetime import date
-from typing import Any, Dict, List, Optional, Sequence, Tuple
+from typing import Any, Dict, List, Optional, Sequence
 
 from ..errors import DocketFault, KeyFault, MarketFault
 from ..key import read_key, write_key
 from ..market import Market
 from ..names import PROGRAMME, RESIDENT, Names
 from ..program import DEFAULT_TIMEOUT, run_program
-from . import folder, rosters
-from .cells import name_of
+from . import folder, public, rosters, seal
 from .faults import OfficeError, shown
 from .folder import Draft, Results, digest, file_names
-from .letters import Letters
-from .outcome import Outcome, outcome_of
+from .letters import LETTERS_PAGE, Letters
+from .outcome import Details, Outcome, outcome_of
 from .page import About, Page
+from .tree import Roots
+from .who import the_one
 
 TITLE = "The match"
 
 
 @dataclass(frozen=True)
 class Wishes:
-    """What the command line says of a run: the page's title and day, the order of names, the letters' template."""
+    """What the command line says of a run: the page's title and day, the order of names, the letters' template, and whether each
+    programme's last rank may be published."""
 
     title: str = TITLE
     day: date = field(default_factory=date.today)
     order: str = "name"
     template: Optional[str] = None
     timeout: float = DEFAULT_TIMEOUT
+    cut_offs: bool = False
 
 
 @dataclass(frozen=True)
@@ -44,7 +47,7 @@ class Matched:
     outcome: Outcome
 
 
-def matched(market: Market, timeout: float) -> Matched:
+def matched(market: Market, timeout: float, details: Details) -> Matched:
     """Matches a market, audits its sheet and replays its journal by the built program. OfficeError where a check fails,
     which no whole program gives a cause for."""
     docket = market.docket()
@@ -55,16 +58,19 @@ def matched(market: Market, timeout: float) -> Matched:
         raise OfficeError("the result doesn't pass its own audit and replay; nothing was written")
     _, version = run_program("residency", ["--version"], b"", timeout)
     return Matched(market, docket, match.sheet, match.journal, audit, replay, version.decode("utf-8", "replace").strip(),
-                   outcome_of(market, match.places))
+                   outcome_of(market, match.places, details))
 
 
-def fill(draft: Draft, result: Matched, wishes: Wishes, manifest: Dict[str, Any]) -> None:
-    """Writes every file of a run."""
+def fill(draft: Draft, result: Matched, wishes: Wishes, manifest: Dict[str, Any], secret: bytes = b"") -> Optional[Roots]:
+    """Writes every file of a run; with a secret those of a sealed match too, whose roots it answers."""
     outcome = result.outcome
     digests = {}
     for name, data in ((folder.DOCKET, result.docket), (folder.KEY, write_key(result.market.names)), (folder.SHEET, result.sheet)):
         digests[name] = draft.write(name, data)
-    about = About(wishes.title, wishes.day, digests)
+    roots = seal.write(draft, result.docket, secret, True, wishes.timeout) if secret else None
+    about = About(wishes.title, wishes.day, digests, roots)
+    if roots is not None:
+        public.write(draft, outcome, roots, about, wishes.order, wishes.cut_offs)
     draft.write(folder.JOURNAL, result.journal)
     draft.write(folder.AUDIT, result.audit)
     draft.write(folder.REPLAY, result.replay)
@@ -75,23 +81,51 @@ def fill(draft: Draft, result: Matched, wishes: Wishes, manifest: Dict[str, Any]
     for programme in outcome.programmes.values():
         ranks = result.market.programme_lists.get(programme.name, ())
         draft.write(f"{folder.ROSTERS}/{names[programme.docket_name]}", rosters.roster(outcome, programme, ranks))
-    write_letters(draft, Letters(result.market, outcome, about, wishes.template))
-    gone = [[PROGRAMME, name] for name in result.market.withdrawn_programmes]
-    gone += [[RESIDENT, name] for name in result.market.withdrawn_residents]
-    draft.finish({"title": wishes.title, "date": wishes.day.isoformat(), "program": result.program, **manifest, "withdrawn": gone})
+    write_letters(draft, Letters(result.market, outcome, about, wishes.template, wishes.order))
+    details = ["family_name"] * any(one.family for one in outcome.residents.values()) + list(outcome.columns)
+    draft.finish({**begun(wishes, result.program), **manifest, **ended(result.market, details, roots)})
+    return roots
+
+
+def begun(wishes: Wishes, program: str) -> Dict[str, Any]:
+    """What each manifest begins with."""
+    return {"title": wishes.title, "date": wishes.day.isoformat(), "program": program}
+
+
+def ended(market: Market, details: List[str], roots: Optional[Roots]) -> Dict[str, Any]:
+    """What each manifest ends with: who is withdrawn, which details there are, and what was sealed."""
+    gone = [[PROGRAMME, name] for name in market.withdrawn_programmes] + [[RESIDENT, name] for name in market.withdrawn_residents]
+    sealed = {"sealed": {"members": roots.count, "lists": roots.lists, "result": roots.result}} if roots else {}
+    return {"withdrawn": gone, **({"details": details} if details else {}), **sealed}
+
+
+def fill_sealed(draft: Draft, market: Market, details: Details, wishes: Wishes, manifest: Dict[str, Any]) -> Roots:
+    """Writes every file of a market that is sealed before its match, with a new secret."""
+    docket = market.docket()
+    digests = {folder.DOCKET: draft.write(folder.DOCKET, docket), folder.KEY: draft.write(folder.KEY, write_key(market.names))}
+    roots = seal.write(draft, docket, seal.new_secret(), False, wishes.timeout)
+    public.write_check(draft, roots, About(wishes.title, wishes.day, digests, roots))
+    has = ["family_name"] * bool(details.families) + list(details.columns)
+    if has:
+        names = {name: market.names.docket_name(RESIDENT, name) for name in market.resident_lists}
+        draft.write(folder.DETAILS, rosters.details_table(details, names))
+    _, version = run_program("residency", ["--version"], b"", wishes.timeout)
+    draft.finish({**begun(wishes, version.decode("utf-8", "replace").strip()), **manifest, **ended(market, has, roots)})
+    return roots
 
 
 def write_letters(draft: Draft, letters: Letters, inside: str = folder.LETTERS + "/") -> int:
-    """Writes each resident's letter and answers how many there are."""
+    """Writes each resident's letter, and the page of all of them, and answers how many there are."""
     written = letters.all()
     names = file_names(written, ".txt")
     for made, text in written.items():
         draft.write(inside + names[made], text.encode("utf-8"))
+    draft.write(LETTERS_PAGE, letters.page().encode("utf-8"))
     return len(written)
 
 
-class Run:
-    """A folder that was made before, read again: its market and its outcome, checked against its manifest."""
+class Kept:
+    """A folder that was made before, read again: its market, checked against its manifest."""
 
     def __init__(self, path: str) -> None:
         self.results = Results(path)
@@ -101,8 +135,7 @@ class Run:
             self.market = Market.from_docket(self.results.checked(folder.DOCKET), self.names)
         except (DocketFault, MarketFault) as fault:
             raise OfficeError(f"{self.label}: {folder.DOCKET}: {fault}", 3) from None
-        self.places = self.sheet_places()
-        self.outcome = outcome_of(self.market, self.places)
+        self.details = self.read_details()
 
     def key(self) -> Names:
         """Who is who. A key that a spreadsheet saved again is taken where it says the same."""
@@ -116,6 +149,31 @@ class Run:
             raise OfficeError(f"{self.label}: {folder.KEY} was changed since it was written, and says something else now", 3)
         return names
 
+    def is_sealed(self) -> bool:
+        """Whether the folder was sealed."""
+        return folder.SECRET in self.results.names()
+
+    def is_matched(self) -> bool:
+        return folder.SHEET in self.results.names()
+
+    def roots(self) -> Optional[Roots]:
+        """The roots of a sealed folder."""
+        if not self.is_sealed():
+            return None
+        try:
+            return Roots.read(self.results.checked(folder.ROOTS))
+        except ValueError as error:
+            raise OfficeError(f"{self.label}: {folder.ROOTS}: {error}", 3) from None
+
+    def secret(self) -> bytes:
+        """The secret of a sealed folder, as it stands in its file."""
+        data = self.results.checked(folder.SECRET)
+        try:
+            seal.secret_of(data)
+        except ValueError as error:
+            raise OfficeError(f"{self.label}: {folder.SECRET}: {error}", 3) from None
+        return data
+
     def sheet_places(self) -> Dict[str, Optional[str]]:
         """Where each resident is, by the sheet, in the office's own names."""
         places: Dict[str, Optional[str]] = {name: None for name in self.market.resident_lists}
@@ -124,6 +182,15 @@ class Run:
             if kind == "M":
                 places[self.names.name(RESIDENT, names[0])] = self.names.name(PROGRAMME, names[1])
         return places
+
+    def read_details(self) -> Details:
+        """The family names and kept columns, where the folder has some."""
+        if not self.results.manifest.get("details"):
+            return Details()
+        names = {one.docket_name: self.names.name(RESIDENT, one.docket_name) for one in self.names.members(RESIDENT)}
+        if self.is_sealed() and not self.is_matched():
+            return rosters.details_of(self.results.checked(folder.DETAILS), names, len(rosters.DETAIL_COLUMNS))
+        return rosters.details_of(self.results.checked(folder.MATCHES), names)
 
     def day(self) -> date:
         try:
@@ -137,31 +204,37 @@ class Run:
     def digests(self) -> Dict[str, str]:
         return {name: str(self.results.manifest["sha256"].get(name, "")) for name in (folder.DOCKET, folder.KEY, folder.SHEET)}
 
-    def members(self, text: str, side: str = "") -> List[Tuple[str, str]]:
-        """The members whom a name, an ID, `name (ID)` or a docket's name may mean, as sides and names."""
-        found = []
-        for member in self.names.members(side or None):
-            name = self.names.name(member.side, member.docket_name)
-            if text in (name, member.name, member.label, member.docket_name) or text and text == member.id:
-                found.append((member.side, name))
-        return found
+
+class Run(Kept):
+    """A folder with a match, read again: its market and its outcome."""
+
+    def __init__(self, path: str) -> None:
+        super().__init__(path)
+        if self.is_sealed() and not self.is_matched():
+            raise OfficeError(f"{self.label} has no match: it was sealed, and run comes next", 3)
+        self.places = self.sheet_places()
+        self.outcome = outcome_of(self.market, self.places, self.details)
 
 
-def withdrawn(run: Run, programmes: Sequence[str], residents: Sequence[str], either: Sequence[str]) -> Market:
+def opened(path: str) -> Kept:
+    """A folder read again: a `Run`, but where it was sealed and has no match yet."""
+    names = Results(path).names()
+    return Kept(path) if folder.SECRET in names and folder.SHEET not in names else Run(path)
+
+
+def withdrawn(run: Kept, programmes: Sequence[str], residents: Sequence[str], either: Sequence[str]) -> Market:
     """The market of a run with these members withdrawn besides. OfficeError for a name that nobody or more than one has, or
     whose owner is withdrawn already."""
     gone: Dict[str, List[str]] = {PROGRAMME: [], RESIDENT: []}
     before = {PROGRAMME: set(run.market.withdrawn_programmes), RESIDENT: set(run.market.withdrawn_residents)}
     named = [(one, "") for one in either] + [(one, PROGRAMME) for one in programmes] + [(one, RESIDENT) for one in residents]
     for text, side in named:
-        found = run.members(name_of(text), side)
-        if not found:
-            raise OfficeError(f"{run.label}: nobody is named {shown(text)}; nothing was written", 3)
-        if len(found) > 1:
-            raise OfficeError(f"{run.label}: {len(found)} members may be meant by {shown(text)}: give the ID, or say "
-                              "--programme or --resident; nothing was written", 3)
-        side, name = found[0]
-        if name in before[side] or name in gone[side]:
+        try:
+            member = the_one(run.names, text, side)
+        except OfficeError as error:
+            raise OfficeError(f"{run.label}: {error}", error.status) from None
+        name = run.names.name(member.side, member.docket_name)
+        if name in before[member.side] or name in gone[member.side]:
             raise OfficeError(f"{run.label}: {shown(name)} is withdrawn already; nothing was written", 3)
-        gone[side].append(name)
+        gone[member.side].append(name)
     return run.market.withdraw(programmes=gone[PROGRAMME], residents=gone[RESIDENT])

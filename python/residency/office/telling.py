@@ -3,10 +3,13 @@ import os
 import sys
 
 
-def silence() -> None:
-    """Lets what is still to be written go nowhere, so that the end of the program has nothing to fail at."""
+def silence(number: int = 1) -> None:
+    """Lets what is still to be written to a stream go nowhere, so that the end of the program has nothing to fail at."""
     try:
-        os.dup2(os.open(os.devnull, os.O_WRONLY), 1)
+        nowhere = os.open(os.devnull, os.O_WRONLY)
+        os.dup2(nowhere, number)
+        if nowhere != number:
+            os.close(nowhere)
     except OSError:
         pass
 
@@ -20,10 +23,12 @@ def failed(text: str, status: int) -> int:
 
 def complain(line: str) -> None:
     """A line on standard error, if anybody has that."""
+    if sys.stderr is None:
+        return
     try:
         print(f"office: {line}", file=sys.stderr, flush=True)
     except (OSError, ValueError):
-        pass
+        silence(2)
 
 
 def say(line: str) -> None:

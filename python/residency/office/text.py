@@ -1,26 +1,29 @@
 """The text of a saved table: its bytes, the character set that they are in, and what is broken in it."""
 import codecs
 import re
-from dataclasses import dataclass
-from typing import Optional
+from dataclasses import dataclass, field
+from typing import List, Optional
 
 from ..text import decode
 from .faults import Faults, OfficeError, shown
+from .spelling import names_beyond_ascii, odd_words
 
 MOST_BYTES = 256 << 20
 # What people call a character set.
 TITLES = {"utf-8": "UTF-8", "utf-8-sig": "UTF-8", "utf-16": "UTF-16", "utf-16-le": "UTF-16", "utf-16-be": "UTF-16",
-          "utf-32": "UTF-32", "cp1252": "Windows-1252", "iso8859-1": "ISO-8859-1", "latin-1": "ISO-8859-1", "ascii": "ASCII"}
+          "utf-32": "UTF-32", "cp1252": "Windows-1252", "iso8859-1": "ISO-8859-1", "latin-1": "ISO-8859-1", "ascii": "ASCII",
+          "xlsx": ".xlsx"}
 OF_UTF8 = re.compile(rb"[\xc2-\xdf][\x80-\xbf]|[\xe0-\xef][\x80-\xbf]{2}|[\xf0-\xf4][\x80-\xbf]{3}")
 LINE_END = re.compile(r"\r\n|\r|\n")
 
 
 @dataclass
 class Text:
-    """A file's text, and the character set that it was read in."""
+    """A file's text, the character set that it was read in, and what is worth a note."""
 
     text: str
     encoding: str
+    notes: List[str] = field(default_factory=list)
 
     def title(self) -> str:
         return title_of(self.encoding)
@@ -52,6 +55,28 @@ def known_encoding(name: str) -> str:
     except (LookupError, ValueError, TypeError):
         raise OfficeError(f"no character set is named {shown(name)}; utf-8, windows-1252, iso-8859-2 and utf-16 are some",
                           2) from None
+
+
+def table_text(data: bytes, table: str, encoding: Optional[str], faults: Faults) -> Text:
+    """A table's bytes as text. Where they are neither UTF-8 nor UTF-16, the first names with letters that aren't ASCII are
+    noted; and where these aren't written as names are, the set has to be named."""
+    told = len(faults)
+    text = decoded(data, table, encoding, faults)
+    if len(faults) > told:
+        return text
+    # What is whole in UTF-8 is that, whatever its letters; what is ASCII may be something else.
+    is_sure = text.title().startswith("UTF") and not text.text.isascii()
+    odd = odd_words(text.text) if encoding is None and not is_sure else []
+    if odd:
+        cause = (f"its character set isn't known: in {text.title()} it has {', '.join(shown(word, 30) for word in odd)}; save the "
+                 f"table as UTF-8, or name its set, as --encoding {table}=windows-1250")
+        faults.tell("file", table, None, None, cause)
+        return Text("", text.encoding)
+    names = names_beyond_ascii(text.text)
+    if names and not text.title().startswith("UTF"):
+        named = ", ".join(shown(name, 40) for name in names)
+        text.notes.append(f"{table}: names in {text.title()}, as {named}; if these are wrong, --encoding {table}=SET names another")
+    return text
 
 
 def decoded(data: bytes, table: str, encoding: Optional[str], faults: Faults) -> Text:

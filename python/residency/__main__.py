@@ -1,0 +1,73 @@
+"""Runs the built program, and writes its answer as JSON where it is asked to.
+
+    python3 -m residency WORD..                               the program with these words
+    python3 -m residency match|audit|replay --json WORD..     its answer as one line of JSON
+
+Names are those of the docket, and the exit status is the program's. A fault is the program's own line on standard error, and
+then nothing is written. What is proved of the program is proved of its own rows: this form of them is only tested.
+"""
+from __future__ import annotations
+
+import json
+import os
+import subprocess
+import sys
+from typing import Callable, Dict, List, Optional, Sequence, Union
+
+from .answers import read_audit, read_replay, read_sheet
+from .errors import ResidencyError
+from .program import environment, find_program
+from .results import Audit, Match, Replay
+
+Answer = Union[Match, Audit, Replay]
+# What reads the answer of each command, by its exit status and its bytes.
+READERS: Dict[str, Callable[[int, bytes], Answer]] = {
+    "match": lambda status, answer: read_sheet(answer), "audit": read_audit, "replay": read_replay}
+
+
+def as_json(command: str, status: int, answer: bytes) -> str:
+    """A command's answer as one line of JSON; ValueError for what is no answer of it."""
+    try:
+        return json.dumps(READERS[command](status, answer).to_dict())
+    except (IndexError, KeyError, ValueError) as error:
+        raise ValueError(f"the program wrote an answer that isn't a {command}'s") from error
+
+
+def told(text: str, status: int) -> int:
+    """Says what is wrong in one line, and answers the status."""
+    print(f"residency: {text}", file=sys.stderr)
+    return status
+
+
+def main(words: Optional[Sequence[str]] = None) -> int:
+    """Does what the words of a command line say, and answers the exit status."""
+    given: List[str] = list(sys.argv[1:] if words is None else words)
+    try:
+        program = str(find_program())
+    except ResidencyError as error:
+        return told(str(error), 1)
+    left = [word for word in given if word != "--json"]
+    wants_json = len(left) < len(given) and not {"--help", "-h", "--version"} & set(left)
+    if wants_json and left[:1] not in [[command] for command in READERS]:
+        return told(f"--json goes with {', '.join(READERS)}", 2)
+    done = subprocess.run([program, *left], stdout=subprocess.PIPE if wants_json else None, env=environment(), check=False)
+    if not wants_json:
+        return done.returncode
+    if done.returncode not in (0, 4):
+        return done.returncode if done.returncode > 0 else told(f"the program ended by signal {-done.returncode}", 1)
+    try:
+        line = as_json(left[0], done.returncode, done.stdout)
+    except ValueError as error:
+        return told(str(error), 1)
+    try:
+        sys.stdout.write(line + "\n")
+        sys.stdout.flush()
+    except OSError:
+        # What is left in the buffer goes nowhere, so that the end of Python has nothing to fail at.
+        os.dup2(os.open(os.devnull, os.O_WRONLY), sys.stdout.fileno())
+        return told("the output could not be written", 1)
+    return done.returncode
+
+
+if __name__ == "__main__":
+    sys.exit(main())

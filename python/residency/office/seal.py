@@ -1,0 +1,71 @@
+"""Sealing: the secret, the published roots, and each member's receipt. The program `seal` and the trees of this package's own code
+have to give the same bytes, else nothing is written."""
+import secrets
+from pathlib import Path
+from typing import Dict, Optional, Sequence, Tuple
+
+from ..errors import ProgramMissing
+from ..names import PROGRAMME, RESIDENT
+from ..program import DEFAULT_TIMEOUT, find_program, run_program
+from . import folder, tree
+from .faults import OfficeError
+from .folder import Draft
+from .tree import Roots
+
+Member = Tuple[str, str]
+# How a receipt's file begins, by the member's side.
+STEMS = {PROGRAMME: "programme", RESIDENT: "resident"}
+
+
+def new_secret() -> bytes:
+    """A secret's file: 64 digits that nobody can guess."""
+    return f"{secrets.token_hex(32)}\n".encode("ascii")
+
+
+def secret_of(data: bytes) -> bytes:
+    """The 32 bytes of a secret's file. ValueError where it has none."""
+    digits = data.decode("ascii").removesuffix("\n")
+    if len(digits) != 64 or digits.strip("0123456789abcdefABCDEF") or not digits.strip("0"):
+        raise ValueError("this is no secret: it has not 64 hexadecimal digits, or zeros alone")
+    return bytes.fromhex(digits)
+
+
+def receipt_files(members: Sequence[Member]) -> Dict[Member, str]:
+    """The name of each member's receipt; any system takes it, and no two are one in capitals."""
+    stems = {f"{STEMS[side]}-{name}": (side, name) for side, name in members}
+    names = folder.file_names(stems, ".csv")
+    return {stems[stem]: f"{folder.RECEIPTS}/{name}" for stem, name in names.items()}
+
+
+def is_built() -> bool:
+    """Whether the program `seal` is here."""
+    try:
+        find_program("seal")
+    except ProgramMissing:
+        return False
+    return True
+
+
+def made(docket: bytes, secret: Path, sheet: Optional[Path] = None, timeout: float = DEFAULT_TIMEOUT) -> Tuple[Roots, Dict[Member, bytes]]:
+    """The roots and each member's receipt, of a docket and, after the match, its sheet's file. OfficeError where the program
+    `seal` is here and writes another byte."""
+    own = tree.Sealed(docket, secret_of(secret.read_bytes()), None if sheet is None else sheet.read_bytes())
+    receipts = own.receipts()
+    if is_built():
+        words = ["--secret", str(secret), *([] if sheet is None else ["--sheet", str(sheet)])]
+        _, roots = run_program("seal", ["root", *words], docket, timeout)
+        _, data = run_program("seal", ["receipts", *words], docket, timeout)
+        if roots != own.roots().rows() or data != b"".join(tree.text_of([("member", *one)]) + text for one, text in receipts.items()):
+            raise OfficeError("the program seal and the office's own trees differ; nothing was written")
+    return own.roots(), receipts
+
+
+def write(draft: Draft, docket: bytes, secret: bytes, sheet: bool, timeout: float) -> Roots:
+    """Writes the secret, the roots and each member's receipt into a draft, which has the sheet's file where it is wanted."""
+    draft.write(folder.SECRET, secret)
+    roots, receipts = made(docket, draft.path / folder.SECRET, draft.path / folder.SHEET if sheet else None, timeout)
+    names = receipt_files(list(receipts))
+    for member, receipt in receipts.items():
+        draft.write(names[member], receipt)
+    draft.write(folder.ROOTS, roots.rows())
+    return roots

@@ -1,0 +1,88 @@
+"""Ctrl-C, SIGTERM and a hang-up: the command stops once, says so in one line, and leaves nothing half made behind.
+
+A signal that is ignored at the start stays ignored, as `nohup` has it.
+"""
+import os
+import shutil
+import signal
+import sys
+from contextlib import contextmanager
+from pathlib import Path
+from typing import Any, Iterator, List, Set
+
+SIGNALS = (signal.SIGINT, signal.SIGTERM, signal.SIGHUP)
+# Files and folders under way, by the names that they have until they are whole.
+UNFINISHED: Set[Path] = set()
+
+
+class Stopped(BaseException):
+    """A signal asked the command to end."""
+
+
+def ignore() -> None:
+    for number in SIGNALS:
+        signal.signal(number, signal.SIG_IGN)
+
+
+def stop(number: int, frame: object) -> None:
+    """Asks the command to end; what comes after the first signal changes nothing, so that nothing breaks off the cleaning."""
+    ignore()
+    raise Stopped(number)
+
+
+def lost(trouble: Any) -> None:
+    """Ends the command where a stop came in the midst of what lets no exception through, as when an object is given up."""
+    if isinstance(trouble.exc_value, Stopped):
+        clean()
+        os.write(2, b"office: interrupted\n")
+        os._exit(1)
+    sys.__unraisablehook__(trouble)
+
+
+@contextmanager
+def stoppable() -> Iterator[None]:
+    """Lets signals stop the command while it runs. Elsewhere than in a main thread no signal comes."""
+    before: List[Any] = []
+    hook = sys.unraisablehook
+    try:
+        for number in SIGNALS:
+            if signal.getsignal(number) not in (signal.SIG_IGN, None):
+                before.append((number, signal.signal(number, stop)))
+        sys.unraisablehook = lost
+    except ValueError:
+        pass
+    try:
+        yield
+    finally:
+        sys.unraisablehook = hook
+        for number, handler in before:
+            signal.signal(number, handler)
+
+
+def remove(path: Path) -> None:
+    """Removes a file or a folder, where it is there."""
+    if path.is_dir() and not path.is_symlink():
+        shutil.rmtree(path, ignore_errors=True)
+    else:
+        try:
+            path.unlink()
+        except OSError:
+            pass
+
+
+def clean() -> None:
+    """Removes all that is under way."""
+    for path in list(UNFINISHED):
+        remove(path)
+        UNFINISHED.discard(path)
+
+
+@contextmanager
+def unfinished(path: Path) -> Iterator[Path]:
+    """A file or folder under way at this path, which is removed at the end if it is still there."""
+    UNFINISHED.add(path)
+    try:
+        yield path
+    finally:
+        remove(path)
+        UNFINISHED.discard(path)

@@ -1,0 +1,67 @@
+"""How files are written: under a name that nobody can guess until they are whole, never over what stands, and never through a
+link. All that the command writes goes through here."""
+import os
+import secrets
+from pathlib import Path
+
+from . import stopping
+from .faults import OfficeError, shown
+
+# Whom a file is for: its owner alone, or all whom the user's mask lets read it.
+PRIVATE, SHARED = 0o600, 0o666
+
+
+def umask() -> int:
+    now = os.umask(0o022)
+    os.umask(now)
+    return now
+
+
+def cause_of(error: Exception) -> str:
+    return (getattr(error, "strerror", None) or str(error)).lower()
+
+
+def refuse(out: str) -> None:
+    """OfficeError where something stands at this path, be it a link that leads nowhere, or where it is none."""
+    if not out or "\0" in out:
+        raise OfficeError(f"'{shown(out)}' can't be written: it is no path", 2)
+    if os.path.lexists(out):
+        raise OfficeError(f"{shown(out)} is there already; nothing was written", 2)
+
+
+def draft_of(out: str) -> Path:
+    """Where what will stand at a path is made: beside it, under a name that nobody can guess."""
+    return Path(os.path.abspath(out)).with_name(f".part-{secrets.token_hex(16)}")
+
+
+def write_new(path: Path, data: bytes, mode: int = SHARED) -> None:
+    """Writes a file where nothing stands, not even a link. OSError."""
+    number = os.open(path, os.O_WRONLY | os.O_CREAT | os.O_EXCL | os.O_NOFOLLOW | os.O_CLOEXEC, mode)
+    with open(number, "wb") as file:
+        file.write(data)
+
+
+def settle(part: Path, target: Path) -> None:
+    """Gives a file that is whole its name, where nothing has it. OSError."""
+    try:
+        os.link(part, target, follow_symlinks=False)
+    except FileExistsError:
+        raise
+    except OSError:
+        # A file system without links to files: the name is claimed first, and what is renamed over is the claim.
+        write_new(target, b"")
+        os.rename(part, target)
+
+
+def new_file(out: str, data: bytes, mode: int = SHARED) -> None:
+    """Writes a file that isn't there yet, whole or not at all; for its owner alone where `mode` is PRIVATE. OfficeError."""
+    refuse(out)
+    target = Path(os.path.abspath(out))
+    with stopping.unfinished(draft_of(out)) as part:
+        try:
+            write_new(part, data, mode)
+            settle(part, target)
+        except FileExistsError:
+            raise OfficeError(f"{shown(out)} is there already; nothing was written", 2) from None
+        except (OSError, ValueError) as error:
+            raise OfficeError(f"{shown(out)} can't be written: {cause_of(error)}; nothing was left there") from None
