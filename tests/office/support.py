@@ -3,11 +3,10 @@ import contextlib
 import io
 import os
 import subprocess
-import sys
 import tempfile
 import unittest
 from pathlib import Path
-from typing import List, NamedTuple, Optional, Sequence
+from typing import Dict, List, NamedTuple, Optional, Sequence, Union
 
 from residency.office import main
 
@@ -51,7 +50,7 @@ def office(*words: str) -> Said:
     return Said(status, out.getvalue(), err.getvalue())
 
 
-def spawn(words: Sequence[str], env: Optional[dict] = None, data: bytes = b"", shell: str = "") -> Said:
+def spawn(words: Sequence[str], env: Optional[Dict[str, str]] = None, data: bytes = b"", shell: str = "") -> Said:
     """The command in a process of its own; `shell` is put after it, as `| head -n 1` or `> /dev/full`."""
     line = ["bash", "-c", f'"$0" "$@" {shell}', OFFICE, *map(str, words)]
     done = subprocess.run(line, input=data, capture_output=True, env={**os.environ, **(env or {})}, timeout=300)
@@ -71,15 +70,16 @@ class OfficeTest(unittest.TestCase):
         self.addCleanup(folder.cleanup)
         return Path(folder.name)
 
-    def write(self, name: str, text) -> str:
+    def write(self, name: str, text: Union[str, bytes]) -> str:
         path = self.folder / name
         path.write_bytes(text if isinstance(text, bytes) else text.encode("utf-8"))
         return str(path)
 
-    def tables(self, programmes=PROGRAMMES, residents=RESIDENTS) -> List[str]:
+    def tables(self, programmes: Union[str, bytes] = PROGRAMMES, residents: Union[str, bytes] = RESIDENTS) -> List[str]:
         return [self.write("programmes.csv", programmes), self.write("residents.csv", residents)]
 
-    def run_tables(self, programmes=PROGRAMMES, residents=RESIDENTS, out: str = "out", *words: str) -> Path:
+    def run_tables(self, programmes: Union[str, bytes] = PROGRAMMES, residents: Union[str, bytes] = RESIDENTS, out: str = "out",
+                   *words: str) -> Path:
         """A run that has to be done; answers its folder."""
         said = office(
             "run", *self.tables(programmes, residents), "--out", str(self.folder / out), "--date", "2026-03-20", *words

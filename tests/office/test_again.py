@@ -1,13 +1,14 @@
 """What is done with a folder later: withdrawals, comparisons, letters, and files that were changed meanwhile."""
-import csv
-import io
 import os
+import random
 import shutil
 from pathlib import Path
-from typing import Dict
+from typing import Dict, List, Sequence
 
 import derived
-from residency import read_key
+from residency import Member, Names
+from residency.office import who
+from residency.office.faults import OfficeError
 from support import PROGRAMMES, RESIDENTS, SAMPLES, OfficeTest, office
 from test_folder import sample, sha256, table
 
@@ -88,7 +89,14 @@ class Withdraw(Again):
 
     def test_names_that_are_refused(self) -> None:
         self.refused(3, "nobody is named Nobody", "withdraw", self.out, "Nobody")
-        self.refused(3, "nobody is named Zoë O'Connor", "withdraw", self.out, "--programme", "Zoë O'Connor")
+        self.refused(
+            3,
+            "no programme is named Zoë O'Connor, but a resident is (--resident)",
+            "withdraw",
+            self.out,
+            "--programme",
+            "Zoë O'Connor",
+        )
         self.refused(2, "who withdraws?", "withdraw", self.out)
         self.refused(3, "withdrawn already", "withdraw", self.out, "Greta Weiß", "greta-weiss")
         self.refused(2, "is there already", "withdraw", self.out, "Greta Weiß", "--out", self.out)
@@ -107,6 +115,75 @@ class Withdraw(Again):
             self.assertEqual(said.status, 0)
             self.assertIn("Ana Silva (18): withdrawn; South (1st of 2) -> withdrawn", said.out)
             self.assertIn("Ana Silva (17): moved; Kim Lee Clinic (2nd of 2) -> South (1st of 2)", said.out)
+
+
+    def test_every_way_to_name_a_member(self) -> None:
+        """Who is meant, by a derivation over made keys: one member or none."""
+        for seed in range(300):
+            chance = random.Random(seed)
+            members = made_members(chance)
+            names = Names(members)
+            texts = {text for one in members for text in (one.docket_name, one.id, one.name, f"{one.name} ({one.id})") if text}
+            texts |= {f"{one.name} ({one.docket_name})" for one in members}
+            for text in sorted(texts | {"Nobody", "a (7)", "A", "(1)"}):
+                for side in ("", "P", "R"):
+                    wanted = [
+                        one
+                        for one in members
+                        if side in ("", one.side)
+                        and (
+                            text == one.docket_name
+                            or text == one.name
+                            or one.id
+                            and text in (one.id, f"{one.name} ({one.id})")
+                            or not one.id
+                            and text == f"{one.name} ({one.docket_name})"
+                        )
+                    ]
+                    try:
+                        found = [who.the_one(names, text, side)]
+                    except OfficeError as error:
+                        self.assertEqual(error.status, 3)
+                        self.assertIn(
+                            f"{len(wanted)} members may be meant by {text}: " if len(wanted) > 1 else f" is named {text}", str(error)
+                        )
+                        for one in wanted:
+                            self.assertIn(f"{one.name} ({one.id or one.docket_name})", str(error))
+                        self.assertNotEqual(len(wanted), 1, (seed, text, side))
+                        continue
+                    self.assertEqual(found, wanted, (seed, text, side))
+
+    def test_one_name_in_several_forms(self) -> None:
+        """Of letters that are put together or composed, with blanks around and doubled, and marks that nobody sees."""
+        names = Names([Member("R", "zoe-bronte", "Zoë Brontë", "Ä 7"), Member("R", "zoe-bronte-2", "Zoe Bronte", "8")])
+        for text in ("Zoë Brontë", "Zoe\u0308 Bronte\u0308", "  Zoë   Brontë ", "Zoë\u00a0Brontë\u200b", "A\u0308 7", "zoe-bronte"):
+            for side in ("", "R"):
+                self.assertEqual(who.the_one(names, text, side).docket_name, "zoe-bronte", ascii(text))
+
+    def test_at_most_ten_are_named(self) -> None:
+        names = Names([Member("R", f"r-{number}", "Kim Lee", str(number)) for number in range(1, 14)])
+        with self.assertRaises(OfficeError) as told:
+            who.the_one(names, "Kim Lee")
+        self.assertEqual(
+            str(told.exception),
+            "13 members may be meant by Kim Lee: "
+            + ", ".join(f"Kim Lee ({number})" for number in range(1, 11))
+            + " and 3 more; give the ID; nothing was written",
+        )
+
+
+def made_members(chance: random.Random) -> List[Member]:
+    """Members of both sides whose names, IDs and docket's names are often one another's."""
+    members: List[Member] = []
+    for side in "PR":
+        docket_names = chance.sample(["a", "b", "c", "d", "1", "2"], 3)
+        with_ids = chance.random() < 0.7
+        ids = chance.sample(["1", "2", "7", "a", "b", "X-9"], 3) if with_ids else [""] * 3
+        named = [chance.choice(["A", "B", "a", "b", "1", "2"]) for _ in range(3)]
+        if not with_ids:
+            named = chance.sample(["A", "B", "a", "b", "1", "2"], 3)
+        members += [Member(side, *one) for one in zip(docket_names, named, ids)]
+    return members
 
 
 class Changed(Again):
@@ -173,37 +250,116 @@ class Changed(Again):
 
 
 class Compare(OfficeTest):
+    def test_a_year_with_ids_and_one_without(self) -> None:
+        """Where not all have an ID, members are known by their names, and nobody is taken for another."""
+        programmes = "Programme,Places,1,2,3\nNorth,1,Ana,Bo,Cy\n"
+        before = self.run_tables(programmes, "Applicant,ID,1\nAna,1,North\nBo,2,North\nCy,3,North\n", "before")
+        now = self.run_tables(programmes.replace("Ana,Bo", "Bo,Ana"), "Applicant,1\nAna,North\nBo,North\nCy,North\n", "now")
+        wanted = [
+            "residents by their names, since not all have an ID: 1 now matched, 1 no longer matched",
+            "Bo: now matched; unmatched (lost out) -> North (1st of 1)",
+            "Ana: no longer matched; North (1st of 1) -> unmatched (lost out)",
+        ]
+        self.assertEqual(office("compare", before, now, "--names").out.splitlines()[10:], wanted)
+        self.assertEqual(
+            office("compare", now, before, "--names").out.splitlines()[11:],
+            [
+                "Ana (1): now matched; unmatched (lost out) -> North (1st of 1)",
+                "Bo (2): no longer matched; North (1st of 1) -> unmatched (lost out)",
+            ],
+        )
+
     def test_two_years_by_name(self) -> None:
         before = self.run_tables(out="before")
         programmes = (
             PROGRAMMES.replace("West Infirmary,3,Kim Lee,,,", "West Infirmary,2,Kim Lee,Fatima Kovács,,")
             .replace("East Ward,1,Zoë Brontë,", "East Ward,1,New One,")
-            .replace(",Zoë Brontë", "")
+            .replace(",Zoë Brontë,Jürgen Groß", ",Jürgen Groß,")
         )
         residents = RESIDENTS.replace("Zoë Brontë,East Ward,North Clinic,", "New One,East Ward,,")
         now = self.run_tables(programmes, residents, "now")
-        said = office("compare", before, now)
+        said = office("compare", before, now, "--names")
         was, is_now = (derived.match(derived.tables(*tables)) for tables in ((PROGRAMMES, RESIDENTS), (programmes, residents)))
         self.assertEqual((was.match["Fatima Kovács"], is_now.match["Fatima Kovács"]), (None, "West Infirmary"))
         self.assertEqual(said.status, 0)
         self.assertEqual(
-            said.out.splitlines(),
+            said.out.splitlines()[10:],
             [
-                "residents: 7 before, 7 now; 1 now matched, 1 new, 1 gone",
+                "residents by their names, since not all have an ID: 1 now matched, 1 new, 1 gone",
                 "Fatima Kovács: now matched; unmatched (ranked back by nobody) -> West Infirmary (1st of 2)",
                 "New One: new; not there -> East Ward (1st of 1)",
                 "Zoë Brontë: gone; East Ward (1st of 2) -> not there",
                 "West Infirmary: filled otherwise; 0 of 3 filled -> 1 of 2 filled",
             ],
         )
-        self.assertEqual(office("compare", before, now, "--out", self.folder / "changes.csv").out, said.out)
+        again = office("compare", before, now, "--names", "--out", self.folder / "changes.csv")
+        self.assertEqual(again, said)
         rows = table(self.folder / "changes.csv")
         self.assertEqual(
-            [f"{row['Name']}: {row['Change']}; {row['Before']} -> {row['Now']}" for row in rows], said.out.splitlines()[1:]
+            [f"{row['Name']}: {row['Change']}; {row['Before']} -> {row['Now']}" for row in rows], said.out.splitlines()[11:]
         )
         again = office("compare", before, now, "--out", self.folder / "changes.csv")
         self.assertEqual((again.status, again.out), (2, ""))
-        self.assertEqual(office("compare", before, before).out, "residents: 7 before, 7 now; nobody stands otherwise\n")
+        self.assertEqual(
+            office("compare", before, before).out.splitlines()[10:],
+            ["residents by their names, since not all have an ID: nobody stands otherwise"],
+        )
+
+    def figures(self, given: derived.Derived, gone: Sequence[str]) -> List[str]:
+        """The ten figures of a year, counted from its tables."""
+        match = derived.match(given, gone)
+        there = [one for one in given.resident_lists if one not in gone]
+        share = lambda count: f"{count} ({100 * count / len(there):.0f}%)"  # noqa: E731
+        matched = [one for one in there if match.match[one]]
+        choices = [match.choice(one) for one in matched]
+        back = [one for one in there if one not in matched and match.ranked_back(one, gone)]
+        counts = [len(matched), *(choices.count(choice) for choice in (1, 2, 3)), sum(choice > 3 for choice in choices)]
+        counts += [len(back), len(there) - len(matched) - len(back)]
+        programmes = [one for one in given.places if one not in gone]
+        places = sum(given.places[one] for one in programmes)
+        left = sum(given.places[one] - len(match.members(one)) for one in programmes)
+        return [str(len(there)), *map(share, counts), str(len(programmes)), f"{left} of {places}"]
+
+    def test_ten_lines_of_figures(self) -> None:
+        given = derived.tables(sample("programmes.csv"), sample("residents.csv"))
+        office("run", SAMPLES / "programmes.csv", SAMPLES / "residents.csv", "--out", self.folder / "a")
+        gone = ["Zoë O'Connor", "Lakeview – Family Medicine", "Greta Weiß"]
+        office("withdraw", self.folder / "a", *gone, "--out", self.folder / "b")
+        other = self.run_tables()
+        titles = (
+            "residents who take part",
+            "matched",
+            "with their first choice",
+            "with their second choice",
+            "with their third choice",
+            "with a later choice",
+            "unmatched, though ranked back",
+            "unmatched, ranked back by nobody or with an empty list",
+            "programmes that take part",
+            "places unfilled",
+        )
+        years = {
+            "a": self.figures(given, []),
+            "b": self.figures(given, gone),
+            "out": self.figures(derived.tables(PROGRAMMES, RESIDENTS), []),
+        }
+        self.assertEqual(other.name, "out")
+        for before in years:
+            for now in years:
+                said = office("compare", self.folder / before, self.folder / now)
+                lines = said.out.splitlines()
+                self.assertEqual((said.status, said.err, len(lines)), (0, "", 11))
+                wanted = [f"{what}: {was} before, {to} now" for what, was, to in zip(titles, years[before], years[now])]
+                self.assertEqual(lines[:10], wanted)
+                # Nobody is named where that isn't asked for.
+                everybody = (*given.resident_lists, *given.places, "Ana Silva", "North Clinic")
+                self.assertFalse(any(name in said.out for name in everybody))
+        self.assertEqual(
+            lines[10], "residents by their names, since not all have an ID: nobody stands otherwise"
+        )
+        lines = office("compare", self.folder / "a", self.folder / "b").out.splitlines()
+        known = r"^residents by their names, since not all have an ID: "
+        self.assertRegex(lines[10], known + r"(\d+ [a-z ]+, )+2 withdrawn; --names lists them$")
 
     def test_people_and_programmes_are_known_by_their_ids(self) -> None:
         first = ("Programme,ID,Places,1,2\nNorth,p1,1,17,18\n", "ID,Applicant,1\n17,Ana Silva,North\n18,Kim Lee,North\n")
@@ -213,77 +369,23 @@ class Compare(OfficeTest):
         )
         before, now = self.run_tables(*first, "before"), self.run_tables(*second, "now")
         self.assertEqual(
-            office("compare", before, now).out.splitlines(),
+            office("compare", before, now, "--names").out.splitlines()[10:],
             [
-                "residents: 2 before, 2 now; 1 now matched, 1 no longer matched",
-                "Ana Silva: now matched; unmatched (lost out) -> North Clinic (1st of 1)",
-                "Ana Silva-Lee: no longer matched; North (1st of 1) -> unmatched (lost out)",
+                "residents by their IDs: 1 now matched, 1 no longer matched",
+                "Ana Silva (18): now matched; unmatched (lost out) -> North Clinic (1st of 1)",
+                "Ana Silva-Lee (17): no longer matched; North (1st of 1) -> unmatched (lost out)",
+            ],
+        )
+        # Members are told by the names that they have now.
+        more = (second[0].replace(",1,18", ",2,18"), second[1])
+        self.assertEqual(
+            office("compare", before, self.run_tables(*more, "more"), "--names").out.splitlines()[10:],
+            [
+                "residents by their IDs: 1 now matched",
+                "Ana Silva (18): now matched; unmatched (lost out) -> North Clinic (1st of 1)",
+                "North Clinic (p1): filled otherwise; 1 of 1 filled -> 2 of 2 filled",
             ],
         )
         # A programme that is only renamed isn't moved to.
         third = (first[0].replace("North", "North Clinic"), first[1].replace(",North", ",p1"))
         self.assertIn("nobody stands otherwise", office("compare", before, self.run_tables(*third, "third")).out)
-
-
-class Letters(Again):
-    def test_a_template(self) -> None:
-        template = self.write("letter.txt", "An $name ($docket_name): ${programme}/$choice von $listed, $$5, $date\n")
-        said = office("letters", self.out, "--template", template, "--out", self.folder / "letters")
-        self.assertEqual((said.status, said.out), (0, f"40 letters written to {self.folder / 'letters'}\n"))
-        self.assertEqual(len(os.listdir(self.folder / "letters")), 40)
-        self.assertEqual(
-            (self.folder / "letters" / "jurgen-gross.txt").read_text(encoding="utf-8"),
-            "An Jürgen Groß (jurgen-gross): Queen's Park – Psychiatry/4th von 4, $5, 2026-03-20\n",
-        )
-
-    def test_without_a_template_they_are_the_same(self) -> None:
-        self.assertEqual(office("letters", self.out, "--out", self.folder / "letters").status, 0)
-        self.assertEqual(snapshot(self.folder / "letters"), snapshot(self.out / "letters"))
-
-    def test_a_template_at_fault(self) -> None:
-        for text, cause in (
-            ("a\n$nmae", "line 2: $nmae is none of"),
-            ("costs 5$", "line 1: $ is none of"),
-            ("$name ${", "line 1: $ is none of"),
-            ("${name.__class__}", "line 1: $ is none of"),
-        ):
-            template = self.write("letter.txt", text)
-            self.refused(3, cause, "letters", self.out, "--template", template, "--out", self.folder / "letters")
-        self.refused(
-            1, "can't be read", "letters", self.out, "--template", self.folder / "nowhere", "--out", self.folder / "letters"
-        )
-
-    def test_each_standing_has_its_letter(self) -> None:
-        out = self.run_tables(out="small")
-        office("withdraw", out, "Jürgen Groß", "South Hospital", "--out", self.folder / "b")
-        letter = lambda name: (self.folder / "b" / "letters" / f"{name}.txt").read_text(encoding="utf-8")  # noqa: E731
-        self.assertIn("You are withdrawn, and have no place.", letter("jurgen-gross"))
-        self.assertIn("1. South Hospital: it is withdrawn\n  2. North Clinic: you are matched here", letter("ana-silva"))
-        self.assertIn(
-            "You are not matched: your list is empty.\n\nYour list, as it was matched, is empty.", letter("rosa-rossi")
-        )
-        self.assertIn("no programme on your list that takes part\nhas you on its own list", letter("fatima-kovacs"))
-        self.assertIn("each programme on your list that has you on\nits own filled all of its places", letter("omar-haddad"))
-
-
-class Formulas(OfficeTest):
-    """Names that a spreadsheet would take for formulas."""
-
-    NAMES = ("=1+1", "+49 Kim", "-Ana", "@Omar", "'=x", "'t Hooft", "''@y", "＝2")
-
-    def test_no_cell_is_a_formula_and_names_come_back(self) -> None:
-        programmes = (
-            "Programme;Places;" + ";".join(map(str, range(1, 9))) + "\n=North;3;" + ";".join(self.NAMES) + "\n-South;9;\n"
-        )
-        residents = "Applicant;1;2\n" + "".join(f"{name};=North;-South\n" for name in self.NAMES)
-        out = self.run_tables(programmes, residents)
-        said = office("withdraw", out, "=1+1", "--out", self.folder / "b")
-        self.assertEqual(said.status, 0, said.err)
-        for path in [*out.rglob("*.csv"), *(self.folder / "b").rglob("*.csv")]:
-            for row in csv.reader(io.StringIO(path.read_bytes().decode("utf-8-sig"))):
-                for cell in row:
-                    self.assertFalse(cell.startswith(("=", "+", "-", "@", "\t", "\r", "＝")), (path, row))
-        names = read_key((out / "key.csv").read_bytes())
-        self.assertEqual([names.name(one.side, one.docket_name) for one in names.members("R")], list(self.NAMES))
-        self.assertIn("=1+1: withdrawn; =North (1st of 2) -> withdrawn", said.out)
-        self.assertIn("@Omar: now matched; unmatched (lost out) -> =North (1st of 2)", said.out)

@@ -1,45 +1,40 @@
 """What the largest tables cost: 20,000 residents, 2,000 programmes, 200,000 pairs, in scripts with and without plain letters.
 
-A run and the check of one mistake are of that size; the other mistakes are an eighth of it, within an eighth of the time,
-unless `tests/office/run --full` asks for the whole. Times are those of the processor, which other work beside doesn't
-change much, and without those of the match itself. They are for a machine on which Python adds a million numbers in a
-twelfth of a second; one that takes longer has as many times more.
+Seconds of the processor are compared with one another alone, since machines differ and other work may stand beside. A check of
+tables with a mistake is compared with a check of the same tables without, and then with one of eight times as many rows. A run
+is compared with a check of its tables. Mistakes are of half the whole size, unless `tests/office/run --full` asks for all of it.
 """
 import subprocess
 import sys
 import time
 from pathlib import Path
-from typing import Callable, List, NamedTuple
+from typing import Callable, List, NamedTuple, Union
 
 import large
 import support
+from residency.names import docket_names
+from residency.office import folder
 from support import OFFICE, OfficeTest
 
-RUN_SECONDS, CHECK_SECONDS, MEGABYTES = 60, 20, 1000
-USUAL_SECONDS = 1 / 12
-# Starts the office's command and tells, besides its own end, what it took itself: seconds of a processor, and memory.
+MEGABYTES = 1000
+# What goes with the rows takes eight times as long for eight times as many, or less, since Python's start is the same. What goes
+# with their square takes up to 64 times as long.
+MORE, GROWTH = 8, 10
+# A measure that is too large is taken again, so often at most: other work only adds to it.
+MOST = 6
+# Starts the office's command and tells, besides its own end, what it took itself: seconds of a processor, and kilobytes. The most
+# that `getrusage` tells may be those of the process that started it.
 MEASURED = """
 import resource, sys
 sys.path.insert(0, sys.argv.pop(1))
 from residency.office import main
 status = main(sys.argv[1:])
 used = resource.getrusage(resource.RUSAGE_SELF)
-print(f"took {used.ru_utime + used.ru_stime} {used.ru_maxrss / 1000}", file=sys.stderr)
+with open("/proc/self/status") as lines:
+    kilobytes = next(line.split()[1] for line in lines if line.startswith("VmHWM:"))
+print(f"took {used.ru_utime + used.ru_stime} {kilobytes}", file=sys.stderr)
 sys.exit(status)
 """
-
-
-def added() -> float:
-    """The seconds of the processor in which Python adds a million numbers."""
-    start, total = time.process_time(), 0
-    for number in range(1_000_000):
-        total += number
-    return time.process_time() - start
-
-
-def slowness() -> float:
-    """How many times longer than usual Python takes on this machine now, and never less than one."""
-    return max(1.0, min(added() for _ in range(3)) / USUAL_SECONDS)
 
 
 class Took(NamedTuple):
@@ -50,38 +45,68 @@ class Took(NamedTuple):
 
 
 class Cost(OfficeTest):
-    def took(self, *words: str) -> Took:
+    def took(self, *words: Union[str, Path]) -> Took:
         done = subprocess.run(
             [sys.executable, "-c", MEASURED, str(Path(OFFICE).parent / "python"), *map(str, words)],
             capture_output=True,
             timeout=600,
         )
         *lines, last = done.stderr.decode("utf-8").splitlines()
-        word, seconds, megabytes = last.split()
+        word, seconds, kilobytes = last.split()
         self.assertEqual(word, "took", last)
-        return Took(done.returncode, done.stdout.decode("utf-8").splitlines() + lines, float(seconds), float(megabytes))
+        return Took(done.returncode, done.stdout.decode("utf-8").splitlines() + lines, float(seconds), int(kilobytes) / 1000)
+
+    def compared(self, more: Callable[[], Took], less: Callable[[], Took], times: float) -> None:
+        """Whether the one takes less than so many times the other, by the least that each took."""
+        most: List[float] = []
+        least: List[float] = []
+        while not most or len(most) < MOST and min(most) >= times * min(least):
+            least.append(less().seconds)
+            most.append(more().seconds)
+        self.assertLess(min(most) / min(least), times, f"{most} to {least}")
 
     def test_a_run_at_the_limits(self) -> None:
+        """It reads its tables as a check does; the docket, its match and the letters take a few times as long again."""
         for script, long in (("devanagari", False), ("latin", True))[: 1 + support.FULL]:
             tables = large.write_tables(self.folder, script, long=long)
-            took = self.took("run", *tables, "--out", self.folder / script)
-            self.assertEqual(took.status, 0, took.lines)
-            self.assertIn("; 20,000 residents", took.lines[1])
-            self.assertLess(took.seconds, RUN_SECONDS * slowness())
-            self.assertLess(took.megabytes, MEGABYTES)
 
-    def check(self, seconds: float = CHECK_SECONDS, status: int = 3) -> Took:
-        took = self.took("check", self.folder / "programmes.csv", self.folder / "residents.csv")
+            def run() -> Took:
+                took = self.took("run", *tables, "--out", self.folder / f"{script} {time.monotonic_ns()}")
+                self.assertEqual(took.status, 0, took.lines)
+                self.assertIn("; 20,000 residents", took.lines[1])
+                self.assertLess(took.megabytes, MEGABYTES)
+                return took
+
+            self.compared(run, lambda: self.check(self.folder, 0), 8)
+
+    def test_sealing_goes_with_the_rows(self) -> None:
+        """Eight times as many members take eight times as long to be sealed: trees, receipts and their files."""
+        whole = 1 if support.FULL else 4
+        for part in (whole, whole * MORE):
+            self.written(str(part), lambda path: large.write_tables(path, "latin", 20000 // part, 2000 // part))
+
+        def seal(part: int) -> Took:
+            tables = (self.folder / str(part) / name for name in ("programmes.csv", "residents.csv"))
+            took = self.took("seal", *tables, "--out", self.folder / f"{part} {time.monotonic_ns()}")
+            self.assertEqual((took.status, took.lines[-1][:6]), (0, "lists,"), took.lines)
+            self.assertLess(took.megabytes, MEGABYTES)
+            return took
+
+        self.compared(lambda: seal(whole), lambda: seal(whole * MORE), GROWTH)
+
+    def check(self, tables: Path, status: int = 3) -> Took:
+        took = self.took("check", tables / "programmes.csv", tables / "residents.csv")
         self.assertEqual(took.status, status, took.lines[-3:])
-        self.assertLessEqual(len(took.lines), 20)
-        self.assertLess(took.seconds, seconds * slowness())
+        self.assertLessEqual(len(took.lines), 24)
         self.assertLess(took.megabytes, MEGABYTES)
         return took
 
-    @staticmethod
-    def bound(part: int) -> float:
-        """The seconds for a part of the whole size: that part of those for the whole, and one for Python's own start."""
-        return CHECK_SECONDS if part == 1 else CHECK_SECONDS / part + 1
+    def written(self, name: str, write: Callable[[Path], object]) -> Path:
+        """A folder of this name, in which tables are written."""
+        path = self.folder / name
+        path.mkdir(exist_ok=True)
+        write(path)
+        return path
 
     def mistaken(
         self,
@@ -89,27 +114,41 @@ class Cost(OfficeTest):
         long: bool = False,
         in_lists: Callable[[str], str] = str,
         residents: Callable[[str], str] = str,
-        part: int = 8,
-    ) -> Took:
-        """The check of tables with a mistake, of the whole size or a part of it."""
-        part = 1 if support.FULL else part
-        large.write_tables(self.folder, script, 20000 // part, 2000 // part, 10, long, in_lists)
-        path = self.folder / "residents.csv"
-        path.write_text(residents(path.read_text(encoding="utf-8")), encoding="utf-8")
-        return self.check(self.bound(part))
+        times: float = 3,
+        growth: float = GROWTH,
+    ) -> None:
+        """A check of tables with a mistake beside one without, and then one of eight times as many rows with it."""
+        part = 1 if support.FULL else 2
+
+        def with_mistake(path: Path, part: int) -> None:
+            large.write_tables(path, script, 20000 // part, 2000 // part, 10, long, in_lists)
+            rows = path / "residents.csv"
+            rows.write_text(residents(rows.read_text(encoding="utf-8")), encoding="utf-8")
+
+        less = MORE * part
+        good = self.written("good", lambda path: large.write_tables(path, script, 20000 // less, 2000 // less, 10, long))
+        bad = self.written("bad", lambda path: with_mistake(path, less))
+        more = self.written("more", lambda path: with_mistake(path, part))
+        self.compared(lambda: self.check(bad), lambda: self.check(good, 0), times)
+        self.compared(lambda: self.check(more), lambda: self.check(bad), growth)
 
     def test_last_names_first_in_one_table(self) -> None:
-        took = self.mistaken("latin", in_lists=lambda name: ", ".join(reversed(name.split())), part=1)
-        self.assertIn("20,000 faults in the tables", took.lines[-1])
+        def turned(name: str) -> str:
+            return ", ".join(reversed(name.split()))
+
+        large.write_tables(self.folder, "latin", in_lists=turned)
+        self.assertIn("20,000 faults in the tables", self.check(self.folder).lines[-1])
+        self.mistaken("latin", in_lists=turned)
 
     def test_every_name_with_a_letter_more(self) -> None:
-        self.mistaken("latin", in_lists=lambda name: name + "x")
+        """The first thousand of them are told with the names that are near."""
+        self.mistaken("latin", in_lists=lambda name: name + "x", times=15, growth=4)
 
     def test_long_tables_with_every_name_unknown(self) -> None:
-        self.mistaken("han", long=True, in_lists=lambda name: name[::-1] + "!")
+        self.mistaken("han", long=True, in_lists=lambda name: name[::-1] + "!", times=6)
 
     def test_every_programme_unknown(self) -> None:
-        self.mistaken("devanagari", residents=lambda text: text.replace("Hospital", "Hospitall"))
+        self.mistaken("devanagari", residents=lambda text: text.replace("Hospital", "Hospitall"), times=6)
 
     def test_a_quote_that_is_left_open(self) -> None:
         self.mistaken("latin", residents=lambda text: text.replace("\n", '\n"', 1))
@@ -117,28 +156,75 @@ class Cost(OfficeTest):
     def test_all_rows_twice(self) -> None:
         self.mistaken("latin", residents=lambda text: text + text.split("\n", 1)[1])
 
+    def test_a_letter_more_in_han(self) -> None:
+        self.mistaken("han", in_lists=lambda name: name + "们", times=15)
+
     def test_no_fault(self) -> None:
-        part = 1 if support.FULL else 8
-        large.write_tables(self.folder, "arabic", 20000 // part, 2000 // part, 10, long=True)
-        self.check(self.bound(part), 0)
+        part = 1 if support.FULL else 2
+        more, less = (
+            self.written(name, lambda path: large.write_tables(path, "arabic", 20000 // size, 2000 // size, 10, long=True))
+            for name, size in (("more", part), ("less", MORE * part))
+        )
+        self.compared(lambda: self.check(more, 0), lambda: self.check(less, 0), GROWTH)
+
+    def grown(self, rows: Callable[[int], str], count: int, megabytes: float = MEGABYTES) -> None:
+        """A check of so many such rows beside one of an eighth of them."""
+
+        def write(path: Path, count: int) -> None:
+            large.write_tables(path, "latin", 20, 5, 2)
+            (path / "residents.csv").write_text(rows(count), encoding="utf-8")
+
+        more = self.written("more", lambda path: write(path, count))
+        less = self.written("less", lambda path: write(path, count // MORE))
+        self.assertLess(self.check(more).megabytes, megabytes)
+        self.compared(lambda: self.check(more), lambda: self.check(less), GROWTH)
 
     def test_cells_and_rows_of_every_length(self) -> None:
-        large.write_tables(self.folder, "latin", 20, 5, 2)
-        much = 1_000_000 if support.FULL else 60_000
-        for text in (
-            "Applicant;Rank 1\n" + "x" * 20 * much + ";\n",
-            "Applicant;Rank 1\nKim" + ";A" * much + "\n",
-            "Applicant;Rank 1\n" + '"' * (2 * much + 1),
-            "Applicant" + ";Rank 1" * much + "\nKim\n",
-            "Applicant;Rank 1\n" + "\n" * 5 * much,
-        ):
-            (self.folder / "residents.csv").write_text(text, encoding="utf-8")
-            self.check()
+        much = 1_000_000 if support.FULL else 100_000
+        forms: List[Callable[[int], str]] = [
+            lambda count: "Applicant;Rank 1\n" + "x" * 20 * count + ";\n",
+            lambda count: "Applicant;Rank 1\nKim" + ";A" * count + "\n",
+            lambda count: "Applicant;Rank 1\n" + '"' * (2 * count + 1),
+            lambda count: "Applicant" + ";Rank 1" * count + "\nKim\n",
+            lambda count: "Applicant;Rank 1\n" + "\n" * 5 * count,
+        ]
+        for rows in forms:
+            with self.subTest(rows(3)):
+                self.grown(rows, much)
 
-    def test_twice_as_much_takes_twice_as_long(self) -> None:
-        """Quadratic costs would show as four times as long; three is between."""
-        seconds = []
-        for size in (1, 2):
-            large.write_tables(self.folder, "han", 4000 * size, 400 * size, 10, in_lists=lambda name: name + "们")
-            seconds.append(min(self.check().seconds for _ in range(2)))
-        self.assertLess(seconds[1] / seconds[0], 3)
+    def test_rows_of_one_letter(self) -> None:
+        """A million and a half of them take 300 MB at most; they took 1,000 MB once."""
+        part = 1 if support.FULL else 8
+        for begin, row in (("Applicant;Rank 1\n", "x\n"), ("", "x\n"), ("Applicant;Rank 1\n", "x;\n")):
+            with self.subTest(begin + row):
+                self.grown(lambda count: begin + row * count, 1_500_000 // part, 300 if part == 1 else 100)
+
+    def test_faulty_rows_of_a_docket(self) -> None:
+        """What lint holds of 600,000 of them is 60 bytes for each of theirs at most."""
+        count = 600_000 // (1 if support.FULL else 6)
+        empty = self.took("lint", self.write_rows("Q,a,1\n", 1)).megabytes
+        for row in ("x\n", "Q;a;1\n", "R,x y\n", "Q,a,1\n", "R,%06x,b\n"):
+            path = self.write_rows(row, count)
+            took = self.took("lint", path)
+            self.assertEqual(took.status, 3)
+            self.assertLessEqual(len(took.lines), 21)
+            self.assertLess(took.megabytes - empty, 60 * path.stat().st_size / 1e6 + 1, row)
+
+    def write_rows(self, row: str, count: int) -> Path:
+        path = self.folder / "docket.csv"
+        path.write_text("".join(row % number if "%" in row else row for number in range(count)))
+        return path
+
+    def test_ids_that_differ_in_capitals_alone(self) -> None:
+        """16,384 of them take no more than twice as long as others: to name files, and to name members."""
+        alike = ["".join(c.upper() if number >> place & 1 else c for place, c in enumerate("abcdefghijklmn")) for number in range(16384)]
+        others = [f"abcdefgh{number:06}" for number in range(16384)]
+
+        def seconds(names: List[str]) -> float:
+            start = time.process_time()
+            made = folder.file_names(names, ".txt")
+            self.assertEqual(len({name.lower() for name in made.values()}), 16384)
+            docket_names(names)
+            return time.process_time() - start
+
+        self.assertLess(min(seconds(alike) for _ in range(3)), 2 * max(seconds(others) for _ in range(3)))

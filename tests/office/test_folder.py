@@ -14,7 +14,7 @@ from typing import Dict, List
 from unittest import mock
 
 import derived
-from residency.office import command, folder
+from residency.office import command, folder, stopping, writing
 from support import OFFICE, PROGRAMMES, RESIDENTS, SAMPLES, OfficeTest, office, spawn
 
 FILES = [
@@ -24,6 +24,7 @@ FILES = [
     "journal.csv",
     "key.csv",
     "letters",
+    "letters.html",
     "manifest.json",
     "matches.csv",
     "page.html",
@@ -89,7 +90,7 @@ class Written(OfficeTest):
         self.assertEqual(sorted(os.listdir(self.out)), FILES)
         self.assertEqual(len(os.listdir(self.out / "letters")), 40)
         self.assertEqual(len(os.listdir(self.out / "rosters")), 10)
-        self.assertEqual(stat.S_IMODE(self.out.stat().st_mode), 0o777 & ~folder.umask())
+        self.assertEqual(stat.S_IMODE(self.out.stat().st_mode), 0o777 & ~writing.umask())
 
     def test_what_it_says(self) -> None:
         lost = [one for one, where in self.wanted.match.items() if where is None and self.wanted.ranked_back(one)]
@@ -188,7 +189,7 @@ class Written(OfficeTest):
                     self.assertLess(worst, self.wanted.programme_lists[programme].index(name) + 1)
                     self.assertEqual(len(self.wanted.members(programme)), self.wanted.places[programme])
                 else:
-                    said = "it didn't rank you"
+                    said = "it did not rank you"
                 self.assertTrue(line.endswith(said), (name, line))
 
     def test_digests(self) -> None:
@@ -287,7 +288,7 @@ class Whole(OfficeTest):
             self.assertEqual(self.left(), [])
 
     def test_an_interrupt(self) -> None:
-        for what in (KeyboardInterrupt, folder.Stopped, MemoryError):
+        for what in (KeyboardInterrupt, stopping.Stopped, MemoryError):
             with mock.patch.object(command.running, "write_letters", side_effect=what):
                 said = office("run", *self.tables(), "--out", self.folder / "out")
             self.assertEqual((said.status, said.out), (1, ""))
@@ -302,7 +303,7 @@ class Whole(OfficeTest):
                 deadline = time.monotonic() + 100
                 while not self.left() and time.monotonic() < deadline and running.poll() is None:
                     time.sleep(0.01)
-                began = [name for name in self.left() if name.startswith(".out.part-")]
+                began = [name for name in self.left() if name.startswith(".part-")]
                 running.send_signal(number)
                 _, err = running.communicate(timeout=100)
             self.assertEqual((len(began), running.returncode, self.left()), (1, 1, []), err)
@@ -310,7 +311,7 @@ class Whole(OfficeTest):
 
     def test_a_place_that_cant_be_written(self) -> None:
         (self.folder / "file").write_text("")
-        for out in (self.folder / "nowhere" / "out", self.folder / "file" / "out", "a\0b", self.folder / ("x" * 300)):
+        for out in (self.folder / "nowhere" / "out", self.folder / "file" / "out", self.folder / ("x" * 300)):
             said = office("run", *self.tables(), "--out", out)
             self.assertEqual((said.status, said.out), (1, ""), said)
             self.assertTrue(said.err.startswith("office: ") and "can't be" in said.err, said.err)

@@ -1,18 +1,17 @@
-"""The page: its parts, order, names and colours; and by a browser, where there is one, how it fits on screens and paper."""
-import html
+"""The page: its parts, order, names and colours. How a browser shows it is in test_browser."""
 import html.parser
 import re
-import shutil
-import subprocess
+from datetime import date
 from pathlib import Path
 from typing import Dict, List, Optional
-from urllib.parse import quote
 
 import derived
-import planted
-import support
-from residency.office.outcome import alphabetical
-from support import PROGRAMMES, RESIDENTS, SAMPLES, TOP, OfficeTest, office
+from residency import Market, Member, Names
+from residency.office.letters import Letters
+from residency.office.outcome import Details, Resident, Standing, alphabetical, outcome_of
+from residency.office.page import About, Page, label
+from residency.office.rosters import details_of, matches
+from support import PROGRAMMES, RESIDENTS, SAMPLES, OfficeTest, office
 from test_folder import sample, sha256
 
 EMPTY = {"meta", "link", "img", "br", "hr", "input"}
@@ -161,7 +160,7 @@ class Sample(PageTest):
         self.assertIn("counter(pages)", page)
         self.assertIn(f'content: "The match, 2026-03-20, docket {sha256(self.out / "docket.csv")[:16]}"', page)
         paper = style[style.index("@media print") :]
-        self.assertIn("thead { display: table-header-group; }", paper)
+        self.assertIn("thead { display: table-header-group; break-inside: avoid; break-after: avoid; }", paper)
         self.assertIn("break-inside: avoid", paper)
 
     def test_day_and_digests(self) -> None:
@@ -175,6 +174,11 @@ class Sample(PageTest):
     def test_unfilled_places_first(self) -> None:
         self.assertEqual(self.root.all("section")[0].attributes["aria-labelledby"], "unfilled")
         wanted = [(one, places, len(self.wanted.members(one))) for one, places in self.wanted.places.items()]
+        short = [places - filled for _, places, filled in wanted if places > filled]
+        self.assertEqual(
+            self.section(self.root, "unfilled").all("caption")[0].text(),
+            f"{sum(short)} of {sum(self.wanted.places.values())} places, at {len(short)} programmes, in alphabetical order",
+        )
         self.assertEqual(
             self.rows(self.root, "unfilled"),
             [
@@ -190,7 +194,7 @@ class Sample(PageTest):
         lost = sum(not where and self.wanted.ranked_back(one) for one, where in self.wanted.match.items())
         self.assertEqual(
             [box.text() for box in boxes],
-            [f"residents matched{len(matched)}", f"lost out{lost}", f"ranked back by nobody{11 - lost}", "ranked nobody0"],
+            [f"residents matched{len(matched)}", f"no place left{lost}", f"ranked back by nobody{11 - lost}", "ranked nobody0"],
         )
         counts = [sum(self.wanted.choice(one) == choice for one in matched) for choice in (1, 2, 3, 4)]
         wanted = [
@@ -224,9 +228,9 @@ class Sample(PageTest):
         self.assertEqual(list(rows), sorted(rows, key=alphabetical))
         for one, places in self.wanted.places.items():
             members = self.wanted.members(one)
-            last = self.wanted.rank(members[-1])
             self.assertEqual(rows[one][:3], [str(places), str(len(members)), str(places - len(members))])
-            self.assertRegex(rows[one][3], f"^{last}(st|nd|rd|th) of {len(self.wanted.programme_lists[one])}$")
+            last = f"{derived.nth(self.wanted.rank(members[-1]))} of {len(self.wanted.programme_lists[one])}"
+            self.assertEqual(rows[one][3], last if len(members) == places else "open")
 
 
 class Other(PageTest):
@@ -238,12 +242,15 @@ class Other(PageTest):
         # Without East and Zoë: South takes Ana, North Kim and Jürgen; Omar ranks East, which is gone, and South.
         self.assertEqual(
             names("unmatched"),
-            ["Lost out: 1", "Omar Haddad", "Ranked back by nobody: 1", "Fatima Kovács", "Ranked nobody: 1", "Rosa Rossi"],
+            ["No place left: 1", "Omar Haddad", "Ranked back by nobody: 1", "Fatima Kovács", "Ranked nobody: 1", "Rosa Rossi"],
         )
         self.assertEqual(names("withdrawn"), ["Residents: 1", "Zoë Brontë", "Programmes: 1", "East Ward"])
-        self.assertIn(["East Ward (withdrawn)", "1", "0", "0", "– of 4"], self.rows(root, "programmes"))
+        self.assertIn(["East Ward (withdrawn)", "1", "0", "0", "–"], self.rows(root, "programmes"))
         self.assertEqual([row[0] for row in self.rows(root, "unfilled")], ["West Infirmary"])
         self.assertIn("3 of 6 places", self.section(root, "unfilled").text())
+        # Shares are of the six who take part: Ana at her 1st, Kim and Jürgen at theirs; three are unmatched.
+        self.assertTrue(self.section(root, "choices").all("caption")[0].text().startswith("Of 6 residents; "))
+        self.assertEqual(self.rows(root, "choices"), [["1st choice", "3", "50%"], ["Unmatched", "3", "50%"]])
 
     def test_those_whom_only_withdrawn_programmes_ranked_back(self) -> None:
         self.run_tables(out="first")
@@ -253,7 +260,7 @@ class Other(PageTest):
         self.assertEqual(
             [one.text() for one in part.all("h3", "li")],
             [
-                "Lost out: 2",
+                "No place left: 2",
                 "Jürgen Groß",
                 "Zoë Brontë",
                 "Ranked back by nobody: 2",
@@ -264,7 +271,7 @@ class Other(PageTest):
             ],
         )
         self.assertIn(
-            "no programme on your list that takes part",
+            "Both programmes on your list\nwithdrew from the match.",
             (self.folder / "out" / "letters" / "omar-haddad.txt").read_text(encoding="utf-8"),
         )
 
@@ -318,95 +325,99 @@ class Other(PageTest):
         self.assertEqual(rows[9:], [["10th choice", "1", "7%"], ["11th or later", "4", "29%"], ["Unmatched", "0", "0%"]])
 
 
-# A page around the page, since a browser's window is at least 500 pixels wide.
-MEASURE = """<!doctype html><title>m</title><body style="margin:0"><iframe id="f" style="border:0" width="%d" height="900" srcdoc="%s"></iframe>
-<script>addEventListener('load', () => {
-  const view = document.getElementById('f').contentWindow, page = view.document, all = [...page.querySelectorAll('body *')];
-  const smallest = all.filter(n => [...n.childNodes].some(c => c.nodeType == 3 && c.data.trim()))
-    .reduce((least, n) => Math.min(least, parseFloat(view.getComputedStyle(n).fontSize)), 99);
-  const beyond = all.filter(n => n.getBoundingClientRect().right > view.innerWidth + 0.5).length;
-  document.documentElement.dataset.measured = [view.innerWidth, page.documentElement.scrollWidth, smallest, beyond].join(' ');
-});</script>"""
+class Families(PageTest):
+    """The page by family name, made of a market and what its table has besides."""
 
-
-class Browser(PageTest):
-    """The page as Chromium shows it."""
-
-    def setUp(self) -> None:
-        super().setUp()
-        self.program = next(filter(None, map(shutil.which, ("chromium", "chromium-browser", "google-chrome"))), None)
-        if self.program is None:
-            self.skipTest("there is no Chromium here")
-
-    def browse(self, path: Path, *words: str) -> str:
-        line = [
-            self.program,
-            "--headless",
-            "--no-sandbox",
-            "--disable-gpu",
-            "--hide-scrollbars",
-            "--force-device-scale-factor=1",
-            f"--user-data-dir={self.folder / 'browser'}",
-            *words,
-            f"file://{quote(str(path))}",
-        ]
-        done = subprocess.run(line, capture_output=True, timeout=120)
-        self.assertEqual(done.returncode, 0, done.stderr)
-        return done.stdout.decode("utf-8")
-
-    def long_names(self) -> Path:
-        """A run of the planted tests' tables, in which a programme and a resident have long names."""
-        pair = planted.wide()
-        programmes, residents = (
-            text.decode()
-            .replace("Klinik Köln", "Universitätsklinikum Köln-Lindenthal, Abteilung für Kinderheilkunde")
-            .replace("Priya Silva", "Priyadarshini-Annapurneshwari Venkatanarasimharajuvaripeta Silva")
-            for text in pair.bytes()
+    def test_by_family_name(self) -> None:
+        families = {
+            "Ana Silva (2)": "Silva",
+            "Ana Silva (1)": "Silva",
+            "Zoë Abel": "Abel",
+            "Bea de Haas": "de Haas",
+            "Åsa Ötztürk": "Ötztürk",
+            "Leeson Lee": "Lee",
+            "Cher": "",
+            "Kim Oduya": "Oduya",
+            "Kim Oda": "Oda",
+        }
+        names = Names(
+            [Member("P", "north", "North"), Member("P", "south", "South")]
+            + [
+                Member("R", f"r{number}", name.split(" (")[0], name[-2] if name.endswith(")") else "")
+                for number, name in enumerate(families)
+            ]
         )
-        return self.run_tables(
-            programmes.replace("Köln-Lindenthal,", "Köln-Lindenthal"), residents.replace("Köln-Lindenthal,", "Köln-Lindenthal")
+        market = Market(
+            {"North": len(families), "South": 1},
+            {"North": list(families), "South": ["Kim Oda"]},
+            {name: ["South", "North"] for name in families},
+            withdrawn_residents=["Kim Oduya"],
+            names=names,
         )
+        places = {name: "North" for name in families if name != "Kim Oduya"}
+        places["Kim Oda"] = "South"
+        about = About("T", date(2026, 3, 20), {"docket.csv": "0" * 64})
+        outcome = outcome_of(market, places, Details({name: one for name, one in families.items() if one}))
+        root = Tree(Page(outcome, about).text()).root
+        wanted = ["Zoë Abel", "Cher", "Bea de Haas", "Leeson Lee", "Kim Oda", "Åsa Ötztürk", "Ana Silva (1)", "Ana Silva (2)"]
+        self.assertEqual([row[0] for row in self.rows(root, "matched")], wanted)
+        self.assertEqual(self.section(root, "matched").all("caption")[0].text(), "8 residents, by family name")
+        self.assertEqual(
+            [one.text() for one in self.section(root, "matched").all("b")],
+            ["Abel", "de Haas", "Lee", "Oda", "Ötztürk", "Silva", "Silva"],
+        )
+        self.assertEqual([one.text() for one in self.section(root, "withdrawn").all("li")], ["Kim Oduya"])
+        self.assertIn("in alphabetical order", self.section(root, "programmes").all("caption")[0].text())
+        letters = Tree(Letters(market, outcome, about).page()).root.all("article")
+        self.assertEqual([one.attributes["aria-label"] for one in letters], wanted[:5] + ["Kim Oduya"] + wanted[5:])
+        # By the order of the table nobody's family name counts.
+        rows = self.rows(Tree(Page(outcome, about, "table").text()).root, "matched")
+        self.assertEqual([row[0] for row in rows], [name for name in families if name != "Kim Oduya"])
+        # Without family names the whole name gives the order.
+        plain = Tree(Page(outcome_of(market, places), about).text()).root
+        self.assertEqual(
+            [row[0] for row in self.rows(plain, "matched")],
+            ["Ana Silva (1)", "Ana Silva (2)", "Åsa Ötztürk", "Bea de Haas", "Cher", "Kim Oda", "Leeson Lee", "Zoë Abel"],
+        )
+        self.assertEqual(plain.all("b"), [])
 
-    def test_it_fits_on_three_screens(self) -> None:
-        out = self.long_names()
-        text = html.escape((out / "page.html").read_text(encoding="utf-8"))
-        measured = self.folder / "measured.html"
-        for width, least in ((390, 12), (820, 13), (1280, 13)):
-            measured.write_text(MEASURE % (width, text), encoding="utf-8")
-            dom = self.browse(measured, "--window-size=1400,1000", "--dump-dom")
-            inner, scroll, smallest, beyond = map(float, re.search(r'data-measured="([^"]*)"', dom).group(1).split())
-            self.assertEqual((inner, scroll, beyond), (width, width, 0))
-            self.assertGreaterEqual(smallest, least)
+    def test_which_part_of_a_name_stands_out(self) -> None:
+        for name, family, ident, wanted in (
+            ("Kim Lee Lee", "Lee", "", "<bdi>Kim Lee <b>Lee</b></bdi>"),
+            ("Ana de <Silva>", "de <Silva>", "7", "<bdi>Ana <b>de &lt;Silva&gt;</b> (7)</bdi>"),
+            ("Ana Silva (7)", "Silva", "7", "<bdi>Ana <b>Silva</b> (7)</bdi>"),
+            ("Silva", "Silva", "", "<bdi>Silva</bdi>"),
+            ("Ana Silva", "", "7", "<bdi>Ana Silva (7)</bdi>"),
+            ("Ana Silva", "Other", "", "<bdi>Ana Silva</bdi>"),
+        ):
+            one = Resident(name, ident, "r", Standing.RANKED_NOBODY, None, None, None, 0, family)
+            self.assertEqual(label(one), wanted)
 
-    def test_it_prints_with_numbers_and_repeated_heads(self) -> None:
-        out = self.long_names()
-        self.browse(out / "page.html", "--no-pdf-header-footer", f"--print-to-pdf={self.folder / 'page.pdf'}")
-        data = (self.folder / "page.pdf").read_bytes()
-        pages = len(re.findall(rb"/Type\s*/Page\b", data))
-        self.assertTrue(5 <= pages <= 13, pages)
-        if shutil.which("pdftotext") is None:
-            self.skipTest(f"{pages} sheets; there is no pdftotext here to read them")
-        text = subprocess.run(
-            ["pdftotext", "-layout", str(self.folder / "page.pdf"), "-"], capture_output=True, check=True
-        ).stdout.decode()
-        sheets = text.split("\f")[:-1]
-        self.assertEqual(len(sheets), pages)
-        for number, sheet in enumerate(sheets, 1):
-            self.assertRegex(
-                sheet.strip().splitlines()[-1], rf"^The match, 2026-03-20, docket [0-9a-f]{{16}}\s+{number} of {pages}$"
-            )
-            if re.search(r"\b(1st|2nd|3rd|4th|5th) of 5\b", sheet):
-                self.assertRegex(sheet, r"Resident\s+Programme\s+Choice")
+    def test_details_come_back_from_matches(self) -> None:
+        """Family names and kept columns of a table for programs, with commas, quotes, line ends and formulas in them."""
+        names = {"a": "Ana", "b": "Bo", "c": "Cy"}
+        market = Market({"P": 1}, {"P": ["Ana"]}, {"Ana": ["P"], "Bo": [], "Cy": ["P"]})
+        kept = {"Ana": ("=1;2", 'x"y'), "Bo": ("a,b", "l\nm\r\n"), "Cy": ("", " ")}
+        details = Details({"Ana": "de, Silva", "Cy": '"C'}, ("E-mail", "choice"), kept)
+        outcome = outcome_of(market, {"Ana": "P"}, details)
+        data = matches(outcome)
+        self.assertEqual(details_of(data, {"ana": "Ana", "bo": "Bo", "cy": "Cy"}), details)
+        self.assertEqual([names[one] for one in "abc"], list(outcome.residents))
 
-    def test_pictures(self) -> None:
-        out = self.folder / "match"
-        office("run", SAMPLES / "programmes.csv", SAMPLES / "residents.csv", "--out", out, "--date", "2026-03-20")
-        for name, size in (("report.png", "900,1160"), ("report-telephone.png", "390,844")):
-            picture = self.folder / name
-            self.browse(out / "page.html", f"--window-size={size}", f"--screenshot={picture}")
-            data = picture.read_bytes()
-            width, height = (int.from_bytes(data[place : place + 4], "big") for place in (16, 20))
-            self.assertEqual(f"{width},{height}", size)
-            if support.PICTURES:
-                shutil.copy(picture, TOP / "docs" / name)
-            self.assertTrue((TOP / "docs" / name).is_file(), "tests/office/run --pictures makes it")
+
+class Open(PageTest):
+    def test_a_programme_is_open_full_or_without_places(self) -> None:
+        """A programme that is full down to its list's end has a last rank; one with a place left has none."""
+        programmes = "Programme,Places,1,2,3\nFull,3,Ana,Bo,Cy\nLeft,4,Ana,Bo,Cy\nNone,0,Ana,,\nEach,1,Di,,\nNobody,0,,,\n"
+        residents = "Applicant,1\nAna,Full\nBo,Full\nCy,Full\nDi,Each\nEd,Left\n"
+        rows = self.rows(self.page(self.run_tables(programmes, residents)), "programmes")
+        self.assertEqual(
+            rows,
+            [
+                ["Each", "1", "1", "0", "1st of 1"],
+                ["Full", "3", "3", "0", "3rd of 3"],
+                ["Left", "4", "0", "4", "open"],
+                ["Nobody", "0", "0", "0", "–"],
+                ["None", "0", "0", "0", "–"],
+            ],
+        )

@@ -108,7 +108,8 @@ class Random(OfficeTest):
                 mark = chance.choice(tuple(HEADS))
                 rows = (given.long() if chance.random() < 0.5 else given.wide())[side]
                 files.append(self.write(f"{side}.csv", saved(chance, rows, mark).encode(encoding)))
-            _, market = command.read_tables(*files, command.options_of(line.parser().parse_args(["check", *files])))
+            words = ["check", *files, "--allow-short", "--allow-alone"] + ["--encoding", "cp1252"] * (encoding == "cp1252")
+            _, market = command.read_tables(*files, command.options_of(line.parser().parse_args(words)))
             called: Dict[str, str] = {}
             for member in market.names.members("R"):
                 called[market.names.name("R", member.docket_name)] = member.id or member.name
@@ -139,7 +140,7 @@ class Random(OfficeTest):
             self.assertIn(said.status, (0, 3), seed)
             self.assertEqual(said.err, "", seed)
             lines = said.out.splitlines()
-            self.assertLessEqual(len(lines), 20, seed)
+            self.assertLessEqual(len(lines), 24, seed)
             self.assertTrue(all(one.isprintable() for one in lines), seed)
             if said.status == 0:
                 taken += 1

@@ -2,7 +2,6 @@
 import os
 import shlex
 import subprocess
-import sys
 
 import planted
 from residency.office import line
@@ -140,15 +139,21 @@ record 5: unknown name (cell 4: sout; is it south?)
     def test_many_faults_and_raw_bytes(self) -> None:
         path = self.write("docket.csv", b"Q,\x1b[31m\xff,1\n" * 5000)
         said = office("lint", path)
-        self.assertLessEqual(len(said.out.splitlines()), 20)
+        self.assertLessEqual(len(said.out.splitlines()), 22)
         self.assertTrue(all(line.isprintable() and line.isascii() for line in said.out.splitlines()))
-        self.assertIn("more faults (--all tells each)", said.out.splitlines()[-1])
+        self.assertEqual(
+            said.out.splitlines()[-1], "and 9,979 more faults: 4,990 declared twice, 4,989 bad name (--all tells each)"
+        )
         self.assertGreaterEqual(len(office("lint", path, "--all").out.splitlines()), 5000)
 
     def test_tables_given_as_dockets(self) -> None:
-        said = office("check", str(SAMPLES / "programmes.csv"))
-        self.assertEqual(said.status, 3)
-        self.assertLessEqual(len(said.out.splitlines()), 20)
+        for name in ("programmes.csv", "residents.csv"):
+            said = office("lint", str(SAMPLES / name))
+            self.assertEqual(said.status, 3)
+            self.assertLessEqual(len(said.out.splitlines()), 22)
+            said = office("check", str(SAMPLES / name))
+            self.assertEqual((said.status, said.out), (2, ""))
+            self.assertIn("only one table was given", said.err)
 
 
 class Words(OfficeTest):

@@ -89,8 +89,10 @@ class Forms(Tables):
         )
         apart = [tables[0].replace("~", ";").encode("utf-8"), tables[1].encode("iso-8859-2")]
         self.assertEqual(self.docket(*apart, "--encoding", "residents=latin2", "--delimiter", "residents=~"), wanted)
-        # Without its name the set is taken for Windows-1252, and names differ.
-        self.assertIn("no resident is named Zofia Brońta", self.faults(*apart, "--delimiter", "residents=~")[0])
+        # Without its name the set isn't found, and under a wrong one names differ.
+        self.assertIn("residents: its character set isn't known: in Windows-1252 it has ", self.faults(*apart, "--delimiter", "residents=~")[0])
+        wrong = self.faults(*apart, "--delimiter", "residents=~", "--encoding", "residents=cp1252")
+        self.assertIn("no resident is named Zofia Brońta", "\n".join(wrong))
 
     def test_long_tables(self) -> None:
         programmes, residents = ["Programme\tRank\tApplicant\tPlaces"], ["applicant,rank,programme"]
@@ -199,7 +201,11 @@ class Forms(Tables):
         self.assertEqual(self.docket(programmes, residents, "--allow-gaps")[-1], "R,ana,north,south")
 
     def test_members_who_may_be_remarks_are_noted(self) -> None:
-        said = office("check", *self.tables(PROGRAMMES + "* without Saturdays,0,,,\n", RESIDENTS + "Exported on 20 March,,,\n"))
+        tables = self.tables(PROGRAMMES + "* without Saturdays,0,,,,\n", RESIDENTS + "Exported on 20 March,,,\n")
+        told = office("check", *tables)
+        self.assertEqual(told.status, 3)
+        self.assertIn("Exported on 20 March has no list, and nobody ranks it: is it a remark?", told.out)
+        said = office("check", *tables, "--allow-alone")
         self.assertEqual(
             said.out.splitlines()[2:],
             [
@@ -315,20 +321,18 @@ class Reports(Tables):
             ],
         )
 
-    def test_many_faults_are_told_in_20_lines_and_counted(self) -> None:
+    def test_20_of_many_faults_are_told_and_the_others_counted(self) -> None:
         pair = planted.wide()
         for number in range(1, 401):
             pair.residents[number][1:3] = [f"Nowhere {number}", pair.residents[number][4]]
         pair.programmes[5][1] = "x"
         tables = pair.bytes()
         lines = self.faults(*tables)
-        self.assertLessEqual(len(lines) + 2, 20)
+        self.assertEqual(len(lines), 22)
         self.assertEqual(lines[0], "programmes, row 6, cell 2 (B6): x is no number of places")
         self.assertEqual(lines[-1], "801 faults in the tables")
-        more = [line for line in lines if line.startswith("and ")]
-        self.assertEqual(len(more), 2)
-        told = len(lines) - 1 - len(more)
-        self.assertEqual(sum(int(line.split()[1].replace(",", "")) for line in more) + told, 801)
+        # One number of places, and of the other two kinds 9 and 10 of 400.
+        self.assertEqual(lines[-2], "and 781 more: 391 names that no row has, 390 names listed twice (--all tells each)")
         every = self.faults(*tables, "--all")
         self.assertEqual(len(every), 802)
         self.assertEqual(len(set(every)), 802)
@@ -397,17 +401,18 @@ class Limits(Tables):
             "residents, row 20002, cell 1 (A20002): more than 20,000 residents",
         )
 
-    def test_too_many_pairs(self) -> None:
+    def test_as_many_pairs_as_may_be_and_one_more(self) -> None:
+        """200,000 pairs who rank one another are none too many, though a list names one more who doesn't rank it back."""
         programmes = ["Programme,Places," + ",".join(map(str, range(1, 2002)))] + [
             f"P{number},1," + ",".join(f"R{one}" for one in range(2001)) for number in range(100)
         ]
-        residents = (
-            ["Applicant," + ",".join(map(str, range(1, 101)))]
-            + [f"R{number}," + ",".join(f"P{one}" for one in range(100)) for number in range(2000)]
-            + ["R2000,P0"]
-        )
+        residents = ["Applicant," + ",".join(map(str, range(1, 101)))] + [
+            f"R{number}," + ",".join(f"P{one}" for one in range(100)) for number in range(2000)
+        ]
+        said = office("check", *self.tables("\n".join(programmes), "\n".join([*residents, "R2000," + "," * 99])))
+        self.assertEqual((said.status, said.out.splitlines()[-1]), (0, "no fault"), said)
         self.assertEqual(
-            self.faults("\n".join(programmes), "\n".join(residents))[0],
+            self.faults("\n".join(programmes), "\n".join([*residents, "R2000,P0" + "," * 99]))[0],
             "programmes: 200,001 pairs rank one another, more than 200,000",
         )
 

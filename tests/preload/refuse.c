@@ -1,13 +1,15 @@
 // A preloaded library for tests: it refuses growths of the process.
 //   REFUSE_AT=n    the n-th growth is refused
 //   REFUSE_FROM=n  every growth from the n-th on is refused
-//   REFUSE_TOLD=F  at the end the file F gets three numbers: the growths that were asked for, those that were refused, and the
-//                  blocks that were given while growths counted and never given back
+//   REFUSE_TOLD=F  at the end the file F gets four numbers: the growths that were asked for, those that were refused, the
+//                  blocks that were given while growths counted and never given back, and the threads started meanwhile
 //   REFUSE_MARKED  where it is set, only growths between the lines `call` and `done` on standard output count
 // A growth is a call of malloc, calloc, realloc or an aligned form that asks for room.
 #define _GNU_SOURCE
+#include <dlfcn.h>
 #include <errno.h>
 #include <fcntl.h>
+#include <pthread.h>
 #include <stdatomic.h>
 #include <stddef.h>
 #include <stdio.h>
@@ -22,7 +24,7 @@ extern void *__libc_realloc(void *, size_t);
 extern void *__libc_memalign(size_t, size_t);
 extern void __libc_free(void *);
 
-static atomic_long asked, refused;
+static atomic_long asked, refused, started;
 static long at, from;
 static const char *told;
 static atomic_int counts;
@@ -106,10 +108,18 @@ int posix_memalign(void **made, size_t align, size_t size) {
     return 0;
 }
 
+int pthread_create(pthread_t *thread, const pthread_attr_t *attributes, void *(*work)(void *), void *given_to) {
+    int (*create)(pthread_t *, const pthread_attr_t *, void *(*)(void *), void *) =
+        (int (*)(pthread_t *, const pthread_attr_t *, void *(*)(void *), void *))dlsym(RTLD_NEXT, "pthread_create");
+    int refusal = create(thread, attributes, work, given_to);
+    if (refusal == 0 && counts) atomic_fetch_add(&started, 1);
+    return refusal;
+}
+
 static void tell(void) {
     if (!told) return;
-    char text[64];
-    int length = snprintf(text, sizeof text, "%ld %ld %ld\n", (long)asked, (long)refused, kept + unnoted);
+    char text[96];
+    int length = snprintf(text, sizeof text, "%ld %ld %ld %ld\n", (long)asked, (long)refused, kept + unnoted, (long)started);
     int file = open(told, O_WRONLY | O_CREAT | O_TRUNC, 0600);
     if (file < 0) return;
     (void)!write(file, text, (size_t)length);

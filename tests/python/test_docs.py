@@ -3,12 +3,14 @@ import ast
 import contextlib
 import csv
 import doctest
+import glob
 import importlib
 import inspect
 import io
 import os
 import pkgutil
 import re
+import shutil
 import subprocess
 import sys
 import tempfile
@@ -29,10 +31,12 @@ PACKAGE = sorted((TOP / "python").rglob("*.py"))
 
 
 class DataFrame:
-    """What the page uses of a data frame of pandas: columns, rows as tuples, and a text of them."""
+    """What the page uses of a data frame of pandas: columns, rows as tuples, and a text of them. Rows may be dictionaries."""
 
-    def __init__(self, rows, columns):
-        self.columns, self.rows = list(columns), [tuple(row) for row in rows]
+    def __init__(self, rows, columns=None):
+        rows = list(rows)
+        self.columns = list(rows[0] if columns is None else columns)
+        self.rows = [tuple(row.values() if isinstance(row, dict) else row) for row in rows]
 
     def __getitem__(self, columns):
         places = [self.columns.index(column) for column in columns]
@@ -75,7 +79,7 @@ class Page(unittest.TestCase):
             said = io.StringIO()
             with mock.patch.dict(sys.modules, {"pandas": pandas}), contextlib.redirect_stdout(said):
                 exec(compile(lines, "docs/python.md", "exec"), {})
-        self.assertEqual(said.getvalue(), "applicant programme\nZoë Łódź\nAna Köln\nKim None\n")
+        self.assertEqual(said.getvalue(), "resident programme\nZoë Łódź\nAna Köln\nKim None\n")
 
     def test_what_is_wrong_is_told(self):
         test = doctest.DocTestParser().get_doctest(blocks()[1], {"Market": residency.Market}, "python.md", "docs/python.md", 0)
@@ -130,6 +134,19 @@ class Modules(unittest.TestCase):
         for path in [*PACKAGE, *sorted((TOP / "tests" / "python").glob("*.py")), TOP / "examples" / "second-opinion.py"]:
             ast.parse(path.read_text(encoding="utf-8"), str(path), feature_version=(3, 9))
 
+    def test_by_the_oldest_python(self):
+        """What has to do with other Pythons, by a Python 3.9 where one is at hand: paths, tables, answers and games."""
+        found = [shutil.which("python3.9") or "",
+                 *sorted(glob.glob(os.path.expanduser("~/.pyenv/versions/3.9.*/bin/python3.9")))]
+        oldest = next((path for path in found if path and subprocess.run([path, "--version"], capture_output=True,
+                                                                         check=False).returncode == 0), None)
+        if oldest is None:
+            self.skipTest("no Python 3.9 is at hand: its syntax alone is checked")
+        words = [oldest, str(TOP / "tests" / "python" / "run"), "test_program", "test_market", "test_answers", "test_matching"]
+        said = subprocess.run(words, capture_output=True, text=True, check=False)
+        self.assertEqual((said.returncode, said.stdout.splitlines()[-1:][0].split(", ")[1]), (0, "0 failed"),
+                         said.stdout + said.stderr)
+
     @unittest.skipUnless(hasattr(sys, "stdlib_module_names"), "Python 3.10 and later know their own modules")
     def test_nothing_else_is_needed(self):
         for path in PACKAGE:
@@ -159,7 +176,10 @@ print(ascii(residency.Market({"Köln": 1}, {"Köln": ["王"]}, {"王": ["Köln"]
             shown = subprocess.run([sys.executable, "-c", self.TRIAL], cwd=folder, capture_output=True, text=True, check=False,
                                    env={**os.environ, "PYTHONPATH": f"{folder}/site", "RESIDENCY_BIN": str(find_program())})
             self.assertEqual(shown.stdout, f"{folder}/site/residency/__init__.py\n{{'\\u738b': 'K\\xf6ln'}}\n", shown.stderr)
-            self.assertEqual(files(Path(folder) / "site"), files(TOP / "python"))
+            said = subprocess.run([f"{folder}/site/bin/residency-office", "--help"], capture_output=True, text=True, check=False,
+                                  env={**os.environ, "PYTHONPATH": f"{folder}/site"})
+            self.assertRegex(said.stdout, "^usage: residency-office")
+            self.assertEqual(files(Path(folder) / "site"), files(TOP / "python") | {"residency/VERSION", "residency/HOME"})
 
 
 def files(folder):

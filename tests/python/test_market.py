@@ -60,11 +60,11 @@ class Building(unittest.TestCase):
             "programme South: True is no number of places from 0 to 10000",
             "programme East: 2 is no number of places from 0 to 10000",
             "programme West: -1 is no number of places from 0 to 10000",
-            "a list of Nrth: no programme is named Nrth; is it North?", "programme South, choice 1: no resident is named Kin",
+            "programme Nrth has no places; is it North?", "programme South, choice 1: no resident is named Kin",
             "resident Kim, choice 1: no programme is named Nort; is it North?", "resident Kim, choice 3: South is listed twice",
-            "resident Lee: North is no list", "resident Ann, choice 1: no programme is named None",
+            "resident Lee: a text is no list", "resident Ann, choice 1: no programme is named None",
             "withdrawn: no programme is named Wesst; is it West?",
-            "Kim is no list of the withdrawn residents"])
+            "the withdrawn residents: a text is no list"])
         self.assertIsInstance(caught.exception, ValueError)
 
     def test_many_faults_are_shown_in_part(self):
@@ -84,6 +84,11 @@ class Building(unittest.TestCase):
         with self.assertRaisesRegex(MarketFault, "^200704 acceptable pairs, of at most 200000$"):
             Market(dict.fromkeys(some, 1), everybody, everybody)
         Market(dict.fromkeys(some, 1), everybody, everybody, some[:1], some[:1])
+        # 400 times 500 pairs are as many as may be.
+        Market(dict.fromkeys(many[:400], 1), {name: many[:500] for name in many[:400]}, {name: many[:400] for name in many[:500]})
+        with self.assertRaisesRegex(MarketFault, "^200001 acceptable pairs, of at most 200000$"):
+            Market(dict.fromkeys(many[:401], 1), {**{name: many[:500] for name in many[:400]}, "400": ["7"]},
+                   {name: many[:400] + ["400"] * (name == "7") for name in many[:500]})
 
     def test_wide_tables(self):
         nan = math.nan
@@ -118,11 +123,9 @@ class Building(unittest.TestCase):
             "programmes, row 2, cell 2: 10001 is no number of places from 0 to 10000",
             "programmes, row 2, cell 1: A has a row before", "programmes, row 3, cell 1: no name",
             f"programmes, row 4, cell 2: {'9' * 60}… is no number of places from 0 to 10000",
-            "programmes, row 5, cell 2: an empty cell is no number of places from 0 to 10000",
+            "programmes, row 5, cell 2: programme C has no places",
             "programmes, row 6, cell 2: 1.5 is neither text nor a whole number",
-            "programmes, row 6, cell 2: an empty cell is no number of places from 0 to 10000",
             "programmes, row 7, cell 2: True is neither text nor a whole number",
-            "programmes, row 7, cell 2: an empty cell is no number of places from 0 to 10000",
             "residents, row 2, cell 1: Kim has a row before", "programmes, row 1, cell 5: Kim is listed twice",
             "programmes, row 3, cell 3: no resident is named Kmi", "residents, row 1, cell 3: no programme is named Bb"])
 
@@ -146,9 +149,9 @@ class Building(unittest.TestCase):
             "programme ranks, row 3, cell 1: no programme is named C",
             "programme ranks, row 4, cell 2: x is no rank", "programme ranks, row 5, cell 3: no resident is named Ann",
             "resident ranks, row 2, cell 3: A is listed twice by Kim",
-            "resident ranks, row 3, cell 2: an empty cell is no rank", "resident ranks, row 4, cell 1: no resident is named Joe",
+            "resident ranks, row 3, cell 2: B has no rank", "resident ranks, row 4, cell 1: no resident is named Joe",
             "resident ranks, row 5, cell 2: -1 is no rank",
-            "resident ranks, row 6, cell 3: an empty cell"])
+            "resident ranks, row 6, cell 3: nobody stands at rank 1 of Lee"])
 
     def test_dockets(self):
         one = market().withdraw(["Łódź, East"], ["王芳"])
@@ -264,6 +267,35 @@ class Answers(unittest.TestCase):
         # One from before a withdrawal reads, and isn't stable.
         later = one.withdraw(residents=["Zoë Weiß"])
         self.assertEqual(later.audit(later.read_match(match.sheet)).unacceptable, (("Zoë Weiß", "Łódź, East"),))
+
+    def test_a_record_of_another_part_is_refused(self):
+        """A sheet and a journal say nothing of the market: nobody comes in or withdraws by them."""
+        one = market().withdraw(residents=["王芳"])
+        match = one.match(journal=True)
+        rows = one.docket().count(b"\n")
+        others = (b"V,2", b"Q,new,1", b"P,koln,zoe-weiss", b"R,new,koln", b"W,R,zoe-weiss", b"W,P,koln")
+        in_sheet = (b"U,zoe-weiss", b"M,zoe-weiss,koln", b"F,koln,0,2")
+        for own, others, before, call in (
+                (match.sheet, (*others, b"C,full", b"E,close"), b"", one.read_match), (match.journal, others, b"", one.replay),
+                (match.journal, (*others, *in_sheet), match.sheet, lambda rows: one.replay(rows, match))):
+            lines = own.splitlines()
+            for row in others:
+                for at in (0, 1, len(lines)):
+                    for form in (row, b'"' + row.replace(b",", b'","') + b'"'):
+                        with self.subTest(row=form, at=at), self.assertRaises(DocketFault) as caught:
+                            call(b"\n".join([*lines[:at], form, *lines[at:]]))
+                        found = caught.exception
+                        place = rows + before.count(b"\n") + at + 1
+                        self.assertEqual((found.record, found.text, found.name), (place, "belongs to another part", row[:1].decode()))
+        # What the program writes at once is a sheet with its journal.
+        self.assertEqual(one.replay(match.sheet + match.journal), one.replay(match))
+        # A fraud that a withdrawal in the journal would hide, with its sheet and without.
+        fraud = one.withdraw(residents=["Zoë Weiß"]).match(journal=True)
+        self.assertFalse(one.replay(fraud.journal).good)
+        for journal in (b"W,R,zoe-weiss\n" + fraud.journal, fraud.journal + b"W,R,zoe-weiss\n"):
+            for places in (None, fraud):
+                with self.assertRaises(DocketFault):
+                    one.replay(journal, places)
 
     def test_random_markets(self):
         for number in range(60):

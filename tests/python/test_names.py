@@ -1,6 +1,5 @@
 """Names: docket names of any text, who is who, the key and its escape, texts and tables of any form, and near names."""
 import random
-import re
 import time
 import unittest
 

@@ -7,6 +7,7 @@ import sys
 import tempfile
 import time
 import unittest
+import zipfile
 from pathlib import Path
 from unittest import mock
 
@@ -104,6 +105,31 @@ class Finding(Folders):
             place = self.put(path)
             self.assertEqual(self.found_by(package), str(place))
 
+    def test_what_pip_installed_from(self):
+        """The programs of the clone, or of the installed release, from whose folder pip made the package."""
+        for place, built, folder in (("clone", "crates/residency_cli/out/residency_cli", "clone/python"),
+                                     ("prefix", "bin/residency", "prefix/lib/residency/python")):
+            program, python = self.put(f"{place}/{built}"), self.folder / folder
+            shutil.copytree(PACKAGE, python / "residency", ignore=shutil.ignore_patterns("__pycache__", "office"))
+            for name in ("build_wheel.py", "pyproject.toml"):
+                shutil.copy(PACKAGE.parent / name, python / name)
+            self.put("clone/crates/version/src/lib.rt", 'pub const VERSION: &str = "1.2.3";\n')
+            (python / "residency" / "VERSION").write_text("1.2.3\n")
+            said = subprocess.run([sys.executable, "-c", "import build_wheel; print(build_wheel.build_wheel('.'))"], cwd=python,
+                                  capture_output=True, text=True, check=False)
+            self.assertEqual(said.stdout, "residency-1.2.3-py3-none-any.whl\n", said.stderr)
+            site = self.folder / "site" / place
+            with zipfile.ZipFile(python / said.stdout.strip()) as wheel:
+                wheel.extractall(site)
+            self.put("path/residency")
+            said = subprocess.run([sys.executable, "-c", "import residency; print(residency.find_program(), residency.__version__)"],
+                                  cwd=site, capture_output=True, text=True, env={"PATH": str(self.folder / "path")}, check=False)
+            self.assertEqual(said.stdout.split(), [str(program), "1.2.3"], said.stderr)
+            program.unlink()
+            said = subprocess.run([sys.executable, "-c", "import residency; print(residency.find_program())"], cwd=site,
+                                  capture_output=True, text=True, env={"PATH": str(self.folder / "path")}, check=False)
+            self.assertEqual(said.stdout.split(), [str(self.folder / "path" / "residency")], said.stderr)
+
     def test_an_unpacked_release(self):
         place = self.put("residency-1.0.0-x86_64-linux/bin/residency")
         for path in ("residency", "python/residency", "lib/python/residency", "lib/residency/python/residency"):
@@ -152,6 +178,12 @@ class Running(Folders):
             with self.assertRaises(DocketFault) as caught:
                 self.run_script(f"echo 'residency: {told}' >&2; exit 3")
             self.assertEqual((caught.exception.record, caught.exception.text, caught.exception.name), (record, text, None))
+
+    def test_tunables_that_are_set_stay(self):
+        with mock.patch.dict(os.environ, {"GLIBC_TUNABLES": "glibc.malloc.check=1"}):
+            self.assertEqual(finding.environment()["GLIBC_TUNABLES"], "glibc.malloc.check=1")
+            del os.environ["GLIBC_TUNABLES"]
+            self.assertIn("glibc.malloc.hugetlb=1", finding.environment()["GLIBC_TUNABLES"])
 
     def test_other_statuses(self):
         for text, error, status in (("echo 'residency: out of memory' >&2; exit 1", ProgramFailed, 1),

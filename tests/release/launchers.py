@@ -52,20 +52,20 @@ class Bare:
     def __init__(self, trial: Trial, root: roots.Root, release: str) -> None:
         self.trial, self.root, self.release, self.at = trial, root, release, f"{root.home}/work/clone"
         self.folder = root.path(self.at)
-        parts = ["residency", "why", "office", "python", "tools", "docs/help", "crates.txt", "crates", "examples"]
+        parts = ["residency", "why", "seal", "office", "python", "tools", "docs/help", "crates.txt", "crates", "examples"]
         copy_of(*parts, to=self.folder)
 
-    def refused(self, line: str, wanted: bytes, **known: str) -> None:
+    def refused(self, line: str, wanted: bytes, first: str = "", **known: str) -> None:
         """One line on standard error that says this, and status 1."""
-        status, out, err = self.root.run(line, self.at, **known)
+        status, out, err = self.root.run(line, self.at, b"", first, **known)
         self.trial.tell((status, out) == (1, b"") and err.count(b"\n") == 1 and err.startswith(b"residency: ") and wanted in err,
                         f"{line} {known} ends with {status}, {out!r}, {err!r}")
 
     def runs(self, what: str, **known: str) -> None:
         """./residency and ./why run what is installed."""
-        found = self.root.run(MATCH, self.at, **known)[:2]
+        found = self.root.run(MATCH, self.at, b"", "", **known)[:2]
         self.trial.same(found, (0, SHEET), f"./residency {what}")
-        found = self.root.run("./why --help", self.at, **known)[:2]
+        found = self.root.run("./why --help", self.at, b"", "", **known)[:2]
         self.trial.same(found, self.root.run("residency-why --help", self.at)[:2], f"./why {what}")
 
 
@@ -88,8 +88,30 @@ def without_toolchain(trial: Trial, root: roots.Root, release: str) -> None:
     line = "cd .. && ln -s clone/residency link && ./link match < clone/examples/two-by-two.csv"
     trial.same(root.run(line, bare.at)[:2], (0, SHEET), "a link to ./residency")
     shutil.rmtree(beside)
+    newest(bare)
     built(bare)
     shutil.rmtree(os.path.dirname(bare.folder))
+
+
+def alone_newest(trial: Trial, folder: str) -> None:
+    """The newest of several releases, in a root that has nothing else."""
+    os.makedirs(folder)
+    root = roots.Root(folder, has_python=False)
+    if not root.words:
+        trial.leave_out("launchers without a toolchain")
+        return
+    newest(Bare(trial, root, ""))
+
+
+def newest(bare: Bare) -> None:
+    """Of several releases beside the clone the newest is run, by the numbers of its version."""
+    beside = os.path.dirname(bare.folder)
+    versions = ["1.9.0", "1.10.0", "1.2.11", "0.99.99"]
+    for number in versions:
+        roots.put_script(f"{beside}/residency-{number}-x86_64-linux/bin/residency", f"#!/bin/bash\necho {number}\n")
+    bare.trial.same(bare.root.run(MATCH, bare.at)[:2], (0, b"1.10.0\n"), "./residency beside several releases")
+    for number in versions:
+        shutil.rmtree(f"{beside}/residency-{number}-x86_64-linux")
 
 
 def unbuilt(bare: Bare) -> None:
@@ -97,11 +119,12 @@ def unbuilt(bare: Bare) -> None:
     root, at = bare.root, bare.at
     for path in sorted(os.listdir(f"{TOP}/docs/help")):
         *said, last = path[:-len(".txt")].split("-")
-        launcher, program = ("./why", "residency-why") if said[:1] == ["why"] else ("./residency", "residency")
-        line = " ".join([*(it for it in said if it != "why"), f"--{last}"])
+        own = said[:1] in (["why"], ["seal"])
+        launcher, program = (f"./{said[0]}", f"residency-{said[0]}") if own else ("./residency", "residency")
+        line = " ".join([*said[own:], f"--{last}"])
         before, after = root.run(f"{launcher} {line}", at), root.run(f"{program} {line}", at)
         bare.trial.tell(before[0] == 0 and before == after, f"{launcher} {line} before the build: {before!r} is not {after!r}")
-    for launcher, program in (("./residency", "residency"), ("./why", "residency-why")):
+    for launcher, program in (("./residency", "residency"), ("./why", "residency-why"), ("./seal", "residency-seal")):
         before, after = root.run(f"{launcher} --version", at), root.run(f"{program} --version", at)
         bare.trial.tell(before[0] == 0 and before == after, f"{launcher} --version before the build: {before!r} is not {after!r}")
     if os.path.isdir(f"{bare.folder}/python"):
@@ -122,6 +145,7 @@ def built(bare: Bare) -> None:
     bare.refused(MATCH, b"is older than crates", first=find)
 
 
+# Each word of the program's line is shown as it came.
 STAND_IN = """#!/bin/bash
 # Stands in for what proves and builds: it notes its program, may touch a source meanwhile, and may fail.
 cd "$(dirname "$0")/.."
@@ -130,9 +154,15 @@ echo "$1" ${GLIBC_TUNABLES:+tuned} >> built
 [ ! -e meanwhile ] || touch "$(cat meanwhile)"
 sleep 0.05
 mkdir -p "crates/$1/out"
-printf '#!/bin/sh\\necho "$@" ${GLIBC_TUNABLES:+tuned}\\n' > "crates/$1/out/$1"
+cat > "crates/$1/out/$1" << 'END'
+#!/bin/sh
+printf '<%s>' "$@"
+echo ${GLIBC_TUNABLES:+tuned}
+END
 chmod +x "crates/$1/out/$1"
 """
+# What a start hands on as it is: blanks, signs of the shell, a word without a letter.
+WORDS = ["word", "Ana  Abel", "*", "", "$HOME", "-x", "a\nb"]
 
 
 class Clone:
@@ -154,8 +184,8 @@ class Clone:
         os.chmod(f"{self.folder}/{path}", 0o755)
 
     def start(self, launcher: str = "./residency", status: int = 0) -> None:
-        ran = subprocess.run([launcher, "word"], cwd=self.folder, env=self.known, capture_output=True, text=True, check=False)
-        says = "" if status else "word tuned\n" if launcher == "./residency" else "word\n"
+        ran = subprocess.run([launcher, *WORDS], cwd=self.folder, env=self.known, capture_output=True, text=True, check=False)
+        says = "" if status else "".join(f"<{word}>" for word in WORDS) + ("tuned\n" if launcher == "./residency" else "\n")
         self.trial.same((ran.returncode, ran.stdout), (status, says), f"{launcher} of a counted clone ({ran.stderr})")
 
     def builds(self) -> int:

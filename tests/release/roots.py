@@ -56,11 +56,20 @@ def put_python(root: str) -> None:
         put(library, root, library)
 
 
-def make_root(root: str) -> None:
+def put_script(path: str, text: str) -> None:
+    """Writes a program of these lines."""
+    os.makedirs(os.path.dirname(path), exist_ok=True)
+    with open(path, "w") as file:
+        file.write(text)
+    os.chmod(path, 0o755)
+
+
+def make_root(root: str, has_python: bool = True) -> None:
     for folder in ("tmp", "dev", "home/user", "usr/bin", "usr/sbin"):
         os.makedirs(f"{root}/{folder}", exist_ok=True)
     put_programs(["bash", *COREUTILS], root, "/usr/bin")
-    put_python(root)
+    if has_python:
+        put_python(root)
     os.symlink("usr/bin", f"{root}/bin")
     os.symlink("bash", f"{root}/usr/bin/sh")
     with open(f"{root}/dev/null", "wb"):
@@ -82,8 +91,10 @@ def way_in(root: str) -> Tuple[Optional[List[str]], str]:
 class Root:
     """Runs commands in the root. Where no root can be had, on this machine with the same folders on the path."""
 
-    def __init__(self, root: str) -> None:
-        make_root(root)
+    words: Optional[List[str]]
+
+    def __init__(self, root: str, has_python: bool = True) -> None:
+        make_root(root, has_python)
         self.root = root
         self.words, self.wanting = way_in(root)
         self.home = "/home/user" if self.words else f"{root}/home/user"
@@ -121,3 +132,17 @@ class Root:
         for folder, folders, names in os.walk(f"{self.root}/home"):
             found += [f"{folder}/{name}"[len(self.root):] for name in [*folders, *names]]
         return sorted(found)
+
+
+class Here(Root):
+    """Runs commands on this machine, with the programs of such a root alone on the path; it is made at once."""
+
+    def __init__(self, root: str) -> None:
+        os.makedirs(f"{root}/home/user")
+        os.makedirs(f"{root}/usr/bin")
+        for name in ("bash", "env", *COREUTILS):
+            found = shutil.which(name, path="/usr/bin:/bin")
+            if found and not os.path.lexists(f"{root}/usr/bin/{name}"):
+                os.symlink(found, f"{root}/usr/bin/{name}")
+        os.symlink(os.path.realpath(sys.executable), f"{root}/usr/bin/python3")
+        self.root, self.words, self.wanting, self.home = root, None, "", f"{root}/home/user"

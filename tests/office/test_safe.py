@@ -1,0 +1,317 @@
+"""What the command never does: run code of the folder where it is started, write over what stands or through a link, leave half
+of anything behind, or end by a traceback, whenever it is stopped."""
+import os
+import shutil
+import signal
+import stat
+import subprocess
+import sys
+import time
+from pathlib import Path
+from typing import List, Sequence
+from unittest import mock
+
+from residency.office import stopping, writing
+from residency.office.faults import OfficeError
+from residency.program import find_program
+from support import OFFICE, PROGRAMMES, RESIDENTS, TOP, OfficeTest, office
+
+# Modules that the command, or Python's own start, imports or could import; a file of each stands in the current folder.
+SHADOWS = ("csv", "json", "argparse", "re", "signal", "enum", "secrets", "zipfile", "sitecustomize", "usercustomize", "hashlib",
+           "unicodedata", "subprocess", "encodings", "residency", "command")
+# Starts the command as the launchers do, with files that take a while to write, so that a signal finds it there.
+SLOW = """
+import runpy, sys, time
+sys.path.insert(0, sys.argv.pop(1))
+from residency.office import folder
+write = folder.Draft.write
+folder.Draft.write = lambda *words: (time.sleep(0.05), write(*words))[1]
+runpy.run_path(sys.path[0] + "/residency/office/__main__.py", run_name="__main__")
+"""
+
+
+def installed(at: Path) -> List[str]:
+    """Puts the clone's command and a release's below this folder, and answers both launchers."""
+    clone, release = at / "clone", at / "release"
+    for launcher, tree in ((clone, clone / "python"), (release / "bin", release / "lib" / "residency" / "python")):
+        launcher.mkdir(parents=True)
+        shutil.copytree(TOP / "python", tree, ignore=shutil.ignore_patterns("__pycache__"))
+    shutil.copy(TOP / "office", clone)
+    shutil.copytree(TOP / "tools", clone / "tools", ignore=shutil.ignore_patterns("__pycache__"))
+    shutil.copy(TOP / "packaging" / "office", release / "bin" / "residency-office")
+    return [str(clone / "office"), str(release / "bin" / "residency-office")]
+
+
+def mode_of(path: Path) -> int:
+    return stat.S_IMODE(os.lstat(path).st_mode)
+
+
+class CurrentFolder(OfficeTest):
+    def ran(self, words: Sequence[str], **more) -> subprocess.CompletedProcess:
+        """A command in a folder where a file of each name in SHADOWS would tell that it was run."""
+        here = self.folder / "here"
+        for name in SHADOWS:
+            (here / name).mkdir(parents=True, exist_ok=True)
+            for path in (here / f"{name}.py", here / name / "__init__.py"):
+                path.write_text(f"open({str(self.folder / 'told')!r}, 'a').write({name!r})\n")
+        done = subprocess.run(words, cwd=here, capture_output=True, timeout=100, **more)
+        self.assertFalse((self.folder / "told").exists(), words)
+        return done
+
+    def test_launchers(self) -> None:
+        files = self.tables()
+        for launcher in [OFFICE, *installed(self.folder / "installed")]:
+            for path in (None, "", ".", ":"):
+                env = {**os.environ, "RESIDENCY_BIN": str(find_program())}
+                env.pop("PYTHONPATH", None)
+                done = self.ran([launcher, "check", *files], env=env if path is None else {**env, "PYTHONPATH": path})
+                self.assertEqual((done.returncode, done.stderr), (0, b""), launcher)
+
+    def test_the_shadows_would_be_run(self) -> None:
+        """What the launchers don't do does run them, so that the test above can fail."""
+        with self.assertRaises(AssertionError):
+            self.ran([sys.executable, "-m", "csv"])
+
+    def test_tools(self) -> None:
+        for words in (["tools/statement", "of no call"], ["tools/unproved", "--help"], ["tools/release", "--help"]):
+            self.ran([str(TOP / words[0]), *words[1:]])
+
+    def test_the_second_opinion(self) -> None:
+        """A copy of it is run in the folder where it lies, beside the shadows."""
+        here = self.folder / "here"
+        here.mkdir()
+        shutil.copy(TOP / "examples" / "second-opinion.py", here)
+        files = [str(TOP / "examples" / f"two-by-two{part}.csv") for part in ("", "-sheet", "-journal")]
+        shadows = [name for name in SHADOWS if name not in ("encodings", "sitecustomize", "usercustomize")]
+        with mock.patch.object(sys.modules[__name__], "SHADOWS", shadows):
+            done = self.ran([sys.executable, "second-opinion.py", *files])
+        self.assertEqual((done.returncode, done.stderr), (0, b""))
+        self.assertIn(b"S,stable", done.stdout)
+
+
+class Places(OfficeTest):
+    def test_paths_of_an_installation(self) -> None:
+        for number, name in enumerate(("a:b", "a b", "a\nb", "ab\n", " ", "a'\"$(x)", "-a")):
+            for launcher in installed(self.folder / str(number) / name):
+                out = self.folder / f"out{number}{len(launcher)}"
+                done = subprocess.run(
+                    [launcher, "run", *self.tables(), "--out", str(out)],
+                    capture_output=True,
+                    env={**os.environ, "RESIDENCY_BIN": str(find_program())},
+                )
+                self.assertEqual((done.returncode, done.stderr), (0, b""), launcher)
+                self.assertTrue((out / "SHA256SUMS").exists())
+
+    def test_words_are_handed_on_as_they_come(self) -> None:
+        """With blanks, signs of the shell and without a letter, by the clone's launcher and by a release's."""
+        files = [self.write(name, text) for name, text in (("a  b *.csv", PROGRAMMES), ("$HOME ; c.csv", RESIDENTS))]
+        for launcher in (OFFICE, installed(self.folder / "installed")[1]):
+            done = subprocess.run([launcher, "check", *files], capture_output=True, cwd=self.folder)
+            self.assertEqual((done.returncode, done.stderr), (0, b""), launcher)
+            self.assertIn(f"programmes: {files[0]}, UTF-8".encode(), done.stdout)
+            done = subprocess.run([launcher, "check", *files, "--keep", ""], capture_output=True, cwd=self.folder)
+            self.assertEqual((done.returncode, b"no column is headed , which --keep names" in done.stdout), (3, True), done)
+
+
+class Stops(OfficeTest):
+    def slow(self, ignored: Sequence[int] = ()) -> subprocess.Popen:
+        words = [sys.executable, "-c", SLOW, str(TOP / "python"), "run", *self.tables(), "--out", str(self.folder / "out")]
+
+        def ignore() -> None:
+            for number in ignored:
+                signal.signal(number, signal.SIG_IGN)
+
+        return subprocess.Popen(words, stdout=subprocess.PIPE, stderr=subprocess.PIPE, preexec_fn=ignore)
+
+    def test_an_ignored_signal_stays_ignored(self) -> None:
+        """As nohup has it of a hang-up, and a shell of the interrupts of what it starts in the background."""
+        for number in (signal.SIGHUP, signal.SIGINT, signal.SIGTERM):
+            with self.slow([number]) as running:
+                while not self.left() and running.poll() is None:
+                    time.sleep(0.01)
+                running.send_signal(number)
+                _, err = running.communicate(timeout=100)
+            self.assertEqual((running.returncode, err, self.left()), (0, b"", ["out"]))
+            shutil.rmtree(self.folder / "out")
+
+    def test_many_signals(self) -> None:
+        """A person who presses Ctrl-C again and again gets one line all the same."""
+        with self.slow() as running:
+            while not self.left() and running.poll() is None:
+                time.sleep(0.01)
+            while running.poll() is None:
+                running.send_signal(signal.SIGINT)
+                time.sleep(0.001)
+            _, err = running.communicate(timeout=100)
+        self.assertEqual((running.returncode, err, self.left()), (1, b"office: interrupted\n", []))
+
+    def test_signals_while_it_cleans(self) -> None:
+        """What is half made goes whole, though signals of each kind come as its removal begins."""
+        whole, came = stopping.remove, []
+
+        def remove(path: Path) -> None:
+            for number in stopping.SIGNALS:
+                os.kill(os.getpid(), number)
+                came.append(number)
+            whole(path)
+
+        before = [signal.getsignal(number) for number in stopping.SIGNALS]
+        with mock.patch("residency.office.running.write_letters", side_effect=lambda *_: os.kill(os.getpid(), signal.SIGINT)), \
+                mock.patch.object(stopping, "remove", remove):
+            said = office("run", *self.tables(), "--out", self.folder / "out")
+        self.assertEqual((said.status, said.out, said.err, self.left()), (1, "", "office: interrupted\n", []))
+        self.assertEqual(came, list(stopping.SIGNALS))
+        # Whoever calls the command from Python has their own handlers again.
+        self.assertEqual([signal.getsignal(number) for number in stopping.SIGNALS], before)
+
+    def test_ctrl_c_at_any_moment(self) -> None:
+        """It goes to all processes of the terminal, as here to a group of them. What came too early for the command is the
+        shell's own end, without a line; what came too late is a run that is done."""
+        files = self.tables()
+        env = {**os.environ, "RESIDENCY_BIN": str(find_program())}
+        words = [OFFICE, "run", *files, "--out", str(self.folder / "out")]
+        started = time.monotonic()
+        subprocess.run(words, env=env, capture_output=True, check=True)
+        whole, ends = time.monotonic() - started, set()
+        for step in range(14):
+            shutil.rmtree(self.folder / "out", ignore_errors=True)
+            running = subprocess.Popen(words, env=env, stdout=subprocess.PIPE, stderr=subprocess.PIPE, start_new_session=True)
+            with running:
+                time.sleep(whole * step / 12)
+                try:
+                    os.killpg(running.pid, signal.SIGINT)
+                except ProcessLookupError:
+                    pass
+                out, err = running.communicate(timeout=100)
+            ends.add(running.returncode)
+            self.assertIn(running.returncode, (0, 1, -signal.SIGINT, 128 + signal.SIGINT), err)
+            line = b"office: interrupted\n"
+            self.assertIn(err, {0: (b"",), 1: (line,)}.get(running.returncode, (b"", line)))
+            self.assertIn(self.left(), ([], ["out"]))
+            if self.left() == ["out"]:
+                self.assertTrue((self.folder / "out" / "SHA256SUMS").exists())
+        self.assertIn(1, ends)
+
+    def test_a_stop_that_no_exception_carries_out(self) -> None:
+        """A stop in the midst of giving up an object is written by Python as ignored; here it ends the command all the same."""
+        text = (
+            "import os, sys, signal; sys.path.insert(0, sys.argv[1]); from residency.office import stopping, writing\n"
+            "class Given:\n"
+            "    def __del__(self): os.kill(os.getpid(), signal.SIGINT); print()\n"
+            "with stopping.stoppable():\n"
+            "    with stopping.unfinished(writing.draft_of('out')) as part:\n"
+            "        part.mkdir(); given = Given(); del given\n"
+            "        print('gone on')\n"
+        )
+        done = subprocess.run([sys.executable, "-c", text, str(TOP / "python")], capture_output=True, cwd=self.folder)
+        self.assertEqual((done.returncode, done.stdout, done.stderr), (1, b"", b"office: interrupted\n"))
+        self.assertEqual(self.left(), [])
+
+    def test_what_is_under_way_goes_whatever_breaks_off(self) -> None:
+        for what in (stopping.Stopped, OSError, ValueError):
+            with self.assertRaises(what):
+                with stopping.unfinished(writing.draft_of(str(self.folder / "out"))) as part:
+                    part.mkdir()
+                    (part / "letters").mkdir()
+                    raise what()
+            self.assertEqual((self.left(), stopping.UNFINISHED), ([], set()))
+
+
+class Writes(OfficeTest):
+    """What is written is new, whole, and for whom it is meant."""
+
+    def setUp(self) -> None:
+        super().setUp()
+        self.runs = [str(self.run_tables(out=name)) for name in ("before", "now")]
+
+    def every(self, out: str) -> List[List[str]]:
+        return [
+            ["run", *self.tables(), "--out", out],
+            ["withdraw", self.runs[0], "Ana Silva", "--out", out],
+            ["compare", *self.runs, "--out", out],
+            ["letters", self.runs[0], "--out", out],
+        ]
+
+    def test_no_name_at_all(self) -> None:
+        before = self.left()
+        with mock.patch("os.getcwd", return_value=str(self.folder / "nowhere")):
+            for words in self.every(""):
+                said = office(*words)
+                self.assertEqual((said.status, said.out), (2, ""), words)
+                self.assertEqual(said.err, "office: '' can't be written: it is no path\n")
+        self.assertEqual(self.left(), before)
+
+    def test_links_and_what_stands(self) -> None:
+        """Neither what a link leads to nor a link that leads nowhere is written over or through."""
+        (self.folder / "kept").write_text("kept")
+        os.symlink(self.folder / "kept", self.folder / "link")
+        os.symlink(self.folder / "nowhere", self.folder / "dangling")
+        os.symlink(self.folder / "before", self.folder / "link-to-a-folder")
+        for name in ("kept", "link", "dangling", "link-to-a-folder", "before"):
+            for words in self.every(str(self.folder / name)):
+                said = office(*words)
+                self.assertEqual((said.status, said.out), (2, ""), words)
+                self.assertIn("is there already; nothing was written", said.err)
+        self.assertEqual((self.folder / "kept").read_text(), "kept")
+        self.assertEqual(os.readlink(self.folder / "dangling"), str(self.folder / "nowhere"))
+        self.assertEqual(self.left(), ["before", "dangling", "kept", "link", "link-to-a-folder", "now"])
+
+    def test_what_appears_meanwhile(self) -> None:
+        """A file or a link that appears while another of its name is being written stays as it is."""
+        whole = writing.write_new
+        target = self.folder / "changes.csv"
+        for appear in (lambda: target.write_text("kept"), lambda: os.symlink(self.folder / "nowhere", target)):
+            with mock.patch.object(writing, "write_new", lambda *words: (whole(*words), appear())):
+                with self.assertRaises(OfficeError) as told:
+                    writing.new_file(str(target), b"new")
+            self.assertIn("is there already; nothing was written", str(told.exception))
+            self.assertFalse((self.folder / "nowhere").exists())
+            self.assertTrue(target.is_symlink() or target.read_text() == "kept")
+            target.unlink()
+            self.assertEqual(self.left(), ["before", "now"])
+
+    def test_a_folder_that_appears_meanwhile(self) -> None:
+        target = self.folder / "out"
+        said = []
+        with mock.patch("residency.office.running.write_letters", side_effect=lambda *words: target.mkdir()):
+            said.append(office("run", *self.tables(), "--out", target))
+        self.assertEqual((said[0].status, said[0].out, os.listdir(target)), (2, "", []))
+
+    def test_where_files_have_no_second_name(self) -> None:
+        """Some file systems know no links to files: there the name is claimed, and the claim is replaced."""
+        target = self.folder / "changes.csv"
+        with mock.patch("os.link", side_effect=PermissionError(1, "Operation not permitted")):
+            writing.new_file(str(target), b"new", writing.PRIVATE)
+            self.assertEqual((target.read_bytes(), mode_of(target)), (b"new", 0o600))
+            with mock.patch.object(writing, "refuse"), self.assertRaises(OfficeError):
+                writing.new_file(str(target), b"newer")
+        self.assertEqual(target.read_bytes(), b"new")
+        self.assertEqual(self.left(), ["before", "changes.csv", "now"])
+
+    def test_names_that_nobody_can_guess(self) -> None:
+        names = {writing.draft_of(str(self.folder / "out")).name for _ in range(100)}
+        self.assertEqual(len(names), 100)
+        for name in names:
+            self.assertRegex(name, r"\A\.part-[0-9a-f]{32}\Z")
+        # However long the name is that is wanted, the draft's isn't too long.
+        self.assertEqual(office("compare", *self.runs, "--out", self.folder / ("é" * 120)).status, 0)
+
+    def test_who_may_read_what(self) -> None:
+        old = os.umask(0o022)
+        self.addCleanup(os.umask, old)
+        out, letters, changes = (self.folder / name for name in ("out", "letters", "changes.csv"))
+        self.assertEqual([office(*words).status for words in (
+            ["withdraw", self.runs[0], "Ana Silva", "--out", out], ["letters", out, "--out", letters],
+            ["compare", self.runs[0], out, "--out", changes])], [0, 0, 0])
+        owners = {out / "key.csv", out / "matches.csv", out / "letters.html", *(out / "letters").rglob("*"), *letters.rglob("*")}
+        folders = {out / "letters", letters}
+        for path in (out, letters, changes, *out.rglob("*"), *letters.rglob("*")):
+            wanted = 0o700 if path in folders else 0o755 if path.is_dir() else 0o600 if path in owners else 0o644
+            self.assertEqual(oct(mode_of(path)), oct(wanted), path)
+
+    def test_the_masks_own_will(self) -> None:
+        old = os.umask(0o077)
+        self.addCleanup(os.umask, old)
+        self.assertEqual(office("compare", *self.runs, "--out", self.folder / "changes.csv").status, 0)
+        self.assertEqual(oct(mode_of(self.folder / "changes.csv")), oct(0o600))
+        self.assertEqual(oct(mode_of(self.run_tables(out="third"))), oct(0o700))

@@ -1,0 +1,393 @@
+"""Sealed matches: what seal, run and withdraw write, which tables are refused, what may be published, and what verify finds."""
+import csv
+import io
+import json
+import os
+import re
+import signal
+import stat
+import subprocess
+import sys
+import time
+from pathlib import Path
+from typing import Dict, List
+from unittest import mock
+
+from residency.errors import ProgramFailed
+from residency.office import seal as sealing
+from support import PROGRAMMES, RESIDENTS, SAMPLES, TOP, OfficeTest, office, spawn
+from test_safe import SLOW
+
+sys.path.insert(0, str(TOP / "tests" / "seal"))
+import derivation  # noqa: E402
+
+WITHDRAWN = "Zoë Brontë"
+
+
+def mode_of(path: Path) -> int:
+    return stat.S_IMODE(os.lstat(path).st_mode)
+
+
+def derived(folder: Path, matched: bool) -> derivation.Sealed:
+    """What the docket of a folder gives with its secret, by the derivation of tests/seal."""
+    market = derivation.read((folder / "docket.csv").read_bytes())
+    secret = bytes.fromhex((folder / "secret.txt").read_text().strip())
+    return derivation.Sealed(market, derivation.match(market) if matched else None, secret)
+
+
+class Sealed(OfficeTest):
+    """Tests over a folder `sealed` of the small tables, and `match`, its match."""
+
+    def setUp(self) -> None:
+        super().setUp()
+        old = os.umask(0o022)
+        self.addCleanup(os.umask, old)
+
+    def sealed(self, *words: str, out: str = "sealed", programmes: str = PROGRAMMES, residents: str = RESIDENTS) -> Path:
+        said = office("seal", *self.tables(programmes, residents), "--out", self.folder / out, "--date", "2026-03-10", *words)
+        self.assertEqual((said.status, said.err), (0, ""), said)
+        self.said = said.out.splitlines()
+        return self.folder / out
+
+    def matched(self, sealed: Path, *words: str, out: str = "match") -> Path:
+        said = office("run", sealed, "--out", self.folder / out, "--date", "2026-03-20", *words)
+        self.assertEqual((said.status, said.err), (0, ""), said)
+        self.said = said.out.splitlines()
+        return self.folder / out
+
+    def receipts(self, folder: Path) -> List[bytes]:
+        """The receipts of a folder, in the order of its docket."""
+        found: Dict[str, bytes] = {}
+        for path in (folder / "receipts").iterdir():
+            found[path.read_bytes().split(b"\n")[0].decode()] = path.read_bytes()
+        return [found[f"receipt,1,{side},{name}"] for side, name in derivation.read((folder / "docket.csv").read_bytes()).members()]
+
+
+class Written(Sealed):
+    def test_what_seal_writes(self) -> None:
+        out = self.sealed()
+        files = sorted(path.relative_to(out).as_posix() for path in out.rglob("*") if path.is_file())
+        members = ["programme-east-ward", "programme-north-clinic", "programme-south-hospital", "programme-west-infirmary",
+                   "resident-ana-silva", "resident-fatima-kovacs", "resident-jurgen-gross", "resident-kim-lee", "resident-omar-haddad",
+                   "resident-rosa-rossi", "resident-zoe-bronte"]
+        self.assertEqual(files, sorted(["SHA256SUMS", "docket.csv", "key.csv", "manifest.json", "root.txt", "secret.txt",
+                                        "public/check.html", "public/root.txt", *(f"receipts/{name}.csv" for name in members)]))
+        own = derived(out, False)
+        self.assertEqual((out / "root.txt").read_bytes(), own.roots())
+        self.assertEqual((out / "public" / "root.txt").read_bytes(), own.roots())
+        self.assertEqual(self.receipts(out), own.receipts())
+        self.assertEqual(self.said[-3:], ["11 members sealed, each with a receipt; written to " + str(out),
+                                          "publish what is in public/, and these roots wherever members look:", own.roots().decode().strip()])
+        self.assertRegex((out / "secret.txt").read_text(), r"\A[0-9a-f]{64}\n\Z")
+        self.assertEqual(json.loads((out / "manifest.json").read_text())["sealed"], {
+            "members": 11, "lists": own.trees()["lists"].root, "result": ""})
+
+    def test_who_may_read_what(self) -> None:
+        out = self.sealed()
+        match = self.matched(out)
+        again = self.folder / "again"
+        self.assertEqual(office("withdraw", match, WITHDRAWN, "--out", again).status, 0)
+        for folder in (out, match, again):
+            for path in (folder, *folder.rglob("*")):
+                is_public = "public" in path.relative_to(folder).parts
+                wanted = (0o755 if is_public else 0o700) if path.is_dir() else 0o644 if is_public else 0o600
+                self.assertEqual(oct(mode_of(path)), oct(wanted), path)
+
+    def test_each_secret_is_another(self) -> None:
+        secrets = {(self.sealed(out=f"sealed{number}") / "secret.txt").read_text() for number in range(3)}
+        self.assertEqual(len(secrets), 3)
+
+    def test_what_run_adds(self) -> None:
+        sealed = self.sealed()
+        match = self.matched(sealed)
+        own = derived(match, True)
+        for name in ("docket.csv", "secret.txt", "key.csv"):
+            self.assertEqual((match / name).read_bytes(), (sealed / name).read_bytes())
+        self.assertEqual((match / "root.txt").read_bytes(), own.roots())
+        self.assertEqual((match / "root.txt").read_bytes().splitlines()[0], (sealed / "root.txt").read_bytes().strip())
+        self.assertEqual(self.receipts(match), own.receipts())
+        self.assertEqual(self.said[-2:], own.roots().decode().splitlines())
+        self.assertEqual((match / "sheet.csv").read_bytes(), (self.run_tables(out="plain") / "sheet.csv").read_bytes())
+
+    def test_a_run_that_is_not_sealed_has_no_more_than_before(self) -> None:
+        out = self.run_tables()
+        self.assertEqual([name for name in ("secret.txt", "root.txt", "receipts", "public") if (out / name).exists()], [])
+        self.assertNotIn("sealed", (out / "letters" / "kim-lee.txt").read_text(encoding="utf-8"))
+
+    def test_tables_that_say_the_same(self) -> None:
+        sealed = self.sealed()
+        lines = RESIDENTS.splitlines(True)
+        said = office("run", *self.tables(PROGRAMMES, "".join([lines[0], *reversed(lines[1:])])), "--seal", sealed, "--out",
+                      self.folder / "match")
+        self.assertEqual((said.status, said.err), (0, ""))
+        self.assertEqual((self.folder / "match" / "docket.csv").read_bytes(), (sealed / "docket.csv").read_bytes())
+
+    def test_kept_columns_and_family_names(self) -> None:
+        residents = "First name,Last name,Email,Rank 1\nAna,Silva,a@x.org,South Hospital\nKim,Lee,k@x.org,\nZoë,Brontë,,East Ward\nJürgen,Groß,,\nOmar,Haddad,,\n"
+        sealed = self.sealed("--keep", "Email", residents=residents)
+        match = self.matched(sealed)
+        plain = self.folder / "plain"
+        self.assertEqual(office("run", *self.tables(PROGRAMMES, residents), "--keep", "Email", "--out", plain).status, 0)
+        self.assertEqual((match / "matches.csv").read_bytes(), (plain / "matches.csv").read_bytes())
+        self.assertIn("a@x.org", (match / "matches.csv").read_text(encoding="utf-8"))
+
+    def test_letters_tell_the_roots(self) -> None:
+        match = self.matched(self.sealed())
+        lists, result = (row.split(",")[2] for row in (match / "root.txt").read_text().split())
+        letter = (match / "letters" / "kim-lee.txt").read_text(encoding="utf-8")
+        told = " ".join(letter[letter.index("Your list was sealed"):].split())
+        self.assertEqual(told, "Your list was sealed before the match, and your result after it, under these published roots of 11 "
+                         f"members: {lists} {result} To check yours, give your receipt to the page check.html that the office "
+                         "published, and compare its roots with these.")
+        self.assertIn(f"{lists}\n  {result}", (match / "letters.html").read_text(encoding="utf-8"))
+        again = self.folder / "letters"
+        template = self.write("letter.txt", "$name\n$lists_root\n$result_root\n")
+        self.assertEqual(office("letters", match, "--template", template, "--out", again).status, 0)
+        self.assertEqual((again / "kim-lee.txt").read_text(), f"Kim Lee\n{lists}\n{result}\n")
+
+
+class Public(Sealed):
+    def test_no_resident_and_no_list_is_published(self) -> None:
+        for cut_offs in ([], ["--cut-offs"]):
+            sealed = self.folder / f"sealed{len(cut_offs)}"
+            self.assertEqual(office("seal", SAMPLES / "programmes.csv", SAMPLES / "residents.csv", "--out", sealed).status, 0)
+            match = self.matched(sealed, *cut_offs, out=f"match{len(cut_offs)}")
+            texts = {path: path.read_text(encoding="utf-8") for folder in (sealed, match) for path in (folder / "public").iterdir()}
+            self.assertEqual(len(texts), 2 + 5 + len(cut_offs))
+            with open(match / "key.csv", encoding="utf-8", newline="") as file:
+                residents = [row for row in csv.reader(file) if row[0] == "R"]
+            self.assertEqual(len(residents), 40)
+            secret = (match / "secret.txt").read_text().strip()
+            docket = (match / "docket.csv").read_text().splitlines()
+            for path, text in texts.items():
+                for _, made, *names in residents:
+                    self.assertFalse([name for name in (made, *names) if name and name in text], path)
+                self.assertNotIn(secret, text)
+                self.assertFalse([row for row in docket if row in text], path)
+            page = texts[match / "public" / "page.html"]
+            self.assertEqual("Last rank taken" in page, bool(cut_offs))
+            self.assertEqual((match / "public" / "cut-offs.csv").exists(), bool(cut_offs))
+            self.assertIn("4 of 33 places, at ", page)
+            for _, _, root in (row.split(",") for row in (match / "root.txt").read_text().split()):
+                self.assertIn(root, page)
+
+    def test_the_figures(self) -> None:
+        match = self.matched(self.sealed(), "--cut-offs")
+        figures = (match / "public" / "figures.csv").read_text(encoding="utf-8-sig").splitlines()
+        self.assertEqual(figures[:2], ["Figure,Number", "residents who take part,7"])
+        rows = list(csv.reader(io.StringIO((match / "public" / "cut-offs.csv").read_text(encoding="utf-8-sig"))))
+        self.assertEqual(rows, [["Programme", "ID", "Places", "Filled", "Last rank taken"], ["East Ward", "", "1", "1", "1st"],
+                                ["North Clinic", "", "2", "2", "4th"], ["South Hospital", "", "1", "1", "2nd"],
+                                ["West Infirmary", "", "3", "0", "open"]])
+        self.assertNotRegex((match / "public" / "page.html").read_text(encoding="utf-8"), "(1st|2nd|4th) of")
+        self.assertEqual((match / "public" / "unfilled.csv").read_bytes(), (match / "unfilled.csv").read_bytes())
+
+    def test_the_page_of_receipts(self) -> None:
+        sealed = self.sealed("--title", "Match <2026> & more")
+        text = (sealed / "public" / "check.html").read_text(encoding="utf-8")
+        self.assertNotIn("@", re.sub("@media", "", text))
+        self.assertIn("Match &lt;2026&gt; &amp; more. 10 March 2026.", text)
+        root = (sealed / "root.txt").read_text().strip().split(",")[2]
+        self.assertIn(f'const PUBLISHED = {{"result": null, "lists": {{"count": 11, "root": "{root}"}}}};', text)
+        after = (self.matched(sealed) / "public" / "check.html").read_text(encoding="utf-8")
+        self.assertNotIn('"result": null', after)
+        # Nothing is fetched: no address stands in it, and the page forbids itself every one.
+        self.assertIsNone(re.search(r"https?:|//[a-z]+\.|\bsrc=|<link|@import|fetch\(|XMLHttp|WebSocket", after))
+        self.assertIn("default-src 'none'", after)
+
+
+class Refused(Sealed):
+    def refused(self, programmes: str, residents: str, *wanted: str) -> None:
+        said = office("run", *self.tables(programmes, residents), "--seal", self.folder / "sealed", "--out", self.folder / "match")
+        self.assertEqual((said.status, said.out), (3, ""))
+        self.assertEqual(said.err.splitlines(), [f"office: {line}" for line in wanted]
+                         + [f"office: the tables say otherwise than what {self.folder / 'sealed'} sealed; nothing was written"])
+        self.assertEqual(self.left(), ["sealed"])
+
+    def test_tables_that_say_otherwise(self) -> None:
+        self.sealed()
+        self.refused(PROGRAMMES.replace("East Ward,1", "East Ward,2"), RESIDENTS, "programme East Ward: 1 place sealed, and the table has 2")
+        self.refused(PROGRAMMES, RESIDENTS.replace("Ana Silva,South Hospital,North Clinic", "Ana Silva,North Clinic,South Hospital"),
+                     "resident Ana Silva: rank 1 was sealed as South Hospital, and the table has North Clinic")
+        self.refused(PROGRAMMES, RESIDENTS.replace("West Infirmary,East Ward,", "West Infirmary,,"),
+                     "resident Fatima Kovács: rank 2 was sealed as East Ward, and the table has nobody")
+        self.refused(PROGRAMMES.replace("Kim Lee,,,", "Kim Lee,Ana Silva,,"), RESIDENTS,
+                     "programme West Infirmary: rank 2 was sealed as nobody, and the table has Ana Silva")
+        self.refused(PROGRAMMES, RESIDENTS.replace("Rosa Rossi,,,\n", "Rosa Russo,,,\n"), "resident Rosa Rossi was sealed, and isn't in the table",
+                     "resident Rosa Russo is in the table, and wasn't sealed")
+
+    def test_folders_that_are_none(self) -> None:
+        plain, sealed = self.run_tables(out="plain"), self.sealed()
+        (self.folder / "empty").mkdir()
+        for words, wanted in ((["run", plain], "has no secret.txt: it is no folder that seal made"), (["run", self.folder / "empty"], "manifest.json"),
+                              (["compare", plain, sealed], "has no match"), (["letters", sealed], "has no match"),
+                              (["run", sealed, "--seal", sealed], "give one of them"), (["run", self.folder / "nowhere"], "only one table")):
+            said = office(*words, *(["--out", self.folder / "new"] if words[0] != "compare" else []))
+            self.assertIn(said.status, (1, 2, 3), words)
+            self.assertIn(wanted, said.err)
+            self.assertEqual(self.left(), ["empty", "plain", "sealed"])
+
+    def test_a_sealed_folder_that_was_changed(self) -> None:
+        sealed = self.sealed()
+        other = self.sealed(out="other")
+        whole = {name: (sealed / name).read_bytes() for name in ("secret.txt", "root.txt", "docket.csv")}
+        for name in whole:
+            (sealed / name).write_bytes((other / name).read_bytes().replace(b"Q,east-ward,1", b"Q,east-ward,2"))
+            said = office("run", sealed, "--out", self.folder / "match")
+            self.assertEqual((said.status, said.out), (3, ""), name)
+            self.assertIn(f"{name} was changed since it was written", said.err)
+            (sealed / name).write_bytes(whole[name])
+        # A manifest that was changed with it doesn't help.
+        manifest = json.loads((sealed / "manifest.json").read_text())
+        manifest["sha256"]["secret.txt"] = json.loads((other / "manifest.json").read_text())["sha256"]["secret.txt"]
+        (sealed / "manifest.json").write_text(json.dumps(manifest))
+        (sealed / "secret.txt").write_bytes((other / "secret.txt").read_bytes())
+        said = office("run", sealed, "--out", self.folder / "match")
+        self.assertEqual(said.status, 3)
+        self.assertIn("root.txt isn't that of its docket and secret", said.err)
+        self.assertEqual(self.left(), ["other", "sealed"])
+
+    def test_a_program_that_fails_or_differs(self) -> None:
+        if not sealing.is_built():
+            self.skipTest("the program seal isn't built")
+        tables = self.tables()
+        real = sealing.run_program
+
+        def other_roots(name: str, words: List[str], *more: object) -> object:
+            status, told = real(name, words, *more)
+            return status, told.replace(b"lists,11", b"lists,12") if words[0] == "root" else told
+
+        def other_receipts(name: str, words: List[str], *more: object) -> object:
+            status, told = real(name, words, *more)
+            return status, told.replace(b"member,R,kim-lee\n", b"") if words[0] == "receipts" else told
+
+        def fails(*_: object) -> object:
+            raise ProgramFailed(1, "out of memory")
+
+        for planted, wanted in ((other_roots, "differ"), (other_receipts, "differ"), (fails, "out of memory")):
+            with mock.patch.object(sealing, "run_program", planted):
+                said = office("seal", *tables, "--out", self.folder / "sealed")
+            self.assertEqual((said.status, said.out), (1, ""))
+            self.assertIn(wanted, said.err)
+            self.assertEqual(self.left(), [])
+
+
+    def test_a_stop_while_it_seals(self) -> None:
+        """No secret is left behind, whenever the command is stopped."""
+        words = [sys.executable, "-c", SLOW, str(TOP / "python"), "seal", *self.tables(), "--out", str(self.folder / "sealed")]
+        for number, wait in ((signal.SIGINT, 0.0), (signal.SIGTERM, 0.3), (signal.SIGHUP, 0.6)):
+            with subprocess.Popen(words, stdout=subprocess.PIPE, stderr=subprocess.PIPE) as running:
+                while not self.left() and running.poll() is None:
+                    time.sleep(0.01)
+                time.sleep(wait)
+                running.send_signal(number)
+                _, err = running.communicate(timeout=100)
+            self.assertEqual((running.returncode, err, self.left()), (1, b"office: interrupted\n", []))
+
+    def test_what_stands_there_already(self) -> None:
+        tables = self.tables()
+        for make in (lambda path: path.mkdir(), lambda path: path.symlink_to("nowhere"), lambda path: path.write_text("kept")):
+            path = self.folder / "sealed"
+            make(path)
+            said = office("seal", *tables, "--out", path)
+            self.assertEqual((said.status, said.out), (2, ""))
+            self.assertIn("is there already; nothing was written", said.err)
+            self.assertEqual(self.left(), ["sealed"])
+            path.rmdir() if path.is_dir() else path.unlink()
+
+    def test_tables_at_fault(self) -> None:
+        said = office("seal", *self.tables(PROGRAMMES.replace("Kim Lee,,,", "Kim Leee,,,")), "--out", self.folder / "sealed")
+        self.assertEqual((said.status, said.out, self.left()), (3, "", []))
+        self.assertIn("no resident is named Kim Leee; is it Kim Lee?", said.err)
+
+
+class Again(Sealed):
+    def test_a_withdrawal_before_the_match(self) -> None:
+        sealed = self.sealed()
+        said = office("withdraw", sealed, WITHDRAWN, "--out", self.folder / "again", "--date", "2026-03-11")
+        again = self.folder / "again"
+        own = derived(again, False)
+        self.assertEqual((said.status, said.out.splitlines()), (0, [
+            f"{WITHDRAWN}: withdrawn", f"11 members sealed, each with a receipt; written to {again}",
+            "all 11 members need their new receipt: the roots are others, and receipts of before hold no more",
+            "publish what is in public/, and these roots wherever members look:", own.roots().decode().strip()]))
+        self.assertNotEqual((again / "secret.txt").read_bytes(), (sealed / "secret.txt").read_bytes())
+        self.assertEqual(self.receipts(again), own.receipts())
+        self.assertIn(b"W,R,zoe-bronte\n", (again / "receipts" / "resident-zoe-bronte.csv").read_bytes())
+        before, now = ({path.name: path.read_bytes() for path in (folder / "receipts").iterdir()} for folder in (sealed, again))
+        self.assertEqual([name for name in now if now[name] == before[name]], [])
+        match = self.matched(again)
+        self.assertIn("U,zoe-bronte\n", (match / "sheet.csv").read_text())
+
+    def test_a_withdrawal_after_the_match(self) -> None:
+        match = self.matched(self.sealed())
+        said = office("withdraw", match, WITHDRAWN, "--out", self.folder / "again")
+        again = self.folder / "again"
+        own = derived(again, True)
+        self.assertEqual(said.out.splitlines()[-4:], ["all 11 members need their new receipt: the roots are others, and receipts of before hold no more",
+                                                      "publish what is in public/, and these roots wherever members look:",
+                                                      *own.roots().decode().splitlines()])
+        self.assertEqual(self.receipts(again), own.receipts())
+        self.assertNotEqual((again / "secret.txt").read_bytes(), (match / "secret.txt").read_bytes())
+        self.assertTrue((again / "changes.csv").is_file())
+
+
+class Verified(Sealed):
+    def verify(self, folder: Path, *words: str) -> List[str]:
+        said = office("verify", folder, *words)
+        self.assertEqual(said.err, "")
+        lines = said.out.splitlines()
+        self.assertEqual(said.status, 0 if lines[-1] == "everything holds" else 4)
+        return lines
+
+    def test_roots_and_receipts(self) -> None:
+        match = self.matched(self.sealed())
+        rows = (match / "root.txt").read_text().split()
+        lists, result = (row.split(",")[2] for row in rows)
+        lines = self.verify(match, "--lists", lists, "--result", result)
+        by = "by the program seal and by the office's own trees" if sealing.is_built() else "by the office's own trees; the program seal isn't here"
+        self.assertEqual(lines[-5:], [f"roots: {rows[0]} and {rows[1]}, {by}",
+                                      "published: the same roots", "root.txt: it has these roots", "receipts: 11 receipts as made again",
+                                      "everything holds"])
+        self.assertEqual(self.verify(match)[-4], "published: not given (--lists, --result); compare these roots with what was published")
+        self.assertEqual(self.verify(match, "--lists", result, "--result", result)[-4:], [
+            f"published: for the lists {result} was published", "root.txt: it has these roots", "receipts: 11 receipts as made again",
+            "this does not hold: published"])
+        self.assertEqual(office("verify", match, "--lists", lists.upper()).status, 2)
+
+    def test_what_was_changed(self) -> None:
+        match = self.matched(self.sealed())
+        lists, result = (row.split(",")[2] for row in (match / "root.txt").read_text().split())
+
+        def changed(name: str, old: bytes, new: bytes) -> List[str]:
+            data = (match / name).read_bytes()
+            self.assertIn(old, data)
+            (match / name).write_bytes(data.replace(old, new))
+            lines = self.verify(match, "--lists", lists, "--result", result)
+            (match / name).write_bytes(data)
+            return lines[-1].split(": ", 1)[-1].split(", ")
+
+        # The list of one who got what it wants: the match is the same, and only the roots tell.
+        self.assertEqual(changed("docket.csv", b"R,rosa-rossi\n", b"R,rosa-rossi,east-ward\n")[-3:], ["published", "root.txt", "receipts"])
+        self.assertEqual(changed("receipts/resident-kim-lee.csv", b"R,kim-lee,", b"R,kim-lex,"), ["digests", "receipts"])
+        self.assertEqual(changed("root.txt", lists[:9].encode(), b"000000000"), ["digests", "root.txt"])
+        self.assertEqual(changed("secret.txt", (match / "secret.txt").read_bytes(), b"0" * 64 + b"\n"), ["digests", "roots"])
+        self.assertEqual(changed("secret.txt", (match / "secret.txt").read_bytes(), b"1" * 64 + b"\n"),
+                         ["digests", "published", "root.txt", "receipts"])
+        (match / "receipts" / "resident-nobody.csv").write_bytes(b"receipt,1,R,nobody\n")
+        self.assertEqual(self.verify(match)[-1], "this does not hold: digests, receipts")
+        (match / "secret.txt").unlink()
+        self.assertEqual(self.verify(match, "--lists", lists)[-1], "this does not hold: digests, roots")
+
+    def test_without_the_program(self) -> None:
+        """Where the program isn't here, the office's own trees alone make the same, and verify says so."""
+        with mock.patch.object(sealing, "is_built", lambda: False):
+            match = self.matched(self.sealed())
+            self.assertIn("by the office's own trees; the program seal isn't here", self.verify(match)[-5])
+        self.assertEqual(self.receipts(match), derived(match, True).receipts())
+        self.assertEqual(self.verify(match)[-1], "everything holds")
+
+    def test_in_a_process_of_its_own(self) -> None:
+        match = self.matched(self.sealed())
+        done = spawn(["verify", str(match)])
+        self.assertEqual((done.status, done.out.splitlines()[-1], done.err), (0, "everything holds", ""))

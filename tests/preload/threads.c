@@ -1,0 +1,66 @@
+// A preloaded library for tests: at the end the file in THREADS_TOLD gets three numbers: the bytes of the largest stack that a
+// thread was given, and in microseconds the longest nap below THREADS_LONG and the longest of all. A nap is a wait with an end.
+#define _GNU_SOURCE
+#include <dlfcn.h>
+#include <fcntl.h>
+#include <linux/futex.h>
+#include <pthread.h>
+#include <stdarg.h>
+#include <stdatomic.h>
+#include <stdio.h>
+#include <stdlib.h>
+#include <sys/syscall.h>
+#include <time.h>
+#include <unistd.h>
+
+static atomic_long stack, brief, longest;
+static long from;
+static const char *told;
+static long (*call)(long, ...);
+
+static void keep_largest(atomic_long *kept, long seen) {
+    long before = atomic_load(kept);
+    while (seen > before && !atomic_compare_exchange_weak(kept, &before, seen)) {
+    }
+}
+
+__attribute__((constructor)) static void begin(void) {
+    told = getenv("THREADS_TOLD");
+    from = getenv("THREADS_LONG") ? atol(getenv("THREADS_LONG")) : 0;
+    call = (long (*)(long, ...))dlsym(RTLD_NEXT, "syscall");
+}
+
+int pthread_attr_setstacksize(pthread_attr_t *attributes, size_t bytes) {
+    int (*set)(pthread_attr_t *, size_t) = (int (*)(pthread_attr_t *, size_t))dlsym(RTLD_NEXT, "pthread_attr_setstacksize");
+    keep_largest(&stack, (long)bytes);
+    return set(attributes, bytes);
+}
+
+long syscall(long number, ...) {
+    va_list given;
+    va_start(given, number);
+    long words[6];
+    for (int i = 0; i < 6; i++) words[i] = va_arg(given, long);
+    va_end(given);
+    if (number == SYS_futex && (words[1] & FUTEX_CMD_MASK) == FUTEX_WAIT && words[3]) {
+        const struct timespec *wait = (const struct timespec *)words[3];
+        long micros = wait->tv_sec * 1000000 + wait->tv_nsec / 1000;
+        keep_largest(&longest, micros);
+        if (micros < from) keep_largest(&brief, micros);
+    }
+    return call(number, words[0], words[1], words[2], words[3], words[4], words[5]);
+}
+
+// A program with threads ends by this call, which runs no destructor.
+void _exit(int status) {
+    if (told) {
+        char text[64];
+        int length = snprintf(text, sizeof text, "%ld %ld %ld\n", (long)stack, (long)brief, (long)longest);
+        int file = open(told, O_WRONLY | O_CREAT | O_TRUNC, 0600);
+        if (file >= 0) {
+            (void)!write(file, text, (size_t)length);
+            close(file);
+        }
+    }
+    for (;;) call(SYS_exit_group, (long)status);
+}

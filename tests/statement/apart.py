@@ -1,0 +1,265 @@
+"""Another reader of docs/statement.md than the tool that prints it: whatever stands in a block is whole, and is the source's.
+
+It takes the sources word by word and knows nothing of how the page is made. A type has all of its fields or variants, a record
+all of its lines, a call its whole contract, and each bracket is closed."""
+import glob
+import re
+from typing import Iterator, List, NamedTuple, Optional, Set, Tuple
+
+CLOSING = {"(": ")", "[": "]", "{": "}"}
+HEAD = re.compile(r"^(?:pub(?:\(\w+\))? )?(struct|enum|trait|const|type|fn) (\w+)", re.M)
+MEMBER = re.compile(r"\s*(?:ghost|fn|const|type) ")
+RECORD = re.compile(r"^(?:\w+ )*record (\w+)")
+# What the theorem's premise names: the page says that serve_match ensures it, and prints it there.
+PREMISE = {"AreDocket", "WritesMatch"}
+# How a definition begins that stands at the margin.
+STARTS = re.compile(r"(?:abbrev|unfoldable|pub)\b")
+
+
+class Block(NamedTuple):
+    """What the page shows of one file: the file, its kind, and the text."""
+
+    path: str
+    is_rust: bool
+    text: str
+
+
+def blocks(page: str) -> "List[Block]":
+    found = re.findall(r"^`(crates/\S+)`:\n\n```(rust)?\n(.*?)^```$", page, re.M | re.S)
+    return [*dense_blocks(page), *(Block(path, bool(rust), text) for path, rust, text in found)]
+
+
+def theorem(page: str) -> str:
+    """The part of the page that stands alone."""
+    return page[:page.index("\n## The other calls\n") + 1]
+
+
+def dense_blocks(page: str) -> "List[Block]":
+    """The definitions of the theorem, file by file, laid out as the others are: a sentence that stands behind a line comes above
+    it, and an empty line between two definitions."""
+    block = re.search(r"^```\n(.*?)^```$", theorem(page), re.M | re.S)
+    found: "List[Block]" = []
+    for line in block[1].rstrip("\n").split("\n") if block else []:
+        file = re.fullmatch(r"-- (crates/\S+)", line)
+        if file:
+            found.append(Block(file[1], file[1].endswith(".rt"), ""))
+            continue
+        path, is_rust, text = found[-1]
+        mark = "///" if is_rust else "--"
+        behind = re.fullmatch(r"(\S.*?)  (?://|--) (.*)", line)
+        begins = behind is not None or STARTS.match(line) is not None
+        above = text.rstrip("\n").split("\n")[-1]
+        if text and (begins or line.startswith(mark)) and not above.startswith(mark):
+            text += "\n"
+        lines = f"{mark} {behind[2]}\n{behind[1]}" if behind else line
+        found[-1] = Block(path, is_rust, f"{text}{lines}\n")
+    return found
+
+
+def words(text: str) -> "List[str]":
+    """The words and signs of Rust, without comments, attributes, and the comma before a bracket closes."""
+    text = re.sub(r"//[^\n]*", "", text)
+    text = re.sub(r"#!?\[(?:[^\[\]]|\[[^\]]*\])*\]", "", text)
+    found = re.findall(r'"[^"]*"|\w+|[^\w\s]', text)
+    return [it for at, it in enumerate(found) if not (it == "," and found[at + 1:at + 2] in ([")"], ["}"], ["]"]))]
+
+
+def unclosed(text: str) -> "Optional[str]":
+    """The first bracket that isn't closed, or closes none."""
+    left: "List[str]" = []
+    for it in words(text):
+        if it in CLOSING:
+            left.append(CLOSING[it])
+        elif it in CLOSING.values() and (not left or left.pop() != it):
+            return it
+    return left[-1] if left else None
+
+
+def declaration(source: "List[str]", kind: str, name: str) -> "List[str]":
+    """A declaration's words: up to the bracket that closes it, or to its semicolon."""
+    for at in range(len(source) - 1):
+        if source[at] == kind and source[at + 1] == name:
+            depth = 0
+            for end in range(at, len(source)):
+                depth += (source[end] in CLOSING) - (source[end] in CLOSING.values())
+                if depth == 0 and (source[end] == ";" or source[end] == "}"):
+                    return source[at:end + 1]
+    return []
+
+
+def shown(block: str) -> "Iterator[Tuple[str, str, str]]":
+    """Each declaration of a block: its kind, its name and its text."""
+    heads = list(HEAD.finditer(block))
+    for at, head in enumerate(heads):
+        end = heads[at + 1].start() if at + 1 < len(heads) else len(block)
+        yield head[1], head[2], block[head.start():end]
+
+
+def impl_of(source: str, trait: str, name: str) -> str:
+    """What a file has of a trait for a type."""
+    own = re.search(rf"^impl(?:<[^{{]*>)? {trait} for {name}\b.*?^\}}", source, re.M | re.S)
+    return own[0] if own else ""
+
+
+def model_of(source: str, name: str) -> str:
+    """The value that clauses see of a type, by the name that its own file gives it."""
+    value = re.search(r"ghost Value = \{ (.*?) \};", impl_of(source, "Model", name), re.S)
+    renamed = {new: old for old, new in re.findall(r"(\w+) as (\w+)", source)}
+    return renamed.get(value[1], value[1]) if value else ""
+
+
+def kept_of(source: str, name: str) -> str:
+    """What the page says of every value of a type: the fact that the type's calls ensure of it, as often as they say one."""
+    own = re.search(rf"^impl {name} \{{.*?^\}}", source, re.M | re.S)
+    facts = set(re.findall(r"^        ensures (?:\w+ )?\{ (\w+) self\.now \}$", own[0], re.M)) if own else set()
+    return f", of which {' and '.join(sorted(facts))} always holds" if facts else ""
+
+
+def stands_in(part: "List[str]", whole: "List[str]") -> bool:
+    """Whether these stand there side by side."""
+    return bool(part) and any(whole[at:at + len(part)] == part for at in range(len(whole) - len(part) + 1))
+
+
+def members(code: str) -> "List[str]":
+    """What stands on its own in the body of a trait: each member with its clauses."""
+    body = code[code.index("{") + 1:code.rindex("}")]
+    return [f"{it};" for it in body.split(";\n") if it.strip()]
+
+
+def contract(source: str, name: str) -> "List[str]":
+    """The lines of a function from its name to where its body begins, without empty ones."""
+    lines = source.split("\n")
+    for at, line in enumerate(lines):
+        if re.match(rf"pub fn {name}\b", line):
+            end = next(it for it in range(at, len(lines)) if lines[it].startswith("{"))
+            return [it.rstrip() for it in lines[at:end] if it.strip()]
+    return []
+
+
+def rust_faults(block: Block, source: str) -> "Iterator[str]":
+    bracket = unclosed(block.text)
+    if bracket:
+        yield f"{block.path}: a bracket {bracket} has no other"
+    for kind, name, text in shown(block.text):
+        code = "\n".join(it for it in text.split("\n") if not it.startswith("///"))
+        extra = re.findall(r"^impl (\w+) for (\w+): (.*)$", code, re.M)
+        for trait, owner, item in extra:
+            if not stands_in(words(item), words(impl_of(source, trait, owner))):
+                yield f"{block.path}: {trait} of {owner} has no {item}"
+        code = re.sub(r"^impl \w+ for .*\n?", "", code, flags=re.M)
+        if kind == "fn":
+            if [it.rstrip() for it in code.split("\n") if it.strip()] != contract(source, name):
+                yield f"{block.path}: the contract of {name} isn't the source's"
+        elif kind == "trait":
+            own = declaration(words(source), kind, name)
+            if not all(MEMBER.match(it) and stands_in(words(it), own) for it in members(code)):
+                yield f"{block.path}: trait {name} isn't the source's"
+        elif "// in clauses: " in code:
+            value, kept = model_of(source, name), kept_of(source, name)
+            if not value or code.split("// in clauses: ")[1].strip() != value + kept:
+                yield f"{block.path}: clauses see {name} as {value}{kept}"
+        else:
+            own = declaration(words(source), kind, name)
+            told = words(code)
+            if not own or told[told.index(kind):] != own:
+                yield f"{block.path}: {kind} {name} isn't the source's"
+
+
+def record_lines(lines: "List[str]", name: str) -> "List[str]":
+    """A record's own lines: from its name to the first line that isn't below it."""
+    for at, line in enumerate(lines):
+        head = RECORD.match(line.strip())
+        if head and head[1] == name:
+            deep = len(line) - len(line.lstrip())
+            end = at + 1
+            while end < len(lines) and lines[end].strip() and len(lines[end]) - len(lines[end].lstrip()) > deep:
+                end += 1
+            return [it.strip() for it in lines[at:end]]
+    return []
+
+
+def has_none(text: "List[str]", lines: "List[str]") -> bool:
+    """Whether no sentence stands above this in its file."""
+    at = lines.index(text[0])
+    return at > 0 and not lines[at - 1].startswith("--")
+
+
+def spec_faults(block: Block, source: str) -> "Iterator[str]":
+    lines = source.split("\n")
+    plain = [it.strip() for it in lines if it.strip()]
+    for part in block.text.strip("\n").split("\n\n"):
+        own = [it.strip() for it in part.split("\n") if it.strip()]
+        own = own[own[0].startswith("module _"):]
+        sentence = [it for it in own if it.startswith("--")]
+        text = own[len(sentence):]
+        if not stands_in(text, plain) or not (stands_in(sentence, plain) if sentence else has_none(text, plain)):
+            yield f"{block.path}: {own[-1]} doesn't stand so in the source"
+    shown_lines = block.text.split("\n")
+    for line in shown_lines:
+        head = RECORD.match(line.strip())
+        if head and record_lines(shown_lines, head[1]) != record_lines(lines, head[1]):
+            yield f"{block.path}: record {head[1]} isn't the source's"
+
+
+def defined(text: str) -> "Set[str]":
+    """The names that a text of specs/ or of src/ defines: at its margin, or in a module with parameters."""
+    specs = r"^(?:(?:(?:abbrev|unfoldable|pub|record|data) )+|  (?:abbrev|unfoldable) pub )(\S+?)(?= [:({])"
+    sources = r"^(?:pub(?:\(\w+\))? )?(?:struct|enum|trait|const|type) (\w+)"
+    return {*re.findall(specs, text, re.M), *re.findall(sources, text, re.M)}
+
+
+def bound(text: str) -> "Set[str]":
+    """The names that terms of a text bind: behind a λ, before a colon, left of an equation's sign, and those of fields and
+    variants."""
+    found = re.findall(r"λ ((?:\w+ )*\w+)\.", text) + re.findall(r"\(((?:\w+ )*\w+) :", text) + re.findall(r"^  (?:pub )?(\w+)(?= [:=])", text, re.M)
+    variants = re.findall(r"^pub enum \w+ \{(.*)\}", text, re.M)
+    return {name for it in [*found, *variants, *re.findall(r"^\w+ ([^=:\n]*) =", text, re.M)] for name in re.findall(r"\w+", it)}
+
+
+def outsiders(page: str, top: str) -> "List[str]":
+    """What the theorem names and doesn't define, though some crate defines it, but for the names of its premise."""
+    own = "".join(it.text for it in dense_blocks(page))
+    clauses = "".join(re.findall(r"^    (?:requires|ensures).*?(?=^    (?:requires|ensures)|^```)", theorem(page), re.M | re.S))
+    used = set(re.findall(r"(?<![\w.])\w+", re.sub(r"^\s*(?:--|///).*", "", own, flags=re.M) + clauses))
+    known: "Set[str]" = set()
+    for path in [*glob.glob(f"{top}/crates/*/specs/**/*.antt", recursive=True), *glob.glob(f"{top}/crates/*/src/**/*.rt", recursive=True)]:
+        with open(path) as file:
+            known |= defined(file.read())
+    return sorted((used & known) - defined(own) - bound(own) - PREMISE)
+
+
+def faults(page: str, top: str) -> "List[str]":
+    """All that the page shows otherwise than the sources below this folder have it."""
+    found: "List[str]" = []
+    for block in blocks(page):
+        with open(f"{top}/{block.path}") as file:
+            source = file.read()
+        found += (rust_faults if block.is_rust else spec_faults)(block, source)
+    return found
+
+
+def count(page: str) -> "Tuple[int, int]":
+    """How many declarations of Rust and how many records the page shows."""
+    declared = sum(len(list(shown(it.text))) for it in blocks(page) if it.is_rust)
+    records = sum(bool(RECORD.match(line.strip())) for it in blocks(page) if not it.is_rust for line in it.text.split("\n"))
+    return declared, records
+
+
+def cuts(block: Block) -> "Iterator[Tuple[str, str]]":
+    """The block with something cut: a bracket or a line of each declaration and contract, a line of each record, a sentence."""
+    if block.is_rust:
+        for _, name, text in shown(block.text):
+            last = max(text.rfind(it) for it in ")}]")
+            if last >= 0 and "// in clauses" not in text:
+                yield f"the last bracket of {name}", block.text.replace(text, text[:last] + text[last + 1:])
+            for line in text.rstrip("\n").split("\n")[1:]:
+                # A trait has the members alone that contracts stand on, so one that is gone as a whole shows in the names.
+                if line.startswith("    ") and line.strip() not in (")", "}") and not line.strip().startswith("ghost "):
+                    yield f"{line.strip()} of {name}", block.text.replace(text, text.replace(f"{line}\n", "", 1))
+            several = re.search(r"\{ (\w+)[^{}]*, (\w+)[^{}]* \}$", text.strip()) if "// in clauses" not in text else None
+            if several:
+                yield f"{several[1]} of {name}", block.text.replace(text, re.sub(r"\{ [^,]*, ", "{ ", text, count=1))
+        return
+    for line in block.text.split("\n"):
+        if re.match(r"\s+pub \w+ :", line):
+            yield line.strip(), block.text.replace(f"{line}\n", "", 1)
