@@ -11,9 +11,9 @@ import sys
 from typing import Any, Dict, List, Optional
 
 sys.dont_write_bytecode = True
+from programs import PROGRAMS, listed  # noqa: E402
 from tree import said_by, state_of  # noqa: E402
 
-PROGRAMS = {"residency": "residency_cli", "residency-why": "residency_why"}
 # A note names one, so a note that an earlier form of this file left is none.
 FORM = 1
 
@@ -39,7 +39,7 @@ def sum_of(path: str) -> str:
 
 
 def sums_of(top: str) -> Dict[str, str]:
-    return {name: sum_of(built(top, name)) for name in PROGRAMS}
+    return {name: sum_of(built(top, name)) for name in listed(top)}
 
 
 def toolchain(top: str) -> str:

@@ -90,7 +90,10 @@ def entries_of(lines: Sequence[str], are_options: bool) -> List[Tuple[int, Entry
     """The entries of a list with how far each is indented; a line that stands further in goes on with the one before."""
     found: List[Tuple[int, str, List[str]]] = []
     for line in lines:
-        indent, words, text = len(line) - len(line.lstrip()), *ENTRY.match(line).groups()[1:]
+        matched = ENTRY.match(line)
+        if not matched:
+            raise ValueError(f"no entry of a list: {line}")
+        indent, words, text = len(line) - len(line.lstrip()), matched[2], matched[3]
         is_new = words.startswith("-") if are_options else indent <= 4 or bool(found) and indent <= found[0][0]
         if is_new or not found:
             found.append((indent, words, [text] if text else []))

@@ -49,13 +49,20 @@ list=$prefix/lib/residency/installed
 # take_away PATH.. : these files, what Python kept of them, and after them the folders that are empty now
 take_away() {
     local -a paths=("$@")
-    local path place
+    local path place kept
     for path in "${paths[@]}"; do
         case $path in
-        */) ;;
-        *.py) rm -rf "$prefix/$path" "$prefix/${path%/*}/__pycache__" ;;
-        *) rm -f "$prefix/$path" ;;
+        */) continue ;;
+        *.py)
+            kept=$prefix/${path%/*}/__pycache__
+            path=${path##*/}
+            rm -f "$kept/${path%.py}".*.pyc || true
+            rmdir "$kept" 2> /dev/null || true
+            path=${kept%/__pycache__}/$path
+            ;;
+        *) path=$prefix/$path ;;
         esac
+        rm -f "$path" || true
     done
     # The deepest folder comes last.
     for ((place = ${#paths[@]} - 1; place >= 0; place--)); do
@@ -101,8 +108,11 @@ add() {
 
 [ -f "$here/SHA256SUMS" ] || fail "SHA256SUMS is missing beside it: start it from the unpacked archive"
 (cd "$here" && sha256sum --check --quiet --strict SHA256SUMS) || fail "the archive is damaged; nothing was written"
-for program in residency residency-why; do
-    "$here/bin/$program" --help > /dev/null ||
+for path in "$here"/bin/*; do
+    program=${path##*/}
+    # What is a script needs nothing of the C library.
+    [ "$(head -c 2 "$path")" != "#!" ] || continue
+    "$path" --help > /dev/null ||
         fail "$program doesn't run here: it is for Linux on x86-64 with the GNU C library 2.34 or later; nothing was written"
 done
 for path in bin lib share; do
@@ -115,9 +125,10 @@ add install.sh lib/residency/install.sh
 
 is_ours=()
 [ ! -f "$list" ] || mapfile -t is_ours < "$list"
-for path in "${to[@]}"; do
+for path in "${to[@]}" "${list#"$prefix/"}"; do
     if [ -e "$prefix/$path" ] || [ -L "$prefix/$path" ]; then
         found=
+        [ "$prefix/$path" != "$list" ] || [ ! -f "$list" ] || [ -L "$list" ] || found=yes
         for own in ${is_ours[@]+"${is_ours[@]}"}; do
             [ "$own" != "$path" ] || found=yes
         done
@@ -142,7 +153,7 @@ find_place
 make_folder() {
     [ ! -d "$prefix/$1" ] || return 0
     case $1 in */*) make_folder "${1%/*}" ;; esac
-    mkdir "$prefix/$1"
+    mkdir -m 755 "$prefix/$1"
     made+=("$1/")
 }
 
@@ -167,6 +178,6 @@ trap - ERR
 echo
 echo "$("$prefix/bin/residency" --version) is installed in $prefix; $prefix/lib/residency/install.sh --uninstall takes it away."
 case :${PATH-}: in *":$prefix/bin:"*) ;; *) echo "Put $prefix/bin on the path: export PATH=\"$prefix/bin:\$PATH\"" ;; esac
-if [ -f "$prefix/bin/office" ] && ! python3 -c 'import sys; sys.exit(sys.version_info < (3, 9))' 2> /dev/null; then
+if [ -f "$prefix/bin/residency-office" ] && ! python3 -c 'import sys; sys.exit(sys.version_info < (3, 9))' 2> /dev/null; then
     echo "The office's command wants Python 3.9 or later as python3; the other programs need nothing."
 fi

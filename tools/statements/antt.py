@@ -137,8 +137,9 @@ class Walk:
             elif part == "λ":
                 at = self.arguments(parts, at, scope)
             elif part == "record":
-                if isinstance(parts[at], str) or parts[at].opening != "{":
-                    self.term([parts[at]], scope)
+                base = parts[at]
+                if isinstance(base, str) or base.opening != "{":
+                    self.term([base], scope)
                     at += 1
                 self.literal(parts[at], scope)
                 at += 1
@@ -220,18 +221,30 @@ def read_spec(path: str, lines: List[str]) -> Tuple[Dict[str, Item], Dict[str, s
     return items, modules
 
 
+def constructors_of(item: Item) -> List[str]:
+    """The constructors of a type of data, each on a line of its own; none of another definition."""
+    if not re.match(r"\s*(pub )?data ", item.text[0]):
+        return []
+    return [found[1] for line in item.text[1:] if (found := re.match(r"\s+(\S+) : ", line))]
+
+
 def resolve_spec(item: Item, names: Lookup, module: str) -> None:
     """Notes what a definition of specs/ names."""
-    walk, scope = Walk(names, item), set()
+    walk = Walk(names, item)
+    scope: Set[str] = set()
     for part in tree(module):
         walk.binder(part, scope)
     text = "\n".join(item.text)
+    if re.match(r"\s*(pub )?data ", text):
+        for line in item.text[1:]:
+            walk.term(tree(line.partition(" : ")[2]), scope)
+        return
     if re.match(r"\s*(pub )?record ", text):
-        head, _, body = text.partition(" where\n")
+        head, _, lines = text.partition(" where\n")
         for part in tree(head):
             walk.binder(part, scope)
-        for part in re.split(r"^\s*pub ", re.sub(r"--.*", "", body), flags=re.M)[1:]:
-            name, _, kind = part.partition(" : ")
+        for line in re.split(r"^\s*pub ", re.sub(r"--.*", "", lines), flags=re.M)[1:]:
+            name, _, kind = line.partition(" : ")
             walk.term(tree(kind), scope)
             scope.add(name)
             item.has.add(name)
@@ -244,5 +257,5 @@ def resolve_spec(item: Item, names: Lookup, module: str) -> None:
         left, *right = split(tree(equation), "=")
         inner = set(scope)
         walk.pattern(left[1:], inner)
-        for part in right:
-            walk.term(part, inner)
+        for body in right:
+            walk.term(body, inner)

@@ -2,7 +2,7 @@
 import re
 from typing import Dict, List, Optional, Set, Tuple
 
-from .antt import CONSTRUCTORS, Item, Missing, Ref, Walk, comment_above, imports_of, read_spec, resolve_spec, tree
+from .antt import CONSTRUCTORS, Item, Missing, Ref, Walk, comment_above, constructors_of, imports_of, read_spec, resolve_spec, tree
 from .rust import WORDS, Call, Parts, block, read_call, read_source, uses_of
 
 # What clauses name without an import.
@@ -16,19 +16,26 @@ class File:
         self.repo, self.path, self.lines = repo, path, text.split("\n")
         self.imports, self.uses = imports_of(text), uses_of(text)
         self.modules: Dict[str, str] = {}
+        # By its constructors each type of data of this file.
+        self.constructors: Dict[str, str] = {}
         self.parts: Dict[str, Parts] = {}
         # The type parameters of the call that is looked at, with their bounds.
         self.bounds: Dict[str, List[str]] = {}
         if path.endswith(".antt"):
             self.items, self.modules = read_spec(path, self.lines)
+            self.constructors = {one: it.name for it in self.items.values() for one in constructors_of(it)}
         else:
             self.items, self.parts = read_source(path, self.lines)
 
     def is_constructor(self, word: str) -> bool:
+        if word in self.constructors:
+            return True
         targets = self.imports.get(word) or self.imports.get(f"◌{word}◌") or []
         return any(where.endswith(".TheVariants") or name in CONSTRUCTORS for where, name in targets)
 
     def find(self, item: Item, word: str, member: str) -> Tuple[Optional[Ref], bool]:
+        if word in self.constructors:
+            return (self.path, self.constructors[word]), False
         if word in self.items:
             return self.repo.variant((self.path, word), member)
         targets = self.imports.get("if◌then◌else◌" if word == "if" else word) or self.imports.get(f"◌{word}◌") or []
@@ -182,6 +189,8 @@ class Repo:
         if parts.hidden:
             raise Missing(f"{file.path}: {item.name} has private fields, and no model says how clauses see it")
         Walk(file, item).term(tree(parts.value), parts.generics)
+        if parts.kept:
+            Walk(file, item).term(tree(parts.kept), set())
         seen = re.sub(r"\w+", lambda it: file.imports.get(it[0], [("", it[0])])[0][1], parts.value)
         item.text = [it.replace(f"in clauses: {parts.value}", f"in clauses: {seen}") for it in item.text]
         self.types(file, item, parts.types, parts.generics)

@@ -19,6 +19,8 @@ class Parts:
     variants: Set[str]
     value: str = ""
     hidden: bool = False
+    # The fact of this value that always holds, where a call without a condition says so.
+    kept: str = ""
 
 
 def bare(lines: Iterable[str]) -> str:
@@ -53,6 +55,21 @@ def block(lines: List[str], pattern: str) -> Tuple[int, List[str]]:
     return -1, []
 
 
+def body_of(text: str) -> str:
+    """What a declaration says after its name: what stands between its own brackets, or after its sign."""
+    start = re.search(r"[{(=]", text)
+    if not start:
+        return text.strip(" ;")
+    if start[0] == "=":
+        return text[start.end():].strip(" ;")
+    depth = 0
+    for at in range(start.start(), len(text)):
+        depth += (text[at] in "({") - (text[at] in ")}")
+        if depth == 0:
+            return text[start.end():at].strip(" ,")
+    raise Missing(f"a bracket is left open in {text}")
+
+
 def pieces(text: str) -> List[str]:
     """The parts of a list between brackets, split at its own commas."""
     found, depth = [""], 0
@@ -65,6 +82,16 @@ def pieces(text: str) -> List[str]:
     return [it.strip() for it in found if it.strip()]
 
 
+def always(lines: List[str], name: str) -> str:
+    """What holds of every value of a type: a fact of the value alone, which some call that asks nothing ensures."""
+    own = "\n".join(block(lines, rf"impl {name} \{{")[1])
+    for method in re.findall(r"^    pub fn \w+\(&self\).*?^    \{", own, re.M | re.S):
+        found = re.search(r"ensures(?: \w+)? \{ ([A-Z]\w+) self\.now \}", method)
+        if found and "requires" not in method:
+            return found[1]
+    return ""
+
+
 def read_source(path: str, lines: List[str]) -> Tuple[Dict[str, Item], Dict[str, Parts]]:
     """The declarations of a file, each with the value that clauses see, where its type has a model."""
     items: Dict[str, Item] = {}
@@ -74,7 +101,7 @@ def read_source(path: str, lines: List[str]) -> Tuple[Dict[str, Item], Dict[str,
         if head:
             kind, name, end = head[1], head[2], end_of(lines, at)
             text = bare(lines[at:end])
-            body = re.sub(r"^[ ={(]+|[ ;)}]+$", "", text[len(head[0]):])
+            body = body_of(text[len(head[0]):])
             part = Parts(kind, set(re.findall(r"(?:^|, |<)(\w+)", head[3] or "")), body, set())
             item = Item(path, name, at + 1, end, comment_above(lines, at, "///"), [])
             items[name], parts[name] = item, part
@@ -88,7 +115,9 @@ def read_source(path: str, lines: List[str]) -> Tuple[Dict[str, Item], Dict[str,
             value = re.search(r"ghost Value = \{ (.*?) \};", "\n".join(inside), re.S)
             if value:
                 part.value, part.types, part.hidden, item.has = value[1], "", False, set()
-                text = f"{re.split(r' [{]|[(]', text)[0]} {{ .. }}  // in clauses: {value[1]}"
+                part.kept = always(lines, name)
+                kept = f", of which {part.kept} always holds" if part.kept else ""
+                text = f"{re.split(r' [{]|[(]', text)[0]} {{ .. }}  // in clauses: {value[1]}{kept}"
             if kind == "const":
                 part.types = ""
             fits = len(text) <= 116 or kind not in ("struct", "enum") or part.value

@@ -1,0 +1,21 @@
+"""The programs of a release, each with the crate that builds it: a program more is a line here, and no other place lists them.
+
+A release has those whose crates stand in crates.txt. The office's command is Python, and comes with the package."""
+from __future__ import annotations
+
+from typing import Dict
+
+PROGRAMS = {
+    "residency": "residency_cli",
+    "residency-why": "residency_why",
+    "residency-audit": "residency_audit",
+    "residency-seal": "residency_seal",
+}
+OFFICE = "residency-office"
+
+
+def listed(top: str) -> Dict[str, str]:
+    """The programs that this checkout has, each with its crate."""
+    with open(f"{top}/crates.txt") as file:
+        crates = {line.split(":")[0].strip() for line in file if ":" in line and not line.startswith("#")}
+    return {name: crate for name, crate in PROGRAMS.items() if crate in crates}

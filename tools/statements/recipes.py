@@ -1,0 +1,110 @@
+"""Recipes for one thing more of a kind: the files that name the one that is most alike, in the order in which they are mended."""
+import os
+import re
+from typing import Dict, Iterator, List, NamedTuple, Tuple
+
+
+class Recipe(NamedTuple):
+    """A kind, the thing of this kind that is searched for, how a line of a file names it, and what is done beside that."""
+
+    alike: str
+    names: str
+    steps: List[str]
+
+
+RECIPES: Dict[str, Recipe] = {
+    "row": Recipe("the row `W` of a docket, which withdraws a member", r"\bWITHDRAWAL\b|\b\w*withdrawal_(?:row|fault|kind)\w*|\bWithdrawal\b"
+                  r"|\bBadWithdrawal\b|(?<![\w!#\"])W,[PR]\b|\"W\"", [
+        "First its letter, its kind and what it says; then its own fault, and the fault that hangs on rows before it.",
+        "A worked docket for each of its faults goes to `tests/rows/run`, and one with it to `program_tests`.",
+    ]),
+    "field": Recipe("the number of workers, which a `C` row may have, and the worker of each event",
+                    r"\b\w*by_worker\w*|\b(?:workers|worker|who)_(?:of|in|row|rows)\b|journal-by-worker", [
+        "First what the field says and its fault in the definitions of the row; then what keeps it, and what writes it.",
+        "A docket without the field has to stay as it is: the old worked rows are its test.",
+    ]),
+    "fault": Recipe("the fault `bad withdrawal row` of a docket", r"\bBadWithdrawal\b|bad withdrawal", [
+        "First its variant with its text, and the definition that says when it is told. Then the clause that pins it, and the body.",
+        "A fault that reaches a program has an exit status (`residency/src/status.rt`), which README's list has too.",
+        "Where a crate above rests on the fault, an edit that must fail tells another.",
+    ]),
+    "event": Recipe("the event `Hear`", r"/\w*hear\w*[/.]|\bHear\b|\bHEAR\b|\b\w*_hear\b|\bhear_\w+|\bfn hear\b|E,hear|\"hear\"", [
+        "First its variant and the definitions of the core, `exchange_core/specs/Legal` before all; then the laws, and upwards.",
+        "A worked journal with it goes to `library_tests`, and each place where it may not stand to `tests/journals/run`.",
+    ]),
+    "lemma": Recipe("the file of lemmas `exchange_core/proofs/Dues`", r"\bexchange_core\.proofs\.Dues\b|^pub mod Dues$|\bproofs/Dues\b", [
+        "A lemma that two functions need goes into the file of `proofs/` that is about it. A new file begins with a comment on what it has.",
+        "The folder's `Lib` lists the file, and `tools/pages --write` puts it into the map of the crate's README.",
+    ]),
+}
+# Files that are searched, and pages that are made of them or that tell what once was.
+SEARCHED = (".antt", ".rt", ".edit", ".py", ".md", ".csv", ".plants", ".rs", ".txt")
+LEFT_OUT = ("docs/statement.md", "docs/definitions.md", "docs/decisions/", "CONTRIBUTING.md", "CHANGELOG.md", "tools/statements/", "tests/docs/")
+MADE = {".git", ".build", ".bench", "dist", "out", "__pycache__"}
+IN_CRATES = ("specs", "src", "proofs", "must-fail")
+AFTER = ("tests", "bench", "python", "examples", "tools", "docs")
+
+
+def crates_of(top: str) -> List[str]:
+    with open(f"{top}/crates.txt", encoding="utf-8") as lines:
+        return [line.split(":")[0].strip() for line in lines if re.match(r"\w", line)]
+
+
+def sources(top: str) -> Iterator[str]:
+    for folder, folders, names in os.walk(top):
+        folders[:] = sorted(set(folders) - MADE)
+        for name in sorted(names):
+            path = os.path.relpath(f"{folder}/{name}", top)
+            is_script = "." not in name and path.startswith(("tests/", "bench/", "tools/"))
+            if (name.endswith(SEARCHED) or is_script) and not path.startswith(LEFT_OUT):
+                yield path
+
+
+def place_of(path: str, crates: List[str]) -> Tuple[int, int, str]:
+    """When a file is mended: crates lowest first, in each definitions, code, proofs and edits; then tests, Python and pages."""
+    parts = path.split("/")
+    if parts[0] == "crates" and len(parts) > 2 and parts[1] in crates:
+        return crates.index(parts[1]), IN_CRATES.index(parts[2]) if parts[2] in IN_CRATES else len(IN_CRATES), path
+    return len(crates), AFTER.index(parts[0]) if parts[0] in AFTER else len(AFTER), path
+
+
+def is_of_goals(path: str) -> bool:
+    """Whether this is a proof for one function, which is named after the code."""
+    return re.match(r"crates/\w+/proofs/.+/", path) is not None
+
+
+def found(top: str, kind: str) -> List[str]:
+    """The files that name the one alike, in their order."""
+    names, paths = re.compile(RECIPES[kind].names, re.M), []
+    for path in sources(top):
+        with open(f"{top}/{path}", encoding="utf-8", errors="replace") as file:
+            if names.search(path) or names.search(file.read()):
+                paths.append(path)
+    crates = crates_of(top)
+    return sorted(paths, key=lambda it: place_of(it, crates))
+
+
+def shown(path: str) -> str:
+    """A file's name as pages have it: from the crate on, and without antt's ending."""
+    path = path[len("crates/"):] if path.startswith("crates/") else path
+    return f"`{path[:-len('.antt')] if path.endswith('.antt') else path}`"
+
+
+def recipe(top: str, kind: str) -> str:
+    """The recipe as a page has it."""
+    alike, _, steps = RECIPES[kind]
+    paths = found(top, kind)
+    groups: Dict[str, List[str]] = {}
+    for path in paths:
+        parts = path.split("/")
+        group = parts[1] if parts[0] == "crates" and len(parts) > 2 else parts[0]
+        groups.setdefault("pages" if group in ("docs", "README.md", "crates") else group, []).append(path)
+    article = "An" if kind[0] in "aeiou" else "A"
+    out = [f"### {article} {kind} more", "", " ".join(steps), "", f"{len(paths)} files name {alike}:", ""]
+    for number, (group, members) in enumerate(groups.items(), 1):
+        goals = sum(map(is_of_goals, members))
+        named = [shown(it) for it in members if not is_of_goals(it)]
+        if goals:
+            named.append(f"and {goals} answer{'s' * (goals > 1)} to goals, which `rt check` asks for")
+        out.append(f"{number}. {group}: {', '.join(named)}.")
+    return "\n".join(out)
