@@ -1,7 +1,7 @@
 //! The calls of the audit and of the replay, and what is written of both.
 ghost use Rattle.std.specs.Prelude.{◌≡◌, length, IfOk, IfSome};
 ghost use Rattle.docket.specs.Whole.{IsByWorker};
-ghost use Rattle.residency.specs.Report.{IsReportOf};
+ghost use Rattle.audit_text.specs.Report.{IsReportOf};
 
 use crate::dockets::{SHEET, SMALL, docket_of, room};
 use crate::seen::{Seen, begin, end};
