@@ -1,3 +1,4 @@
 pub mod Listed
+pub mod QueueRows
 pub mod Queues
 pub mod Waiting

@@ -1,6 +1,6 @@
-use Rattle.std.proofs.Common.{◌≡◌, ◌≢◌, ℕ, ◌∷◌, List, Option, Some, None, refl, sym, ap, ◌∙◌, subst, arith, rules}
-use Rattle.desk_scheduler.specs.Waits.{Waits, AreQueues, linked_at, queue_of, without}
-use Rattle.desk_scheduler.proofs.Queues.{nobody, no_first}
+use Rattle.std.proofs.Common.{sym, subst, arith}
+use Rattle.desk_scheduler.specs.Waits.{Waits, AreQueues}
+use Rattle.desk_scheduler.proofs.QueueRows.{nobody, no_first}
 use Rattle.desk_scheduler.proofs.wait_queues.WaitQueues.call_first.Goals as goal
 
 pub returns-then-self-eq0-clause-first : goal.returns-then-self-eq0-clause-first

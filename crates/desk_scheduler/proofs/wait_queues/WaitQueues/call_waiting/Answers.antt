@@ -1,6 +1,7 @@
-use Rattle.std.proofs.Common.{◌≡◌, ◌≢◌, ℕ, ◌∷◌, List, Option, Some, None, refl, sym, ap, ◌∙◌, subst, arith, rules}
-use Rattle.desk_scheduler.specs.Waits.{Waits, AreQueues, linked_at, queue_of, without}
-use Rattle.desk_scheduler.proofs.Queues.{called_first, not_in, some_same}
+use Rattle.std.proofs.Common.{◌≡◌, ℕ, ◌∷◌, List, Some, sym, ap, ◌∙◌, subst, rules}
+use Rattle.desk_scheduler.specs.Waits.{Waits, AreQueues, linked_at, queue_of}
+use Rattle.desk_scheduler.proofs.QueueRows.{not_in, some_same}
+use Rattle.desk_scheduler.proofs.Queues.{called_first}
 use Rattle.desk_scheduler.proofs.wait_queues.WaitQueues.call_waiting.Goals as goal
 
 pub returns-clause-queue : goal.returns-clause-queue

@@ -1,6 +1,6 @@
-use Rattle.std.proofs.Common.{◌≡◌, ◌≢◌, ℕ, ◌∷◌, ◌++◌, [], List, Option, Some, None, refl, sym, ap, ◌∙◌, subst, arith, rules}
-use Rattle.desk_scheduler.specs.Waits.{Waits, AreQueues, linked_at, queue_of, without}
-use Rattle.desk_scheduler.proofs.Queues.{not_in, some_same}
+use Rattle.std.proofs.Common.{◌≡◌, ℕ, ◌∷◌, ◌++◌, [], List, Some, sym, ap, ◌∙◌, subst, arith, rules}
+use Rattle.desk_scheduler.specs.Waits.{Waits, AreQueues, linked_at}
+use Rattle.desk_scheduler.proofs.QueueRows.{not_in, some_same}
 use Rattle.desk_scheduler.proofs.wait_queues.WaitQueues.join.Goals as goal
 
 pub returns-then-waits_for-clause-elsewhere : goal.returns-then-waits_for-clause-elsewhere

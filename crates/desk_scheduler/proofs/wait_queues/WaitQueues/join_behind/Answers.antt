@@ -1,4 +1,4 @@
-use Rattle.std.proofs.Common.{◌≡◌, ◌≢◌, ℕ, ◌+◌, ◌<◌, ◌∷◌, ◌++◌, [], List, Option, None, Some, length, refl, sym, subst, arith, rules}
+use Rattle.std.proofs.Common.{◌≡◌, ◌≢◌, ℕ, ◌+◌, ◌<◌, ◌∷◌, ◌++◌, [], None, length, refl, sym, subst, arith, rules}
 use Rattle.desk_scheduler.specs.Waits.{Waits, AreQueues, joined_rows, linked_at, queue_of}
 use Rattle.desk_scheduler.proofs.Queues.{joined_queues, joined_last, joined_others}
 use Rattle.desk_scheduler.proofs.Waiting.{fewer_wait}

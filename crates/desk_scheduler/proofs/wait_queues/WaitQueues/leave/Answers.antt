@@ -1,6 +1,6 @@
-use Rattle.std.proofs.Common.{◌≡◌, ◌≢◌, ℕ, ◌∷◌, List, Option, Some, None, refl, sym, ap, ◌∙◌, subst, arith, rules}
-use Rattle.desk_scheduler.specs.Waits.{Waits, AreQueues, linked_at, queue_of, without}
-use Rattle.desk_scheduler.proofs.Queues.{nobody}
+use Rattle.std.proofs.Common.{sym, ap, ◌∙◌, subst, arith}
+use Rattle.desk_scheduler.specs.Waits.{Waits, AreQueues, without}
+use Rattle.desk_scheduler.proofs.QueueRows.{nobody}
 use Rattle.desk_scheduler.proofs.wait_queues.WaitQueues.leave.Goals as goal
 
 pub returns-else-self-gt0-clause-queues : goal.returns-else-self-gt0-clause-queues

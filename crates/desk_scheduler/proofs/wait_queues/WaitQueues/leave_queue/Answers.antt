@@ -1,6 +1,6 @@
-use Rattle.std.proofs.Common.{◌≡◌, ◌≢◌, ℕ, ◌∷◌, List, Option, Some, None, refl, sym, ap, ◌∙◌, subst, arith, rules}
-use Rattle.desk_scheduler.specs.Waits.{Waits, AreQueues, linked_at, queue_of, without}
-use Rattle.desk_scheduler.proofs.Queues.{none_some, not_in}
+use Rattle.std.proofs.Common.{◌≡◌, None, sym, ◌∙◌, subst, rules}
+use Rattle.desk_scheduler.specs.Waits.{Waits, AreQueues, linked_at}
+use Rattle.desk_scheduler.proofs.QueueRows.{none_some, not_in}
 use Rattle.desk_scheduler.proofs.wait_queues.WaitQueues.leave_queue.Goals as goal
 
 pub returns-in_default-clause-queues : goal.returns-in_default-clause-queues

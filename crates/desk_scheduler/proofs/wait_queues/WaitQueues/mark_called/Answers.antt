@@ -1,5 +1,3 @@
-use Rattle.std.proofs.Common.{◌≡◌, ℕ, refl, sym, subst, arith, rules}
-use Rattle.desk_scheduler.specs.Waits.{Waits, AreQueues}
 use Rattle.desk_scheduler.proofs.Queues.{marked}
 use Rattle.desk_scheduler.proofs.wait_queues.WaitQueues.mark_called.Goals as goal
 

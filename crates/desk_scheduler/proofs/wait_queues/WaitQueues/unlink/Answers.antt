@@ -1,5 +1,4 @@
-use Rattle.std.proofs.Common.{◌≡◌, ℕ, ◌+◌, ◌-◌, ◌≤◌, List, Option, Some, length, refl, sym, ap, subst, arith, rules}
-use Rattle.std.specs.Prelude.{sum_by}
+use Rattle.std.proofs.Common.{◌≡◌, ℕ, ◌-◌, ◌≤◌, Some, sym, subst, arith, rules}
 use Rattle.desk_scheduler.specs.Waits.{Waits, AreQueues, left_rows, linked_at, queue_of, without}
 use Rattle.desk_scheduler.proofs.Queues.{left_queues, left_without, some_waits}
 use Rattle.desk_scheduler.proofs.wait_queues.WaitQueues.unlink.Goals as goal

@@ -1,5 +1,4 @@
-use Rattle.std.proofs.Common.{◌≡◌, ◌≢◌, ℕ, ◌∷◌, List, Option, Some, None, refl, sym, ap, ◌∙◌, subst, arith, rules}
-use Rattle.desk_scheduler.specs.Waits.{Waits, AreQueues, linked_at, queue_of, without}
+use Rattle.std.proofs.Common.{rules}
 use Rattle.desk_scheduler.proofs.Queues.{nobody_yet}
 use Rattle.desk_scheduler.proofs.wait_queues.WaitQueues.with_desks.Goals as goal
 
