@@ -110,7 +110,7 @@ def model_of(source: str, name: str) -> str:
 
 def kept_of(source: str, name: str) -> str:
     """What the page says of every value of a type: the fact that the type's calls ensure of it, as often as they say one."""
-    own = re.search(rf"^impl {name} \{{.*?^\}}", source, re.M | re.S)
+    own = re.search(rf"^impl(?:<[^{{]*>)? {name}(?:<[^{{]*>)? \{{.*?^\}}", source, re.M | re.S)
     facts = set(re.findall(r"^        ensures (?:\w+ )?\{ (\w+) self\.now \}$", own[0], re.M)) if own else set()
     return f", of which {' and '.join(sorted(facts))} always holds" if facts else ""
 

@@ -84,7 +84,7 @@ def pieces(text: str) -> List[str]:
 
 def always(lines: List[str], name: str) -> str:
     """What holds of every value of a type: a fact of the value alone, which some call that asks nothing ensures."""
-    own = "\n".join(block(lines, rf"impl {name} \{{")[1])
+    own = "\n".join(block(lines, rf"impl(?:<[^{{]*>)? {name}(?:<[^{{]*>)? \{{")[1])
     for method in re.findall(r"^    pub fn \w+\(&self\).*?^    \{", own, re.M | re.S):
         found = re.search(r"ensures(?: \w+)? \{ ([A-Z]\w+) self\.now \}", method)
         if found and "requires" not in method:

@@ -1,73 +1,69 @@
 //! Asking why.
 ghost use Rattle.std.specs.Prelude.{◌≡◌, ◌≢◌, length, MatchOption, IfSome};
 ghost use Rattle.match_model.specs.Instance.{IsProgramme, IsResident, list_at};
-ghost use Rattle.match_model.specs.Written.{AreWritten};
 ghost use Rattle.settle_law.specs.Stable.{IsStable};
 ghost use Rattle.match_reasons.specs.Reason.{Asks, GivesProgrammes, IsFirst, IsTaken, NamesOwn, NamesProgramme, TellsFull, Wants};
 
+use crate::listed::Listed;
 use crate::reason::Why;
 use crate::taken::{Taken, is_member};
-use match_model::{Assignment, Instance, ProgrammeNo, ResidentNo, WrittenLists};
+use match_model::{Assignment, ProgrammeNo, ResidentNo};
 
 /// Why a placement doesn't give a programme to a resident, or that it does. It is the first answer that holds, by the
 /// lists of the two as they were written.
 ///
 /// The two are members of the instance, and the placement has a place for each resident. How the programme's places are
-/// taken is what `places_taken` says of the same placement and list. What is promised is promised where the instance was
-/// made of these very lists. Nobody who asks about a stable placement is told that they block it.
+/// taken is what `places_taken` says of the same placement and list. The lists are those of which the instance was made,
+/// since `Listed` takes no others. Nobody who asks about a stable placement is told that they block it.
 pub fn why(
-    inst: &Instance,
-    written: &WrittenLists,
+    listed: &Listed,
     sheet: &Assignment,
     taken: &Taken,
     resident: ResidentNo,
     programme: ProgrammeNo,
 ) -> Why
-    requires resident { IsResident inst.now resident }
-    requires programme { IsProgramme inst.now programme }
-    requires one_place_each { length sheet.now ≡ length inst.now.resident_lists }
-    requires taken { IsTaken (list_at written.now.programme_lists programme) sheet.now
+    requires resident { IsResident listed.now.instance resident }
+    requires programme { IsProgramme listed.now.instance programme }
+    requires one_place_each { length sheet.now ≡ length listed.now.instance.resident_lists }
+    requires taken { IsTaken (list_at listed.now.written.programme_lists programme) sheet.now
         programme taken.now }
-    ensures first { AreWritten inst.now written.now
-        → IsFirst inst.now (list_at written.now.resident_lists resident)
-        (list_at written.now.programme_lists programme) sheet.now resident programme result }
-    ensures only { AreWritten inst.now written.now → (answer : Why)
-        → IsFirst inst.now (list_at written.now.resident_lists resident)
-        (list_at written.now.programme_lists programme) sheet.now resident programme answer
+    ensures first { IsFirst listed.now.instance (list_at listed.now.written.resident_lists resident)
+        (list_at listed.now.written.programme_lists programme) sheet.now resident programme result }
+    ensures only { (answer : Why)
+        → IsFirst listed.now.instance (list_at listed.now.written.resident_lists resident)
+        (list_at listed.now.written.programme_lists programme) sheet.now resident programme answer
         → answer ≡ result }
-    ensures members { GivesProgrammes inst.now sheet.now → NamesProgramme inst.now result }
-    ensures never_blocking { AreWritten inst.now written.now
-        → IsStable inst.now sheet.now → result ≢ Why.Blocking }
-    ensures full { AreWritten inst.now written.now
-        → IsStable inst.now sheet.now → Wants inst.now sheet.now resident programme → TellsFull result }
+    ensures members { GivesProgrammes listed.now.instance sheet.now
+        → NamesProgramme listed.now.instance result }
+    ensures never_blocking { IsStable listed.now.instance sheet.now → result ≢ Why.Blocking }
+    ensures full { IsStable listed.now.instance sheet.now
+        → Wants listed.now.instance sheet.now resident programme → TellsFull result }
 {
-    // For the proof alone: the instance is one.
-    let _residents = inst.residents();
-    first_reason(inst, written, sheet, taken, resident, programme)
+    // For the proof alone: the instance is made of the lists.
+    let _inst = listed.instance();
+    first_reason(listed, sheet, taken, resident, programme)
 }
 
 // The first answer that holds.
 fn first_reason(
-    inst: &Instance,
-    written: &WrittenLists,
+    listed: &Listed,
     sheet: &Assignment,
     taken: &Taken,
     resident: ResidentNo,
     programme: ProgrammeNo,
 ) -> Why
-    requires resident { IsResident inst.now resident }
-    requires programme { IsProgramme inst.now programme }
-    requires one_place_each { length sheet.now ≡ length inst.now.resident_lists }
-    requires taken { IsTaken (list_at written.now.programme_lists programme) sheet.now
+    requires resident { IsResident listed.now.instance resident }
+    requires programme { IsProgramme listed.now.instance programme }
+    requires one_place_each { length sheet.now ≡ length listed.now.instance.resident_lists }
+    requires taken { IsTaken (list_at listed.now.written.programme_lists programme) sheet.now
         programme taken.now }
-    ensures first { AreWritten inst.now written.now
-        → IsFirst inst.now (list_at written.now.resident_lists resident)
-        (list_at written.now.programme_lists programme) sheet.now resident programme result }
+    ensures first { IsFirst listed.now.instance (list_at listed.now.written.resident_lists resident)
+        (list_at listed.now.written.programme_lists programme) sheet.now resident programme result }
     ensures own { NamesOwn sheet.now resident result }
 {
-    // For the proof alone: the instance is one.
-    let _residents = inst.residents();
-    let own = residents_reason(inst, written, sheet, resident, programme);
+    let inst = listed.instance();
+    let written = listed.lists();
+    let own = residents_reason(listed, sheet, resident, programme);
     if let Some(reason) = own {
         return reason;
     }
@@ -87,26 +83,23 @@ fn first_reason(
 
 /// Why the resident wouldn't rather have the programme, unless it would.
 fn residents_reason(
-    inst: &Instance,
-    written: &WrittenLists,
+    listed: &Listed,
     sheet: &Assignment,
     resident: ResidentNo,
     programme: ProgrammeNo,
 ) -> Option<Why>
-    requires resident { IsResident inst.now resident }
-    requires programme { IsProgramme inst.now programme }
-    requires one_place_each { length sheet.now ≡ length inst.now.resident_lists }
+    requires resident { IsResident listed.now.instance resident }
+    requires programme { IsProgramme listed.now.instance programme }
+    requires one_place_each { length sheet.now ≡ length listed.now.instance.resident_lists }
     ensures first { MatchOption result
-        (AreWritten inst.now written.now
-        → Asks inst.now (list_at written.now.resident_lists resident)
-        (list_at written.now.programme_lists programme) sheet.now resident programme)
-        (λ answer. AreWritten inst.now written.now
-        → IsFirst inst.now (list_at written.now.resident_lists resident)
-        (list_at written.now.programme_lists programme) sheet.now resident programme answer) }
+        (Asks listed.now.instance (list_at listed.now.written.resident_lists resident)
+        (list_at listed.now.written.programme_lists programme) sheet.now resident programme)
+        (λ answer. IsFirst listed.now.instance (list_at listed.now.written.resident_lists resident)
+        (list_at listed.now.written.programme_lists programme) sheet.now resident programme answer) }
     ensures own { IfSome result (NamesOwn sheet.now resident) }
 {
-    // For the proof alone: the instance is one.
-    let _residents = inst.residents();
+    let inst = listed.instance();
+    let written = listed.lists();
     if inst.resident_withdrawn(resident) || inst.programme_withdrawn(programme) {
         return Some(Why::Withdrawn);
     }

@@ -3,9 +3,11 @@
 #![tactic(auto)]
 
 mod asking;
+mod listed;
 mod reason;
 mod taken;
 
 pub use asking::why;
+pub use listed::Listed;
 pub use reason::Why;
 pub use taken::{Taken, places_taken};

@@ -5,6 +5,7 @@ ghost use Rattle.match_model.specs.Instance.{list_at};
 ghost use Rattle.match_model.specs.Placement.{IsMemberOf};
 ghost use Rattle.match_reasons.specs.Reason.{IsTaken, HasRoomAt};
 
+use crate::listed::Listed;
 use match_model::{Assignment, ProgrammeNo, ResidentNo, WrittenLists};
 
 /// How many members a programme has, and the last place that one of them has in its list as it was written. A member who
@@ -61,9 +62,10 @@ fn later(last: Option<usize>, place: usize) -> usize
 }
 
 /// How a programme's places are taken, by its list as it was written: one walk over the placement.
-pub fn places_taken(sheet: &Assignment, written: &WrittenLists, programme: ProgrammeNo) -> Taken
-    ensures { IsTaken (list_at written.now.programme_lists programme) sheet.now programme result }
+pub fn places_taken(listed: &Listed, sheet: &Assignment, programme: ProgrammeNo) -> Taken
+    ensures { IsTaken (list_at listed.now.written.programme_lists programme) sheet.now programme result }
 {
+    let written = listed.lists();
     let mut members = 0;
     let mut last = None;
     for r in 0..sheet.len() {

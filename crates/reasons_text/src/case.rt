@@ -11,7 +11,7 @@ use crate::answers::Answers;
 use crate::fault::WhyFault;
 use docket::{Docket, DocketFault, read_docket_with_lists};
 use match_model::{Assignment, ProgrammeNo, ResidentNo, WrittenLists};
-use match_reasons::{Taken, Why, places_taken, why};
+use match_reasons::{Listed, Taken, Why, places_taken, why};
 use std::alloc::{AllocError, Global};
 use std::io::Read;
 use std::marker::Model;
@@ -50,31 +50,26 @@ impl Drop for Case {
 fn all_taken(
     alloc: Global,
     programmes: u32,
+    listed: &Listed,
     sheet: &Assignment,
-    lists: &WrittenLists,
 ) -> Result<Vec<Taken>, AllocError>
-    ensures { IfOk result (λ takens. AreTaken lists.now sheet.now takens.items) }
+    ensures { IfOk result (λ takens. AreTaken listed.now.written sheet.now takens.items) }
 {
     let mut takens = Vec::new(alloc);
     for p in 0..programmes {
-        takens.push(places_taken(sheet, lists, ProgrammeNo(p)))?;
+        takens.push(places_taken(listed, sheet, ProgrammeNo(p)))?;
     }
     Ok(takens)
 }
 
 // How a programme's places are taken, which is looked up where it is known.
-fn taken_of(
-    sheet: &Assignment,
-    lists: &WrittenLists,
-    takens: &[Taken],
-    programme: ProgrammeNo,
-) -> Taken
-    requires { AreTaken lists.now sheet.now takens.now }
-    ensures { IsTaken (list_at lists.now.programme_lists programme) sheet.now programme result }
+fn taken_of(listed: &Listed, sheet: &Assignment, takens: &[Taken], programme: ProgrammeNo) -> Taken
+    requires { AreTaken listed.now.written sheet.now takens.now }
+    ensures { IsTaken (list_at listed.now.written.programme_lists programme) sheet.now programme result }
 {
     match takens.get(programme.0 as usize) {
         Some(taken) => *taken,
-        None => places_taken(sheet, lists, programme),
+        None => places_taken(listed, sheet, programme),
     }
 }
 
@@ -92,9 +87,9 @@ fn reason_from(
     requires programme { IsProgramme docket.now.instance programme }
     ensures { IsAnswer (case_of docket.now sheet.now lists.now takens.now) resident programme result }
 {
-    let inst = docket.instance();
-    let taken = taken_of(sheet, lists, takens, programme);
-    why(inst, lists, sheet, &taken, resident, programme)
+    let listed = Listed::new(docket.instance(), lists);
+    let taken = taken_of(&listed, sheet, takens, programme);
+    why(&listed, sheet, &taken, resident, programme)
 }
 
 // What a resident is told of each programme of its list.
@@ -154,7 +149,8 @@ impl Case {
         } else {
             0
         };
-        let takens = all_taken(alloc, programmes, sheet, &lists)?;
+        let listed = Listed::new(docket.instance(), &lists);
+        let takens = all_taken(alloc, programmes, &listed, sheet)?;
         Ok(Case {
             docket,
             lists,

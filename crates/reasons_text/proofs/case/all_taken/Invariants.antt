@@ -3,4 +3,4 @@ use Rattle.reasons_text.specs.Answers.{AreTaken}
 use Rattle.reasons_text.proofs.case.all_taken.Given as goal
 
 abbrev pub invariant-loop-p : goal.invariant-loop-p
-invariant-loop-p l = record { each : length l.takens.items ≡ l.p; taken : AreTaken l.lists l.sheet l.takens.items }
+invariant-loop-p l = record { each : length l.takens.items ≡ l.p; taken : AreTaken l.listed.written l.sheet l.takens.items }

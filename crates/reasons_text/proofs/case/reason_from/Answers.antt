@@ -1,13 +1,20 @@
-use Rattle.std.proofs.Common.{None, sym, subst}
+use Rattle.std.proofs.Common.{◌∙◌, ℕ, None, sym, subst}
 use Rattle.match_model.specs.Instance.{Instance, list_at}
-use Rattle.match_model.specs.Written.{AreWritten}
+use Rattle.match_model.specs.Written.{AreWritten, Written}
 use Rattle.match_reasons.specs.Reason.{IsFirst}
 use Rattle.reasons_text.proofs.AnswerFacts.{made_of_lists}
 use Rattle.reasons_text.proofs.case.reason_from.Goals as goal
 
+pub new-listed-requires : goal.new-listed-requires
+new-listed-requires c =
+    subst (λ (i : Instance). AreWritten i c.args.lists.now) (sym c.instance.ensures.instance)
+    (made_of_lists None c.args.docket.now c.args.lists.now c.requires.case.read)
+
 pub returns : goal.returns
 returns c =
-    let inst = c.instance-inst.ensures.instance in
-    let are = made_of_lists None c.args.docket.now c.args.lists.now c.requires.case.read in
-    subst (λ (i : Instance). IsFirst i (list_at c.args.lists.now.resident_lists c.args.resident) (list_at c.args.lists.now.programme_lists c.args.programme) c.args.sheet.now c.args.resident c.args.programme c.why.result) inst
-    (c.why.ensures.first (subst (λ (i : Instance). AreWritten i c.args.lists.now) (sym inst) are))
+    let r : ℕ = c.args.resident in
+    let p : ℕ = c.args.programme in
+    let inst = c.new-listed.ensures.instance ∙ c.instance.ensures.instance in
+    subst (λ (i : Instance). IsFirst i (list_at c.args.lists.now.resident_lists r) (list_at c.args.lists.now.programme_lists p) c.args.sheet.now r p c.why.result) inst
+    (subst (λ (w : Written). IsFirst c.new-listed.result.instance (list_at w.resident_lists r) (list_at w.programme_lists p) c.args.sheet.now r p c.why.result)
+    c.new-listed.ensures.written c.why.ensures.first)
