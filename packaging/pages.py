@@ -10,9 +10,10 @@ BEGIN, END = "<!-- for users -->", "<!-- for all others -->"
 # Pages that users' pages name, and that are for whoever works on the programs.
 NOT_FOR_USERS = ("docs/decisions", "docs/architecture", "docs/testing")
 LINK = re.compile(r"(!?)\[([^\]]*)\]\(([^)#\s]*)(#[^)]*)?\)")
-INSTALLED = {"./residency": "residency", "./why": "residency-why", "./audit": "residency-audit", "./seal": "residency-seal",
+INSTALLED = {"./residency": "residency", "./why": "residency-why", "./residency-national": "residency-national",
+             "./why-national": "residency-why-national", "./audit": "residency-audit", "./seal": "residency-seal",
              "./office": "residency-office", "./python": "~/.local/lib/residency/python"}
-OF_CLONE = re.compile(r"\./(?:residency|why|audit|seal|office|python)\b(?![/-])")
+OF_CLONE = re.compile(r"\./(?:residency-national|why-national|residency|why|audit|seal|office|python)\b(?![/-])")
 
 
 def users_part(text: str) -> str:

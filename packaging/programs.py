@@ -8,6 +8,8 @@ from typing import Dict
 PROGRAMS = {
     "residency": "residency_cli",
     "residency-why": "residency_why",
+    "residency-national": "residency_national",
+    "residency-why-national": "residency_why_national",
     "residency-audit": "residency_audit",
     "residency-seal": "residency_seal",
 }

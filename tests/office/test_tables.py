@@ -394,12 +394,22 @@ class Limits(Tables):
         residents = "Applicant,1\n" + "".join(f"R {number},\n" for number in range(20001))
         self.assertEqual(
             self.faults(programmes, "Applicant,1\nKim,\n")[0],
-            "programmes, row 2002, cell 1 (A2002): more than 2,000 programmes",
+            "programmes, row 2002, cell 1 (A2002): more than 2,000 programmes; a docket of up to 10,000 programmes is for residency-national",
         )
         self.assertEqual(
             self.faults("Programme,Places,1\nNorth,1,\n", residents)[0],
-            "residents, row 20002, cell 1 (A20002): more than 20,000 residents",
+            "residents, row 20002, cell 1 (A20002): more than 20,000 residents; a docket of up to 100,000 residents is for residency-national",
         )
+
+    def test_a_docket_over_a_limit(self) -> None:
+        """What lint tells of it ends with the program that takes more; of a docket at the limit, or of another fault, it doesn't."""
+        line = "residency-national takes 10,000 programmes, 100,000 residents, 2,000,000 acceptable pairs and 20,000,000 records"
+        rows = [f"Q,p{number},1" for number in range(2001)]
+        said = office("lint", self.write("docket.csv", "\n".join(rows)))
+        self.assertEqual((said.status, said.out.splitlines()), (3, ["record 2001: more than 2000 programmes", line]), said)
+        for given, wanted in ((rows[:2000], ["no fault"]), ([*rows[:2], "Q,p2,10001"], ["record 3: quota over 10000"])):
+            said = office("lint", self.write("docket.csv", "\n".join(given)))
+            self.assertEqual(said.out.splitlines(), wanted, said)
 
     def test_as_many_pairs_as_may_be_and_one_more(self) -> None:
         """200,000 pairs who rank one another are none too many, though a list names one more who doesn't rank it back."""
@@ -413,7 +423,7 @@ class Limits(Tables):
         self.assertEqual((said.status, said.out.splitlines()[-1]), (0, "no fault"), said)
         self.assertEqual(
             self.faults("\n".join(programmes), "\n".join([*residents, "R2000,P0" + "," * 99]))[0],
-            "programmes: 200,001 pairs rank one another, more than 200,000",
+            "programmes: 200,001 pairs rank one another, more than 200,000; a docket of up to 2,000,000 pairs is for residency-national",
         )
 
 

@@ -1,10 +1,12 @@
 -- Where lists are cut the second pass has a fault, and it is that of all rows.
+use Rattle.match_model.specs.declared.limits.Limits.{Limits}
+use Rattle.docket.specs.Limits.{widest}
 use Rattle.std.proofs.Common.{◌≡◌, ◌⊎◌, ◌≤◌, ◌<◌, ◌+◌, ℕ, zero, suc, List, [], ◌∷◌, ◌++◌, Bool, true, false, length, take, sym, ◌∙◌, refl, ap, arith, rules, Option, Some, None, inl, inr}
 use Rattle.std.specs.Prelude.{◌||◌, if◌then◌else◌, nat_le, nat_lt, unwrap_or}
 use Rattle.std.specs.Option.{option_or}
 use Rattle.std.proofs.lemmas.List.{length-append, length-take, take_more, take_all}
 use Rattle.std.proofs.lemmas.List.Folds.{list_any-append}
-use Rattle.match_model.specs.declared.limits.TheConstants.{MAX_PROGRAMMES, MAX_RESIDENTS, MAX_QUOTA}
+use Rattle.match_model.specs.declared.limits.TheConstants.{NATIONAL_PROGRAMMES, NATIONAL_RESIDENTS, MAX_QUOTA}
 use Rattle.match_model.specs.declared.fault.ModelFault.TheVariants as model
 use Rattle.docket_names.specs.Words.{number_of}
 use Rattle.docket.specs.Fields.{Fields, field, kind_of, is_kind, row_fault}
@@ -25,34 +27,34 @@ use Rattle.docket.proofs.KeepFacts.{lists_alike}
 use Rattle.docket.proofs.ListedFacts.{known_texts, AllKnown, few_among, count_wider, row_told, front_known}
 
 -- a row that the first pass let through is within the limits
-limit_none : (before : List Fields) (row : Fields) → length before < MAX_RECORDS → reading_fault before row ≡ None → limit_fault before row ≡ None
+limit_none : (before : List Fields) (row : Fields) → length before < MAX_RECORDS → reading_fault widest before row ≡ None → limit_fault widest before row ≡ None
 limit_none before row few e =
-    let own = both_none (row_fault (next_place before) (workers_in before) row) (option_or (repeat_fault before row) (limit_fault before row)) (sym (reading_fault-few before row few) ∙ e) in
-    (both_none (repeat_fault before row) (limit_fault before row) own.1).1
+    let own = both_none (row_fault (next_place before) (workers_in before) row) (option_or (repeat_fault before row) (limit_fault widest before row)) (sym (reading_fault-few widest before row few) ∙ e) in
+    (both_none (repeat_fault before row) (limit_fault widest before row) own.1).1
 
-quota_room : (before : List Fields) (row : Fields) → kind_of row ≡ QUOTA → limit_fault before row ≡ None → length (programmes_of before) < MAX_PROGRAMMES
+quota_room : (before : List Fields) (row : Fields) → kind_of row ≡ QUOTA → limit_fault widest before row ≡ None → length (programmes_of before) < NATIONAL_PROGRAMMES
 unfolding limit_fault
-quota_room before row kind none = by (nat_le MAX_PROGRAMMES (length (programmes_of before))) refl (rw kind at none)
+quota_room before row kind none = by (nat_le NATIONAL_PROGRAMMES (length (programmes_of before))) refl (rw kind at none)
   where
-    by : (b : Bool) → nat_le MAX_PROGRAMMES (length (programmes_of before)) ≡ b
+    by : (b : Bool) → nat_le NATIONAL_PROGRAMMES (length (programmes_of before)) ≡ b
         → (if b then Some (Model (next_place before) model.TooManyProgrammes)
         else if nat_lt MAX_QUOTA (unwrap_or (number_of (field row 2)) 0) then Some (Model (next_place before) model.QuotaTooLarge) else None) ≡ None
-        → length (programmes_of before) < MAX_PROGRAMMES
+        → length (programmes_of before) < NATIONAL_PROGRAMMES
     by true e h = absurd (cc h)
     by false e h = search (rules, e)
 
-resident_room : (before : List Fields) (row : Fields) → kind_of row ≡ RESIDENT_LIST → limit_fault before row ≡ None → length (residents_of before) < MAX_RESIDENTS
+resident_room : (before : List Fields) (row : Fields) → kind_of row ≡ RESIDENT_LIST → limit_fault widest before row ≡ None → length (residents_of before) < NATIONAL_RESIDENTS
 unfolding limit_fault
-resident_room before row kind none = by (nat_le MAX_RESIDENTS (length (residents_of before))) refl (rw kind at none)
+resident_room before row kind none = by (nat_le NATIONAL_RESIDENTS (length (residents_of before))) refl (rw kind at none)
   where
-    by : (b : Bool) → nat_le MAX_RESIDENTS (length (residents_of before)) ≡ b
-        → (if b then Some (Model (next_place before) model.TooManyResidents) else None) ≡ None → length (residents_of before) < MAX_RESIDENTS
+    by : (b : Bool) → nat_le NATIONAL_RESIDENTS (length (residents_of before)) ≡ b
+        → (if b then Some (Model (next_place before) model.TooManyResidents) else None) ≡ None → length (residents_of before) < NATIONAL_RESIDENTS
     by true e h = absurd (cc h)
     by false e h = search (rules, e)
 
 -- so the names of a kind are
-few_names : (k most : ℕ) → ((before : List Fields) (row : Fields) → kind_of row ≡ k → limit_fault before row ≡ None → length (names_of k before) < most)
-    → (rows : List Fields) → first_from reading_fault [] rows ≡ None → length rows ≤ MAX_RECORDS → (n : ℕ) → n ≤ length rows → length (names_of k (take n rows)) ≤ most
+few_names : (k most : ℕ) → ((before : List Fields) (row : Fields) → kind_of row ≡ k → limit_fault widest before row ≡ None → length (names_of k before) < most)
+    → (rows : List Fields) → first_from (reading_fault widest) [] rows ≡ None → length rows ≤ MAX_RECORDS → (n : ℕ) → n ≤ length rows → length (names_of k (take n rows)) ≤ most
 few_names k most room rows none few zero le = omega arith
 few_names k most room rows none few (suc n) le = by (is_kind k (row_at rows n)) refl (few_names k most room rows none few n (omega (arith, le)))
   where
@@ -68,21 +70,21 @@ few_names k most room rows none few (suc n) le = by (is_kind k (row_at rows n)) 
     by : (b : Bool) → is_kind k (row_at rows n) ≡ b → length (names_of k (take n rows)) ≤ most → length (names_of k (take (suc n) rows)) ≤ most
     by true e before =
         let kind : kind_of (row_at rows n) ≡ k = search (rules, e) in
-        let less = room (take n rows) (row_at rows n) kind (limit_none (take n rows) (row_at rows n) here (clean_at reading_fault rows n none (omega arith))) in
+        let less = room (take n rows) (row_at rows n) kind (limit_none (take n rows) (row_at rows n) here (clean_at (reading_fault widest) rows n none (omega arith))) in
         let size = length-append (names_of k (take n rows)) (field (row_at rows n) 1 ∷ []) in
         rw (grown, e) (omega (arith, size, less))
     by false e before = rw (grown, e) before
 
 -- no more members than there can be
 pub record AreFew (rows : List Fields) : Type 0 where
-  pub programmes : length (programmes_of rows) ≤ MAX_PROGRAMMES
-  pub residents : length (residents_of rows) ≤ MAX_RESIDENTS
+  pub programmes : length (programmes_of rows) ≤ NATIONAL_PROGRAMMES
+  pub residents : length (residents_of rows) ≤ NATIONAL_RESIDENTS
 
-pub few_members : (rows : List Fields) → first_from reading_fault [] rows ≡ None → length rows ≤ MAX_RECORDS → AreFew rows
+pub few_members : (rows : List Fields) → first_from (reading_fault widest) [] rows ≡ None → length rows ≤ MAX_RECORDS → AreFew rows
 unfolding programmes_of residents_of
 few_members rows none few =
-    let programmes = few_names QUOTA MAX_PROGRAMMES quota_room rows none few (length rows) (omega arith) in
-    let residents = few_names RESIDENT_LIST MAX_RESIDENTS resident_room rows none few (length rows) (omega arith) in
+    let programmes = few_names QUOTA NATIONAL_PROGRAMMES quota_room rows none few (length rows) (omega arith) in
+    let residents = few_names RESIDENT_LIST NATIONAL_RESIDENTS resident_room rows none few (length rows) (omega arith) in
     let all = take_all (length rows) rows (omega arith) in
     record { programmes = rw all at programmes; residents = rw all at residents }
 
@@ -158,13 +160,13 @@ cut_told all kept h few = by (first_from (ranking_fault kept) [] h.front) refl
     by None f = let t = told f in (UnknownName (next_place h.front), rw (at_kept, f, t.0) refl, rw (at_all, f, t.1) refl)
 
 -- so the later passes have the same first fault, and where they have none the rows are whole
-abbrev pub IsAsGood : List Fields → List Fields → Type 0
-IsAsGood all kept = (later_fault kept ≡ later_fault all) × (later_fault kept ≡ None → kept ≡ all)
+abbrev pub IsAsGood : Limits → List Fields → List Fields → Type 0
+IsAsGood lim all kept = (later_fault lim kept ≡ later_fault lim all) × (later_fault lim kept ≡ None → kept ≡ all)
 
-pub lists_later : (all kept : List Fields) → AreListsCut all kept → AreFew kept → IsAsGood all kept
+pub lists_later : (lim : Limits) (all kept : List Fields) → AreListsCut all kept → AreFew kept → IsAsGood lim all kept
 unfolding later_fault
-lists_later all kept (inl same) few = (rw same refl, λ none. same)
-lists_later all kept (inr h) few =
+lists_later lim all kept (inl same) few = (rw same refl, λ none. same)
+lists_later lim all kept (inr h) few =
     let t = cut_told all kept h few in
     (rw (t.1, t.2) refl, λ none. absurd (cc (rw t.1 at none)))
 

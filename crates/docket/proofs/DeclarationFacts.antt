@@ -1,4 +1,5 @@
 -- What one row more declares.
+use Rattle.match_model.specs.declared.limits.Limits.{Limits}
 use Rattle.std.proofs.Common.{◌≡◌, ℕ, List, [], ◌∷◌, ◌++◌, Bool, true, false, length, sym, ◌∙◌, refl, ap, Option, Some, None, map, find, filter, is_some, inl, inr, append-nil, ◌<◌, ◌≤◌}
 use Rattle.std.specs.Prelude.{◌==◌, ◌&&◌, ◌||◌, not, if◌then◌else◌, option_map, unwrap_or, bytes_eq, codes, Ok, Err, nat_le, nat_lt, option_and_then, IfSome}
 use Rattle.std.specs.List.{list_any}
@@ -9,7 +10,8 @@ use Rattle.std.proofs.lemmas.List.Folds.{list_any-append, find-append}
 use Rattle.exchange_core.specs.declared.event.Capacity.{Capacity}
 use Rattle.exchange_core.specs.declared.event.Capacity.TheVariants.{Full}
 use Rattle.match_model.specs.Draft.{Draft, AnswersFirst, programme_fault, resident_fault}
-use Rattle.match_model.specs.declared.limits.TheConstants.{MAX_PROGRAMMES, MAX_RESIDENTS, MAX_QUOTA}
+use Rattle.match_model.specs.Limits.{most_programmes, most_residents}
+use Rattle.match_model.specs.declared.limits.TheConstants.{MAX_QUOTA}
 use Rattle.match_model.specs.declared.fault.ModelFault.{ModelFault}
 use Rattle.match_model.specs.declared.fault.ModelFault.TheVariants as model
 use Rattle.docket.specs.Words.{capacity_of, workers_of, worker_of}
@@ -328,9 +330,9 @@ answers_built n (Some g) v e = absurd (cc e)
 
 -- the limits are those of the builder
 pub limit_fault-quota : (d : Draft) (before : List Fields) (row : Fields) → kind_of row ≡ QUOTA → d.quotas ≡ quotas_of before
-    → limit_fault before row ≡ option_map (at_record (next_place before)) (programme_fault d (unwrap_or (number_of (field row 2)) 0))
+    → limit_fault d.limits before row ≡ option_map (at_record (next_place before)) (programme_fault d (unwrap_or (number_of (field row 2)) 0))
 unfolding limit_fault quotas_of programmes_of
-limit_fault-quota d before row kind quotas = rw (kind, quotas, same_length) (by (nat_le MAX_PROGRAMMES (length (programmes_of before))) (nat_lt MAX_QUOTA (unwrap_or (number_of (field row 2)) 0)))
+limit_fault-quota d before row kind quotas = rw (kind, quotas, same_length) (by (nat_le (most_programmes d.limits) (length (programmes_of before))) (nat_lt MAX_QUOTA (unwrap_or (number_of (field row 2)) 0)))
   where
     same_length : length (quotas_of before) ≡ length (programmes_of before)
     same_length = length-map (rows_of QUOTA before) (λ (r : Fields). unwrap_or (number_of (field r 2)) 0) ∙ sym (length-map (rows_of QUOTA before) (λ (r : Fields). field r 1))
@@ -342,9 +344,9 @@ limit_fault-quota d before row kind quotas = rw (kind, quotas, same_length) (by 
     by false false = refl
 
 pub limit_fault-resident : (d : Draft) (before : List Fields) (row : Fields) → kind_of row ≡ RESIDENT_LIST → d.resident_lists ≡ map (λ name. None) (residents_of before)
-    → limit_fault before row ≡ option_map (at_record (next_place before)) (resident_fault d)
+    → limit_fault d.limits before row ≡ option_map (at_record (next_place before)) (resident_fault d)
 unfolding limit_fault
-limit_fault-resident d before row kind lists = rw (kind, lists, length-map (residents_of before) (λ (n : List ℕ). none)) (by (nat_le MAX_RESIDENTS (length (residents_of before))))
+limit_fault-resident d before row kind lists = rw (kind, lists, length-map (residents_of before) (λ (n : List ℕ). none)) (by (nat_le (most_residents d.limits) (length (residents_of before))))
   where
     by : (a : Bool) → (if a then Some (Model (next_place before) model.TooManyResidents) else None)
         ≡ option_map (at_record (next_place before)) (if a then Some model.TooManyResidents else None)
@@ -367,9 +369,9 @@ pub repeat_fault-resident : (before : List Fields) (row : Fields) → kind_of ro
 unfolding repeat_fault residents_of
 repeat_fault-resident before row kind = rw (kind, is_declared-rows RESIDENT_LIST before (field row 1)) refl
 
-pub limit_fault-other : (before : List Fields) (row : Fields) (k : ℕ) → kind_of row ≡ k → (k == QUOTA) ≡ false → (k == RESIDENT_LIST) ≡ false → limit_fault before row ≡ None
+pub limit_fault-other : (lim : Limits) (before : List Fields) (row : Fields) (k : ℕ) → kind_of row ≡ k → (k == QUOTA) ≡ false → (k == RESIDENT_LIST) ≡ false → limit_fault lim before row ≡ None
 unfolding limit_fault
-limit_fault-other before row k kind a b = rw (kind, a, b) refl
+limit_fault-other lim before row k kind a b = rw (kind, a, b) refl
 
 -- a second choice of none
 pub option_or-none : {A : Type 0} (o : Option A) → o ≡ option_or o None
@@ -395,12 +397,12 @@ resident_asked before row names name n kind e f g = rw (repeat_fault-resident be
 -- what was asked of the limits, in the words of the builder
 pub quota_limited : (d : Draft) (before : List Fields) (row : Fields) (q n : ℕ) → kind_of row ≡ QUOTA → d.quotas ≡ quotas_of before
     → q ≡ unwrap_or (number_of (field row 2)) 0 → n ≡ next_place before
-    → limit_fault before row ≡ option_map (at_record n) (programme_fault d q)
+    → limit_fault d.limits before row ≡ option_map (at_record n) (programme_fault d q)
 quota_limited d before row q n kind e f g = rw (limit_fault-quota d before row kind e, f, g) refl
 
 pub resident_limited : (d : Draft) (before : List Fields) (row : Fields) (n : ℕ) → kind_of row ≡ RESIDENT_LIST
     → d.resident_lists ≡ map (λ name. None) (residents_of before) → n ≡ next_place before
-    → limit_fault before row ≡ option_map (at_record n) (resident_fault d)
+    → limit_fault d.limits before row ≡ option_map (at_record n) (resident_fault d)
 resident_limited d before row n kind e g = rw (limit_fault-resident d before row kind e, g) refl
 
 -- two tests without a fault
@@ -435,13 +437,13 @@ unfolding repeat_fault
 event_asked before row cap n kind e g = rw (kind, e, g, is_some-capacity_in before) refl
 
 -- the answer to such a test
-pub test_refused : (before : List Fields) (row : Fields) (test : Bool) (fault : DocketFault) → repeat_fault before row ≡ unless test fault → test ≡ false
-    → Refuses (option_or (repeat_fault before row) (limit_fault before row)) fault
-test_refused before row test fault e f = rw (e, f) (inr refl)
+pub test_refused : (lim : Limits) (before : List Fields) (row : Fields) (test : Bool) (fault : DocketFault) → repeat_fault before row ≡ unless test fault → test ≡ false
+    → Refuses (option_or (repeat_fault before row) (limit_fault lim before row)) fault
+test_refused lim before row test fault e f = rw (e, f) (inr refl)
 
-pub test_passed : (before : List Fields) (row : Fields) (test : Bool) (fault : DocketFault) → repeat_fault before row ≡ unless test fault → test ≡ true
-    → limit_fault before row ≡ None → option_or (repeat_fault before row) (limit_fault before row) ≡ None
-test_passed before row test fault e f g = rw (e, f, g) refl
+pub test_passed : (lim : Limits) (before : List Fields) (row : Fields) (test : Bool) (fault : DocketFault) → repeat_fault before row ≡ unless test fault → test ≡ true
+    → limit_fault lim before row ≡ None → option_or (repeat_fault before row) (limit_fault lim before row) ≡ None
+test_passed lim before row test fault e f g = rw (e, f, g) refl
 
 -- there are at most 8 workers
 pub workers_few : (workers : Option ℕ) (who : List ℕ) → IfSome workers (λ n. AreWorkers n who) → IfSome workers (λ n. n ≤ 8)

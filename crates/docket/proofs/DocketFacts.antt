@@ -1,11 +1,14 @@
 -- The passes together.
+use Rattle.docket.proofs.WidestFacts.{sound_widest, few_widest}
+use Rattle.docket.specs.Limits.{most_records}
+use Rattle.match_model.specs.declared.limits.Limits.{Limits}
 use Rattle.std.proofs.Common.{◌≡◌, ◌⊎◌, ◌≤◌, inl, inr, ℕ, List, [], ◌∷◌, Bool, true, false, length, map, sym, ◌∙◌, refl, Option, Some, None, Result, Ok, Err, rules}
 use Rattle.std.specs.Prelude.{◌&&◌, ◌||◌, not, if◌then◌else◌, nat_eq, codes, option_map, IfOk, IfErr, IfSome}
 use Rattle.std.specs.List.{list_any}
 use Rattle.std.specs.Option.{option_or}
 use Rattle.docket.specs.Fields.{Fields, field, is_kind}
 use Rattle.docket.specs.Contents.{Contents, contents_of, programmes_of, residents_of, rows_of, events_of, journal_of, JournalParts, ByWorkerParts, by_worker_of, has_sheet, declares_member}
-use Rattle.docket.specs.Passes.{first_from, reading_fault, later_fault, first_fault, rows_in, sheet_fault, mark_fault, missing_fault, filled_fault, ranking_fault, pairs_fault, event_fault}
+use Rattle.docket.specs.Passes.{first_from, reading_fault, later_fault, fault_within, rows_in, sheet_fault, mark_fault, missing_fault, filled_fault, ranking_fault, pairs_fault, event_fault}
 use Rattle.docket.specs.Answers.{Answers, Refuses}
 use Rattle.docket.specs.Texts.{programme_name, resident_name}
 use Rattle.std.proofs.lemmas.Option.{get_or_from_slice_get}
@@ -22,7 +25,7 @@ use Rattle.docket.specs.Whole.{AreWorkers}
 use Rattle.docket.specs.WithLists.{IsReadAs, lists_if}
 use Rattle.match_model.specs.Written.{Written}
 use Rattle.docket.specs.declared.store.declarations.Declarations.{Declarations}
-use Rattle.docket.specs.declared.vocabulary.TheConstants.{QUOTA, PROGRAMME_LIST, RESIDENT_LIST, CAPACITY, MAX_RECORDS}
+use Rattle.docket.specs.declared.vocabulary.TheConstants.{QUOTA, PROGRAMME_LIST, RESIDENT_LIST, CAPACITY}
 use Rattle.docket.specs.declared.fault.DocketFault.{DocketFault}
 use Rattle.docket.proofs.LaterFacts.{later_kept}
 use Rattle.docket.proofs.DeclarationFacts.{refuses_first, refuses_second, no_fault}
@@ -81,29 +84,29 @@ ranked_start d texts rows h = record {
 }
 
 -- the answers of the whole, where the bytes are known: a fault as the records are read
-pub whole_reading : (known : Option (List ℕ)) (e : DocketFault) → IsReadFault e ⊎ Explains (option_map rows_in known) (first_from reading_fault []) e
-    → IsReadFault e ⊎ IfSome known (λ bytes. Refuses (first_fault bytes) e)
-whole_reading known e (inl read) = inl read
-whole_reading None e (inr h) = inr tt
-whole_reading (Some bytes) e (inr h) = inr (refuses_first _ _ e h)
+pub whole_reading : (lim : Limits) (known : Option (List ℕ)) (e : DocketFault) → IsReadFault e ⊎ Explains (option_map rows_in known) (first_from (reading_fault lim) []) e
+    → IsReadFault e ⊎ IfSome known (λ bytes. Refuses (fault_within lim bytes) e)
+whole_reading lim known e (inl read) = inl read
+whole_reading lim None e (inr h) = inr tt
+whole_reading lim (Some bytes) e (inr h) = inr (refuses_first _ _ e h)
 
 -- the docket, and the lists where they are kept
-pub whole_read : (known : Option (List ℕ)) (keeps : Bool) (rows : List Fields) (r : Result (Contents × Option Written) DocketFault) → AreKeptOf (option_map rows_in known) rows
-    → first_from reading_fault [] rows ≡ None → length rows ≤ MAX_RECORDS → IfOk r (λ read. read.0 ≡ contents_of rows) → IfOk r (λ read. read.1 ≡ lists_if keeps rows)
-    → Answers (later_fault rows) r → IfOk r (λ read. IsReadAs known keeps read.0 read.1)
-whole_read known keeps rows (Err e) all sound few is lists answers = tt
-whole_read None keeps rows (Ok read) all sound few is lists answers =
+pub whole_read : (lim : Limits) (known : Option (List ℕ)) (keeps : Bool) (rows : List Fields) (r : Result (Contents × Option Written) DocketFault) → AreKeptOf lim (option_map rows_in known) rows
+    → first_from (reading_fault lim) [] rows ≡ None → length rows ≤ most_records lim → IfOk r (λ read. read.0 ≡ contents_of rows) → IfOk r (λ read. read.1 ≡ lists_if keeps rows)
+    → Answers (later_fault lim rows) r → IfOk r (λ read. IsReadAs lim known keeps read.0 read.1)
+whole_read lim known keeps rows (Err e) all sound few is lists answers = tt
+whole_read lim None keeps rows (Ok read) all sound few is lists answers =
     record { rows = rows; all = tt; faultless = no_fault _ _ sound answers; docket_is = is; lists_are = lists }
-whole_read (Some bytes) keeps rows (Ok read) all sound few is lists answers =
-    record { rows = rows; all = sym ((later_kept (rows_in bytes) rows all.0 sound few).1 answers); faultless = no_fault _ _ sound answers; docket_is = is; lists_are = lists }
+whole_read lim (Some bytes) keeps rows (Ok read) all sound few is lists answers =
+    record { rows = rows; all = sym ((later_kept lim (rows_in bytes) rows all.0 (sound_widest lim rows sound) (few_widest lim (length rows) few)).1 answers); faultless = no_fault _ _ sound answers; docket_is = is; lists_are = lists }
 
-pub whole_later : {T : Type 0} (known : Option (List ℕ)) (rows : List Fields) (r : Result T DocketFault) → AreKeptOf (option_map rows_in known) rows
-    → first_from reading_fault [] rows ≡ None → length rows ≤ MAX_RECORDS → Answers (later_fault rows) r
-    → IfErr r (λ e. IsReadFault e ⊎ IfSome known (λ bytes. Refuses (first_fault bytes) e))
-whole_later known rows (Ok d) all sound few answers = tt
-whole_later None rows (Err e) all sound few answers = inr tt
-whole_later (Some bytes) rows (Err e) all sound few answers =
-    inr (refuses_second _ _ e all.1 (rw (sym (later_kept (rows_in bytes) rows all.0 sound few).0) answers))
+pub whole_later : (lim : Limits) {T : Type 0} (known : Option (List ℕ)) (rows : List Fields) (r : Result T DocketFault) → AreKeptOf lim (option_map rows_in known) rows
+    → first_from (reading_fault lim) [] rows ≡ None → length rows ≤ most_records lim → Answers (later_fault lim rows) r
+    → IfErr r (λ e. IsReadFault e ⊎ IfSome known (λ bytes. Refuses (fault_within lim bytes) e))
+whole_later lim known rows (Ok d) all sound few answers = tt
+whole_later lim None rows (Err e) all sound few answers = inr tt
+whole_later lim (Some bytes) rows (Err e) all sound few answers =
+    inr (refuses_second _ _ e all.1 (rw (sym (later_kept lim (rows_in bytes) rows all.0 (sound_widest lim rows sound) (few_widest lim (length rows) few)).0) answers))
 
 -- the faults of a sheet are asked only where there is one
 pub sheet_asked : (rows : List Fields) → has_sheet rows ≡ true
@@ -116,20 +119,20 @@ unfolding sheet_fault
 sheet_free rows e = rw e refl
 
 -- the second pass and the later ones
-pub later_is : (rows : List Fields) → later_fault rows
-    ≡ option_or (option_or (first_from (ranking_fault rows) [] rows) (pairs_fault rows)) (option_or (sheet_fault rows) (first_from (event_fault rows) [] rows))
+pub later_is : (lim : Limits) (rows : List Fields) → later_fault lim rows
+    ≡ option_or (option_or (first_from (ranking_fault rows) [] rows) (pairs_fault lim rows)) (option_or (sheet_fault rows) (first_from (event_fault rows) [] rows))
 unfolding later_fault
-later_is rows = by (first_from (ranking_fault rows) [] rows)
+later_is lim rows = by (first_from (ranking_fault rows) [] rows)
   where
-    by : (a : Option DocketFault) → option_or a (option_or (pairs_fault rows) (option_or (sheet_fault rows) (first_from (event_fault rows) [] rows)))
-        ≡ option_or (option_or a (pairs_fault rows)) (option_or (sheet_fault rows) (first_from (event_fault rows) [] rows))
+    by : (a : Option DocketFault) → option_or a (option_or (pairs_fault lim rows) (option_or (sheet_fault rows) (first_from (event_fault rows) [] rows)))
+        ≡ option_or (option_or a (pairs_fault lim rows)) (option_or (sheet_fault rows) (first_from (event_fault rows) [] rows))
     by None = refl
     by (Some f) = refl
 
 -- where no later pass finds a fault, each event's names are declared
-pub events_known : (rows : List Fields) → later_fault rows ≡ None → first_from (event_fault rows) [] rows ≡ None
+pub events_known : (lim : Limits) (rows : List Fields) → later_fault lim rows ≡ None → first_from (event_fault rows) [] rows ≡ None
 unfolding later_fault
-events_known rows fine = (both_none (sheet_fault rows) _ (both_none (pairs_fault rows) _ (both_none (first_from (ranking_fault rows) [] rows) _ fine).1).1).1
+events_known lim rows fine = (both_none (sheet_fault rows) _ (both_none (pairs_fault lim rows) _ (both_none (first_from (ranking_fault rows) [] rows) _ fine).1).1).1
 
 -- the name of a programme, as the docket gives it
 pub programme_name-is : (d : Contents) (p : ℕ) (name : List ℕ) → slice_get d.programmes p ≡ Some name → programme_name d p ≡ name

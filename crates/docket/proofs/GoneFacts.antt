@@ -1,4 +1,5 @@
 -- Who is withdrawn, by number, with the row of one member more.
+use Rattle.docket.specs.Limits.{widest}
 use Rattle.std.proofs.Common.{◌≡◌, ◌≤◌, ◌<◌, ◌+◌, ℕ, List, [], ◌∷◌, ◌++◌, Bool, true, false, length, take, sym, ◌∙◌, refl, ap, Option, Some, None, rules}
 use Rattle.std.specs.Prelude.{◌||◌, not, bytes_eq, codes, nat_le, slice_set, slice_index_or, Result, Ok, Err}
 use Rattle.std.specs.List.{list_any}
@@ -62,7 +63,7 @@ unfolding withdrawn_of
 length-withdrawn_of side names rows = length-map names (λ (name : List ℕ). list_any (is_withdrawal_of side name) rows)
 
 -- a W row that the first pass let through withdraws nobody for a second time
-pub not_withdrawn : (rows : List Fields) (k : ℕ) → first_from reading_fault [] rows ≡ None → length rows ≤ MAX_RECORDS → k < length rows
+pub not_withdrawn : (rows : List Fields) (k : ℕ) → first_from (reading_fault widest) [] rows ≡ None → length rows ≤ MAX_RECORDS → k < length rows
     → kind_of (row_at rows k) ≡ withdrawal_kind → list_any (is_withdrawal_of (field (row_at rows k) 1) (field (row_at rows k) 2)) (take k rows) ≡ false
 unfolding repeat_fault
 not_withdrawn rows k sound few lt kind = by (take k rows) (row_at rows k) kind (sound_row rows k sound few lt).1
@@ -108,7 +109,7 @@ ranked_gone b e rows k lt kind h q p r pg rg =
       residents_withdrawn = rg ∙ ap (withdrawn_of (codes "R") (residents_of rows)) (sym next);
     }
 
-pub ranked_programme_gone : (b e : Draft) (rows : List Fields) (k i : ℕ) → first_from reading_fault [] rows ≡ None → length rows ≤ MAX_RECORDS → k < length rows
+pub ranked_programme_gone : (b e : Draft) (rows : List Fields) (k i : ℕ) → first_from (reading_fault widest) [] rows ≡ None → length rows ≤ MAX_RECORDS → k < length rows
     → kind_of (row_at rows k) ≡ withdrawal_kind → field (row_at rows k) 1 ≡ codes "P" → number_in (programmes_of rows) (field (row_at rows k) 2) ≡ Some i
     → IsRanked b rows (take k rows) → e ≡ with_programme_withdrawn b i → IsRanked e rows (take (k + 1) rows)
 ranked_programme_gone b e rows k i sound few lt kind on at h is =
@@ -119,7 +120,7 @@ ranked_programme_gone b e rows k i sound few lt kind on at h is =
     (ap (λ (d : Draft). d.residents_withdrawn) is ∙ h.residents_withdrawn
     ∙ sym (withdrawn_of-other (codes "R") (residents_of rows) (take k rows) (row_at rows k) (rw (kind, on) refl)))
 
-pub ranked_resident_gone : (b e : Draft) (rows : List Fields) (k i : ℕ) → first_from reading_fault [] rows ≡ None → length rows ≤ MAX_RECORDS → k < length rows
+pub ranked_resident_gone : (b e : Draft) (rows : List Fields) (k i : ℕ) → first_from (reading_fault widest) [] rows ≡ None → length rows ≤ MAX_RECORDS → k < length rows
     → kind_of (row_at rows k) ≡ withdrawal_kind → field (row_at rows k) 1 ≡ codes "R" → number_in (residents_of rows) (field (row_at rows k) 2) ≡ Some i
     → IsRanked b rows (take k rows) → e ≡ with_resident_withdrawn b i → IsRanked e rows (take (k + 1) rows)
 ranked_resident_gone b e rows k i sound few lt kind on at h is =
@@ -131,7 +132,7 @@ ranked_resident_gone b e rows k i sound few lt kind on at h is =
     ∙ sym (withdrawn_of-owner (codes "R") (residents_of rows) (take k rows) (row_at rows k) i (distinct_residents rows sound few) at (rw (kind, on) refl)))
 
 -- the builder finds no fault with the withdrawal of a W row that names a member
-stays : (side : List ℕ) (names : List (List ℕ)) (rows : List Fields) (k i : ℕ) (flags : List Bool) → first_from reading_fault [] rows ≡ None → length rows ≤ MAX_RECORDS
+stays : (side : List ℕ) (names : List (List ℕ)) (rows : List Fields) (k i : ℕ) (flags : List Bool) → first_from (reading_fault widest) [] rows ≡ None → length rows ≤ MAX_RECORDS
     → k < length rows → kind_of (row_at rows k) ≡ withdrawal_kind → field (row_at rows k) 1 ≡ side → number_in names (field (row_at rows k) 2) ≡ Some i
     → flags ≡ withdrawn_of side names (take k rows) → model.withdrawal_fault flags i ≡ None
 stays side names rows k i flags sound few lt kind on at is =
@@ -140,12 +141,12 @@ stays side names rows k i flags sound few lt kind on at is =
     let fresh : list_any (is_withdrawal_of side (field (row_at rows k) 2)) (take k rows) ≡ false = rw (← on) (not_withdrawn rows k sound few lt kind) in
     rw (is, length-withdrawn_of side names (take k rows), there, withdrawn_at side names (take k rows) (field (row_at rows k) 2) i at, fresh) refl
 
-pub programme_stays : (b : Draft) (rows : List Fields) (k i : ℕ) → first_from reading_fault [] rows ≡ None → length rows ≤ MAX_RECORDS → k < length rows
+pub programme_stays : (b : Draft) (rows : List Fields) (k i : ℕ) → first_from (reading_fault widest) [] rows ≡ None → length rows ≤ MAX_RECORDS → k < length rows
     → kind_of (row_at rows k) ≡ withdrawal_kind → field (row_at rows k) 1 ≡ codes "P" → number_in (programmes_of rows) (field (row_at rows k) 2) ≡ Some i
     → IsRanked b rows (take k rows) → model.withdrawal_fault b.programmes_withdrawn i ≡ None
 programme_stays b rows k i sound few lt kind on at h = stays (codes "P") (programmes_of rows) rows k i b.programmes_withdrawn sound few lt kind on at h.programmes_withdrawn
 
-pub resident_stays : (b : Draft) (rows : List Fields) (k i : ℕ) → first_from reading_fault [] rows ≡ None → length rows ≤ MAX_RECORDS → k < length rows
+pub resident_stays : (b : Draft) (rows : List Fields) (k i : ℕ) → first_from (reading_fault widest) [] rows ≡ None → length rows ≤ MAX_RECORDS → k < length rows
     → kind_of (row_at rows k) ≡ withdrawal_kind → field (row_at rows k) 1 ≡ codes "R" → number_in (residents_of rows) (field (row_at rows k) 2) ≡ Some i
     → IsRanked b rows (take k rows) → model.withdrawal_fault b.residents_withdrawn i ≡ None
 resident_stays b rows k i sound few lt kind on at h = stays (codes "R") (residents_of rows) rows k i b.residents_withdrawn sound few lt kind on at h.residents_withdrawn

@@ -1,4 +1,6 @@
 -- Rows as they are kept, with one row more.
+use Rattle.docket.specs.Limits.{most_records}
+use Rattle.match_model.specs.declared.limits.Limits.{Limits}
 use Rattle.std.proofs.Common.{◌≡◌, ◌⊎◌, ◌≤◌, ◌<◌, ℕ, List, [], ◌∷◌, ◌++◌, false, length, sym, ◌∙◌, refl, ap, arith, Option, Some, None, inl, inr, append_assoc, subst, count_by}
 use Rattle.std.proofs.lemmas.List.Sums.{length-filter}
 use Rattle.docket.specs.Fields.{Fields}
@@ -8,7 +10,6 @@ use Rattle.docket.specs.Declarations.{IsDeclared}
 use Rattle.docket.specs.Read.{IsSplit, GivesRow, AreKeptOf}
 use Rattle.docket.specs.Kept.{AreMany, IsFront, IsBlank, IsClose, AreManyMarks, AreManyNames, names_text, is_named, AreAlike, IsKeptAs, Keeps, AreCut, AreListsCut, AreKept}
 use Rattle.docket.specs.declared.store.declarations.Declarations.{Declarations}
-use Rattle.docket.specs.declared.vocabulary.TheConstants.{MAX_RECORDS}
 use Rattle.docket.proofs.KeptFacts.{IsOffOf, off_same, front_seen, blank_seen, close_seen, front_event, front_mark, blank_event, alike_same, alike_append, alike_one, alike_first, alike_push, alike_length, alike_any, alike_filter, alike_reading, alike_declared}
 use Rattle.docket.proofs.ListedFacts.{count_wider}
 use Rattle.docket.proofs.PassFacts.{split_end}
@@ -31,11 +32,11 @@ kept_length all kept h =
     ∙ alike_length IsBlank h.noted h.marked (cut_alike IsBlank AreManyMarks h.noted h.marked h.sheet)
     ∙ alike_length IsClose all h.noted (cut_alike IsClose AreManyNames all h.noted h.journal)
 
-pub kept_reading : (all kept : List Fields) (row : Fields) → AreKept all kept → reading_fault kept row ≡ reading_fault all row
-kept_reading all kept row h =
-    alike_reading IsFront front_seen h.marked kept row (lists_alike h.marked kept h.lists)
-    ∙ alike_reading IsBlank blank_seen h.noted h.marked row (cut_alike IsBlank AreManyMarks h.noted h.marked h.sheet)
-    ∙ alike_reading IsClose close_seen all h.noted row (cut_alike IsClose AreManyNames all h.noted h.journal)
+pub kept_reading : (lim : Limits) (all kept : List Fields) (row : Fields) → AreKept all kept → reading_fault lim kept row ≡ reading_fault lim all row
+kept_reading lim all kept row h =
+    alike_reading lim IsFront front_seen h.marked kept row (lists_alike h.marked kept h.lists)
+    ∙ alike_reading lim IsBlank blank_seen h.noted h.marked row (cut_alike IsBlank AreManyMarks h.noted h.marked h.sheet)
+    ∙ alike_reading lim IsClose close_seen all h.noted row (cut_alike IsClose AreManyNames all h.noted h.journal)
 
 -- one row more, whole or not
 abbrev IsPut : (Fields → Fields → Type 0) → Type 0 → Fields → Fields → Type 0
@@ -158,23 +159,23 @@ keeps_declared d texts old new row k h = rw k.rows (by k.shown)
     by (inr (inr (inl blank))) = alike_declared IsBlank blank_seen d texts (old ++ row ∷ []) (old ++ k.short ∷ []) (alike_push IsBlank old row k.short blank.0) h
     by (inr (inr (inr close))) = alike_declared IsClose close_seen d texts (old ++ row ∷ []) (old ++ k.short ∷ []) (alike_push IsClose old row k.short close.0) h
 
-pub keeps_sound : (old new : List Fields) (row : Fields) (k : Keeps old new row) → length old < MAX_RECORDS → reading_fault old row ≡ None → reading_fault old k.short ≡ None
-keeps_sound old new row k few e = by k.shown
+pub keeps_sound : (lim : Limits) (old new : List Fields) (row : Fields) (k : Keeps old new row) → length old < most_records lim → reading_fault lim old row ≡ None → reading_fault lim old k.short ≡ None
+keeps_sound lim old new row k few e = by k.shown
   where
-    by : IsKeptAs old new row k.short → reading_fault old k.short ≡ None
+    by : IsKeptAs old new row k.short → reading_fault lim old k.short ≡ None
     by (inl same) = rw same e
-    by (inr (inl front)) = front_sound old row k.short few front.0 e
-    by (inr (inr (inl blank))) = let is = blank.0 in rw is.blank (blank_sound old few)
-    by (inr (inr (inr close))) = close_sound old row k.short few close.0 e
+    by (inr (inl front)) = front_sound lim old row k.short few front.0 e
+    by (inr (inr (inl blank))) = let is = blank.0 in rw is.blank (blank_sound lim old few)
+    by (inr (inr (inr close))) = close_sound lim old row k.short few close.0 e
 
 -- at first nothing is kept
 pub kept_none : (kept : List Fields) → kept ≡ [] → AreKept [] kept
 kept_none kept e = record { noted = []; marked = []; journal = inl refl; sheet = inl refl; lists = inl e }
 
 -- no row is left
-pub kept_end : (all : Option (List Fields)) (done kept : List Fields) (left after : Option (List Fields)) (row : Fields) → IsSplit all done left → GivesRow left after false row
-    → AreKept done kept → first_from reading_fault [] done ≡ None → AreKeptOf all kept
-kept_end None done kept left after row s g h clean = tt
-kept_end (Some rows) done kept left after row s g h clean =
+pub kept_end : (lim : Limits) (all : Option (List Fields)) (done kept : List Fields) (left after : Option (List Fields)) (row : Fields) → IsSplit all done left → GivesRow left after false row
+    → AreKept done kept → first_from (reading_fault lim) [] done ≡ None → AreKeptOf lim all kept
+kept_end lim None done kept left after row s g h clean = tt
+kept_end lim (Some rows) done kept left after row s g h clean =
     let same : rows ≡ done = split_end (Some rows) done left after row s g in
     (rw same h, rw same clean)

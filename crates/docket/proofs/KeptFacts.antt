@@ -1,4 +1,5 @@
 -- What rows that aren't kept whole show.
+use Rattle.match_model.specs.declared.limits.Limits.{Limits}
 use Rattle.std.proofs.Common.{◌≡◌, ◌⊎◌, ◌≤◌, ◌<◌, ℕ, suc, get_or, List, [], ◌∷◌, ◌++◌, Bool, true, false, length, take, drop, map, filter, find, sym, ◌∙◌, refl, ap, arith, rules, Option, Some, None, inl, inr, subst}
 use Rattle.std.specs.Prelude.{◌&&◌, ◌||◌, ◌==◌, ◌+◌, if◌then◌else◌, bytes_eq, codes, unwrap_or}
 use Rattle.std.specs.List.{list_any}
@@ -336,9 +337,9 @@ alike_withdrawals : (Is : Fields → Fields → Type 0) → IsSeen Is → (side 
 alike_withdrawals Is seen side all kept h = alike_filter Is (is_row_of withdrawal_kind side) (off_row Is seen withdrawal_kind side refl) all kept h
 
 -- the first pass asks the same of a row after them
-pub alike_reading : (Is : Fields → Fields → Type 0) → IsSeen Is → (all kept : List Fields) (row : Fields) → AreAlike Is all kept → reading_fault kept row ≡ reading_fault all row
+pub alike_reading : (lim : Limits) (Is : Fields → Fields → Type 0) → IsSeen Is → (all kept : List Fields) (row : Fields) → AreAlike Is all kept → reading_fault lim kept row ≡ reading_fault lim all row
 unfolding reading_fault repeat_fault limit_fault
-alike_reading Is seen all kept row h =
+alike_reading lim Is seen all kept row h =
     rw (
       alike_length Is all kept h,
       alike_workers Is seen all kept h,

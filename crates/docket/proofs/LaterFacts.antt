@@ -1,4 +1,6 @@
 -- Rows that are kept as far as anything asks for them have the faults of all rows.
+use Rattle.match_model.specs.declared.limits.Limits.{Limits}
+use Rattle.docket.specs.Limits.{widest}
 use Rattle.std.proofs.Common.{◌≡◌, ◌≤◌, List, [], length, ◌∙◌, None}
 use Rattle.docket.specs.Fields.{Fields}
 use Rattle.docket.specs.Passes.{first_from, reading_fault}
@@ -10,14 +12,14 @@ use Rattle.docket.proofs.KeepFacts.{cut_alike, lists_alike}
 use Rattle.docket.proofs.KeptFacts.{front_seen, blank_seen}
 use Rattle.docket.proofs.SheetCutFacts.{sheet_later}
 
-as_good : (all noted kept : List Fields) → IsAsGood all noted → IsAsGood noted kept → IsAsGood all kept
-as_good all noted kept first second = (second.0 ∙ first.0, λ none. let same = second.1 none in same ∙ first.1 (rw same at none))
+as_good : (lim : Limits) (all noted kept : List Fields) → IsAsGood lim all noted → IsAsGood lim noted kept → IsAsGood lim all kept
+as_good lim all noted kept first second = (second.0 ∙ first.0, λ none. let same = second.1 none in same ∙ first.1 (rw same at none))
 
 -- so the later passes have the same first fault, and where they have none the rows are whole
-pub later_kept : (all kept : List Fields) → AreKept all kept → first_from reading_fault [] kept ≡ None → length kept ≤ MAX_RECORDS → IsAsGood all kept
-later_kept all kept h sound few =
+pub later_kept : (lim : Limits) (all kept : List Fields) → AreKept all kept → first_from (reading_fault widest) [] kept ≡ None → length kept ≤ MAX_RECORDS → IsAsGood lim all kept
+later_kept lim all kept h sound few =
     let members = few_members kept sound few in
     let marked = few_alike IsFront front_seen h.marked kept (lists_alike h.marked kept h.lists) members in
     let noted = few_alike IsBlank blank_seen h.noted h.marked (cut_alike IsBlank AreManyMarks h.noted h.marked h.sheet) marked in
-    as_good all h.noted kept (journal_later all h.noted h.journal noted)
-    (as_good h.noted h.marked kept (sheet_later h.noted h.marked h.sheet marked) (lists_later h.marked kept h.lists members))
+    as_good lim all h.noted kept (journal_later lim all h.noted h.journal noted)
+    (as_good lim h.noted h.marked kept (sheet_later lim h.noted h.marked h.sheet marked) (lists_later lim h.marked kept h.lists members))

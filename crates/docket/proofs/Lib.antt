@@ -11,6 +11,7 @@ pub mod NumberFacts
 pub mod VersionFacts
 pub mod NamedFacts
 pub mod TextFacts
+pub mod WidestFacts
 pub mod PassFacts
 pub mod ReadInvariant
 pub mod RankingFacts

@@ -1,4 +1,5 @@
 -- How the marks of a sheet grow with the rows.
+use Rattle.docket.specs.Limits.{widest}
 use Rattle.std.proofs.Common.{◌≡◌, ◌≤◌, ◌<◌, ◌+◌, ℕ, List, [], ◌∷◌, ◌++◌, Bool, true, false, length, take, get_or, map, find, count_by, arith, sym, ◌∙◌, refl, ap, Option, Some, None, inr, add-zero, zero-add}
 use Rattle.std.specs.Prelude.{◌==◌, ◌&&◌, ◌||◌, not, if◌then◌else◌, bytes_eq, replicate, slice_set, unwrap_or, slice_index_or}
 use Rattle.std.specs.List.{list_any, list_all}
@@ -192,7 +193,7 @@ flags_more p names rows k i name flags lt d at here others h =
     rw (h, take_more rows k [] lt) (sym (any_at p names (take k rows) (row_at rows k) name i d at here others))
 
 -- the marks after an M row, a U row, an F row and another
-pub marks_matched : (m e : Marks) (rows : List Fields) (k i p d : ℕ) → first_from reading_fault [] rows ≡ None → length rows ≤ MAX_RECORDS → k < length rows
+pub marks_matched : (m e : Marks) (rows : List Fields) (k i p d : ℕ) → first_from (reading_fault widest) [] rows ≡ None → length rows ≤ MAX_RECORDS → k < length rows
     → kind_of (row_at rows k) ≡ MATCHED → number_in (residents_of rows) (field (row_at rows k) 1) ≡ Some i → number_in (programmes_of rows) (field (row_at rows k) 2) ≡ Some p
     → list_any (is_mark_of (field (row_at rows k) 1)) (take k rows) ≡ false → IsMarked m rows (take k rows)
     → e.sheet ≡ slice_set m.sheet i (Some p) → e.marked.items ≡ slice_set m.marked.items i true → e.filled.items ≡ m.filled.items
@@ -213,7 +214,7 @@ marks_matched m e rows k i p d sound few lt kind at to free h es em ef ec =
           ∙ ap (λ (done : List Fields). map (λ n. count_by (is_matched_with n) done) (programmes_of rows)) (sym next);
     }
 
-pub marks_unmatched : (m e : Marks) (rows : List Fields) (k i : ℕ) → first_from reading_fault [] rows ≡ None → length rows ≤ MAX_RECORDS → k < length rows
+pub marks_unmatched : (m e : Marks) (rows : List Fields) (k i : ℕ) → first_from (reading_fault widest) [] rows ≡ None → length rows ≤ MAX_RECORDS → k < length rows
     → kind_of (row_at rows k) ≡ UNMATCHED → number_in (residents_of rows) (field (row_at rows k) 1) ≡ Some i → IsMarked m rows (take k rows)
     → e.sheet ≡ m.sheet → e.marked.items ≡ slice_set m.marked.items i true → e.filled.items ≡ m.filled.items → e.counts.items ≡ m.counts.items → IsMarked e rows (take (k + 1) rows)
 marks_unmatched m e rows k i sound few lt kind at h es em ef ec =
@@ -226,7 +227,7 @@ marks_unmatched m e rows k i sound few lt kind at h es em ef ec =
       counts = ec ∙ h.counts ∙ counts_kept is_matched_with (programmes_of rows) rows k lt (λ x. rw kind refl);
     }
 
-pub marks_filled : (m e : Marks) (rows : List Fields) (k i : ℕ) → first_from reading_fault [] rows ≡ None → length rows ≤ MAX_RECORDS → k < length rows
+pub marks_filled : (m e : Marks) (rows : List Fields) (k i : ℕ) → first_from (reading_fault widest) [] rows ≡ None → length rows ≤ MAX_RECORDS → k < length rows
     → kind_of (row_at rows k) ≡ FILLED → number_in (programmes_of rows) (field (row_at rows k) 1) ≡ Some i → IsMarked m rows (take k rows)
     → e.sheet ≡ m.sheet → e.marked.items ≡ m.marked.items → e.filled.items ≡ slice_set m.filled.items i true → e.counts.items ≡ m.counts.items → IsMarked e rows (take (k + 1) rows)
 marks_filled m e rows k i sound few lt kind at h es em ef ec =

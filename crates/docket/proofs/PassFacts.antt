@@ -1,4 +1,6 @@
 -- The first record with a fault, as records are added one by one.
+use Rattle.docket.specs.Limits.{most_records}
+use Rattle.match_model.specs.declared.limits.Limits.{Limits}
 use Rattle.std.proofs.Common.{◌≡◌, ◌⊎◌, ◌≤◌, ◌<◌, ◌+◌, ◌-◌, ℕ, zero, suc, List, [], ◌∷◌, ◌++◌, Bool, true, false, length, take, drop, sym, ◌∙◌, refl, ap, Option, Some, None, inl, inr, append_assoc, append-nil, rules, subst, arith}
 use Rattle.std.specs.Prelude.{nat_le, if◌then◌else◌}
 use Rattle.std.proofs.lemmas.List.{take_more, take_all, take-append-drop, length-append}
@@ -9,7 +11,6 @@ use Rattle.docket.specs.Rows.{row_at}
 use Rattle.docket.specs.Answers.{Refuses}
 use Rattle.docket.specs.Read.{GivesRow, IsSplit, IsOutside, IsReadFault, Explains, AreAll}
 use Rattle.docket.specs.Passes.{first_from, reading_fault, repeat_fault, limit_fault, next_place}
-use Rattle.docket.specs.declared.vocabulary.TheConstants.{MAX_RECORDS}
 use Rattle.docket.specs.declared.fault.DocketFault.{DocketFault}
 use Rattle.docket.specs.declared.fault.DocketFault.TheVariants.{TooManyRecords}
 
@@ -82,20 +83,26 @@ split_start None = tt
 split_start (Some rows) = (rows, refl, refl)
 
 -- the first pass at a row before the limit, and after it
-pub reading_fault-few : (before : List Fields) (row : Fields) → length before < MAX_RECORDS
-    → reading_fault before row ≡ option_or (row_fault (next_place before) (workers_in before) row) (option_or (repeat_fault before row) (limit_fault before row))
+pub reading_fault-few : (lim : Limits) (before : List Fields) (row : Fields) → length before < most_records lim
+    → reading_fault lim before row ≡ option_or (row_fault (next_place before) (workers_in before) row) (option_or (repeat_fault before row) (limit_fault lim before row))
 unfolding reading_fault
-reading_fault-few before row few = by (nat_le MAX_RECORDS (length before)) refl
+reading_fault-few lim before row few = by (nat_le (most_records lim) (length before)) refl
   where
-    by : (b : Bool) → nat_le MAX_RECORDS (length before) ≡ b
-        → (if b then Some (TooManyRecords (next_place before)) else option_or (row_fault (next_place before) (workers_in before) row) (option_or (repeat_fault before row) (limit_fault before row)))
-        ≡ option_or (row_fault (next_place before) (workers_in before) row) (option_or (repeat_fault before row) (limit_fault before row))
+    by : (b : Bool) → nat_le (most_records lim) (length before) ≡ b
+        → (if b then Some (TooManyRecords (next_place before)) else option_or (row_fault (next_place before) (workers_in before) row) (option_or (repeat_fault before row) (limit_fault lim before row)))
+        ≡ option_or (row_fault (next_place before) (workers_in before) row) (option_or (repeat_fault before row) (limit_fault lim before row))
     by true e = absurd (search (rules, few, e))
     by false e = refl
 
-pub reading_fault-many : (before : List Fields) (row : Fields) → length before ≡ MAX_RECORDS → reading_fault before row ≡ Some (TooManyRecords (MAX_RECORDS + 1))
+pub reading_fault-many : (lim : Limits) (before : List Fields) (row : Fields) → length before ≡ most_records lim → reading_fault lim before row ≡ Some (TooManyRecords (most_records lim + 1))
 unfolding reading_fault
-reading_fault-many before row many = rw many refl
+reading_fault-many lim before row many = by (nat_le (most_records lim) (length before)) refl
+  where
+    by : (b : Bool) → nat_le (most_records lim) (length before) ≡ b
+        → (if b then Some (TooManyRecords (next_place before)) else option_or (row_fault (next_place before) (workers_in before) row) (option_or (repeat_fault before row) (limit_fault lim before row)))
+        ≡ Some (TooManyRecords (most_records lim + 1))
+    by true e = rw many refl
+    by false e = let less : length before < most_records lim = search (rules, e) in absurd (omega (arith, less, many))
 
 -- no rows have no fault
 pub first_from-none : (f : List Fields → Fields → Option DocketFault) → first_from f [] [] ≡ None

@@ -1,10 +1,11 @@
 -- Where only rows of a sheet or of a journal aren't kept whole, the second pass is that of all rows.
+use Rattle.match_model.specs.declared.limits.Limits.{Limits}
 use Rattle.std.proofs.Common.{◌≡◌, ◌⊎◌, ℕ, List, [], ◌∷◌, ◌++◌, find, sym, ◌∙◌, refl, ap, Option, None, inl, inr}
 use Rattle.std.specs.Prelude.{codes, option_map, nat_le}
 use Rattle.std.specs.List.{list_any}
 use Rattle.match_model.specs.Instance.{pair_count}
 use Rattle.match_model.specs.Draft.{instance_of}
-use Rattle.match_model.specs.declared.limits.TheConstants.{MAX_PAIRS}
+use Rattle.match_model.specs.Limits.{most_pairs}
 use Rattle.match_model.specs.declared.fault.ModelFault.TheVariants as model
 use Rattle.docket.specs.Fields.{Fields, is_kind, is_row_of, unless, withdrawal_kind}
 use Rattle.docket.specs.Contents.{programmes_of, residents_of, lists_of, listed_in, draft_of, withdrawn_of, is_withdrawal_of}
@@ -71,11 +72,11 @@ alike_gone Is seen side names all kept h =
     map-same (λ (name : List ℕ). list_any (is_withdrawal_of side name) kept) (λ (name : List ℕ). list_any (is_withdrawal_of side name) all) names
     (λ name. alike_any Is (is_withdrawal_of side name) (off_same Is (is_withdrawal_of side name) (off_withdrawn Is seen side name)) all kept h)
 
-pub alike_pairs : (Is : Fields → Fields → Type 0) → IsSeen Is → IsQuiet Is → (all kept : List Fields) → AreAlike Is all kept → pairs_fault kept ≡ pairs_fault all
+pub alike_pairs : (lim : Limits) (Is : Fields → Fields → Type 0) → IsSeen Is → IsQuiet Is → (all kept : List Fields) → AreAlike Is all kept → pairs_fault lim kept ≡ pairs_fault lim all
 unfolding pairs_fault
-alike_pairs Is seen quiet all kept h =
+alike_pairs lim Is seen quiet all kept h =
     let size = alike_length Is all kept h in
-    λ i. unless (nat_le (pair_count (instance_of (draft i))) MAX_PAIRS) (Model (size i) model.TooManyPairs)
+    λ i. unless (nat_le (pair_count (instance_of (draft i))) (most_pairs lim)) (Model (size i) model.TooManyPairs)
   where
     p : programmes_of kept ≡ programmes_of all
     p = alike_programmes Is seen all kept h
@@ -84,7 +85,7 @@ alike_pairs Is seen quiet all kept h =
     r = alike_residents Is seen all kept h
 
     draft : draft_of kept ≡ draft_of all
-    draft = same_draft (alike_quotas Is seen all kept h)
+    draft = same_draft refl (alike_quotas Is seen all kept h)
         (rw (p, r) (alike_lists Is PROGRAMME_LIST (quiet PROGRAMME_LIST (inl refl)) (programmes_of all) (residents_of all) all kept h))
         (rw (p, r) (alike_lists Is RESIDENT_LIST (quiet RESIDENT_LIST (inr refl)) (residents_of all) (programmes_of all) all kept h))
         (rw p (alike_gone Is seen (codes "P") (programmes_of all) all kept h))

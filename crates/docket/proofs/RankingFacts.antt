@@ -1,4 +1,5 @@
 -- How the lists by number grow with the rows.
+use Rattle.docket.specs.Limits.{widest}
 use Rattle.std.proofs.Common.{◌≡◌, ◌≤◌, ◌<◌, ◌+◌, ℕ, zero, suc, List, [], ◌∷◌, ◌++◌, Bool, true, false, length, take, drop, map, find, arith, sym, ◌∙◌, refl, ap, Option, Some, None, inl, inr, rules, is_some}
 use Rattle.std.specs.Prelude.{◌||◌, not, if◌then◌else◌, option_map, bytes_eq, codes, slice_set, nat_lt, nat_le, unwrap_or, Result, Err}
 use Rattle.std.specs.Option.{option_or}
@@ -17,7 +18,7 @@ use Rattle.docket_names.specs.Words.{number_of}
 use Rattle.docket.specs.Ranking.{IsRanked}
 use Rattle.docket.specs.Passes.{first_from, reading_fault, repeat_fault, limit_fault, next_place, listing_fault, ranking_fault, pairs_fault}
 use Rattle.match_model.specs.Instance.{pair_count}
-use Rattle.match_model.specs.declared.limits.TheConstants.{MAX_PAIRS}
+use Rattle.match_model.specs.Limits.{most_pairs}
 use Rattle.docket.specs.Answers.{Refuses, at_record}
 use Rattle.docket.specs.declared.vocabulary.TheConstants.{QUOTA, PROGRAMME_LIST, RESIDENT_LIST, MAX_RECORDS}
 use Rattle.docket.specs.declared.fault.DocketFault.{DocketFault}
@@ -50,14 +51,15 @@ unfolding quotas_of programmes_of
 length-quotas_of rows = length-map (rows_of QUOTA rows) (λ (r : Fields). unwrap_or (number_of (field r 2)) 0) ∙ sym (length-map (rows_of QUOTA rows) (λ (r : Fields). field r 1))
 
 -- what the first pass says of a row
-pub sound_row : (rows : List Fields) (k : ℕ) → first_from reading_fault [] rows ≡ None → length rows ≤ MAX_RECORDS → k < length rows
+pub sound_row : (rows : List Fields) (k : ℕ) → first_from (reading_fault widest) [] rows ≡ None → length rows ≤ MAX_RECORDS → k < length rows
     → (row_fault (k + 1) (workers_in (take k rows)) (row_at rows k) ≡ None) × (repeat_fault (take k rows) (row_at rows k) ≡ None)
 sound_row rows k none few lt =
     let size = length-take k rows in
     let here : length (take k rows) ≡ k = omega arith in
-    let all = sym (reading_fault-few (take k rows) (row_at rows k) (omega arith)) ∙ clean_at reading_fault rows k none lt in
-    let own = both_none (row_fault (next_place (take k rows)) (workers_in (take k rows)) (row_at rows k)) (option_or (repeat_fault (take k rows) (row_at rows k)) (limit_fault (take k rows) (row_at rows k))) all in
-    (ap (λ (n : ℕ). row_fault (n + 1) (workers_in (take k rows)) (row_at rows k)) (sym here) ∙ own.0, (both_none (repeat_fault (take k rows) (row_at rows k)) (limit_fault (take k rows) (row_at rows k)) own.1).0)
+    let room : length (take k rows) < MAX_RECORDS = omega arith in
+    let all = sym (reading_fault-few widest (take k rows) (row_at rows k) room) ∙ clean_at (reading_fault widest) rows k none lt in
+    let own = both_none (row_fault (next_place (take k rows)) (workers_in (take k rows)) (row_at rows k)) (option_or (repeat_fault (take k rows) (row_at rows k)) (limit_fault widest (take k rows) (row_at rows k))) all in
+    (ap (λ (n : ℕ). row_fault (n + 1) (workers_in (take k rows)) (row_at rows k)) (sym here) ∙ own.0, (both_none (repeat_fault (take k rows) (row_at rows k)) (limit_fault widest (take k rows) (row_at rows k)) own.1).0)
 
 -- no earlier row of the kind has the name
 pub quota_free : (before : List Fields) (row : Fields) → repeat_fault before row ≡ None → kind_of row ≡ QUOTA → list_any (is_row_of QUOTA (field row 1)) before ≡ false
@@ -99,7 +101,7 @@ distinct_push (x ∷ xs) name d e =
 
 -- the names that the rows of a kind declare stand once
 distinct_names : (kind : ℕ) → ((before : List Fields) (row : Fields) → repeat_fault before row ≡ None → kind_of row ≡ kind → list_any (is_row_of kind (field row 1)) before ≡ false)
-    → (rows : List Fields) → first_from reading_fault [] rows ≡ None → length rows ≤ MAX_RECORDS → (k : ℕ) → k ≤ length rows → distinct (names_of kind (take k rows)) ≡ true
+    → (rows : List Fields) → first_from (reading_fault widest) [] rows ≡ None → length rows ≤ MAX_RECORDS → (k : ℕ) → k ≤ length rows → distinct (names_of kind (take k rows)) ≡ true
 unfolding distinct
 distinct_names kind free rows none few zero le = refl
 distinct_names kind free rows none few (suc k) le = by (is_kind kind (row_at rows k)) refl (distinct_names kind free rows none few k (omega arith))
@@ -119,13 +121,13 @@ distinct_names kind free rows none few (suc k) le = by (is_kind kind (row_at row
         rw (next, grown, e) (distinct_push (names_of kind (take k rows)) (field (row_at rows k) 1) before new)
     by false e before = rw (next, grown, e) before
 
-pub distinct_programmes : (rows : List Fields) → first_from reading_fault [] rows ≡ None → length rows ≤ MAX_RECORDS → distinct (programmes_of rows) ≡ true
+pub distinct_programmes : (rows : List Fields) → first_from (reading_fault widest) [] rows ≡ None → length rows ≤ MAX_RECORDS → distinct (programmes_of rows) ≡ true
 unfolding programmes_of
 distinct_programmes rows none few =
     let all = distinct_names QUOTA quota_free rows none few (length rows) (omega arith) in
     rw (take_all (length rows) rows (omega arith)) at all
 
-pub distinct_residents : (rows : List Fields) → first_from reading_fault [] rows ≡ None → length rows ≤ MAX_RECORDS → distinct (residents_of rows) ≡ true
+pub distinct_residents : (rows : List Fields) → first_from (reading_fault widest) [] rows ≡ None → length rows ≤ MAX_RECORDS → distinct (residents_of rows) ≡ true
 unfolding residents_of
 distinct_residents rows none few =
     let all = distinct_names RESIDENT_LIST resident_list_free rows none few (length rows) (omega arith) in
@@ -278,7 +280,7 @@ resident_declared rows k lt kind none =
     cc (known, absent)
 
 -- the builder after a P row, and after an R row
-pub ranked_programme : (b e : Draft) (rows : List Fields) (k i : ℕ) → first_from reading_fault [] rows ≡ None → length rows ≤ MAX_RECORDS → k < length rows
+pub ranked_programme : (b e : Draft) (rows : List Fields) (k i : ℕ) → first_from (reading_fault widest) [] rows ≡ None → length rows ≤ MAX_RECORDS → k < length rows
     → kind_of (row_at rows k) ≡ PROGRAMME_LIST → number_in (programmes_of rows) (field (row_at rows k) 1) ≡ Some i → IsRanked b rows (take k rows)
     → e ≡ with_programme_list b i (listed_in (residents_of rows) (row_at rows k)) → IsRanked e rows (take (k + 1) rows)
 ranked_programme b e rows k i sound few lt kind at h is =
@@ -303,7 +305,7 @@ ranked_programme b e rows k i sound few lt kind at h is =
           ∙ ap (withdrawn_of (codes "R") (residents_of rows)) (sym next);
     }
 
-pub ranked_resident : (b e : Draft) (rows : List Fields) (k i : ℕ) → first_from reading_fault [] rows ≡ None → length rows ≤ MAX_RECORDS → k < length rows
+pub ranked_resident : (b e : Draft) (rows : List Fields) (k i : ℕ) → first_from (reading_fault widest) [] rows ≡ None → length rows ≤ MAX_RECORDS → k < length rows
     → kind_of (row_at rows k) ≡ RESIDENT_LIST → number_in (residents_of rows) (field (row_at rows k) 1) ≡ Some i → IsRanked b rows (take k rows)
     → e ≡ with_resident_list b i (listed_in (programmes_of rows) (row_at rows k)) → IsRanked e rows (take (k + 1) rows)
 ranked_resident b e rows k i sound few lt kind at h is =
@@ -350,7 +352,7 @@ ranked_other b rows k lt p r w h =
     }
 
 -- what the builder finds wrong with the list of a P row, and of an R row
-pub programme_list_fault : (b : Draft) (rows : List Fields) (k i : ℕ) (items : List ℕ) → first_from reading_fault [] rows ≡ None → length rows ≤ MAX_RECORDS → k < length rows
+pub programme_list_fault : (b : Draft) (rows : List Fields) (k i : ℕ) (items : List ℕ) → first_from (reading_fault widest) [] rows ≡ None → length rows ≤ MAX_RECORDS → k < length rows
     → kind_of (row_at rows k) ≡ PROGRAMME_LIST → number_in (programmes_of rows) (field (row_at rows k) 1) ≡ Some i → IsRanked b rows (take k rows)
     → items ≡ listed_in (residents_of rows) (row_at rows k) → list_all (is_declared (residents_of rows)) (drop 2 (row_at rows k)) ≡ true
     → list_fault b.programme_lists i (length b.resident_lists) items ≡ (if not (has_no_repeats (listed_in (residents_of rows) (row_at rows k))) then Some model.ListedTwice else None)
@@ -359,7 +361,7 @@ programme_list_fault b rows k i items sound few lt kind at h is known =
     rw (is, h.programme_lists, h.resident_lists, length-lists_of RESIDENT_LIST (residents_of rows) (programmes_of rows) (take k rows))
     (list_fault-row PROGRAMME_LIST (programmes_of rows) (residents_of rows) (take k rows) (row_at rows k) i at free known)
 
-pub resident_list_fault : (b : Draft) (rows : List Fields) (k i : ℕ) (items : List ℕ) → first_from reading_fault [] rows ≡ None → length rows ≤ MAX_RECORDS → k < length rows
+pub resident_list_fault : (b : Draft) (rows : List Fields) (k i : ℕ) (items : List ℕ) → first_from (reading_fault widest) [] rows ≡ None → length rows ≤ MAX_RECORDS → k < length rows
     → kind_of (row_at rows k) ≡ RESIDENT_LIST → number_in (residents_of rows) (field (row_at rows k) 1) ≡ Some i → IsRanked b rows (take k rows)
     → items ≡ listed_in (programmes_of rows) (row_at rows k) → list_all (is_declared (programmes_of rows)) (drop 2 (row_at rows k)) ≡ true
     → list_fault b.resident_lists i (length b.quotas) items ≡ (if not (has_no_repeats (listed_in (programmes_of rows) (row_at rows k))) then Some model.ListedTwice else None)
@@ -373,32 +375,34 @@ pub not_kind : (row : Fields) (k n : ℕ) → n ≡ kind_of row → (n ≡ k →
 not_kind row k n e isnt = rw (← e) (search (rules, isnt))
 
 -- drafts of the same parts
-pub same_draft : {b c : Draft} → b.quotas ≡ c.quotas → b.programme_lists ≡ c.programme_lists → b.resident_lists ≡ c.resident_lists
+pub same_draft : {b c : Draft} → b.limits ≡ c.limits → b.quotas ≡ c.quotas → b.programme_lists ≡ c.programme_lists → b.resident_lists ≡ c.resident_lists
     → b.programmes_withdrawn ≡ c.programmes_withdrawn → b.residents_withdrawn ≡ c.residents_withdrawn → b ≡ c
-same_draft q p r pg rg = λ i. record { quotas = q i; programme_lists = p i; resident_lists = r i; programmes_withdrawn = pg i; residents_withdrawn = rg i }
+same_draft l q p r pg rg = λ i. record { limits = l i; quotas = q i; programme_lists = p i; resident_lists = r i; programmes_withdrawn = pg i; residents_withdrawn = rg i }
 
--- with every row done the builder has what the rows hand in
-ranked_all : (b : Draft) (rows : List Fields) → IsRanked b rows rows → b ≡ draft_of rows
-ranked_all b rows h = same_draft h.quotas h.programme_lists h.resident_lists h.programmes_withdrawn h.residents_withdrawn
+-- with every row done the builder has what the rows hand in, and its limits
+ranked_all : (b : Draft) (rows : List Fields) → IsRanked b rows rows → b ≡ record (draft_of rows) { limits = b.limits }
+ranked_all b rows h = same_draft refl h.quotas h.programme_lists h.resident_lists h.programmes_withdrawn h.residents_withdrawn
 
-pub pairs_fine : (b : Draft) (rows : List Fields) → IsRanked b rows rows → pair_count (instance_of b) ≤ MAX_PAIRS → pairs_fault rows ≡ None
+-- so it makes as many pairs
+same_pairs : (b : Draft) (rows : List Fields) → IsRanked b rows rows → pair_count (instance_of b) ≡ pair_count (instance_of (draft_of rows))
+same_pairs b rows h = ap (λ (d : Draft). pair_count (instance_of d)) (ranked_all b rows h)
+
+pub pairs_fine : (b : Draft) (rows : List Fields) → IsRanked b rows rows → pair_count (instance_of b) ≤ most_pairs b.limits → pairs_fault b.limits rows ≡ None
 unfolding pairs_fault
 pairs_fine b rows h few =
-    let same = ranked_all b rows h in
-    let small : nat_le (pair_count (instance_of (draft_of rows))) MAX_PAIRS ≡ true = rw same at (at_most few) in
+    let small : nat_le (pair_count (instance_of (draft_of rows))) (most_pairs b.limits) ≡ true = rw (same_pairs b rows h) at (at_most few) in
     rw small refl
   where
-    at_most : pair_count (instance_of b) ≤ MAX_PAIRS → nat_le (pair_count (instance_of b)) MAX_PAIRS ≡ true
+    at_most : pair_count (instance_of b) ≤ most_pairs b.limits → nat_le (pair_count (instance_of b)) (most_pairs b.limits) ≡ true
     at_most le = search (rules, le)
 
 pub pairs_over : (b : Draft) (rows : List Fields) (fault : ModelFault) (n : ℕ) → IsRanked b rows rows → IsFinishFault b fault → n ≡ length rows
-    → Refuses (pairs_fault rows) (at_record n fault)
+    → Refuses (pairs_fault b.limits rows) (at_record n fault)
 unfolding pairs_fault
 pairs_over b rows fault n h (inl memory) place = inl (ap (at_record n) memory)
 pairs_over b rows fault n h (inr over) place =
-    let same = ranked_all b rows h in
-    let large : nat_le (pair_count (instance_of (draft_of rows))) MAX_PAIRS ≡ false = rw same at (above over.1) in
+    let large : nat_le (pair_count (instance_of (draft_of rows))) (most_pairs b.limits) ≡ false = rw (same_pairs b rows h) at (above over.1) in
     inr (rw (large, over.0, place) refl)
   where
-    above : MAX_PAIRS < pair_count (instance_of b) → nat_le (pair_count (instance_of b)) MAX_PAIRS ≡ false
+    above : most_pairs b.limits < pair_count (instance_of b) → nat_le (pair_count (instance_of b)) (most_pairs b.limits) ≡ false
     above lt = search (rules, lt)

@@ -1,4 +1,5 @@
 -- Where a sheet's rows aren't kept whole the third pass has a fault, and it is that of all rows.
+use Rattle.match_model.specs.declared.limits.Limits.{Limits}
 use Rattle.std.proofs.Common.{◌≡◌, ◌⊎◌, ◌≤◌, ◌<◌, ℕ, List, [], ◌∷◌, ◌++◌, Bool, true, false, length, map, filter, sym, ◌∙◌, refl, ap, arith, rules, Option, Some, None, inl, inr, count_by}
 use Rattle.std.specs.Prelude.{◌&&◌, ◌||◌, not, if◌then◌else◌, bytes_eq}
 use Rattle.std.specs.Option.{option_or}
@@ -225,14 +226,14 @@ sheet_told all kept h few = by (first_from (mark_fault kept) [] h.front) refl
     by (Some e) f = (e, rw (some_kept, at_kept, f) refl, rw (some_all, at_all, f) refl)
     by None f = let least = few_marks kept h.front few f in let many = h.many in absurd (omega (arith, least, many))
 
-pub sheet_later : (all kept : List Fields) → AreCut IsBlank AreManyMarks all kept → AreFew kept → IsAsGood all kept
+pub sheet_later : (lim : Limits) (all kept : List Fields) → AreCut IsBlank AreManyMarks all kept → AreFew kept → IsAsGood lim all kept
 unfolding later_fault
-sheet_later all kept (inl same) few = (rw same refl, λ none. same)
-sheet_later all kept (inr h) few =
+sheet_later lim all kept (inl same) few = (rw same refl, λ none. same)
+sheet_later lim all kept (inr h) few =
     let alike = cut_alike IsBlank AreManyMarks all kept (inr h) in
     let t = sheet_told all kept h few in (
-      rw (alike_ranking IsBlank blank_seen blank_quiet all kept alike, alike_pairs IsBlank blank_seen blank_quiet all kept alike, t.1, t.2) refl,
-      λ none. absurd (no t.0 (sym t.1 ∙ (none_later (first_from (ranking_fault kept) [] kept) (pairs_fault kept) (sheet_fault kept) (first_from (event_fault kept) [] kept) none).0)),
+      rw (alike_ranking IsBlank blank_seen blank_quiet all kept alike, alike_pairs lim IsBlank blank_seen blank_quiet all kept alike, t.1, t.2) refl,
+      λ none. absurd (no t.0 (sym t.1 ∙ (none_later (first_from (ranking_fault kept) [] kept) (pairs_fault lim kept) (sheet_fault kept) (first_from (event_fault kept) [] kept) none).0)),
     )
   where
     no : (e : DocketFault) → Some e ≡ None → ⊥

@@ -1,4 +1,5 @@
 -- What a record without a fault by itself holds.
+use Rattle.match_model.specs.declared.limits.Limits.{Limits}
 use Rattle.std.proofs.Common.{◌≡◌, ◌<◌, ℕ, List, [], ◌∷◌, ◌++◌, Bool, true, false, length, drop, arith, refl, Option, Some, None, inl, inr, rules}
 use Rattle.std.specs.Prelude.{◌==◌, ◌⊎◌, ◌&&◌, ◌||◌, is_some, nat_lt, unwrap_or, IsSome}
 use Rattle.std.specs.List.{list_all}
@@ -90,26 +91,26 @@ list_row_sound n row own =
     first (k ∷ name ∷ rest) lt all = rw (field-get_or (k ∷ name ∷ rest) 1) (list_all_true_at is_name (name ∷ rest) 0 [] (omega arith) all)
 
 -- nothing is asked of a row of a sheet
-pub sheet_row_free : (before : List Fields) (row : Fields) (k : ℕ) → kind_of row ≡ k → (k == QUOTA) ≡ false → (k == PROGRAMME_LIST) ≡ false
+pub sheet_row_free : (lim : Limits) (before : List Fields) (row : Fields) (k : ℕ) → kind_of row ≡ k → (k == QUOTA) ≡ false → (k == PROGRAMME_LIST) ≡ false
     → (k == RESIDENT_LIST) ≡ false → (k == CAPACITY) ≡ false → (k == EVENT) ≡ false → (k == version_kind) ≡ false → (k == withdrawal_kind) ≡ false
-    → option_or (repeat_fault before row) (limit_fault before row) ≡ None
+    → option_or (repeat_fault before row) (limit_fault lim before row) ≡ None
 unfolding repeat_fault limit_fault
-sheet_row_free before row k kind q p r c e v w = rw (kind, q, p, r, c, e, v, w) refl
+sheet_row_free lim before row k kind q p r c e v w = rw (kind, q, p, r, c, e, v, w) refl
 
 -- a row of a sheet more
 pub sheet_row_declared : (d : Declarations) (texts : List (List ℕ)) (rows : List Fields) (row : Fields) → is_sheet_row row ≡ true → IsDeclared d texts rows
-    → IsDeclared (record d { has_sheet_row = true }) texts (rows ++ row ∷ []) × (option_or (repeat_fault rows row) (limit_fault rows row) ≡ None)
+    → IsDeclared (record d { has_sheet_row = true }) texts (rows ++ row ∷ []) × (option_or (repeat_fault rows row) (limit_fault d.builder.limits rows row) ≡ None)
 sheet_row_declared d texts rows row is h = of (is_kind MATCHED row) refl (is_kind UNMATCHED row) refl (is_kind FILLED row) refl is
   where
     of : (m : Bool) → is_kind MATCHED row ≡ m → (u : Bool) → is_kind UNMATCHED row ≡ u → (f : Bool) → is_kind FILLED row ≡ f → (m || u || f) ≡ true
-        → IsDeclared (record d { has_sheet_row = true }) texts (rows ++ row ∷ []) × (option_or (repeat_fault rows row) (limit_fault rows row) ≡ None)
+        → IsDeclared (record d { has_sheet_row = true }) texts (rows ++ row ∷ []) × (option_or (repeat_fault rows row) (limit_fault d.builder.limits rows row) ≡ None)
     of true e u eu f ef h2 =
         let m : kind_of row ≡ MATCHED = search (rules, e) in
-        (declared_push d _ texts rows row MATCHED m h refl refl refl h.programmes h.residents h.ranked (option_or-none d.capacity) (λ e. cc e) refl refl h.withdrawn_programmes h.withdrawn_residents refl refl (by_other _ _ rows row MATCHED m refl refl h.by_worker), sheet_row_free rows row MATCHED m refl refl refl refl refl refl refl)
+        (declared_push d _ texts rows row MATCHED m h refl refl refl h.programmes h.residents h.ranked (option_or-none d.capacity) (λ e. cc e) refl refl h.withdrawn_programmes h.withdrawn_residents refl refl (by_other _ _ rows row MATCHED m refl refl h.by_worker), sheet_row_free d.builder.limits rows row MATCHED m refl refl refl refl refl refl refl)
     of false e true eu f ef h2 =
         let u : kind_of row ≡ UNMATCHED = search (rules, eu) in
-        (declared_push d _ texts rows row UNMATCHED u h refl refl refl h.programmes h.residents h.ranked (option_or-none d.capacity) (λ e. cc e) refl refl h.withdrawn_programmes h.withdrawn_residents refl refl (by_other _ _ rows row UNMATCHED u refl refl h.by_worker), sheet_row_free rows row UNMATCHED u refl refl refl refl refl refl refl)
+        (declared_push d _ texts rows row UNMATCHED u h refl refl refl h.programmes h.residents h.ranked (option_or-none d.capacity) (λ e. cc e) refl refl h.withdrawn_programmes h.withdrawn_residents refl refl (by_other _ _ rows row UNMATCHED u refl refl h.by_worker), sheet_row_free d.builder.limits rows row UNMATCHED u refl refl refl refl refl refl refl)
     of false e false eu true ef h2 =
         let f : kind_of row ≡ FILLED = search (rules, ef) in
-        (declared_push d _ texts rows row FILLED f h refl refl refl h.programmes h.residents h.ranked (option_or-none d.capacity) (λ e. cc e) refl refl h.withdrawn_programmes h.withdrawn_residents refl refl (by_other _ _ rows row FILLED f refl refl h.by_worker), sheet_row_free rows row FILLED f refl refl refl refl refl refl refl)
+        (declared_push d _ texts rows row FILLED f h refl refl refl h.programmes h.residents h.ranked (option_or-none d.capacity) (λ e. cc e) refl refl h.withdrawn_programmes h.withdrawn_residents refl refl (by_other _ _ rows row FILLED f refl refl h.by_worker), sheet_row_free d.builder.limits rows row FILLED f refl refl refl refl refl refl refl)
     of false e false eu false ef h2 = absurd (cc h2)

@@ -1,4 +1,6 @@
 -- What stands in place of a row without a fault has none.
+use Rattle.docket.specs.Limits.{most_records}
+use Rattle.match_model.specs.declared.limits.Limits.{Limits}
 use Rattle.std.proofs.Common.{◌≡◌, ◌⊎◌, ◌≤◌, ◌<◌, ◌+◌, ℕ, zero, suc, List, [], ◌∷◌, Bool, true, false, length, take, drop, sym, ◌∙◌, refl, ap, arith, rules, Option, Some, None, is_some, inl, inr}
 use Rattle.std.specs.Prelude.{◌&&◌, ◌==◌, nat_lt, codes}
 use Rattle.std.specs.Option.{option_or}
@@ -15,7 +17,7 @@ use Rattle.docket.specs.Rows.{worded_row}
 use Rattle.docket.specs.Kept.{is_list_row, IsFront, IsClose}
 use Rattle.docket.specs.declared.vocabulary.EventWord.{EventWord}
 use Rattle.docket.specs.declared.vocabulary.EventWord.TheVariants.{Close}
-use Rattle.docket.specs.declared.vocabulary.TheConstants.{PROGRAMME_LIST, RESIDENT_LIST, EVENT, MAX_RECORDS}
+use Rattle.docket.specs.declared.vocabulary.TheConstants.{PROGRAMME_LIST, RESIDENT_LIST, EVENT}
 use Rattle.docket.specs.declared.fault.DocketFault.TheVariants.{FieldCount, BadName, BadEvent}
 use Rattle.docket.proofs.DeclarationFacts.{no_fault}
 use Rattle.docket.proofs.KeptFacts.{cut_kind, cut_owner, list_kind, short_kind, close_kind, field_drop}
@@ -59,25 +61,25 @@ unfolding row_fault
 asked_list n by row (inl k) = rw k refl
 asked_list n by row (inr k) = rw k refl
 
-context_same : (before : List Fields) (row short : Fields) → (kind_of row ≡ PROGRAMME_LIST) ⊎ (kind_of row ≡ RESIDENT_LIST) → kind_of short ≡ kind_of row → field short 1 ≡ field row 1
-    → option_or (repeat_fault before short) (limit_fault before short) ≡ option_or (repeat_fault before row) (limit_fault before row)
+context_same : (lim : Limits) (before : List Fields) (row short : Fields) → (kind_of row ≡ PROGRAMME_LIST) ⊎ (kind_of row ≡ RESIDENT_LIST) → kind_of short ≡ kind_of row → field short 1 ≡ field row 1
+    → option_or (repeat_fault before short) (limit_fault lim before short) ≡ option_or (repeat_fault before row) (limit_fault lim before row)
 unfolding repeat_fault limit_fault
-context_same before row short (inl k) kinds owners = rw (kinds, k, owners) refl
-context_same before row short (inr k) kinds owners = rw (kinds, k, owners) refl
+context_same lim before row short (inl k) kinds owners = rw (kinds, k, owners) refl
+context_same lim before row short (inr k) kinds owners = rw (kinds, k, owners) refl
 
-pub front_sound : (before : List Fields) (row short : Fields) → length before < MAX_RECORDS → IsFront row short → reading_fault before row ≡ None → reading_fault before short ≡ None
-front_sound before row short few h e =
+pub front_sound : (lim : Limits) (before : List Fields) (row short : Fields) → length before < most_records lim → IsFront row short → reading_fault lim before row ≡ None → reading_fault lim before short ≡ None
+front_sound lim before row short few h e =
     let kinds = cut_kind row short h in
-    let parts = both_none (row_fault (next_place before) (workers_in before) row) (option_or (repeat_fault before row) (limit_fault before row)) (sym (reading_fault-few before row few) ∙ e) in
+    let parts = both_none (row_fault (next_place before) (workers_in before) row) (option_or (repeat_fault before row) (limit_fault lim before row)) (sym (reading_fault-few lim before row few) ∙ e) in
     let own = front_own (next_place before) row short h (sym (asked_list (next_place before) (workers_in before) row (list_kind row h.list)) ∙ parts.0) in
-    reading_fault-few before short few
+    reading_fault-few lim before short few
     ∙ no_fault _ _ (asked_list (next_place before) (workers_in before) short (short_kind row short h) ∙ own)
-    (context_same before row short (list_kind row h.list) kinds (cut_owner row short h) ∙ parts.1)
+    (context_same lim before row short (list_kind row h.list) kinds (cut_owner row short h) ∙ parts.1)
 
 -- `U,U` has no fault
-pub blank_sound : (before : List Fields) → length before < MAX_RECORDS → reading_fault before (codes "U" ∷ codes "U" ∷ []) ≡ None
+pub blank_sound : (lim : Limits) (before : List Fields) → length before < most_records lim → reading_fault lim before (codes "U" ∷ codes "U" ∷ []) ≡ None
 unfolding row_fault repeat_fault limit_fault kind_of field field_at is_name
-blank_sound before few = reading_fault-few before (codes "U" ∷ codes "U" ∷ []) few ∙ no_fault _ _ refl refl
+blank_sound lim before few = reading_fault-few lim before (codes "U" ∷ codes "U" ∷ []) few ∙ no_fault _ _ refl refl
 
 -- and `E,close` has none where the event has none
 close_own : (n : ℕ) (by : Option ℕ) (row : Fields) (word : EventWord) → event_row_fault n by row ≡ None → word_in row ≡ word
@@ -122,24 +124,24 @@ close_own n by row word own is = from (event_word (field row 1)) refl
         let there = unless_none (is_some (worker_at by word row)) (BadEvent n) last.1 in
         rw (long, second, width by count, worker by, there) (search rules)
 
-close_context : (before : List Fields) (row short : Fields) → kind_of row ≡ EVENT → kind_of short ≡ EVENT
-    → option_or (repeat_fault before short) (limit_fault before short) ≡ option_or (repeat_fault before row) (limit_fault before row)
+close_context : (lim : Limits) (before : List Fields) (row short : Fields) → kind_of row ≡ EVENT → kind_of short ≡ EVENT
+    → option_or (repeat_fault before short) (limit_fault lim before short) ≡ option_or (repeat_fault before row) (limit_fault lim before row)
 unfolding repeat_fault limit_fault
-close_context before row short k s = rw (k, s) refl
+close_context lim before row short k s = rw (k, s) refl
 
 asked_event : (n : ℕ) (by : Option ℕ) (row : Fields) → kind_of row ≡ EVENT → row_fault n by row ≡ event_row_fault n by row
 unfolding row_fault
 asked_event n by row k = rw k refl
 
-pub close_sound : (before : List Fields) (row short : Fields) → length before < MAX_RECORDS → IsClose row short → reading_fault before row ≡ None → reading_fault before short ≡ None
-close_sound before row short few h e =
+pub close_sound : (lim : Limits) (before : List Fields) (row short : Fields) → length before < most_records lim → IsClose row short → reading_fault lim before row ≡ None → reading_fault lim before short ≡ None
+close_sound lim before row short few h e =
     let n = next_place before in
     let by = workers_in before in
-    let parts = both_none (row_fault n by row) (option_or (repeat_fault before row) (limit_fault before row)) (sym (reading_fault-few before row few) ∙ e) in
+    let parts = both_none (row_fault n by row) (option_or (repeat_fault before row) (limit_fault lim before row)) (sym (reading_fault-few lim before row few) ∙ e) in
     let own = close_own n by row (word_in row) (sym (asked_event n by row h.event) ∙ parts.0) refl in
     let event = close_kind row short h in
-    reading_fault-few before short few
-    ∙ no_fault _ _ (asked_event n by short event ∙ rw h.close own) (close_context before row short h.event event ∙ parts.1)
+    reading_fault-few lim before short few
+    ∙ no_fault _ _ (asked_event n by short event ∙ rw h.close own) (close_context lim before row short h.event event ∙ parts.1)
 
 -- a row with a list that has no fault by itself has an owner
 pub owner_there : (n : ℕ) (by : Option ℕ) (second : Bool) (row : Fields) → own_fault n by second row ≡ None → is_list_row row ≡ true → 2 ≤ length row

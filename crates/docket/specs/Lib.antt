@@ -1,5 +1,6 @@
 pub mod Words
 pub mod Fields
+pub mod Limits
 pub mod Passes
 pub mod Contents
 pub mod FlatRows

@@ -1,11 +1,13 @@
 -- What is read where the lists are wanted as they were written.
 use Rattle.std.specs.Prelude.{◌≡◌, ℕ, ◌<◌, Bool, true, false, Option, Some, None, option_map, unwrap_or, List, [], length, map, drop, find, nat_lt}
 use Rattle.std.specs.List.{list_all}
+use Rattle.match_model.specs.declared.limits.Limits.{Limits}
+use Rattle.match_model.specs.declared.limits.Limits.TheVariants.{Standard}
 use Rattle.match_model.specs.Instance.{list_at}
 use Rattle.match_model.specs.Written.{Written, written_of}
 use Rattle.docket.specs.Fields.{Fields, is_row_of}
 use Rattle.docket.specs.Contents.{Contents, contents_of, draft_of}
-use Rattle.docket.specs.Passes.{rows_in, fault_of}
+use Rattle.docket.specs.Passes.{rows_in, fault_in}
 use Rattle.docket.specs.Read.{AreAll}
 use Rattle.docket.specs.Texts.{programme_name, resident_name}
 use Rattle.docket.specs.declared.vocabulary.TheConstants.{RESIDENT_LIST}
@@ -19,22 +21,27 @@ abbrev pub lists_if : Bool → List Fields → Option Written
 lists_if true rows = Some (written_of (draft_of rows))
 lists_if false rows = None
 
--- the docket of records without a fault, which are all that were read where the bytes are known, and their lists where they are kept
-pub record IsReadAs (bytes : Option (List ℕ)) (keeps : Bool) (docket : Contents) (written : Option Written) : Type 0 where
+-- the docket of records without a fault within these limits, which are all that were read where the bytes are known, and their
+-- lists where they are kept
+pub record IsReadAs (limits : Limits) (bytes : Option (List ℕ)) (keeps : Bool) (docket : Contents) (written : Option Written) : Type 0 where
   pub rows : List Fields
   pub all : AreAll (option_map rows_in bytes) rows
-  pub faultless : fault_of rows ≡ None
+  pub faultless : fault_in limits rows ≡ None
   pub docket_is : docket ≡ contents_of rows
   pub lists_are : written ≡ lists_if keeps rows
 
--- the docket of records without a fault, which are all that were read where the bytes are known, and their lists: of these the
--- instance is made, and each resident's list names the programmes in that resident's R record
-pub record IsReadWithLists (bytes : Option (List ℕ)) (docket : Contents) (written : Written) : Type 0 where
+-- the docket of records without a fault within these limits, which are all that were read where the bytes are known, and their
+-- lists: of these the instance is made, and each resident's list names the programmes in that resident's R record
+pub record IsReadWithin (limits : Limits) (bytes : Option (List ℕ)) (docket : Contents) (written : Written) : Type 0 where
   pub rows : List Fields
   pub all : AreAll (option_map rows_in bytes) rows
-  pub faultless : fault_of rows ≡ None
+  pub faultless : fault_in limits rows ≡ None
   pub docket_is : docket ≡ contents_of rows
   pub written_is : written ≡ written_of (draft_of rows)
   pub names : (r : ℕ) → r < length docket.residents →
       map (programme_name docket) (list_at written.resident_lists r) ≡ fields_after RESIDENT_LIST (resident_name docket r) rows
   pub members : (r : ℕ) → r < length docket.residents → list_all (λ p. nat_lt p (length docket.programmes)) (list_at written.resident_lists r) ≡ true
+
+-- the docket that is read so within the standard limits, and its lists
+abbrev pub IsReadWithLists : Option (List ℕ) → Contents → Written → Type 0
+IsReadWithLists bytes docket written = IsReadWithin Standard bytes docket written

@@ -2,7 +2,8 @@
 ghost use Rattle.std.specs.Prelude.{◌≡◌};
 ghost use Rattle.docket.specs.declared.fault.DocketFault.TheVariants.{Memory, Write};
 
-use match_model::ModelFault;
+use crate::vocabulary::most_records;
+use match_model::{Limits, ModelFault};
 use row_writer::WriteFailed;
 use std::alloc::{AllocError, AllocFailed};
 use std::fmt;
@@ -13,7 +14,7 @@ use thiserror::Error;
 pub enum DocketFault {
     /// The reader answered a fault other than that it was interrupted.
     Read { place: u32 },
-    /// There are more than 2,000,000 records.
+    /// There are more records than the limits allow.
     TooManyRecords { place: u32 },
     /// The first field names no kind of row.
     UnknownKind { place: u32 },
@@ -44,6 +45,14 @@ pub enum DocketFault {
 }
 
 impl DocketFault {
+    /// The fault as a text by these limits.
+    pub fn within(self, limits: Limits) -> FaultWithin {
+        FaultWithin {
+            fault: self,
+            limits,
+        }
+    }
+
     // The record at fault, if there is one.
     fn place(&self) -> Option<u32> {
         match *self {
@@ -64,18 +73,20 @@ impl DocketFault {
         }
     }
 
-    // Writes what is wrong, without its place.
-    fn write_cause<W: fmt::Write>(&self, f: &mut fmt::Formatter<W>) -> fmt::Result {
+    // Writes what is wrong, without its place, by these limits.
+    fn write_cause<W: fmt::Write>(&self, limits: Limits, f: &mut fmt::Formatter<W>) -> fmt::Result {
         f.write_str(match self {
             DocketFault::Read { .. } => "the input could not be read",
-            DocketFault::TooManyRecords { .. } => "more than 2000000 records",
+            DocketFault::TooManyRecords { .. } => {
+                return write!(f, "more than {} records", most_records(limits));
+            }
             DocketFault::UnknownKind { .. } => "unknown kind of row",
             DocketFault::FieldCount { .. } => "wrong number of fields",
             DocketFault::BadName { .. } => "bad name",
             DocketFault::BadQuota { .. } => "bad quota",
             DocketFault::DeclaredTwice { .. } => "declared twice",
             DocketFault::UnknownName { .. } => "unknown name",
-            DocketFault::Model { fault, .. } => return write!(f, "{fault}"),
+            DocketFault::Model { fault, .. } => return write!(f, "{}", fault.within(limits)),
             DocketFault::BadEvent { .. } => "bad journal row",
             DocketFault::BadSheet { .. } => "bad sheet",
             DocketFault::Memory => "out of memory",
@@ -86,12 +97,26 @@ impl DocketFault {
     }
 }
 
+/// By the standard limits.
 impl fmt::Display for DocketFault {
     fn fmt<W: fmt::Write>(&self, f: &mut fmt::Formatter<W>) -> fmt::Result {
-        if let Some(place) = self.place() {
+        write!(f, "{}", self.within(Limits::Standard))
+    }
+}
+
+/// A fault of a docket that was read within these limits. Its text names the number that is passed.
+#[derive(Clone, Copy, Debug)]
+pub struct FaultWithin {
+    fault: DocketFault,
+    limits: Limits,
+}
+
+impl fmt::Display for FaultWithin {
+    fn fmt<W: fmt::Write>(&self, f: &mut fmt::Formatter<W>) -> fmt::Result {
+        if let Some(place) = self.fault.place() {
             write!(f, "record {place}: ")?;
         }
-        self.write_cause(f)
+        self.fault.write_cause(self.limits, f)
     }
 }
 

@@ -3,7 +3,8 @@
 //! A docket is read exactly: what it says is what its rows say, and what is wrong with it is the first of its faults.
 //!
 //! What only tests refuse: a body that only answers `Memory`, or a device's fault (`Read`, `Write`); one that tells an
-//! interrupted read as a fault, or csv's want of memory as a device's; one whose reading goes on past record 2,000,001;
+//! interrupted read as a fault, or csv's want of memory as a device's; one whose reading goes on past the record after the
+//! last that there may be;
 //! other texts of faults. What nothing refuses: an `events_from` that names a later row, with which some walks are longer.
 #![tactic(auto)]
 
@@ -20,10 +21,12 @@ mod words;
 mod write;
 
 pub use crate::docket::{ByWorker, Docket, Journal};
-pub use fault::DocketFault;
-pub use read::{read_docket, read_docket_with_lists};
+pub use fault::{DocketFault, FaultWithin};
+pub use read::{
+    read_docket, read_docket_with_lists, read_docket_with_lists_within, read_docket_within,
+};
 pub use row_writer::{RowWriter, WriteFailed};
-pub use vocabulary::{capacity_of, law_constants};
+pub use vocabulary::{capacity_of, law_constants, most_records};
 pub use write::journal::{push_journal, write_journal};
 pub use write::room_for_rows;
 pub use write::sheet::{push_programme, push_sheet, write_sheet};

@@ -3,6 +3,7 @@ use Rattle.std.specs.Prelude.{ℕ, ◌+◌, ◌*◌, ◌/◌, ◌%◌, nat_eq, i
 use Rattle.exchange_core.specs.declared.event.AnswerKind.{AnswerKind}
 use Rattle.exchange_core.specs.declared.event.AnswerKind.TheVariants.{Hold, Decline, Release}
 use Rattle.exchange_core.specs.declared.resident_row.ResidentSeat.{ResidentSeat}
+use Rattle.exchange_core.specs.declared.resident_row.TheConstants.{RANKS}
 use Rattle.exchange_core.specs.declared.programme_row.ProgrammeSeat.{ProgrammeSeat}
 use Rattle.exchange_core.specs.Mail.{Answered}
 use Rattle.exchange_core.specs.Left.{ResidentLeft, ProgrammeLeft}
@@ -11,11 +12,11 @@ use Rattle.exchange_core.specs.Seats.{due_of}
 
 -- the programme of an offer's note, which has its rank below
 abbrev pub programme_of : ℕ → ℕ
-programme_of note = note / 2048
+programme_of note = note / RANKS
 
 -- the rank of an offer's note
 abbrev pub rank_of : ℕ → ℕ
-rank_of note = note % 2048
+rank_of note = note % RANKS
 
 -- the rank of the offer held, after one more answer to the offer taken
 abbrev pub rank_after : ℕ → ℕ → AnswerKind → ℕ

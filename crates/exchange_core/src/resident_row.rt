@@ -10,7 +10,7 @@ ghost use Rattle.exchange_core.specs.Seats.{called_for, due_of, seat_of_resident
 use crate::counts::recounted;
 use crate::event::{AnswerKind, Capacity};
 use crate::part::{Part, room};
-use match_model::{Instance, ProgrammeNo, ResidentNo};
+use match_model::{Instance, MAX_PROGRAMMES, ProgrammeNo, ResidentNo};
 use std::alloc::{AllocError, Global};
 use std::marker::Model;
 
@@ -160,7 +160,7 @@ impl ResidentRow {
     #[inline(always)]
     pub(crate) fn receive(&mut self, resident: ResidentNo, programme: ProgrammeNo, rank: u32)
         requires member { resident < length self.old }
-        requires number { programme < 2 ^ 20 }
+        requires number { programme < MAX_PROGRAMMES }
         requires room { length (seat_of_resident self.old resident).waiting < (seat_of_resident self.old resident).room }
         ensures { self.new ≡ slice_set self.old resident (sent_offer (seat_of_resident self.old resident) programme) }
     {
@@ -213,14 +213,14 @@ impl ResidentRow {
     }
 }
 
-/// A note is this many times its programme's number, and the rank.
-const RANKS: u32 = 2_048;
+/// A note is this many times its programme's number, and the rank: no list is longer.
+pub(crate) const RANKS: u32 = MAX_PROGRAMMES as u32;
 
 #[inline(always)]
 fn note_of_offer(programme: ProgrammeNo, rank: u32) -> u32
-    requires { programme < 2 ^ 20 }
+    requires { programme < MAX_PROGRAMMES }
     ensures programme { programme_of result ≡ programme }
-    ensures rank { rank_of result ≡ rank % 2048 }
+    ensures rank { rank_of result ≡ rank % RANKS }
 {
     programme.0 * RANKS + rank % RANKS
 }

@@ -1,6 +1,8 @@
 //! Instances and assignments by hand.
 use crate::markets::{TEN, all_residents, made_in_one_order};
-use match_model::{Assignment, Instance, InstanceBuilder, ModelFault, ProgrammeNo, ResidentNo};
+use match_model::{
+    Assignment, Instance, InstanceBuilder, Limits, ModelFault, ProgrammeNo, ResidentNo,
+};
 use std::alloc::Global;
 use std::test::Fail;
 use test_support::events::{A, B, X, Y, Z};
@@ -307,6 +309,33 @@ fn assigns(rt: HostRuntime) -> Result<(), Fail> {
     assert_eq!(rt; assignment.get(Y), Some(ProgrammeNo(7)));
     assert_eq!(rt; assignment.get(X), None);
     Ok(())
+}
+
+#[test]
+fn national_limits_take_more(rt: HostRuntime) -> Result<(), Fail> {
+    let mut builder = InstanceBuilder::within(rt.alloc(), Limits::National);
+    for _ in 0..10_000 {
+        builder.add_programme(1)?;
+    }
+    assert!(rt; builder.add_programme(1) == Err(ModelFault::TooManyProgrammes));
+    assert!(rt; builder.limits() == Limits::National);
+    Ok(())
+}
+
+#[test]
+fn national_faults_name_their_numbers(rt: HostRuntime) {
+    for (fault, text) in [
+        (ModelFault::TooManyProgrammes, "more than 10000 programmes"),
+        (ModelFault::TooManyResidents, "more than 100000 residents"),
+        (
+            ModelFault::TooManyPairs,
+            "more than 2000000 acceptable pairs",
+        ),
+    ] {
+        let told = fault.within(Limits::National);
+        let printed = format!(in rt.alloc(); "{told}").expect(&rt, "a text");
+        assert!(rt; printed.as_str() == text, "{printed}");
+    }
 }
 
 #[test]

@@ -4,7 +4,8 @@ use Rattle.std.proofs.lemmas.List.{map_push, map-set, length_push, length-set}
 use Rattle.std.proofs.lemmas.List.Elements.{All-push, All-set, All-weaker, All-same}
 use Rattle.std.specs.List.{list_all}
 use Rattle.match_model.specs.Draft.{Draft, IsDraft, AreLists, given_lists, has_no_repeats, items_fault, with_programme, with_resident, with_programme_list, with_resident_list}
-use Rattle.match_model.specs.declared.limits.TheConstants.{MAX_PROGRAMMES, MAX_RESIDENTS, MAX_QUOTA}
+use Rattle.match_model.specs.Limits.{most_programmes, most_residents}
+use Rattle.match_model.specs.declared.limits.TheConstants.{MAX_QUOTA}
 use Rattle.match_model.specs.declared.fault.ModelFault.TheVariants.{NoSuchMember, ListedTwice}
 use Rattle.std.specs.Prelude.{if◌then◌else◌, not}
 use Rattle.std.proofs.lemmas.Bool.{and_parts, and_from, ltb-true, lt-ltb}
@@ -53,7 +54,7 @@ AreLists-set lists n i items b d a =
     }
 
 -- what a builder keeps, with one programme more
-pub IsDraft-with_programme : (d : Draft) (q : ℕ) → IsDraft d → length d.quotas < MAX_PROGRAMMES → q ≤ MAX_QUOTA → IsDraft (with_programme d q)
+pub IsDraft-with_programme : (d : Draft) (q : ℕ) → IsDraft d → length d.quotas < most_programmes d.limits → q ≤ MAX_QUOTA → IsDraft (with_programme d q)
 IsDraft-with_programme d q h room small = record {
   one_list_each = length_push d.programme_lists None ∙ ap (λ n. n + 1) h.one_list_each ∙ sym (length_push d.quotas q);
   programmes_within = omega (arith, length_push d.quotas q);
@@ -66,7 +67,7 @@ IsDraft-with_programme d q h room small = record {
 }
 
 -- what a builder keeps, with one resident more
-pub IsDraft-with_resident : (d : Draft) → IsDraft d → length d.resident_lists < MAX_RESIDENTS → IsDraft (with_resident d)
+pub IsDraft-with_resident : (d : Draft) → IsDraft d → length d.resident_lists < most_residents d.limits → IsDraft (with_resident d)
 IsDraft-with_resident d h room = record {
   one_list_each = h.one_list_each;
   programmes_within = h.programmes_within;

@@ -1,5 +1,5 @@
 -- Lemmas on lists that stand one after another among the items of all.
-use Rattle.std.proofs.Common.{◌≡◌, ℕ, ◌+◌, ◌-◌, ◌≤◌, List, [], ◌∷◌, ◌++◌, length, map, set, take, drop, Option, Some, None, refl, ap, ◌∙◌, arith, length-append}
+use Rattle.std.proofs.Common.{◌≡◌, ℕ, ◌-◌, ◌≤◌, List, [], ◌∷◌, ◌++◌, length, map, set, take, drop, Option, Some, None, refl, ap, ◌∙◌, arith, length-append}
 use Rattle.std.specs.List.{All, slice_range}
 use Rattle.std.proofs.lemmas.List.{map-set, drop_at, drop-append-le, take-append-le, take_all, length-drop}
 use Rattle.std.proofs.lemmas.List.Elements.{All-head, All-tail}

@@ -8,7 +8,9 @@ use Rattle.match_model.specs.Ranking.{is_listed, IsListed}
 use Rattle.match_model.specs.Instance.{IsWellFormed, is_withdrawn, list_at, list_of_programme, list_of_resident, pair_count}
 use Rattle.match_model.specs.Draft.{Draft, IsDraft, given_lists, programme_lists_left, resident_lists_left, instance_of, mutual_lists, has_no_repeats}
 use Rattle.match_model.specs.RankTable.{AreListedBack}
-use Rattle.match_model.specs.declared.limits.TheConstants.{MAX_RESIDENTS, MAX_QUOTA, MAX_PAIRS}
+use Rattle.match_model.specs.Limits.{IsWithin, most_pairs}
+use Rattle.match_model.specs.declared.limits.TheConstants.{MAX_QUOTA, MAX_PAIRS}
+use Rattle.match_model.proofs.LimitFacts.{programmes_bounded, residents_bounded}
 use Rattle.match_model.proofs.Rankings.{is_listed-cons, is_listed_at, is_listed-filter, has_no_repeats-filter, HasNoRepeats-from_test, length-le_below, is_listed-true, is_listed_from}
 use Rattle.match_model.proofs.Mutual.{length-mutual_lists, get_or-mutual_lists}
 use Rattle.match_model.proofs.Remaining.{length-remaining_lists, remaining_withdrawn, remaining_all}
@@ -101,14 +103,14 @@ resident_list_short d r h =
     let below = remaining_all (λ list. list_all (λ x. ltb x (length d.quotas)) list ≡ true) (given_lists d.resident_lists) d.residents_withdrawn refl h.resident_lists.items_below in
     let one = length_at (resident_lists_left d) (programme_lists_left d) r (length d.quotas) (residents_distinct d h) below in
     let most = h.programmes_within in
-    omega arith
+    omega (arith, most, programmes_bounded d.limits)
 
 pub resident_lists_short : (d : Draft) → IsDraft d → All (λ (list : List ℕ). length list ≤ MAX_PAIRS) (instance_of d).resident_lists
 resident_lists_short d h = λ r other within.
     subst (λ (list : List ℕ). length list ≤ MAX_PAIRS) (get_or_default (instance_of d).resident_lists r [] other within) (resident_list_short d r h)
 
 -- as many lists as there are members
-as_many_residents : (d : Draft) → length (instance_of d).resident_lists ≡ length d.resident_lists
+pub as_many_residents : (d : Draft) → length (instance_of d).resident_lists ≡ length d.resident_lists
 as_many_residents d =
     length-mutual_lists (resident_lists_left d) (programme_lists_left d) ∙ length-remaining_lists (given_lists d.resident_lists) d.residents_withdrawn ∙ length-map d.resident_lists (λ list. unwrap_or list [])
 
@@ -131,8 +133,8 @@ IsWellFormed-instance_of d pairs h few count = record {
     programmes_rank_strictly = λ p. HasNoRepeats-from_test _ (no_repeats_at (programme_lists_left d) (resident_lists_left d) p (programmes_distinct d h));
     residents_rank_strictly = λ r. HasNoRepeats-from_test _ (no_repeats_at (resident_lists_left d) (programme_lists_left d) r (residents_distinct d h));
     both_rank = λ p r. (turned (programme_lists_left d) (resident_lists_left d) p r, turned (resident_lists_left d) (programme_lists_left d) r p);
-    programmes_within = h.programmes_within;
-    residents_within = subst (λ n. n ≤ MAX_RESIDENTS) (sym (as_many_residents d)) h.residents_within;
+    programmes_within = omega (arith, h.programmes_within, programmes_bounded d.limits);
+    residents_within = omega (arith, as_many_residents d, h.residents_within, residents_bounded d.limits);
     quotas_within = λ p. ⊎_elim (λ (k : p < length d.quotas). h.quotas_within p 0 k) (λ (k : length d.quotas ≤ p). subst (λ n. n ≤ MAX_QUOTA) (sym (get_or_past d.quotas p 0 k)) (omega arith)) (cases_lt p (length d.quotas));
     pairs_within = few;
     one_flag_each_programme = h.one_flag_each_programme;
@@ -145,4 +147,12 @@ IsWellFormed-instance_of d pairs h few count = record {
       (λ (k : p < length (instance_of d).programme_lists). let one = get_or-le-sum_by (λ (xs : List ℕ). length xs) (instance_of d).programme_lists p [] k in omega arith)
       (λ (k : length (instance_of d).programme_lists ≤ p). subst (λ (xs : List ℕ). length xs ≤ MAX_PAIRS) (sym (get_or_past (instance_of d).programme_lists p [] k)) (omega arith)) (cases_lt p (length (instance_of d).programme_lists));
   resident_lists_within = λ r. resident_list_short d r h;
+}
+
+-- the instance of a draft keeps within the draft's limits
+pub IsWithin-instance_of : (d : Draft) → IsDraft d → pair_count (instance_of d) ≤ most_pairs d.limits → IsWithin d.limits (instance_of d)
+IsWithin-instance_of d h few = record {
+  few_programmes = h.programmes_within;
+  few_residents = omega (arith, as_many_residents d, h.residents_within);
+  few_pairs = few;
 }

@@ -1,6 +1,7 @@
 pub mod Rankings
 pub mod RankTables
 pub mod OfferRanks
+pub mod LimitFacts
 pub mod Drafts
 pub mod Remaining
 pub mod Mutual

@@ -1,5 +1,5 @@
 -- Lemmas on the mutual parts of lists.
-use Rattle.std.proofs.Common.{◌≡◌, ℕ, ◌<◌, Bool, true, false, ltb, List, [], ◌∷◌, length, get_or, map, Option, None, unwrap_or, refl, sym, ap, ◌∙◌, arith, ◌&&◌, suc, zero, zero-add}
+use Rattle.std.proofs.Common.{◌≡◌, ℕ, ◌<◌, Bool, true, false, ltb, List, [], ◌∷◌, length, get_or, Option, None, unwrap_or, refl, ap, ◌∙◌, arith, ◌&&◌, suc, zero, zero-add}
 use Rattle.std.specs.List.{list_all, All, filter, enumerate_from}
 use Rattle.std.proofs.lemmas.List.{length-map, get_or-map}
 use Rattle.std.proofs.lemmas.List.FromFn.{length-enumerate_from, get_or-enumerate_from}

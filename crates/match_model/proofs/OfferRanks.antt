@@ -1,7 +1,7 @@
 -- Lemmas on the ranks of offers.
-use Rattle.std.proofs.Common.{◌≡◌, ℕ, ◌+◌, ◌<◌, List, [], ◌∷◌, ◌++◌, length, get_or, take, map, Some, true, refl, sym, ap, ◌∙◌, arith, append_assoc}
+use Rattle.std.proofs.Common.{◌≡◌, ℕ, ◌+◌, ◌<◌, List, [], ◌∷◌, ◌++◌, length, get_or, take, Some, sym, ap, ◌∙◌, arith, append_assoc}
 use Rattle.std.proofs.lemmas.List.{map_more, get_or-map, get_or_default}
-use Rattle.match_model.specs.Ranking.{place, is_listed}
+use Rattle.match_model.specs.Ranking.{place}
 use Rattle.match_model.specs.Instance.{Instance, IsInstance, list_at, list_of_programme, list_of_resident, rank}
 use Rattle.match_model.specs.RankTable.{AreRankTables, IsRankTable, AreListedBack, AreOfferRanks, ranks_of}
 use Rattle.match_model.specs.Rows.{RowLists}

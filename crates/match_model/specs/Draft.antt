@@ -3,15 +3,18 @@ use Rattle.std.specs.Prelude.{◌≡◌, ℕ, ◌<◌, ◌≤◌, nat_lt, nat_le
 use Rattle.std.specs.List.{filter, list_all, All, enumerate_from, slice_range}
 use Rattle.std.specs.Option.{option_or}
 use Rattle.match_model.specs.Ranking.{is_listed}
+use Rattle.match_model.specs.Limits.{most_programmes, most_residents, most_pairs}
+use Rattle.match_model.specs.declared.limits.Limits.{Limits}
 use Rattle.match_model.specs.Instance.{Instance, list_at, is_withdrawn, pair_count}
-use Rattle.match_model.specs.declared.limits.TheConstants.{MAX_PROGRAMMES, MAX_RESIDENTS, MAX_QUOTA, MAX_PAIRS}
+use Rattle.match_model.specs.declared.limits.TheConstants.{MAX_QUOTA}
 use Rattle.match_model.specs.declared.fault.ModelFault.{ModelFault}
 use Rattle.match_model.specs.declared.fault.ModelFault.TheVariants.{TooManyProgrammes, TooManyResidents, QuotaTooLarge, NoSuchMember, ListGivenTwice, ListedTwice, TooManyPairs, Memory, WithdrawnTwice}
 use Rattle.match_model.specs.Fault.{Answers}
 
--- what a builder was handed: each programme's quota, and for each member its list, if one was given, and whether it is
+-- what a builder was handed: its limits, each programme's quota, and for each member its list, if one was given, and whether it is
 -- withdrawn
 pub record Draft : Type 0 where
+  pub limits : Limits
   pub quotas : List ℕ
   pub programme_lists : List (Option (List ℕ))
   pub resident_lists : List (Option (List ℕ))
@@ -86,8 +89,9 @@ IsSpan n None = Unit {0}
 IsSpan n (Some span) = (span.0 ≤ span.1) × (span.1 ≤ n)
 
 -- the draft of these parts
-abbrev pub draft_with : List ℕ → List (Option (List ℕ)) → List (Option (List ℕ)) → List Bool → List Bool → Draft
-draft_with quotas programmes residents programmes_gone residents_gone = record {
+abbrev pub draft_with : Limits → List ℕ → List (Option (List ℕ)) → List (Option (List ℕ)) → List Bool → List Bool → Draft
+draft_with limits quotas programmes residents programmes_gone residents_gone = record {
+  limits = limits;
   quotas = quotas;
   programme_lists = programmes;
   resident_lists = residents;
@@ -111,12 +115,12 @@ has_no_repeats (x ∷ xs) = not (is_listed xs x) && has_no_repeats xs
 -- the first fault of an added programme
 abbrev pub programme_fault : Draft → ℕ → Option ModelFault
 programme_fault d q =
-    if nat_le MAX_PROGRAMMES (length d.quotas) then Some TooManyProgrammes
+    if nat_le (most_programmes d.limits) (length d.quotas) then Some TooManyProgrammes
     else (if nat_lt MAX_QUOTA q then Some QuotaTooLarge else None)
 
 -- the first fault of an added resident
 abbrev pub resident_fault : Draft → Option ModelFault
-resident_fault d = if nat_le MAX_RESIDENTS (length d.resident_lists) then Some TooManyResidents else None
+resident_fault d = if nat_le (most_residents d.limits) (length d.resident_lists) then Some TooManyResidents else None
 
 -- the fault of a list's owner: not added, or the list was given before
 abbrev pub owner_fault : List (Option (List ℕ)) → ℕ → Option ModelFault
@@ -155,12 +159,12 @@ pub record AreLists (lists : List (Option (List ℕ))) (n : ℕ) : Type 0 where
   pub items_below : All (λ list. list_all (λ x. nat_lt x n) list ≡ true) (given_lists lists)
   pub no_repeats : All (λ list. has_no_repeats list ≡ true) (given_lists lists)
 
--- what a builder keeps: for each member a flag, and a list of other members without repeats, or none; all within the
+-- what a builder keeps: for each member a flag, and a list of other members without repeats, or none; all within its
 -- limits
 pub record IsDraft (d : Draft) : Type 0 where
   pub one_list_each : length d.programme_lists ≡ length d.quotas
-  pub programmes_within : length d.quotas ≤ MAX_PROGRAMMES
-  pub residents_within : length d.resident_lists ≤ MAX_RESIDENTS
+  pub programmes_within : length d.quotas ≤ most_programmes d.limits
+  pub residents_within : length d.resident_lists ≤ most_residents d.limits
   pub quotas_within : All (λ q. q ≤ MAX_QUOTA) d.quotas
   pub programme_lists : AreLists d.programme_lists (length d.resident_lists)
   pub resident_lists : AreLists d.resident_lists (length d.quotas)
@@ -169,7 +173,7 @@ pub record IsDraft (d : Draft) : Type 0 where
 
 -- why the draft is not finished: want of memory, or more acceptable pairs than there may be
 abbrev pub IsFinishFault : Draft → ModelFault → Type 0
-IsFinishFault d fault = (fault ≡ Memory) ⊎ ((fault ≡ TooManyPairs) × (MAX_PAIRS < pair_count (instance_of d)))
+IsFinishFault d fault = (fault ≡ Memory) ⊎ ((fault ≡ TooManyPairs) × (most_pairs d.limits < pair_count (instance_of d)))
 
 -- whether so many items are more than the most, if there is a most
 abbrev pub are_over : Option ℕ → ℕ → Bool

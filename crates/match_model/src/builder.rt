@@ -1,11 +1,11 @@
 //! The builder of an instance: quotas, lists and withdrawals as they are handed in.
 ghost use Rattle.std.specs.Prelude.{◌≡◌, ℕ, ◌⊎◌, ◌<◌, ◌≤◌, Option, List, [], length, IfOk, IfErr, OnOk, OnErr, IfSome, Err};
-ghost use Rattle.match_model.specs.Instance.{IsInstance, pair_count};
+ghost use Rattle.match_model.specs.Instance.{IsInstance};
 
 use crate::fault::ModelFault;
 use crate::given::GivenLists;
 use crate::instance::Instance;
-use crate::limits::{MAX_PAIRS, MAX_PROGRAMMES, MAX_QUOTA, MAX_RESIDENTS};
+use crate::limits::{Limits, MAX_QUOTA};
 use crate::member::{ProgrammeNo, ResidentNo};
 use crate::offer_ranks::offer_ranks;
 use crate::written::WrittenLists;
@@ -17,6 +17,7 @@ use std::marker::Model;
 #[derive(Debug, Drop)]
 pub struct InstanceBuilder {
     alloc: Global,
+    limits: Limits,
     quotas: Vec<u32>,
     programme_lists: GivenLists,
     resident_lists: GivenLists,
@@ -30,10 +31,10 @@ impl Model for InstanceBuilder {
 
     ghost Value = { Draft };
 
-    ghost view = { λ b. draft_with b.quotas.items b.programme_lists b.resident_lists b.programmes_withdrawn.items b.residents_withdrawn.items };
+    ghost view = { λ b. draft_with b.limits b.quotas.items b.programme_lists b.resident_lists b.programmes_withdrawn.items b.residents_withdrawn.items };
 
     ghost invariant = { λ b. IsDraft
-        (draft_with b.quotas.items b.programme_lists b.resident_lists b.programmes_withdrawn.items b.residents_withdrawn.items) };
+        (draft_with b.limits b.quotas.items b.programme_lists b.resident_lists b.programmes_withdrawn.items b.residents_withdrawn.items) };
 }
 
 /// Why `finish` refused, with the builder as it was.
@@ -49,13 +50,23 @@ impl InstanceBuilder {
     ghost use Rattle.match_model.specs.Fault.{AnswersExactly};
     ghost use Rattle.match_model.specs.Draft.{Draft, AnswersFirst, AnswersOrWantsMemory, programme_fault, resident_fault, list_fault, owner_fault, withdrawal_fault, with_programme, with_resident, with_programme_list, with_resident_list, with_programme_withdrawn, with_resident_withdrawn, instance_of, IsFinishFault};
     ghost use Rattle.match_model.specs.Written.{written_of};
+    ghost use Rattle.match_model.specs.Limits.{IsWithin};
+    ghost use Rattle.match_model.specs.declared.limits.Limits.TheVariants.{Standard};
 
-    /// A builder without members. The allocator serves all later growths.
+    /// A builder without members, within the standard limits. The allocator serves all later growths.
     pub fn new(alloc: Global) -> InstanceBuilder
-        ensures { result ≡ record { quotas = []; programme_lists = []; resident_lists = []; programmes_withdrawn = []; residents_withdrawn = [] } }
+        ensures { result ≡ record { limits = Standard; quotas = []; programme_lists = []; resident_lists = []; programmes_withdrawn = []; residents_withdrawn = [] } }
+    {
+        InstanceBuilder::within(alloc, Limits::Standard)
+    }
+
+    /// A builder without members, within these limits.
+    pub fn within(alloc: Global, limits: Limits) -> InstanceBuilder
+        ensures { result ≡ record { limits = limits; quotas = []; programme_lists = []; resident_lists = []; programmes_withdrawn = []; residents_withdrawn = [] } }
     {
         InstanceBuilder {
             alloc,
+            limits,
             quotas: Vec::new(alloc),
             programme_lists: GivenLists::new(alloc),
             resident_lists: GivenLists::new(alloc),
@@ -63,6 +74,13 @@ impl InstanceBuilder {
             residents_withdrawn: Vec::new(alloc),
             places: Vec::new(alloc),
         }
+    }
+
+    /// The limits within which it keeps.
+    pub fn limits(&self) -> Limits
+        ensures { result ≡ self.now.limits }
+    {
+        self.limits
     }
 
     /// Adds a programme with a quota, and gives its number. Refused as `TooManyProgrammes`, `QuotaTooLarge` or
@@ -74,7 +92,7 @@ impl InstanceBuilder {
         ensures err { OnErr result (self.new ≡ self.old) }
     {
         let number = self.quotas.len();
-        if number >= MAX_PROGRAMMES {
+        if number >= self.limits.programmes() {
             return Err(ModelFault::TooManyProgrammes);
         }
         if quota > MAX_QUOTA {
@@ -101,7 +119,7 @@ impl InstanceBuilder {
         ensures err { OnErr result (self.new ≡ self.old) }
     {
         let number = self.resident_lists.len();
-        if number >= MAX_RESIDENTS {
+        if number >= self.limits.residents() {
             return Err(ModelFault::TooManyResidents);
         }
         self.residents_withdrawn.push(false)?;
@@ -180,7 +198,7 @@ impl InstanceBuilder {
     /// Refused as `TooManyPairs` or `Memory`, and the builder comes back as it was.
     pub fn finish(self) -> Result<Instance, FinishRefused>
         ensures made { IfOk result (λ inst. inst ≡ instance_of self) }
-        ensures within { OnOk result (pair_count (instance_of self) ≤ MAX_PAIRS) }
+        ensures within { OnOk result (IsWithin self.limits (instance_of self)) }
         ensures handed_back { IfErr result (λ refused. refused.builder ≡ self) }
         ensures cause { IfErr result (λ refused. IsFinishFault self refused.fault) }
     {
@@ -195,7 +213,7 @@ impl InstanceBuilder {
     pub fn finish_with_lists(self) -> Result<(Instance, WrittenLists), FinishRefused>
         ensures made { IfOk result (λ made. made.0 ≡ instance_of self) }
         ensures lists { IfOk result (λ made. made.1 ≡ written_of self) }
-        ensures within { OnOk result (pair_count (instance_of self) ≤ MAX_PAIRS) }
+        ensures within { OnOk result (IsWithin self.limits (instance_of self)) }
         ensures handed_back { IfErr result (λ refused. refused.builder ≡ self) }
         ensures cause { IfErr result (λ refused. IsFinishFault self refused.fault) }
     {
@@ -214,6 +232,7 @@ impl InstanceBuilder {
     {
         let InstanceBuilder {
             alloc: _,
+            limits: _,
             quotas: _,
             programme_lists,
             resident_lists,
@@ -226,11 +245,12 @@ impl InstanceBuilder {
 
     fn instance(&self) -> Result<Instance, ModelFault>
         ensures made { IfOk result (λ inst. inst ≡ instance_of self.now) }
-        ensures within { OnOk result (pair_count (instance_of self.now) ≤ MAX_PAIRS) }
+        ensures within { OnOk result (IsWithin self.now.limits (instance_of self.now)) }
         ensures cause { IfErr result (IsFinishFault self.now) }
     {
         let (programmes, programme_ranks) = mutual_parts::mutual(
             self.alloc,
+            self.limits.pairs(),
             &self.programme_lists,
             &self.programmes_withdrawn,
             &self.resident_lists,

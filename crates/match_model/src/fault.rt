@@ -2,6 +2,7 @@
 ghost use Rattle.std.specs.Prelude.{◌≡◌};
 ghost use Rattle.match_model.specs.declared.fault.ModelFault.TheVariants.{Memory};
 
+use crate::limits::{Limits, MAX_QUOTA};
 use std::alloc::{AllocError, AllocFailed};
 use std::error::Error;
 use std::fmt;
@@ -9,11 +10,11 @@ use std::fmt;
 /// Why a builder or an assignment refused. Each call tries its causes in the order of its own documentation.
 #[derive(Clone, Copy, Debug, PartialEq, Eq, Hash)]
 pub enum ModelFault {
-    /// There are 2,000 programmes already.
+    /// There are as many programmes already as the builder's limits allow.
     TooManyProgrammes,
-    /// There are 20,000 residents already.
+    /// There are as many residents already as the builder's limits allow.
     TooManyResidents,
-    /// The quota is over 10,000.
+    /// The quota is over `MAX_QUOTA`.
     QuotaTooLarge,
     /// The owner of a list, or somebody on it, was not added.
     NoSuchMember,
@@ -21,7 +22,7 @@ pub enum ModelFault {
     ListGivenTwice,
     /// Somebody stands on the list twice.
     ListedTwice,
-    /// There are more than 200,000 acceptable pairs.
+    /// There are more acceptable pairs than the builder's limits allow.
     TooManyPairs,
     /// A growth was refused.
     Memory,
@@ -29,23 +30,54 @@ pub enum ModelFault {
     WithdrawnTwice,
 }
 
+impl ModelFault {
+    /// The fault as a text by these limits.
+    pub fn within(self, limits: Limits) -> FaultWithin {
+        FaultWithin {
+            fault: self,
+            limits,
+        }
+    }
+}
+
+/// By the standard limits.
 impl fmt::Display for ModelFault {
     fn fmt<W: fmt::Write>(&self, f: &mut fmt::Formatter<W>) -> fmt::Result {
-        f.write_str(match self {
-            ModelFault::TooManyProgrammes => "more than 2000 programmes",
-            ModelFault::TooManyResidents => "more than 20000 residents",
-            ModelFault::QuotaTooLarge => "quota over 10000",
+        self.within(Limits::Standard).fmt(f)
+    }
+}
+
+impl Error for ModelFault {}
+
+/// A fault of a builder within these limits. Its text names the number that is passed.
+#[derive(Clone, Copy, Debug)]
+pub struct FaultWithin {
+    fault: ModelFault,
+    limits: Limits,
+}
+
+impl fmt::Display for FaultWithin {
+    fn fmt<W: fmt::Write>(&self, f: &mut fmt::Formatter<W>) -> fmt::Result {
+        let limits = self.limits;
+        f.write_str(match self.fault {
+            ModelFault::TooManyProgrammes => {
+                return write!(f, "more than {} programmes", limits.programmes());
+            }
+            ModelFault::TooManyResidents => {
+                return write!(f, "more than {} residents", limits.residents());
+            }
+            ModelFault::QuotaTooLarge => return write!(f, "quota over {MAX_QUOTA}"),
             ModelFault::NoSuchMember => "no such member",
             ModelFault::ListGivenTwice => "a list was given twice",
             ModelFault::ListedTwice => "a name is listed twice",
-            ModelFault::TooManyPairs => "more than 200000 acceptable pairs",
+            ModelFault::TooManyPairs => {
+                return write!(f, "more than {} acceptable pairs", limits.pairs());
+            }
             ModelFault::Memory => "out of memory",
             ModelFault::WithdrawnTwice => "a member is withdrawn twice",
         })
     }
 }
-
-impl Error for ModelFault {}
 
 impl From<AllocError> for ModelFault {
     ghost from_gives = { λ _ fault. fault ≡ Memory };

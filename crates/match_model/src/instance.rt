@@ -56,7 +56,7 @@ impl Drop for Instance {
 }
 
 impl Instance {
-    /// How many programmes there are, at most 2,000.
+    /// How many programmes there are, at most `MAX_PROGRAMMES`.
     #[inline(always)]
     pub fn programmes(&self) -> u32
         ensures count { result ≡ length self.now.quotas }
@@ -65,7 +65,7 @@ impl Instance {
         self.quotas.len() as u32
     }
 
-    /// How many residents there are, at most 20,000.
+    /// How many residents there are, at most `MAX_RESIDENTS`.
     #[inline(always)]
     pub fn residents(&self) -> u32
         ensures count { result ≡ length self.now.resident_lists }
@@ -74,7 +74,7 @@ impl Instance {
         self.resident_lists.len() as u32
     }
 
-    /// How many pairs are acceptable, at most 200,000.
+    /// How many pairs are acceptable, at most `MAX_PAIRS`.
     pub fn pairs(&self) -> u32
         ensures count { result ≡ pair_count self.now }
         ensures instance { IsInstance self.now }

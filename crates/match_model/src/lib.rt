@@ -26,9 +26,12 @@ mod written;
 
 pub use assignment::Assignment;
 pub use builder::{FinishRefused, InstanceBuilder};
-pub use fault::ModelFault;
+pub use fault::{FaultWithin, ModelFault};
 pub use instance::Instance;
-pub use limits::{MAX_PAIRS, MAX_PROGRAMMES, MAX_QUOTA, MAX_RESIDENTS, law_limits};
+pub use limits::{
+    Limits, MAX_PAIRS, MAX_PROGRAMMES, MAX_QUOTA, MAX_RESIDENTS, NATIONAL_PROGRAMMES,
+    NATIONAL_RESIDENTS, law_limits,
+};
 pub use member::{ProgrammeNo, ResidentNo};
 pub use withdrawals::law_withdrawals;
 pub use written::WrittenLists;

@@ -1,22 +1,73 @@
 //! The limits of an instance.
-ghost use Rattle.std.specs.Prelude.{◌≡◌};
+ghost use Rattle.std.specs.Prelude.{◌≡◌, ◌≤◌};
+ghost use Rattle.match_model.specs.Limits.{most_programmes, most_residents, most_pairs};
 
-/// The largest number of programmes of an instance.
-pub const MAX_PROGRAMMES: usize = 2_000;
+/// The largest number of programmes of any instance, by the widths of the numbers.
+pub const MAX_PROGRAMMES: usize = 65_536;
 
-/// The largest number of residents of an instance.
-pub const MAX_RESIDENTS: usize = 20_000;
+/// The largest number of residents of any instance, by the widths of the numbers.
+pub const MAX_RESIDENTS: usize = 1_000_000;
 
-/// The largest number of acceptable pairs of an instance.
-pub const MAX_PAIRS: usize = 200_000;
+/// The largest number of acceptable pairs of any instance, by the widths of the numbers.
+pub const MAX_PAIRS: usize = 20_000_000;
 
 /// The largest quota of a programme.
 pub const MAX_QUOTA: u32 = 10_000;
 
+/// The largest number of programmes by the national limits.
+pub const NATIONAL_PROGRAMMES: usize = 10_000;
+
+/// The largest number of residents by the national limits.
+pub const NATIONAL_RESIDENTS: usize = 100_000;
+
+/// The limits within which a builder keeps.
+#[derive(Clone, Copy, Debug, PartialEq, Eq)]
+pub enum Limits {
+    /// 2,000 programmes, 20,000 residents and 200,000 acceptable pairs
+    Standard,
+    /// 10,000 programmes, 100,000 residents and 2,000,000 acceptable pairs
+    National,
+}
+
+impl Limits {
+    /// The largest number of programmes.
+    pub fn programmes(self) -> usize
+        ensures number { result ≡ most_programmes self }
+        ensures within { result ≤ MAX_PROGRAMMES }
+    {
+        match self {
+            Limits::Standard => 2_000,
+            Limits::National => NATIONAL_PROGRAMMES,
+        }
+    }
+
+    /// The largest number of residents.
+    pub fn residents(self) -> usize
+        ensures number { result ≡ most_residents self }
+        ensures within { result ≤ MAX_RESIDENTS }
+    {
+        match self {
+            Limits::Standard => 20_000,
+            Limits::National => NATIONAL_RESIDENTS,
+        }
+    }
+
+    /// The largest number of acceptable pairs.
+    pub fn pairs(self) -> usize
+        ensures number { result ≡ most_pairs self }
+        ensures within { result ≤ MAX_PAIRS }
+    {
+        match self {
+            Limits::Standard => 200_000,
+            Limits::National => 2_000_000,
+        }
+    }
+}
+
 /// Each constant of this module is the number that definitions say in its place.
 pub fn law_limits()
-    ensures programmes { MAX_PROGRAMMES ≡ 2000 }
-    ensures residents { MAX_RESIDENTS ≡ 20000 }
-    ensures pairs { MAX_PAIRS ≡ 200000 }
+    ensures programmes { MAX_PROGRAMMES ≡ 65536 }
+    ensures residents { MAX_RESIDENTS ≡ 1000000 }
+    ensures pairs { MAX_PAIRS ≡ 20000000 }
     ensures quota { MAX_QUOTA ≡ 10000 }
 {}

@@ -1,5 +1,5 @@
 //! The mutual parts of lists, by rows that say who lists each owner.
-ghost use Rattle.std.specs.Prelude.{◌≡◌, ℕ, ◌<◌, ◌^◌, nat_lt, List, [], length, map, true, false, ◌++◌, Some, OnOk, IfOk, IfErr};
+ghost use Rattle.std.specs.Prelude.{◌≡◌, ℕ, ◌<◌, ◌≤◌, ◌^◌, nat_lt, List, [], length, map, true, false, ◌++◌, Some, OnOk, IfOk, IfErr};
 ghost use Rattle.std.specs.List.{All, list_all, filter, sum_by};
 ghost use Rattle.match_model.specs.Ranking.{is_listed};
 ghost use Rattle.match_model.specs.Draft.{lists_left, mutual_left, mutual_lists, has_no_repeats, AreLists, are_over, IsGatherFault};
@@ -10,7 +10,6 @@ ghost use Rattle.match_model.specs.declared.fault.ModelFault.TheVariants.{Memory
 
 use crate::fault::ModelFault;
 use crate::given::GivenLists;
-use crate::limits::MAX_PAIRS;
 use crate::owners::{owners, owners_of_rows};
 use crate::places::{note_places, stands_in};
 use crate::rank_table::rank_tables;
@@ -48,6 +47,16 @@ fn is_over(most: Option<usize>, count: usize) -> bool
     }
 }
 
+/// How many of so many items are made room for: no more than the most, if there is a most.
+fn room_for(most: Option<usize>, count: usize) -> usize
+    ensures { result ≤ count }
+{
+    match most {
+        Some(most) => count.min(most),
+        None => count,
+    }
+}
+
 /// The items that each list keeps by these rows. Refused as soon as they are more than the most.
 fn all_kept(
     alloc: Global,
@@ -65,7 +74,7 @@ fn all_kept(
     ensures within { OnOk result (are_over most (sum_by length (kept_lists (lists_left lists.now withdrawn.now) rows.now.rows)) ≡ false) }
     ensures cause { IfErr result (IsGatherFault most (sum_by length (kept_lists (lists_left lists.now withdrawn.now) rows.now.rows))) }
 {
-    let room = rows.item_count().min(MAX_PAIRS);
+    let room = room_for(most, rows.item_count());
     let mut kept = Rows::with_capacity(alloc, lists.len(), room)?;
     for owner in 0..lists.len() {
         let row = rows.row(owner);
@@ -105,9 +114,10 @@ fn kept_with_ranks(
 }
 
 /// Each member's list in its order, with only those who list that member, and the table of their ranks. Refused where
-/// they have more items than there may be pairs.
+/// they have more items than these.
 pub(crate) fn mutual(
     alloc: Global,
+    most: usize,
     mine: &GivenLists,
     mine_withdrawn: &[bool],
     theirs: &GivenLists,
@@ -119,19 +129,12 @@ pub(crate) fn mutual(
     requires lists { AreLists mine.now (length theirs.now) }
     requires others { AreLists theirs.now (length mine.now) }
     ensures lists { IfOk result (λ made. made.0 ≡ record { rows = mutual_left mine.now mine_withdrawn.now theirs.now theirs_withdrawn.now; begun = [] }) }
-    ensures within { OnOk result (are_over (Some MAX_PAIRS) (sum_by length (mutual_left mine.now mine_withdrawn.now theirs.now theirs_withdrawn.now)) ≡ false) }
+    ensures within { OnOk result (are_over (Some most) (sum_by length (mutual_left mine.now mine_withdrawn.now theirs.now theirs_withdrawn.now)) ≡ false) }
     ensures ranks { IfOk result (λ made. AreRankTables made.0.rows made.1.rows) }
-    ensures cause { IfErr result (IsGatherFault (Some MAX_PAIRS) (sum_by length (mutual_left mine.now mine_withdrawn.now theirs.now theirs_withdrawn.now))) }
+    ensures cause { IfErr result (IsGatherFault (Some most) (sum_by length (mutual_left mine.now mine_withdrawn.now theirs.now theirs_withdrawn.now))) }
 {
     let rows = owners(alloc, mine.len(), theirs, theirs_withdrawn)?;
-    kept_with_ranks(
-        alloc,
-        Some(MAX_PAIRS),
-        mine,
-        mine_withdrawn,
-        theirs.len(),
-        &rows,
-    )
+    kept_with_ranks(alloc, Some(most), mine, mine_withdrawn, theirs.len(), &rows)
 }
 
 /// As `mutual`, by the mutual lists of the other side in place of all that were given. They are short, and have whoever

@@ -1,5 +1,5 @@
 //! What a run has before its workers start: mailboxes, agents and the ledger.
-ghost use Rattle.std.specs.Prelude.{◌≡◌, ◌≢◌, ◌≤◌, length, true, IfOk, IfErr};
+ghost use Rattle.std.specs.Prelude.{◌≡◌, ◌≢◌, ◌≤◌, ◌*◌, length, true, IfOk, IfErr};
 ghost use Rattle.exchange_core.specs.Shown.{is_capacity};
 ghost use Rattle.match_model.specs.Instance.{IsResident, IsProgramme};
 ghost use Rattle.match_pool.specs.Done.{Each};
@@ -17,7 +17,7 @@ use crate::shared::SharedState;
 use desk_scheduler::{Scheduler, Shift, Workers, WorkersIdentity};
 use exchange_core::Capacity;
 use match_agents::{ProgrammeAgent, ResidentAgent};
-use match_model::{Instance, ProgrammeNo, ResidentNo};
+use match_model::{Instance, MAX_PAIRS, ProgrammeNo, ResidentNo};
 use offer_ledger::{ExchangeIdentity, Ledger, Tally};
 use std::alloc::Global;
 use std::marker::PhantomData;
@@ -168,7 +168,7 @@ impl<'a, J: ExchangeIdentity + WorkersIdentity, M: Mailboxes> RunStart<'a, J, M>
 
 // The room of a mailbox into which at most this many messages are ever put: no more than that is used.
 fn room(cap: Capacity, most: usize) -> u32
-    requires within { most ≤ 400000 }
+    requires within { most ≤ 2 * MAX_PAIRS }
     requires admitted { is_capacity cap ≡ true }
     ensures exact { result ≡ room_of cap most }
     ensures some { result ≢ 0 }

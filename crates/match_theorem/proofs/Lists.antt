@@ -8,9 +8,11 @@ use Rattle.std.proofs.lemmas.List.{length-map}
 use Rattle.std.proofs.lemmas.List.Elements.{All-map}
 use Rattle.match_model.specs.Instance.{IsInstance, pair_count}
 use Rattle.match_model.specs.Draft.{IsDraft, given_lists, has_no_repeats, instance_of}
-use Rattle.match_model.specs.declared.limits.TheConstants.{MAX_PROGRAMMES, MAX_RESIDENTS, MAX_PAIRS}
+use Rattle.match_model.specs.Limits.{IsWithin, most_programmes, most_residents, most_pairs}
+use Rattle.match_model.specs.declared.limits.Limits.TheVariants.{Standard}
+use Rattle.match_model.proofs.LimitFacts.{pairs_bounded}
 use Rattle.match_model.specs.declared.fault.ModelFault.TheVariants as model
-use Rattle.match_model.proofs.Kept.{IsWellFormed-instance_of}
+use Rattle.match_model.proofs.Kept.{IsWithin-instance_of, IsWellFormed-instance_of}
 use Rattle.docket.specs.Fields.{Fields, field, is_kind, is_row_of, unless, withdrawal_kind}
 use Rattle.docket_names.specs.Texts.{is_declared}
 use Rattle.docket.specs.Contents.{programmes_of, residents_of, quotas_of, listed_in, lists_of, draft_of, withdrawn_of, is_withdrawal_of}
@@ -103,7 +105,7 @@ unfolding withdrawn_of
 flags_each side names rows = length-map names (λ (name : List ℕ). list_any (is_withdrawal_of side name) rows)
 
 -- what the records of a docket hand in is what a builder keeps
-draft_kept : (rows : List Fields) → first_from reading_fault [] rows ≡ None → first_from (ranking_fault rows) [] rows ≡ None → IsDraft (draft_of rows)
+draft_kept : (rows : List Fields) → first_from (reading_fault Standard) [] rows ≡ None → first_from (ranking_fault rows) [] rows ≡ None → IsDraft (draft_of rows)
 draft_kept rows reading ranking =
     let programmes = programmes_of rows in
     let residents = residents_of rows in
@@ -117,8 +119,8 @@ draft_kept rows reading ranking =
     let their_lists = length-lists_of resident_letter residents programmes rows in
     record {
       one_list_each = length-lists_of programme_letter programmes residents rows ∙ sym many;
-      programmes_within = subst (λ n. n ≤ MAX_PROGRAMMES) (sym many) (programmes_within rows reading);
-      residents_within = subst (λ n. n ≤ MAX_RESIDENTS) (sym their_lists) (residents_within rows reading);
+      programmes_within = subst (λ n. n ≤ most_programmes Standard) (sym many) (programmes_within rows reading);
+      residents_within = subst (λ n. n ≤ most_residents Standard) (sym their_lists) (residents_within rows reading);
       quotas_within = quotas_within rows reading;
       programme_lists = record {
         items_below = subst (λ n. All (λ list. list_all (λ x. nat_lt x n) list ≡ true) (given_lists (lists_of programme_letter programmes residents rows))) (sym their_lists) (all_below _ _ ours);
@@ -133,16 +135,20 @@ draft_kept rows reading ranking =
     }
 
 -- no more pairs than there may be
-pairs_within : (rows : List Fields) → pairs_fault rows ≡ None → pair_count (instance_of (draft_of rows)) ≤ MAX_PAIRS
+pairs_within : (rows : List Fields) → pairs_fault Standard rows ≡ None → pair_count (instance_of (draft_of rows)) ≤ most_pairs Standard
 unfolding pairs_fault
-pairs_within rows none = search (rules, unless_none (nat_le (pair_count (instance_of (draft_of rows))) MAX_PAIRS) (Model (length rows) model.TooManyPairs) none)
+pairs_within rows none = search (rules, unless_none (nat_le (pair_count (instance_of (draft_of rows))) (most_pairs Standard)) (Model (length rows) model.TooManyPairs) none)
 
--- the instance of a docket without a fault is strict, mutual and within the limits
-pub docket_instance : (bytes : List ℕ) → first_fault bytes ≡ None → IsInstance (instance_of (draft_of (rows_in bytes)))
+-- the instance of a docket without a fault is strict and mutual, and within the standard limits
+pub docket_instance : (bytes : List ℕ) → first_fault bytes ≡ None → IsInstance (instance_of (draft_of (rows_in bytes))) × IsWithin Standard (instance_of (draft_of (rows_in bytes)))
 unfolding later_fault
 docket_instance bytes none =
     let rows = rows_in bytes in
-    let passes = both_none (first_from reading_fault [] rows) (later_fault rows) none in
-    let ranked = both_none (first_from (ranking_fault rows) [] rows) (option_or (pairs_fault rows) (option_or (sheet_fault rows) (first_from (event_fault rows) [] rows))) passes.1 in
-    let paired = both_none (pairs_fault rows) (option_or (sheet_fault rows) (first_from (event_fault rows) [] rows)) ranked.1 in
-    (IsWellFormed-instance_of (draft_of rows) (pair_count (instance_of (draft_of rows))) (draft_kept rows passes.0 ranked.0) (pairs_within rows paired.0) refl).is_instance
+    let passes = both_none (first_from (reading_fault Standard) [] rows) (later_fault Standard rows) none in
+    let ranked = both_none (first_from (ranking_fault rows) [] rows) (option_or (pairs_fault Standard rows) (option_or (sheet_fault rows) (first_from (event_fault rows) [] rows))) passes.1 in
+    let paired = both_none (pairs_fault Standard rows) (option_or (sheet_fault rows) (first_from (event_fault rows) [] rows)) ranked.1 in
+    let kept = draft_kept rows passes.0 ranked.0 in
+    let few = pairs_within rows paired.0 in (
+      (IsWellFormed-instance_of (draft_of rows) (pair_count (instance_of (draft_of rows))) kept (omega (arith, few, pairs_bounded Standard)) refl).is_instance,
+      IsWithin-instance_of (draft_of rows) kept few,
+    )

@@ -3,6 +3,8 @@ use Rattle.std.specs.Prelude.{◌≡◌, ℕ, Option, Some, None, List, [], ◌�
 use Rattle.std.specs.List.{flat_map, range_with_len}
 use Rattle.std.specs.Io.KnownBytes.{Appends}
 use Rattle.match_model.specs.Instance.{Instance, IsInstance, quota}
+use Rattle.match_model.specs.Limits.{IsWithin}
+use Rattle.match_model.specs.declared.limits.Limits.TheVariants.{Standard}
 use Rattle.match_model.specs.Draft.{instance_of}
 use Rattle.match_model.specs.Placement.{programme_of, member_count}
 use Rattle.settle_law.specs.Stable.{IsStable, IsSettled}
@@ -45,9 +47,11 @@ pub record IsResult (inst : Instance) (m : List (Option ℕ)) : Type 0 where
   pub settled : IsSettled inst m
   pub alone : (other : List (Option ℕ)) → IsSettled inst other → other ≡ m
 
--- the market's lists are strict and mutual, and its result's sheet was appended, and then this journal
+-- the market's lists are strict and mutual and within the standard limits, and its result's sheet was appended, and then this
+-- journal
 pub record WritesResult (k : Market) (journal : List ℕ) (old new : Option (List ℕ)) : Type 0 where
   pub lists : IsInstance k.instance
+  pub limits : IsWithin Standard k.instance
   pub placement : List (Option ℕ)
   pub result : IsResult k.instance placement
   pub appended : Appends old new (market_sheet k placement ++ journal)

@@ -12,7 +12,8 @@ use Rattle.match_reasons.specs.declared.taken.Taken.{Taken}
 use Rattle.match_reasons.specs.declared.reason.Why.{Why}
 use Rattle.docket.specs.Contents.{Contents, draft_of}
 use Rattle.docket.specs.Whole.{IsWhole}
-use Rattle.docket.specs.WithLists.{IsReadWithLists}
+use Rattle.docket.specs.WithLists.{IsReadWithin}
+use Rattle.match_model.specs.declared.limits.Limits.{Limits}
 use Rattle.reasons_text.specs.Answers.{AreFirst, AreOfRecord, AreTaken, CaseParts, IsAnswer, IsCase}
 use Rattle.reasons_text.specs.Naming.{Naming, SideNames, no_names, own_names}
 
@@ -38,12 +39,12 @@ AreFirst-push c r mine reasons reason p n e there h new i q w at told = elim (sl
 ]
 
 -- the instance is made of the lists that were read
-pub made_of_lists : (bytes : Option (List ℕ)) (d : Contents) (written : Written) → IsReadWithLists bytes d written → AreWritten d.instance written
-made_of_lists bytes d written h = record { draft = draft_of h.rows; made = ap (λ (c : Contents). c.instance) h.docket_is; lists = h.written_is }
+pub made_of_lists : (limits : Limits) (bytes : Option (List ℕ)) (d : Contents) (written : Written) → IsReadWithin limits bytes d written → AreWritten d.instance written
+made_of_lists limits bytes d written h = record { draft = draft_of h.rows; made = ap (λ (c : Contents). c.instance) h.docket_is; lists = h.written_is }
 
 -- the same, where nothing is known of the bytes
-pub read_of : (bytes : Option (List ℕ)) (d : Contents) (written : Written) → IsReadWithLists bytes d written → IsReadWithLists None d written
-read_of bytes d written h = record {
+pub read_of : (limits : Limits) (bytes : Option (List ℕ)) (d : Contents) (written : Written) → IsReadWithin limits bytes d written → IsReadWithin limits None d written
+read_of limits bytes d written h = record {
   rows = h.rows;
   all = tt;
   faultless = h.faultless;
@@ -65,7 +66,7 @@ below_at n xs i p lt all at =
 
 -- a resident's list names the programmes of its record
 pub of_record : (d : Contents) (written : Written) (r : ℕ) → IsWhole d → IsResident d.instance r → AreOfRecord d written r (list_at written.resident_lists r)
-of_record d written r whole within bytes read = read.names r (let many = whole.residents in omega (arith, many))
+of_record d written r whole within limits bytes read = read.names r (let many = whole.residents in omega (arith, many))
 
 -- names that are all the docket's own
 pub names_own : (d e : Contents) (r p : SideNames) → d ≡ e → r ≡ no_names → p ≡ no_names

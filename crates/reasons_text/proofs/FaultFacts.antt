@@ -3,7 +3,8 @@ use Rattle.std.proofs.Common.{Bor, ◌≡◌, List, ℕ, Option, Some, None, inl
 use Rattle.std.specs.Prelude.{◌⊎◌, IfSome, IsSomeAnd, is_some, option_map}
 use Rattle.docket.specs.Answers.{Refuses}
 use Rattle.docket.specs.Contents.{Contents}
-use Rattle.docket.specs.Passes.{first_fault}
+use Rattle.docket.specs.Passes.{fault_within}
+use Rattle.match_model.specs.declared.limits.Limits.{Limits}
 use Rattle.docket.specs.declared.fault.DocketFault.{DocketFault}
 use Rattle.docket.specs.declared.fault.DocketFault.TheVariants as docket
 use Rattle.reasons_text.specs.Faults.{IsDocketFault, IsKeyFault}
@@ -13,20 +14,21 @@ use Rattle.reasons_text.specs.declared.fault.WhyFault.{WhyFault}
 use Rattle.reasons_text.specs.declared.fault.WhyFault.TheVariants.{Docket}
 use Rattle.reasons_text.specs.declared.question.Question.{Question}
 
-memory_refused : (bytes : Option (List ℕ)) → IfSome bytes (λ b. Refuses (first_fault b) docket.Memory)
-memory_refused None = tt
-memory_refused (Some b) = inl refl
+memory_refused : (limits : Limits) (bytes : Option (List ℕ)) → IfSome bytes (λ b. Refuses (fault_within limits b) docket.Memory)
+memory_refused limits None = tt
+memory_refused limits (Some b) = inl refl
 
-pub memory : (bytes : Option (List ℕ)) → IsDocketFault bytes docket.Memory
-memory bytes = inr (memory_refused bytes)
+pub memory : (limits : Limits) (bytes : Option (List ℕ)) → IsDocketFault limits bytes docket.Memory
+memory limits bytes = inr (memory_refused limits bytes)
 
 same_path : (path : Option (Bor (List ℕ))) → is_some (option_map (λ file. file.now) path) ≡ is_some path
 same_path None = refl
 same_path (Some path) = refl
 
 -- the key's file couldn't be read
-pub key_unread : (question : Question) (input old : Option (List ℕ)) (fault : WhyFault) → IsUnreadKey question fault → IsFailed question input old old fault
-key_unread question input old fault unread =
+pub key_unread : (limits : Limits) (question : Question) (input old : Option (List ℕ)) (fault : WhyFault) → IsUnreadKey question fault
+    → IsFailed limits question input old old fault
+key_unread limits question input old fault unread =
     record { key = option_map (λ path. path.now) question.key; keyed = same_path question.key; holds = inr unread; before = λ other. refl }
 
 -- a key that gives no names is one with a bad row, or memory failed

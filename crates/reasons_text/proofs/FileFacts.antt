@@ -4,9 +4,10 @@ use Rattle.std.specs.Prelude.{Bool}
 use Rattle.docket.specs.Passes.{rows_in}
 use Rattle.docket.specs.declared.fault.DocketFault.TheVariants.{Write}
 use Rattle.docket_parts.specs.Parts.{fault_of_all, rows_of, rows_of_all}
-use Rattle.reasons_text.specs.Faults.{IsServeFault}
-use Rattle.reasons_text.specs.Files.{AnswersFiles, IsFilesFault, Joins, in_its_file}
-use Rattle.reasons_text.specs.Texts.{AnswersFrom, AppendsText}
+use Rattle.match_model.specs.declared.limits.Limits.{Limits}
+use Rattle.reasons_text.specs.Faults.{IsServeFaultWithin}
+use Rattle.reasons_text.specs.Files.{AnswersFilesWithin, IsFilesFaultWithin, Joins, in_its_file}
+use Rattle.reasons_text.specs.Texts.{AnswersWithin, AppendsText}
 use Rattle.reasons_text.specs.declared.fault.WhyFault.{WhyFault}
 use Rattle.reasons_text.specs.declared.fault.WhyFault.TheVariants.{Docket}
 use Rattle.reasons_text.specs.declared.question.Asked.{Asked}
@@ -20,19 +21,19 @@ pub joins_of : (d s text : List ℕ) → fault_of_all d s [] ≡ None → rows_o
 joins_of d s text own rows = record { own = own; rows = rows_same text ∙ rows }
 
 -- what answers over both answers over the files
-pub answers_files : (d s text : List ℕ) (key : Option (List ℕ)) (question : Asked) (without_ranks : Bool) (old new : Option (List ℕ)) → Joins d s text
-    → AppendsText (AnswersFrom (Some text) key question without_ranks) old new → AppendsText (AnswersFiles d s key question without_ranks) old new
-answers_files d s text key question without_ranks old new joins told = record {
+pub answers_files : (limits : Limits) (d s text : List ℕ) (key : Option (List ℕ)) (question : Asked) (without_ranks : Bool) (old new : Option (List ℕ)) → Joins d s text
+    → AppendsText (AnswersWithin limits (Some text) key question without_ranks) old new → AppendsText (AnswersFilesWithin limits d s key question without_ranks) old new
+answers_files limits d s text key question without_ranks old new joins told = record {
   text = told.text;
   wanted = record { joined = text; joins = joins; answers = told.wanted };
   appended = told.appended;
 }
 
 -- a fault over both is told in its file
-pub files_fault : (d s text : List ℕ) (key : Option (List ℕ)) (question : Asked) (nd ns : ℕ) (fault : WhyFault) → Joins d s text
-    → nd ≡ length (rows_of d) → ns ≡ length (rows_of s) → IsServeFault (Some text) key question fault
-    → IsFilesFault d s key question (in_its_file nd ns fault)
-files_fault d s text key question nd ns fault joins of_docket of_sheet holds =
+pub files_fault : (limits : Limits) (d s text : List ℕ) (key : Option (List ℕ)) (question : Asked) (nd ns : ℕ) (fault : WhyFault) → Joins d s text
+    → nd ≡ length (rows_of d) → ns ≡ length (rows_of s) → IsServeFaultWithin limits (Some text) key question fault
+    → IsFilesFaultWithin limits d s key question (in_its_file nd ns fault)
+files_fault limits d s text key question nd ns fault joins of_docket of_sheet holds =
     inr (inr (record { joined = text; joins = joins; whole = fault; holds = holds; is_told = rw (of_docket, of_sheet) refl }))
 
 -- a fault that is not the writer's in its file is not the writer's

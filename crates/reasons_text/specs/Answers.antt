@@ -2,6 +2,7 @@
 use Rattle.std.specs.Prelude.{◌≡◌, ℕ, Bool, true, false, Option, Some, None, List, codes, length, map, slice_get}
 use Rattle.match_model.specs.Instance.{list_at}
 use Rattle.match_model.specs.Written.{Written}
+use Rattle.match_model.specs.declared.limits.Limits.{Limits}
 use Rattle.match_reasons.specs.Reason.{IsFirst, IsTaken}
 use Rattle.match_reasons.specs.declared.taken.Taken.{Taken}
 use Rattle.match_reasons.specs.declared.reason.Why.{Why}
@@ -9,7 +10,7 @@ use Rattle.match_reasons.specs.declared.reason.Why.TheVariants.{Withdrawn, NotLi
 use Rattle.docket.specs.Contents.{Contents}
 use Rattle.docket.specs.Fields.{lone_byte}
 use Rattle.docket.specs.Texts.{programme_name, resident_name}
-use Rattle.docket.specs.WithLists.{IsReadWithLists, fields_after}
+use Rattle.docket.specs.WithLists.{IsReadWithin, fields_after}
 
 -- a docket with its sheet and its lists as they were written, and of some of the first programmes how their places are taken
 pub record CaseParts : Type 0 where
@@ -25,19 +26,20 @@ case_of docket sheet written takens = record { docket = docket; sheet = sheet; w
 abbrev pub AreTaken : Written → List (Option ℕ) → List Taken → Type 0
 AreTaken written m takens = (p : ℕ) (t : Taken) → slice_get takens p ≡ Some t → IsTaken (list_at written.programme_lists p) m p t
 
--- the docket was read with these lists, and the sheet is the docket's
+-- the docket was read with these lists within some limits, and the sheet is the docket's
 pub record IsCase (c : CaseParts) : Type 0 where
+  pub limits : Limits
   pub has_sheet : c.docket.sheet ≡ Some c.sheet
-  pub read : IsReadWithLists None c.docket c.written
+  pub read : IsReadWithin limits None c.docket c.written
   pub taken : AreTaken c.written c.sheet c.takens
 
 -- the names of these programmes
 abbrev pub names_of : Contents → List ℕ → List (List ℕ)
 names_of d programmes = map (programme_name d) programmes
 
--- whatever bytes were read, these are the programmes in the R record of resident r, in order
+-- whatever bytes were read within any limits, these are the programmes in the R record of resident r, in order
 abbrev pub AreOfRecord : Contents → Written → ℕ → List ℕ → Type 0
-AreOfRecord d written r programmes = (bytes : Option (List ℕ)) (read : IsReadWithLists bytes d written)
+AreOfRecord d written r programmes = (limits : Limits) (bytes : Option (List ℕ)) (read : IsReadWithin limits bytes d written)
     → names_of d programmes ≡ fields_after (lone_byte (codes "R")) (resident_name d r) read.rows
 
 -- the answer is the first that holds of r and p

@@ -2,12 +2,14 @@
 use Rattle.std.specs.Prelude.{◌≡◌, ◌≢◌, ◌⊎◌, ℕ, Option, Some, None, List, IfSome, IsSomeAnd}
 use Rattle.docket.specs.Answers.{Refuses}
 use Rattle.docket.specs.Contents.{Contents}
-use Rattle.docket.specs.Passes.{first_fault}
+use Rattle.docket.specs.Passes.{fault_within}
 use Rattle.docket.specs.Read.{IsReadFault}
-use Rattle.docket.specs.WithLists.{IsReadWithLists}
+use Rattle.docket.specs.WithLists.{IsReadWithin}
 use Rattle.docket.specs.declared.fault.DocketFault.{DocketFault}
 use Rattle.docket.specs.declared.fault.DocketFault.TheVariants as docket
 use Rattle.match_model.specs.Written.{Written}
+use Rattle.match_model.specs.declared.limits.Limits.{Limits}
+use Rattle.match_model.specs.declared.limits.Limits.TheVariants.{Standard}
 use Rattle.reasons_text.specs.Answers.{CaseParts}
 use Rattle.reasons_text.specs.Keys.{AreNames, HasBadRow, unnamed}
 use Rattle.reasons_text.specs.Naming.{MeansNoMember, MeansTwo, Naming}
@@ -18,22 +20,30 @@ use Rattle.reasons_text.specs.declared.question.Asked.TheVariants as asked
 use Rattle.reasons_text.specs.declared.side.Side.{Side}
 use Rattle.reasons_text.specs.declared.side.Side.TheVariants.{Programmes, Residents}
 
--- the reader's fault, want of memory, or the first fault of the bytes, where they are known
-abbrev pub IsDocketFault : Option (List ℕ) → DocketFault → Type 0
-IsDocketFault bytes e = IsReadFault e ⊎ IfSome bytes (λ b. Refuses (first_fault b) e)
+-- the reader's fault, want of memory, or the first fault of the bytes within these limits, where they are known
+abbrev pub IsDocketFault : Limits → Option (List ℕ) → DocketFault → Type 0
+IsDocketFault limits bytes e = IsReadFault e ⊎ IfSome bytes (λ b. Refuses (fault_within limits b) e)
 
--- the bytes are a docket without a sheet
-pub record HasNoSheet (bytes : Option (List ℕ)) : Type 0 where
+-- the bytes are a docket without a sheet within these limits
+pub record HasNoSheetWithin (limits : Limits) (bytes : Option (List ℕ)) : Type 0 where
   pub docket : Contents
   pub written : Written
-  pub read : IsReadWithLists bytes docket written
+  pub read : IsReadWithin limits bytes docket written
   pub none : docket.sheet ≡ None
 
--- why no docket with a sheet was read
+-- so within the standard limits
+abbrev pub HasNoSheet : Option (List ℕ) → Type 0
+HasNoSheet bytes = HasNoSheetWithin Standard bytes
+
+-- why no docket with a sheet was read within these limits
+abbrev pub IsCaseFaultWithin : Limits → Option (List ℕ) → WhyFault → Type 0
+IsCaseFaultWithin limits bytes (Docket e) = IsDocketFault limits bytes e
+IsCaseFaultWithin limits bytes NoSheet = HasNoSheetWithin limits bytes
+IsCaseFaultWithin limits bytes fault = ⊥
+
+-- and within the standard ones
 abbrev pub IsCaseFault : Option (List ℕ) → WhyFault → Type 0
-IsCaseFault bytes (Docket e) = IsDocketFault bytes e
-IsCaseFault bytes NoSheet = HasNoSheet bytes
-IsCaseFault bytes fault = ⊥
+IsCaseFault bytes fault = IsCaseFaultWithin Standard bytes fault
 
 -- the fault is this one, or want of memory
 abbrev pub IsFaultOrMemory : Option WhyFault → WhyFault → Type 0
@@ -77,11 +87,15 @@ abbrev pub IsTextFault : CaseParts → Option (List ℕ) → Asked → WhyFault 
 IsTextFault c key question fault = (fault ≡ Docket docket.Memory)
     ⊎ (IsSomeAnd key (λ bytes. HasBadRow c.docket (unnamed c.docket) bytes fault) ⊎ IsUnmet c key question fault)
 
--- why nothing was told over the docket of these bytes
-abbrev pub IsTellFault : Option (List ℕ) → Option (List ℕ) → Asked → WhyFault → Type 0
-IsTellFault bytes key question fault = IsCaseFault bytes fault
-    ⊎ ((c : CaseParts) × (IsReadWithLists bytes c.docket c.written × ((c.docket.sheet ≡ Some c.sheet) × IsTextFault c key question fault)))
+-- why nothing was told over the docket of these bytes within these limits
+abbrev pub IsTellFault : Limits → Option (List ℕ) → Option (List ℕ) → Asked → WhyFault → Type 0
+IsTellFault limits bytes key question fault = IsCaseFaultWithin limits bytes fault
+    ⊎ ((c : CaseParts) × (IsReadWithin limits bytes c.docket c.written × ((c.docket.sheet ≡ Some c.sheet) × IsTextFault c key question fault)))
 
 -- and the writer's fault beside
+abbrev pub IsServeFaultWithin : Limits → Option (List ℕ) → Option (List ℕ) → Asked → WhyFault → Type 0
+IsServeFaultWithin limits bytes key question fault = (fault ≡ Docket docket.Write) ⊎ IsTellFault limits bytes key question fault
+
+-- so within the standard limits
 abbrev pub IsServeFault : Option (List ℕ) → Option (List ℕ) → Asked → WhyFault → Type 0
-IsServeFault bytes key question fault = (fault ≡ Docket docket.Write) ⊎ IsTellFault bytes key question fault
+IsServeFault bytes key question fault = IsServeFaultWithin Standard bytes key question fault

@@ -7,8 +7,10 @@ use Rattle.docket_parts.specs.Parts.{fault_of_all, rows_of, rows_of_all}
 use Rattle.docket_parts.specs.Place.{file_fault}
 use Rattle.docket_parts.specs.declared.fault.PartFault.{PartFault}
 use Rattle.docket_parts.specs.declared.place.FileFault.{FileFault}
-use Rattle.reasons_text.specs.Faults.{IsServeFault}
-use Rattle.reasons_text.specs.Texts.{AnswersFrom}
+use Rattle.match_model.specs.declared.limits.Limits.{Limits}
+use Rattle.match_model.specs.declared.limits.Limits.TheVariants.{Standard}
+use Rattle.reasons_text.specs.Faults.{IsServeFaultWithin}
+use Rattle.reasons_text.specs.Texts.{AnswersWithin}
 use Rattle.reasons_text.specs.declared.fault.WhyFault.{WhyFault}
 use Rattle.reasons_text.specs.declared.fault.WhyFault.TheVariants.{Docket, EmptySheet, NoSheet, Part, Records}
 use Rattle.reasons_text.specs.declared.question.Asked.{Asked}
@@ -18,11 +20,16 @@ pub record Joins (docket sheet joined : List ℕ) : Type 0 where
   pub own : fault_of_all docket sheet [] ≡ None
   pub rows : rows_in joined ≡ rows_of_all docket sheet []
 
--- the text answers the question over the docket and the sheet of these files
-pub record AnswersFiles (docket sheet : List ℕ) (key : Option (List ℕ)) (question : Asked) (without_ranks : Bool) (text : List ℕ) : Type 0 where
+-- the text answers the question over the docket and the sheet of these files within these limits
+pub record AnswersFilesWithin (limits : Limits) (docket sheet : List ℕ) (key : Option (List ℕ)) (question : Asked) (without_ranks : Bool)
+    (text : List ℕ) : Type 0 where
   pub joined : List ℕ
   pub joins : Joins docket sheet joined
-  pub answers : AnswersFrom (Some joined) key question without_ranks text
+  pub answers : AnswersWithin limits (Some joined) key question without_ranks text
+
+-- so within the standard limits
+abbrev pub AnswersFiles : List ℕ → List ℕ → Option (List ℕ) → Asked → Bool → List ℕ → Type 0
+AnswersFiles docket sheet key question without_ranks text = AnswersFilesWithin Standard docket sheet key question without_ranks text
 
 -- the fault is the first record of another part, or of none
 pub record HasPartFault (docket sheet : List ℕ) (fault : WhyFault) : Type 0 where
@@ -41,15 +48,19 @@ in_its_file docket sheet (Docket fault) = placed fault (file_fault docket sheet 
 in_its_file docket sheet NoSheet = EmptySheet
 in_its_file docket sheet fault = fault
 
--- the fault is one of the docket's and the sheet's records put together, told in its file
-pub record HasJoinedFault (docket sheet : List ℕ) (key : Option (List ℕ)) (question : Asked) (fault : WhyFault) : Type 0 where
+-- the fault is one of the docket's and the sheet's records put together within these limits, told in its file
+pub record HasJoinedFault (limits : Limits) (docket sheet : List ℕ) (key : Option (List ℕ)) (question : Asked) (fault : WhyFault) : Type 0 where
   pub joined : List ℕ
   pub joins : Joins docket sheet joined
   pub whole : WhyFault
-  pub holds : IsServeFault (Some joined) key question whole
+  pub holds : IsServeFaultWithin limits (Some joined) key question whole
   pub is_told : fault ≡ in_its_file (length (rows_of docket)) (length (rows_of sheet)) whole
 
--- why nothing, or not all, was told over files
+-- why nothing, or not all, was told over files within these limits
+abbrev pub IsFilesFaultWithin : Limits → List ℕ → List ℕ → Option (List ℕ) → Asked → WhyFault → Type 0
+IsFilesFaultWithin limits docket sheet key question fault =
+    (fault ≡ Docket Memory) ⊎ (HasPartFault docket sheet fault ⊎ HasJoinedFault limits docket sheet key question fault)
+
+-- and within the standard ones
 abbrev pub IsFilesFault : List ℕ → List ℕ → Option (List ℕ) → Asked → WhyFault → Type 0
-IsFilesFault docket sheet key question fault =
-    (fault ≡ Docket Memory) ⊎ (HasPartFault docket sheet fault ⊎ HasJoinedFault docket sheet key question fault)
+IsFilesFault docket sheet key question fault = IsFilesFaultWithin Standard docket sheet key question fault

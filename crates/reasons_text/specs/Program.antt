@@ -3,12 +3,14 @@ use Rattle.std.specs.Prelude.{◌≡◌, ◌≢◌, ◌⊎◌, ℕ, Option, Some
 use Rattle.std.specs.Prelude.{String}
 use Rattle.std.specs.Global.{Vec}
 use Rattle.docket.specs.declared.fault.DocketFault.TheVariants as docket
+use Rattle.match_model.specs.declared.limits.Limits.{Limits}
+use Rattle.match_model.specs.declared.limits.Limits.TheVariants.{Standard}
 use Rattle.program_shell.specs.Ends.{EndsRefused, IsOrderOf}
-use Rattle.reasons_text.specs.Faults.{IsServeFault}
-use Rattle.reasons_text.specs.Files.{AnswersFiles, IsFilesFault}
+use Rattle.reasons_text.specs.Faults.{IsServeFaultWithin}
+use Rattle.reasons_text.specs.Files.{AnswersFilesWithin, IsFilesFaultWithin}
 use Rattle.reasons_text.specs.Line.{Asks, Refuses}
 use Rattle.reasons_text.specs.Status.{fault_status_of}
-use Rattle.reasons_text.specs.Texts.{AnswersFrom, AppendsText}
+use Rattle.reasons_text.specs.Texts.{AnswersWithin, AppendsText}
 use Rattle.reasons_text.specs.declared.fault.WhyFault.{WhyFault}
 use Rattle.reasons_text.specs.declared.fault.WhyFault.TheVariants.{Docket, InputUnread, KeyUnread, SheetUnread}
 use Rattle.reasons_text.specs.declared.question.Question.{Question}
@@ -29,46 +31,50 @@ IsUnreadInput fault = (fault ≡ InputUnread) ⊎ (fault ≡ Docket docket.Memor
 abbrev pub IsUnreadSheet : WhyFault → Type 0
 IsUnreadSheet fault = (fault ≡ SheetUnread) ⊎ (fault ≡ Docket docket.Memory)
 
--- the text answers over the docket of the input and the sheet of a file
-abbrev pub AnswersBeside : Question → Option (List ℕ) → Option (List ℕ) → Option (List ℕ) → Option (List ℕ) → Type 0
-AnswersBeside question input key old new =
-    (files : Beside input) × AppendsText (AnswersFiles files.docket files.sheet key question.asked question.without_ranks) old new
+-- the text answers over the docket of the input and the sheet of a file within these limits
+abbrev pub AnswersBeside : Limits → Question → Option (List ℕ) → Option (List ℕ) → Option (List ℕ) → Option (List ℕ) → Type 0
+AnswersBeside limits question input key old new =
+    (files : Beside input) × AppendsText (AnswersFilesWithin limits files.docket files.sheet key question.asked question.without_ranks) old new
 
 -- why nothing, or not all, was told over them
-abbrev pub FailsBeside : Question → Option (List ℕ) → Option (List ℕ) → WhyFault → Type 0
-FailsBeside question input key fault =
-    IsUnreadSheet fault ⊎ (IsUnreadInput fault ⊎ ((files : Beside input) × IsFilesFault files.docket files.sheet key question.asked fault))
+abbrev pub FailsBeside : Limits → Question → Option (List ℕ) → Option (List ℕ) → WhyFault → Type 0
+FailsBeside limits question input key fault =
+    IsUnreadSheet fault ⊎ (IsUnreadInput fault ⊎ ((files : Beside input) × IsFilesFaultWithin limits files.docket files.sheet key question.asked fault))
 
 -- the text answers over the input, or where the question names a sheet's file, over both
-abbrev pub AnswersOver : {A : Type 0} → Option A → Question → Option (List ℕ) → Option (List ℕ) → Option (List ℕ) → Option (List ℕ) → Type 0
-AnswersOver None question input key old new = AppendsText (AnswersFrom input key question.asked question.without_ranks) old new
-AnswersOver (Some path) question input key old new = AnswersBeside question input key old new
+abbrev pub AnswersOver : {A : Type 0} → Limits → Option A → Question → Option (List ℕ) → Option (List ℕ) → Option (List ℕ) → Option (List ℕ) → Type 0
+AnswersOver limits None question input key old new = AppendsText (AnswersWithin limits input key question.asked question.without_ranks) old new
+AnswersOver limits (Some path) question input key old new = AnswersBeside limits question input key old new
 
-abbrev pub FailsOver : {A : Type 0} → Option A → Question → Option (List ℕ) → Option (List ℕ) → WhyFault → Type 0
-FailsOver None question input key fault = IsServeFault input key question.asked fault
-FailsOver (Some path) question input key fault = FailsBeside question input key fault
+abbrev pub FailsOver : {A : Type 0} → Limits → Option A → Question → Option (List ℕ) → Option (List ℕ) → WhyFault → Type 0
+FailsOver limits None question input key fault = IsServeFaultWithin limits input key question.asked fault
+FailsOver limits (Some path) question input key fault = FailsBeside limits question input key fault
 
--- the question was answered, and nothing else was written
-pub record IsAnswered (question : Question) (input old new : Option (List ℕ)) : Type 0 where
+-- the question was answered within these limits, and nothing else was written
+pub record IsAnswered (limits : Limits) (question : Question) (input old new : Option (List ℕ)) : Type 0 where
   -- the bytes of the file that the question names, and none where it names none
   pub key : Option (List ℕ)
   pub keyed : is_some key ≡ is_some question.key
-  pub told : AnswersOver question.sheet question input key old new
+  pub told : AnswersOver limits question.sheet question input key old new
 
 -- the question wasn't answered, for a fault that holds; before one other than the writer's nothing was written
-pub record IsFailed (question : Question) (input old new : Option (List ℕ)) (fault : WhyFault) : Type 0 where
+pub record IsFailed (limits : Limits) (question : Question) (input old new : Option (List ℕ)) (fault : WhyFault) : Type 0 where
   -- the bytes of the file that the question names, and none where it names none
   pub key : Option (List ℕ)
   pub keyed : is_some key ≡ is_some question.key
-  pub holds : FailsOver question.sheet question input key fault ⊎ IsUnreadKey question fault
+  pub holds : FailsOver limits question.sheet question input key fault ⊎ IsUnreadKey question fault
   pub before : fault ≢ Docket docket.Write → new ≡ old
 
 -- the status is 0 for an answer, and else that of the fault
-abbrev pub EndsTold : Question → Option (List ℕ) → Option (List ℕ) → Option (List ℕ) → ℕ → Type 0
-EndsTold question input old new status = ((status ≡ 0) × IsAnswered question input old new)
-    ⊎ ((fault : WhyFault) × ((status ≡ fault_status_of fault) × IsFailed question input old new fault))
+abbrev pub EndsTold : Limits → Question → Option (List ℕ) → Option (List ℕ) → Option (List ℕ) → ℕ → Type 0
+EndsTold limits question input old new status = ((status ≡ 0) × IsAnswered limits question input old new)
+    ⊎ ((fault : WhyFault) × ((status ≡ fault_status_of fault) × IsFailed limits question input old new fault))
 
--- the words ask nothing, or what they ask was answered
+-- the words ask nothing, or what they ask was answered within these limits
+abbrev pub EndsWithin : {A E : Type 0} → Limits → Result (Vec (String A)) E → Option (List ℕ) → Option (List ℕ) → Option (List ℕ) → ℕ → Type 0
+EndsWithin limits words input old new status = EndsRefused Refuses words old new status
+    ⊎ ((question : Question) × (IsOrderOf Asks words question × EndsTold limits question input old new status))
+
+-- so within the standard limits
 abbrev pub Ends : {A E : Type 0} → Result (Vec (String A)) E → Option (List ℕ) → Option (List ℕ) → Option (List ℕ) → ℕ → Type 0
-Ends words input old new status = EndsRefused Refuses words old new status
-    ⊎ ((question : Question) × (IsOrderOf Asks words question × EndsTold question input old new status))
+Ends words input old new status = EndsWithin Standard words input old new status

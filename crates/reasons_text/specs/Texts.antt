@@ -2,12 +2,14 @@
 use Rattle.std.specs.Prelude.{◌≡◌, ℕ, Bool, false, Option, Some, None, List, [], ◌++◌, length, slice_get}
 use Rattle.std.specs.List.{flat_map}
 use Rattle.match_model.specs.Placement.{programme_of}
+use Rattle.match_model.specs.declared.limits.Limits.{Limits}
+use Rattle.match_model.specs.declared.limits.Limits.TheVariants.{Standard}
 use Rattle.match_reasons.specs.declared.reason.Why.{Why}
 use Rattle.std.specs.Io.KnownBytes.{Appends}
 use Rattle.docket.specs.Contents.{Contents}
 use Rattle.row_writer.specs.RowText.{Adds, row}
 use Rattle.docket.specs.Texts.{programme_name, resident_name}
-use Rattle.docket.specs.WithLists.{IsReadWithLists}
+use Rattle.docket.specs.WithLists.{IsReadWithin}
 use Rattle.row_writer.specs.declared.writer.RowWriter.{RowWriter}
 use Rattle.reasons_text.specs.Answers.{AreAnswers, AreOfRecord, CaseParts, IsAnswer}
 use Rattle.reasons_text.specs.Lines.{line, text_on}
@@ -86,12 +88,16 @@ pub record Answers (c : CaseParts) (key : Option (List ℕ)) (question : Asked) 
   pub asks_keyless : key ≡ None → AsksByDocket c.docket question told
   pub text_is : IsTextOf c names without_ranks told text
 
--- the text answers the question over the docket of these bytes
-pub record AnswersFrom (bytes key : Option (List ℕ)) (question : Asked) (without_ranks : Bool) (text : List ℕ) : Type 0 where
+-- the text answers the question over the docket of these bytes within these limits
+pub record AnswersWithin (limits : Limits) (bytes key : Option (List ℕ)) (question : Asked) (without_ranks : Bool) (text : List ℕ) : Type 0 where
   pub case : CaseParts
-  pub read : IsReadWithLists bytes case.docket case.written
+  pub read : IsReadWithin limits bytes case.docket case.written
   pub sheet : case.docket.sheet ≡ Some case.sheet
   pub answers : Answers case key question without_ranks text
+
+-- so within the standard limits
+abbrev pub AnswersFrom : Option (List ℕ) → Option (List ℕ) → Asked → Bool → List ℕ → Type 0
+AnswersFrom bytes key question without_ranks text = AnswersWithin Standard bytes key question without_ranks text
 
 -- the rows on the first n residents were added
 pub record AddsRows {W : Type 0} (contents : W → Option (List ℕ)) (c : CaseParts) (names : Naming) (without_ranks : Bool) (n : ℕ)

@@ -4,10 +4,10 @@ ghost use Rattle.reasons_text.specs.Keys.{IsKeyOf};
 ghost use Rattle.match_model.specs.Instance.{IsProgramme, IsResident};
 ghost use Rattle.row_writer.specs.RowText.{Adds};
 ghost use Rattle.reasons_text.specs.Lines.{lines};
-ghost use Rattle.reasons_text.specs.Faults.{IsAskedFault, IsKeyFault, IsNameFault, IsServeFault, IsTellFault, IsTextFault};
+ghost use Rattle.reasons_text.specs.Faults.{IsAskedFault, IsKeyFault, IsNameFault, IsServeFault, IsServeFaultWithin, IsTellFault, IsTextFault};
 ghost use Rattle.reasons_text.specs.Naming.{HasNoNames, MeansAlone, both_of, naming_of};
 ghost use Rattle.reasons_text.specs.Table.{rows_on};
-ghost use Rattle.reasons_text.specs.Texts.{AddsOwnRows, AddsRows, Answers, AnswersFrom, AppendsText, Asks, IsLineOn, IsTable, IsTextOf, IsTextOn};
+ghost use Rattle.reasons_text.specs.Texts.{AddsOwnRows, AddsRows, Answers, AnswersFrom, AnswersWithin, AppendsText, Asks, IsLineOn, IsTable, IsTextOf, IsTextOn};
 ghost use Rattle.reasons_text.specs.Told.{IsTold};
 
 use crate::case::Case;
@@ -20,7 +20,7 @@ use crate::sentences::{push_first_line, push_line};
 use crate::side::{Side, member_count};
 use crate::table::{push_columns, push_row};
 use docket::{Docket, DocketFault, RowWriter, WriteFailed, room_for_rows};
-use match_model::{ProgrammeNo, ResidentNo};
+use match_model::{Limits, ProgrammeNo, ResidentNo};
 use match_reasons::Why;
 use std::alloc::{AllocError, Global};
 use std::hash::RandomState;
@@ -317,7 +317,7 @@ fn text_of(
     Ok(told_text(alloc, case, &manner, told)?)
 }
 
-/// Reads a docket with a sheet, and writes why. Of a resident it writes the first line and one on each programme of its
+/// Reads a docket with a sheet within the standard limits, and writes why. Of a resident it writes the first line and one on each programme of its
 /// record. Of a resident and a programme it writes one line, and of all the rows. The key's bytes have the members' real
 /// names. Nothing is written before a fault other than the writer's own.
 pub fn serve_why<R: Read + Drop, W: Write, H: RandomSource>(
@@ -334,7 +334,35 @@ pub fn serve_why<R: Read + Drop, W: Write, H: RandomSource>(
     ensures fault { IfErr result (IsServeFault (R.remaining reader) (option_copied key_bytes.entry) asked.entry) }
     ensures before { IfErr result (λ fault. fault ≢ WhyFault.Docket DocketFault.Write → writer.new ≡ writer.old) }
 {
-    let text = match read_and_tell(rt, alloc, reader, asked, without_ranks, key_bytes) {
+    serve_why_within(
+        rt,
+        alloc,
+        Limits::Standard,
+        reader,
+        writer,
+        asked,
+        without_ranks,
+        key_bytes,
+    )
+}
+
+/// Does what `serve_why` does, within these limits.
+pub fn serve_why_within<R: Read + Drop, W: Write, H: RandomSource>(
+    rt: &H,
+    alloc: Global,
+    limits: Limits,
+    reader: R,
+    writer: &mut W,
+    asked: Asked,
+    without_ranks: bool,
+    key_bytes: Option<&[u8]>,
+) -> Result<(), WhyFault>
+    ensures text { OnOk result (AppendsText (AnswersWithin limits (R.remaining reader) (option_copied key_bytes.entry) asked.entry without_ranks)
+        (W.contents writer.old) (W.contents writer.new)) }
+    ensures fault { IfErr result (IsServeFaultWithin limits (R.remaining reader) (option_copied key_bytes.entry) asked.entry) }
+    ensures before { IfErr result (λ fault. fault ≢ WhyFault.Docket DocketFault.Write → writer.new ≡ writer.old) }
+{
+    let text = match read_and_tell(rt, alloc, limits, reader, asked, without_ranks, key_bytes) {
         Ok(text) => text,
         Err(fault) => return Err(fault),
     };
@@ -344,21 +372,22 @@ pub fn serve_why<R: Read + Drop, W: Write, H: RandomSource>(
     }
 }
 
-// Reads a docket with a sheet, and makes the whole answer.
+// Reads a docket with a sheet within these limits, and makes the whole answer.
 fn read_and_tell<R: Read + Drop, H: RandomSource>(
     rt: &H,
     alloc: Global,
+    limits: Limits,
     reader: R,
     asked: Asked,
     without_ranks: bool,
     key_bytes: Option<&[u8]>,
 ) -> Result<Vec<u8>, WhyFault>
-    ensures text { IfOk result (λ text. AnswersFrom (R.remaining reader) (option_copied key_bytes.entry) asked.entry without_ranks text.items) }
-    ensures fault { IfErr result (IsTellFault (R.remaining reader) (option_copied key_bytes.entry) asked.entry) }
+    ensures text { IfOk result (λ text. AnswersWithin limits (R.remaining reader) (option_copied key_bytes.entry) asked.entry without_ranks text.items) }
+    ensures fault { IfErr result (IsTellFault limits (R.remaining reader) (option_copied key_bytes.entry) asked.entry) }
 {
     let Ok(keys) = RandomState::new(rt) else {
         return Err(WhyFault::Docket(DocketFault::Read { place: 1 }));
     };
-    let case = Case::read(rt, alloc, reader, asked == Asked::All)?;
+    let case = Case::read_within(rt, alloc, limits, reader, asked == Asked::All)?;
     text_of(alloc, keys, &case, key_bytes, asked, without_ranks)
 }

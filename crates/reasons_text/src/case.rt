@@ -1,16 +1,16 @@
 //! What every answer is made from: a docket with a sheet, and its lists as they were written.
 ghost use Rattle.std.specs.Prelude.{◌≡◌, IfErr, IfOk, Some};
-ghost use Rattle.docket.specs.WithLists.{IsReadWithLists};
+ghost use Rattle.docket.specs.WithLists.{IsReadWithLists, IsReadWithin};
 ghost use Rattle.match_model.specs.Instance.{IsProgramme, IsResident, list_at};
 ghost use Rattle.match_model.specs.Placement.{programme_of};
 ghost use Rattle.match_reasons.specs.Reason.{IsTaken};
-ghost use Rattle.reasons_text.specs.Faults.{IsCaseFault};
+ghost use Rattle.reasons_text.specs.Faults.{IsCaseFault, IsCaseFaultWithin};
 ghost use Rattle.reasons_text.specs.Answers.{AreAnswers, AreOfRecord, AreTaken, IsAnswer, IsCase, case_of};
 
 use crate::answers::Answers;
 use crate::fault::WhyFault;
-use docket::{Docket, DocketFault, read_docket_with_lists};
-use match_model::{Assignment, ProgrammeNo, ResidentNo, WrittenLists};
+use docket::{Docket, DocketFault, read_docket_with_lists_within};
+use match_model::{Assignment, Limits, ProgrammeNo, ResidentNo, WrittenLists};
 use match_reasons::{Listed, Taken, Why, places_taken, why};
 use std::alloc::{AllocError, Global};
 use std::io::Read;
@@ -125,8 +125,8 @@ fn answers_from(
 }
 
 impl Case {
-    /// Reads a docket that has a sheet, with its lists. Where all residents are told, it is counted at once how the places of
-    /// each programme are taken.
+    /// Reads a docket that has a sheet, with its lists, within the standard limits. Where all residents are told, it is counted
+    /// at once how the places of each programme are taken.
     pub fn read<R: Read + Drop, H: RandomSource>(
         rt: &H,
         alloc: Global,
@@ -137,7 +137,22 @@ impl Case {
         ensures sheet { IfOk result (λ case. case.docket.sheet ≡ Some case.sheet) }
         ensures fault { IfErr result (IsCaseFault (R.remaining reader)) }
     {
-        let (docket, lists) = match read_docket_with_lists(rt, alloc, reader) {
+        Case::read_within(rt, alloc, Limits::Standard, reader, are_all_told)
+    }
+
+    /// Does what `read` does, within these limits.
+    pub fn read_within<R: Read + Drop, H: RandomSource>(
+        rt: &H,
+        alloc: Global,
+        limits: Limits,
+        reader: R,
+        are_all_told: bool,
+    ) -> Result<Case, WhyFault>
+        ensures read { IfOk result (λ case. IsReadWithin limits (R.remaining reader) case.docket case.written) }
+        ensures sheet { IfOk result (λ case. case.docket.sheet ≡ Some case.sheet) }
+        ensures fault { IfErr result (IsCaseFaultWithin limits (R.remaining reader)) }
+    {
+        let (docket, lists) = match read_docket_with_lists_within(rt, alloc, limits, reader) {
             Ok(read) => read,
             Err(fault) => return Err(WhyFault::Docket(fault)),
         };

@@ -5,7 +5,9 @@ ghost use Rattle.reasons_text.specs.declared.fault.WhyFault.TheVariants.{Docket}
 
 use docket::DocketFault;
 use docket_parts::{Part, PartFault};
+use match_model::Limits;
 use std::alloc::AllocError;
+use std::fmt;
 use thiserror::Error;
 
 /// Why a resident wasn't told.
@@ -67,6 +69,14 @@ pub enum WhyFault {
 }
 
 impl WhyFault {
+    // The fault as a text by these limits.
+    pub(crate) fn within(&self, limits: Limits) -> FaultWithin<'_> {
+        FaultWithin {
+            fault: self,
+            limits,
+        }
+    }
+
     // The file at fault, if it is the docket's or the sheet's.
     pub(crate) fn file(&self) -> Option<Part> {
         match self {
@@ -75,6 +85,23 @@ impl WhyFault {
             | WhyFault::Records { file, .. } => Some(*file),
             WhyFault::EmptySheet => Some(Part::Sheet),
             _ => None,
+        }
+    }
+}
+
+/// A fault by these limits. Its text names the number that is passed.
+#[derive(Clone, Copy)]
+pub(crate) struct FaultWithin<'a> {
+    fault: &'a WhyFault,
+    limits: Limits,
+}
+
+impl fmt::Display for FaultWithin<'_> {
+    fn fmt<W: fmt::Write>(&self, f: &mut fmt::Formatter<W>) -> fmt::Result {
+        match self.fault {
+            WhyFault::Docket(fault) => write!(f, "{}", fault.within(self.limits)),
+            WhyFault::Records { fault, .. } => write!(f, "{}", fault.within(self.limits)),
+            fault => write!(f, "{fault}"),
         }
     }
 }

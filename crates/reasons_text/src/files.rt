@@ -1,14 +1,15 @@
 //! From the bytes of a docket and of a sheet's file to sentences and rows.
 ghost use Rattle.std.specs.Prelude.{◌≡◌, ◌≢◌, IfErr, OnOk, option_copied};
 ghost use Rattle.reasons_text.specs.Files as spec;
-ghost use Rattle.reasons_text.specs.Files.{AnswersFiles, IsFilesFault};
+ghost use Rattle.reasons_text.specs.Files.{AnswersFiles, AnswersFilesWithin, IsFilesFault, IsFilesFaultWithin};
 ghost use Rattle.reasons_text.specs.Texts.{AppendsText};
 
-use crate::answering::serve_why;
+use crate::answering::serve_why_within;
 use crate::fault::WhyFault;
 use crate::question::Asked;
 use docket::DocketFault;
 use docket_parts::{FileFault, Joined, PartFault, file_fault, join};
+use match_model::Limits;
 use std::alloc::Global;
 use std::io::Write;
 use std::random::RandomSource;
@@ -30,8 +31,9 @@ fn in_its_file(joined: &Joined, fault: WhyFault) -> WhyFault
     }
 }
 
-/// Reads a docket and a sheet, each of its own file and as its own part, and writes why, as `serve_why` does over both. A record
-/// of another part is a fault, and each fault is told in its file. Nothing is written before a fault other than the writer's own.
+/// Reads a docket and a sheet within the standard limits, each of its own file and as its own part, and writes why, as
+/// `serve_why` does over both. A record of another part is a fault, and each fault is told in its file. Nothing is written before
+/// a fault other than the writer's own.
 pub fn serve_why_files<W: Write, H: RandomSource>(
     rt: &H,
     alloc: Global,
@@ -47,13 +49,52 @@ pub fn serve_why_files<W: Write, H: RandomSource>(
     ensures fault { IfErr result (IsFilesFault docket.now sheet.now (option_copied key_bytes.entry) asked.entry) }
     ensures before { IfErr result (λ fault. fault ≢ WhyFault.Docket DocketFault.Write → writer.new ≡ writer.old) }
 {
+    serve_why_files_within(
+        rt,
+        alloc,
+        Limits::Standard,
+        docket,
+        sheet,
+        writer,
+        asked,
+        without_ranks,
+        key_bytes,
+    )
+}
+
+/// Does what `serve_why_files` does, within these limits.
+pub fn serve_why_files_within<W: Write, H: RandomSource>(
+    rt: &H,
+    alloc: Global,
+    limits: Limits,
+    docket: &[u8],
+    sheet: &[u8],
+    writer: &mut W,
+    asked: Asked,
+    without_ranks: bool,
+    key_bytes: Option<&[u8]>,
+) -> Result<(), WhyFault>
+    ensures text { OnOk result (AppendsText (AnswersFilesWithin limits docket.now sheet.now (option_copied key_bytes.entry) asked.entry without_ranks)
+        (W.contents writer.old) (W.contents writer.new)) }
+    ensures fault { IfErr result (IsFilesFaultWithin limits docket.now sheet.now (option_copied key_bytes.entry) asked.entry) }
+    ensures before { IfErr result (λ fault. fault ≢ WhyFault.Docket DocketFault.Write → writer.new ≡ writer.old) }
+{
     let joined = match join(alloc, docket, sheet, &[]) {
         Ok(joined) => joined,
         Err(PartFault::Memory) => return Err(WhyFault::Docket(DocketFault::Memory)),
         Err(fault) => return Err(WhyFault::Part(fault)),
     };
     let text = joined.text.as_slice();
-    match serve_why(rt, alloc, text, writer, asked, without_ranks, key_bytes) {
+    match serve_why_within(
+        rt,
+        alloc,
+        limits,
+        text,
+        writer,
+        asked,
+        without_ranks,
+        key_bytes,
+    ) {
         Ok(()) => Ok(()),
         Err(fault) => Err(in_its_file(&joined, fault)),
     }

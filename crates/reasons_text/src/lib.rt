@@ -26,13 +26,13 @@ mod table;
 #[cfg(test)]
 mod tests;
 
-pub use answering::{push_rows_on, serve_why};
+pub use answering::{push_rows_on, serve_why, serve_why_within};
 pub use answers::Answers;
 pub use case::Case;
 pub use fault::WhyFault;
-pub use files::serve_why_files;
+pub use files::{serve_why_files, serve_why_files_within};
 pub use line::read_line;
-pub use program::tell_words;
+pub use program::{tell_words, tell_words_within};
 pub use program_shell::{LineFault, UsageFault, line_status};
 pub use question::{Asked, Question};
 pub use status::exit_status;

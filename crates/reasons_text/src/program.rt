@@ -1,16 +1,17 @@
 //! The program, over any streams: it answers the question of its words, and its exit status says how that ended.
 ghost use Rattle.std.specs.Prelude.{◌≡◌, ◌≢◌, ◌⊎◌, IfErr, IfOk, IfSome, OnOk, is_some, option_copied};
 ghost use Rattle.std.specs.Process.{exit_status as exit_status_in};
-ghost use Rattle.reasons_text.specs.Program.{AnswersBeside, Ends, EndsTold, FailsBeside, IsAnswered, IsFailed, IsUnreadInput, IsUnreadKey};
+ghost use Rattle.reasons_text.specs.Program.{AnswersBeside, Ends, EndsTold, EndsWithin, FailsBeside, IsAnswered, IsFailed, IsUnreadInput, IsUnreadKey};
 
-use crate::answering::serve_why;
+use crate::answering::serve_why_within;
 use crate::fault::WhyFault;
-use crate::files::serve_why_files;
+use crate::files::serve_why_files_within;
 use crate::line::read_line;
 use crate::question::Question;
 use crate::status::exit_status;
 use docket::DocketFault;
 use docket_parts::Part;
+use match_model::Limits;
 use program_shell::{UsageFault, refuse, texts_of};
 use std::alloc::Global;
 use std::io::{Read, Write};
@@ -76,18 +77,19 @@ fn input_of<R: Read + Drop>(alloc: Global, reader: R) -> Result<Vec<u8>, WhyFaul
     }
 }
 
-// Answers a question over a docket and a sheet's own file.
+// Answers a question over a docket and a sheet's own file, within these limits.
 fn serve_beside<R: Read + Drop, W: Write, H: RandomSource + Files + AllocGlobal>(
     rt: &H,
     alloc: Global,
+    limits: Limits,
     reader: R,
     writer: &mut W,
     question: &Question,
     path: &str,
     key_bytes: Option<&[u8]>,
 ) -> Result<(), WhyFault>
-    ensures answered { OnOk result (AnswersBeside question.now (R.remaining reader) (option_copied key_bytes.entry) (W.contents writer.old) (W.contents writer.new)) }
-    ensures failed { IfErr result (FailsBeside question.now (R.remaining reader) (option_copied key_bytes.entry)) }
+    ensures answered { OnOk result (AnswersBeside limits question.now (R.remaining reader) (option_copied key_bytes.entry) (W.contents writer.old) (W.contents writer.new)) }
+    ensures failed { IfErr result (FailsBeside limits question.now (R.remaining reader) (option_copied key_bytes.entry)) }
     ensures before { IfErr result (λ fault. fault ≢ WhyFault.Docket DocketFault.Write → W.contents writer.new ≡ W.contents writer.old) }
 {
     let sheet = match bytes_of(rt, path, WhyFault::SheetUnread) {
@@ -98,9 +100,10 @@ fn serve_beside<R: Read + Drop, W: Write, H: RandomSource + Files + AllocGlobal>
         Ok(docket) => docket,
         Err(fault) => return Err(fault),
     };
-    serve_why_files(
+    serve_why_files_within(
         rt,
         alloc,
+        limits,
         docket.as_slice(),
         sheet.as_slice(),
         writer,
@@ -110,16 +113,17 @@ fn serve_beside<R: Read + Drop, W: Write, H: RandomSource + Files + AllocGlobal>
     )
 }
 
-// Answers a question.
+// Answers a question within these limits.
 fn serve<R: Read + Drop, W: Write, H: RandomSource + Files + AllocGlobal>(
     rt: &H,
     alloc: Global,
+    limits: Limits,
     reader: R,
     writer: &mut W,
     question: &Question,
 ) -> Result<(), WhyFault>
-    ensures answered { OnOk result (IsAnswered question.now (R.remaining reader) (W.contents writer.old) (W.contents writer.new)) }
-    ensures failed { IfErr result (IsFailed question.now (R.remaining reader) (W.contents writer.old) (W.contents writer.new)) }
+    ensures answered { OnOk result (IsAnswered limits question.now (R.remaining reader) (W.contents writer.old) (W.contents writer.new)) }
+    ensures failed { IfErr result (IsFailed limits question.now (R.remaining reader) (W.contents writer.old) (W.contents writer.new)) }
 {
     let key = match key_of(rt, question) {
         Ok(key) => key,
@@ -127,10 +131,11 @@ fn serve<R: Read + Drop, W: Write, H: RandomSource + Files + AllocGlobal>(
     };
     let key_bytes = lent(&key);
     match question.sheet {
-        Some(path) => serve_beside(rt, alloc, reader, writer, question, path, key_bytes),
-        None => serve_why(
+        Some(path) => { serve_beside(rt, alloc, limits, reader, writer, question, path, key_bytes) }
+        None => serve_why_within(
             rt,
             alloc,
+            limits,
             reader,
             writer,
             question.asked,
@@ -140,19 +145,21 @@ fn serve<R: Read + Drop, W: Write, H: RandomSource + Files + AllocGlobal>(
     }
 }
 
-// Tells why a question wasn't answered. No exit status depends on whether that text could be written.
-fn tell<T: Eprint>(told: &T, question: &Question, fault: &WhyFault) {
+// Tells why a question wasn't answered, by these limits. No exit status depends on whether that text could be written.
+fn tell<T: Eprint>(told: &T, limits: Limits, question: &Question, fault: &WhyFault) {
+    let text = fault.within(limits);
     let _ = match (fault.file(), question.sheet) {
-        (Some(Part::Sheet), Some(path)) => eprintln!(told; "residency: {path}: {fault}"),
-        (Some(_), _) => eprintln!(told; "residency: standard input: {fault}"),
-        (None, _) => eprintln!(told; "residency: {fault}"),
+        (Some(Part::Sheet), Some(path)) => eprintln!(told; "residency: {path}: {text}"),
+        (Some(_), _) => eprintln!(told; "residency: standard input: {text}"),
+        (None, _) => eprintln!(told; "residency: {text}"),
     };
 }
 
-// Answers a question, and tells why it couldn't.
+// Answers a question within these limits, and tells why it couldn't.
 fn serve_and_tell<R, W, T, H>(
     rt: &H,
     alloc: Global,
+    limits: Limits,
     question: &Question,
     reader: R,
     writer: &mut W,
@@ -163,16 +170,16 @@ where
     W: Write,
     T: Eprint,
     H: RandomSource + Files + AllocGlobal,
-    ensures { EndsTold question.now (R.remaining reader) (W.contents writer.old) (W.contents writer.new) (exit_status_in result) }
+    ensures { EndsTold limits question.now (R.remaining reader) (W.contents writer.old) (W.contents writer.new) (exit_status_in result) }
 {
-    let answer = serve(rt, alloc, reader, writer, question);
+    let answer = serve(rt, alloc, limits, reader, writer, question);
     if let Err(fault) = &answer {
-        tell(told, question, fault);
+        tell(told, limits, question, fault);
     }
     ExitCode::from(exit_status(&answer))
 }
 
-/// Answers the question of the words, and gives the exit status. It is 0 for an answer, 1 where memory, reading or writing
+/// Answers the question of the words within the standard limits, and gives the exit status. It is 0 for an answer, 1 where memory, reading or writing
 /// failed, and 2 for a wrong command line. It is 3 for a bad key, and for a docket or a sheet at fault, without a sheet or without
 /// the names.
 ///
@@ -193,12 +200,32 @@ where
     H: RandomSource + Files + AllocGlobal,
     ensures { Ends words (R.remaining reader) (W.contents writer.old) (W.contents writer.new) (exit_status_in result) }
 {
+    tell_words_within(rt, alloc, Limits::Standard, words, reader, writer, told)
+}
+
+/// Does what `tell_words` does, within these limits.
+pub fn tell_words_within<R, W, T, H>(
+    rt: &H,
+    alloc: Global,
+    limits: Limits,
+    words: io::Result<Vec<String>>,
+    reader: R,
+    writer: &mut W,
+    told: &T,
+) -> ExitCode
+where
+    R: Read + Drop,
+    W: Write,
+    T: Print + Eprint,
+    H: RandomSource + Files + AllocGlobal,
+    ensures { EndsWithin limits words (R.remaining reader) (W.contents writer.old) (W.contents writer.new) (exit_status_in result) }
+{
     let texts = match texts_of(words) {
         Ok(texts) => texts,
         Err(fault) => return refuse(told, &fault),
     };
     match read_line(alloc, texts.as_slice()) {
-        Ok(question) => serve_and_tell(rt, alloc, &question, reader, writer, told),
+        Ok(question) => serve_and_tell(rt, alloc, limits, &question, reader, writer, told),
         Err(fault) => refuse(told, &UsageFault::Line(fault)),
     }
 }

@@ -8,16 +8,27 @@ use Rattle.residency.specs.declared.options.Order.{Order}
 use Rattle.residency.specs.declared.status.Status.{Status}
 use Rattle.residency.specs.Line.{Orders, Refuses}
 use Rattle.residency.specs.Options.{IsOrder}
-use Rattle.residency.specs.Serving.{IsAnswerTo}
+use Rattle.match_model.specs.declared.limits.Limits.{Limits}
+use Rattle.match_model.specs.declared.limits.Limits.TheVariants.{Standard}
+use Rattle.residency.specs.Serving.{IsAnswerWithin}
 use Rattle.residency.specs.Status.{exit_status_of}
 
--- an order was served over an input of these bytes, if they are known, and the status is that of the answer
-pub record EndsServing (order : Order) (input old new : Option (List ℕ)) (status : ℕ) : Type 0 where
+-- an order was served within these limits over an input of these bytes, if they are known, and the status is that of the
+-- answer
+pub record EndsServingWithin (limits : Limits) (order : Order) (input old new : Option (List ℕ)) (status : ℕ) : Type 0 where
   pub answer : Result Status ServeFault
-  pub answers : (bytes : List ℕ) → input ≡ Some bytes → IsAnswerTo order bytes old new answer
+  pub answers : (bytes : List ℕ) → input ≡ Some bytes → IsAnswerWithin limits order bytes old new answer
   pub tells : status ≡ exit_status_of answer
 
--- the words order nothing, or their order was served
+-- so within the standard limits
+abbrev pub EndsServing : Order → Option (List ℕ) → Option (List ℕ) → Option (List ℕ) → ℕ → Type 0
+EndsServing order input old new status = EndsServingWithin Standard order input old new status
+
+-- the words order nothing, or their order was served within these limits
+abbrev pub EndsWithin : {A E : Type 0} → Limits → Result (Vec (String A)) E → Option (List ℕ) → Option (List ℕ) → Option (List ℕ) → ℕ → Type 0
+EndsWithin limits words input old new status = EndsRefused Refuses words old new status
+    ⊎ ((order : Order) × IsOrderOf Orders words order × IsOrder order × EndsServingWithin limits order input old new status)
+
+-- the words order nothing, or their order was served within the standard limits
 abbrev pub Ends : {A E : Type 0} → Result (Vec (String A)) E → Option (List ℕ) → Option (List ℕ) → Option (List ℕ) → ℕ → Type 0
-Ends words input old new status = EndsRefused Refuses words old new status
-    ⊎ ((order : Order) × IsOrderOf Orders words order × IsOrder order × EndsServing order input old new status)
+Ends words input old new status = EndsWithin Standard words input old new status

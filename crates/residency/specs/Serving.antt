@@ -11,7 +11,9 @@ use Rattle.residency.specs.declared.options.Order.{Order}
 use Rattle.residency.specs.declared.options.Order.TheVariants.{Match, Audit, Replay}
 use Rattle.docket.specs.Contents.{Contents, ByWorkerParts}
 use Rattle.docket.specs.Whole.{IsByWorker}
-use Rattle.docket.specs.Passes.{first_fault, docket_of}
+use Rattle.match_model.specs.declared.limits.Limits.{Limits}
+use Rattle.match_model.specs.declared.limits.Limits.TheVariants.{Standard}
+use Rattle.docket.specs.Passes.{fault_within, docket_of}
 use Rattle.docket.specs.Texts.{sheet_text, journal_text}
 use Rattle.docket.specs.declared.fault.DocketFault.TheVariants as docket
 use Rattle.audit_text.specs.Serving.{IsWriteFault, WritesReport as TellsReport, WritesReplay as TellsReplay, IsAuditFault as IsReportFault, IsReplayFault as IsAnswerFault}
@@ -82,18 +84,27 @@ IsAuditFault d fault = (told : AnswerFault) × (fault ≡ fault_told told) × Is
 abbrev pub IsReplayFault : Contents → ServeFault → Type 0
 IsReplayFault d fault = (told : AnswerFault) × (fault ≡ fault_told told) × IsAnswerFault d told
 
--- the bytes are a docket of which P holds
+-- the bytes are a docket within these limits, of which P holds
+abbrev pub AreDocketWithin : Limits → (Contents → Type 0) → List ℕ → Type 0
+AreDocketWithin limits P bytes = (fault_within limits bytes ≡ None) × P (docket_of bytes)
+
+-- the bytes are a docket within the standard limits, of which P holds
 abbrev pub AreDocket : (Contents → Type 0) → List ℕ → Type 0
-AreDocket P bytes = (first_fault bytes ≡ None) × P (docket_of bytes)
+AreDocket P bytes = AreDocketWithin Standard P bytes
 
--- the fault is want of memory, the reader's, or the first fault of the bytes
-abbrev pub IsReadFault : List ℕ → ServeFault → Type 0
-IsReadFault bytes (Docket fault) = (fault ≡ docket.Memory) ⊎ (((place : ℕ) × (fault ≡ docket.Read place)) ⊎ (first_fault bytes ≡ Some fault))
-IsReadFault bytes fault = ⊥
+-- the fault is want of memory, the reader's, or the first fault of the bytes within these limits
+abbrev pub IsReadFault : Limits → List ℕ → ServeFault → Type 0
+IsReadFault limits bytes (Docket fault) =
+    (fault ≡ docket.Memory) ⊎ (((place : ℕ) × (fault ≡ docket.Read place)) ⊎ (fault_within limits bytes ≡ Some fault))
+IsReadFault limits bytes fault = ⊥
 
--- the fault came in reading the bytes, or they are a docket with this fault
+-- the fault came in reading the bytes within these limits, or they are a docket with this fault
+abbrev pub IsFaultWithin : Limits → (Contents → ServeFault → Type 0) → List ℕ → ServeFault → Type 0
+IsFaultWithin limits IsFault bytes fault = IsReadFault limits bytes fault ⊎ AreDocketWithin limits (λ d. IsFault d fault) bytes
+
+-- the fault came in reading the bytes within the standard limits, or they are a docket with this fault
 abbrev pub IsFaultOf : (Contents → ServeFault → Type 0) → List ℕ → ServeFault → Type 0
-IsFaultOf IsFault bytes fault = IsReadFault bytes fault ⊎ AreDocket (λ d. IsFault d fault) bytes
+IsFaultOf IsFault bytes fault = IsFaultWithin Standard IsFault bytes fault
 
 -- a fault before which nothing was written: any but the writer's
 abbrev pub IsBeforeWriting : ServeFault → Type 0
@@ -112,8 +123,12 @@ IsOrderFault (Match o) = IsMatchFault o
 IsOrderFault Audit = IsAuditFault
 IsOrderFault Replay = IsReplayFault
 
--- the answer to an order over these bytes: their docket was served, or this is why not; then nothing was written,
--- unless the writer failed
+-- the answer to an order over these bytes within these limits: their docket was served, or this is why not; then nothing
+-- was written, unless the writer failed
+abbrev pub IsAnswerWithin : Limits → Order → List ℕ → Option (List ℕ) → Option (List ℕ) → Result Status ServeFault → Type 0
+IsAnswerWithin limits order bytes old new (Ok status) = AreDocketWithin limits (λ d. Serves order d status old new) bytes
+IsAnswerWithin limits order bytes old new (Err fault) = IsFaultWithin limits (IsOrderFault order) bytes fault × (IsBeforeWriting fault → new ≡ old)
+
+-- the answer to an order over these bytes within the standard limits
 abbrev pub IsAnswerTo : Order → List ℕ → Option (List ℕ) → Option (List ℕ) → Result Status ServeFault → Type 0
-IsAnswerTo order bytes old new (Ok status) = AreDocket (λ d. Serves order d status old new) bytes
-IsAnswerTo order bytes old new (Err fault) = IsFaultOf (IsOrderFault order) bytes fault × (IsBeforeWriting fault → new ≡ old)
+IsAnswerTo order bytes old new answer = IsAnswerWithin Standard order bytes old new answer

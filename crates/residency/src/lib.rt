@@ -18,7 +18,10 @@ pub use audit_text::{write_replay, write_report};
 pub use fault::ServeFault;
 pub use line::read_line;
 pub use options::{JournalForm, MatchOptions, Order};
-pub use program::serve_words;
+pub use program::{serve_words, serve_words_within};
 pub use program_shell::{LineFault, line_status};
-pub use serve::{serve_audit, serve_match, serve_replay};
+pub use serve::{
+    serve_audit, serve_audit_within, serve_match, serve_match_within, serve_replay,
+    serve_replay_within,
+};
 pub use status::{Status, exit_status};

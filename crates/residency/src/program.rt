@@ -1,11 +1,13 @@
 //! The program, over any streams: it serves the order of its words, and its exit status tells how that ended.
 ghost use Rattle.std.specs.Process.{exit_status as exit_status_in};
-ghost use Rattle.residency.specs.Program.{Ends, EndsServing};
+ghost use Rattle.residency.specs.Program.{Ends, EndsWithin, EndsServingWithin};
 
+use crate::fault::ServeFault;
 use crate::line::read_line;
 use crate::options::Order;
-use crate::serve::serve;
+use crate::serve::serve_within;
 use crate::status::exit_status;
+use match_model::Limits;
 use match_pool::OpenGate;
 use program_shell::{UsageFault, refuse, texts_of};
 use std::alloc::Global;
@@ -16,10 +18,19 @@ use std::random::RandomSource;
 use std::sync::Wait;
 use std::thread::Threads;
 
-// Serves an order, or tells why it couldn't. No exit status depends on whether that text could be written.
+// Tells why an order was not served, by these limits. No exit status depends on whether that text could be written.
+fn tell<T: Eprint>(told: &T, limits: Limits, fault: &ServeFault) {
+    let _ = match fault {
+        ServeFault::Docket(fault) => eprintln!(told; "residency: {}", fault.within(limits)),
+        fault => eprintln!(told; "residency: {fault}"),
+    };
+}
+
+// Serves an order within these limits, or tells why it couldn't.
 fn serve_and_tell<R, W, T, H>(
     rt: H,
     alloc: Global,
+    limits: Limits,
     order: &Order,
     reader: R,
     writer: &mut W,
@@ -30,16 +41,16 @@ where
     W: Write,
     T: Eprint,
     H: Threads + Wait + RandomSource + Sync + Send + Copy,
-    ensures { EndsServing order.now (R.remaining reader) (W.contents writer.old) (W.contents writer.new) (exit_status_in result) }
+    ensures { EndsServingWithin limits order.now (R.remaining reader) (W.contents writer.old) (W.contents writer.new) (exit_status_in result) }
 {
-    let answer = serve(rt, alloc, order, reader, writer, &OpenGate);
+    let answer = serve_within(rt, alloc, limits, order, reader, writer, &OpenGate);
     if let Err(fault) = &answer {
-        let _ = eprintln!(told; "residency: {fault}");
+        tell(told, limits, fault);
     }
     ExitCode::from(exit_status(&answer))
 }
 
-/// Serves the order of the words over a reader and a writer, and gives the exit status.
+/// Serves the order of the words within the standard limits over a reader and a writer, and gives the exit status.
 ///
 /// The words are those after the program's own name. Help and the version go to standard output, and why nothing, or
 /// not all, was served goes to standard error. The handle starts the threads of a match, and gives the randomness with
@@ -59,12 +70,32 @@ where
     H: Threads + Wait + RandomSource + Sync + Send + Copy,
     ensures { Ends words (R.remaining reader) (W.contents writer.old) (W.contents writer.new) (exit_status_in result) }
 {
+    serve_words_within(rt, alloc, Limits::Standard, words, reader, writer, told)
+}
+
+/// Does what `serve_words` does, within these limits.
+pub fn serve_words_within<R, W, T, H>(
+    rt: H,
+    alloc: Global,
+    limits: Limits,
+    words: io::Result<Vec<String>>,
+    reader: R,
+    writer: &mut W,
+    told: &T,
+) -> ExitCode
+where
+    R: Read + Drop,
+    W: Write,
+    T: Print + Eprint,
+    H: Threads + Wait + RandomSource + Sync + Send + Copy,
+    ensures { EndsWithin limits words (R.remaining reader) (W.contents writer.old) (W.contents writer.new) (exit_status_in result) }
+{
     let texts = match texts_of(words) {
         Ok(texts) => texts,
         Err(fault) => return refuse(told, &fault),
     };
     match read_line(alloc, texts.as_slice()) {
-        Ok(order) => serve_and_tell(rt, alloc, &order, reader, writer, told),
+        Ok(order) => serve_and_tell(rt, alloc, limits, &order, reader, writer, told),
         Err(fault) => refuse(told, &UsageFault::Line(fault)),
     }
 }

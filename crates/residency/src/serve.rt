@@ -4,7 +4,7 @@ ghost use Rattle.std.specs.List.{All};
 ghost use Rattle.row_writer.specs.RowText.{Adds, Writes};
 ghost use Rattle.docket.specs.Whole.{IsSheetOf, NamesMembers, IsByWorker};
 ghost use Rattle.audit_text.specs.Serving.{IsWriteFault};
-ghost use Rattle.residency.specs.Serving.{WritesMatch, wanted_match, wanted_journal, WritesReport, WritesReplay, IsMatchFault, IsAuditFault, IsReplayFault, AreDocket, IsFaultOf, IsBeforeWriting, IsAnswerTo};
+ghost use Rattle.residency.specs.Serving.{WritesMatch, wanted_match, wanted_journal, WritesReport, WritesReplay, IsMatchFault, IsAuditFault, IsReplayFault, AreDocket, AreDocketWithin, IsFaultOf, IsFaultWithin, IsBeforeWriting, IsAnswerWithin};
 
 use crate::fault::ServeFault;
 use crate::options::{JournalForm, MatchOptions, Order};
@@ -12,11 +12,11 @@ use crate::spent::Spent;
 use crate::status::Status;
 use audit_text::{audit_docket, replay_docket};
 use docket::{
-    ByWorker, Docket, DocketFault, RowWriter, WriteFailed, push_journal, push_sheet, read_docket,
-    room_for_rows,
+    ByWorker, Docket, DocketFault, RowWriter, WriteFailed, push_journal, push_sheet,
+    read_docket_within, room_for_rows,
 };
 use exchange_core::Event;
-use match_model::Assignment;
+use match_model::{Assignment, Limits};
 use match_pool::{Ending, Gate, run};
 use settle_law::law_one_settled;
 use std::alloc::Global;
@@ -153,11 +153,12 @@ fn write_answer<W: Write>(
     }
 }
 
-// Does what `serve_match` promises. `spent` says whether the docket, the mailboxes and the agents are given back or
-// left to the system.
+// Does what `serve_match_within` promises. `spent` says whether the docket, the mailboxes and the agents are given back
+// or left to the system.
 fn match_read<R, W, G, H>(
     rt: H,
     alloc: Global,
+    limits: Limits,
     reader: R,
     writer: &mut W,
     options: &MatchOptions,
@@ -172,11 +173,11 @@ where
     requires { G.MAY_STOP ≡ false }
     ensures status { IfOk result (λ status. status ≡ Status.Closed) }
     ensures text { OnOk result ((bytes : List ℕ) → R.remaining reader ≡ Some bytes
-        → AreDocket (λ d. WritesMatch d options.now (W.contents writer.old) (W.contents writer.new)) bytes) }
-    ensures fault { IfErr result (λ fault. (bytes : List ℕ) → R.remaining reader ≡ Some bytes → IsFaultOf (IsMatchFault options.now) bytes fault) }
+        → AreDocketWithin limits (λ d. WritesMatch d options.now (W.contents writer.old) (W.contents writer.new)) bytes) }
+    ensures fault { IfErr result (λ fault. (bytes : List ℕ) → R.remaining reader ≡ Some bytes → IsFaultWithin limits (IsMatchFault options.now) bytes fault) }
     ensures before { IfErr result (λ fault. IsBeforeWriting fault → writer.new ≡ writer.old) }
 {
-    let docket = match read_docket(&rt, alloc, reader) {
+    let docket = match read_docket_within(&rt, alloc, limits, reader) {
         Ok(docket) => docket,
         Err(fault) => return Err(ServeFault::Docket(fault)),
     };
@@ -185,8 +186,8 @@ where
     answer
 }
 
-/// Reads a docket, runs its exchange to the close by threads, and writes its sheet. If the options want it, the journal
-/// of this very run follows. The gate never stops a run.
+/// Reads a docket within the standard limits, runs its exchange to the close by threads, and writes its sheet. If the
+/// options want it, the journal of this very run follows. The gate never stops a run.
 ///
 /// A sheet or a journal in the docket is read and must be well formed, and isn't used. Nothing is written before the
 /// exchange has closed.
@@ -210,10 +211,44 @@ where
     ensures fault { IfErr result (λ fault. (bytes : List ℕ) → R.remaining reader ≡ Some bytes → IsFaultOf (IsMatchFault options.now) bytes fault) }
     ensures before { IfErr result (λ fault. IsBeforeWriting fault → writer.new ≡ writer.old) }
 {
-    match_read(rt, alloc, reader, writer, options, gate, Spent::GivenBack)
+    serve_match_within(rt, alloc, Limits::Standard, reader, writer, options, gate)
 }
 
-/// Reads a docket, and writes what keeps its sheet from being stable.
+/// Does what `serve_match` does, within these limits.
+pub fn serve_match_within<R, W, G, H>(
+    rt: H,
+    alloc: Global,
+    limits: Limits,
+    reader: R,
+    writer: &mut W,
+    options: &MatchOptions,
+    gate: &G,
+) -> Result<Status, ServeFault>
+where
+    R: Read + Drop,
+    W: Write,
+    G: Gate + Sync,
+    H: Threads + Wait + RandomSource + Sync + Send + Copy,
+    requires { G.MAY_STOP ≡ false }
+    ensures status { IfOk result (λ status. status ≡ Status.Closed) }
+    ensures text { OnOk result ((bytes : List ℕ) → R.remaining reader ≡ Some bytes
+        → AreDocketWithin limits (λ d. WritesMatch d options.now (W.contents writer.old) (W.contents writer.new)) bytes) }
+    ensures fault { IfErr result (λ fault. (bytes : List ℕ) → R.remaining reader ≡ Some bytes → IsFaultWithin limits (IsMatchFault options.now) bytes fault) }
+    ensures before { IfErr result (λ fault. IsBeforeWriting fault → writer.new ≡ writer.old) }
+{
+    match_read(
+        rt,
+        alloc,
+        limits,
+        reader,
+        writer,
+        options,
+        gate,
+        Spent::GivenBack,
+    )
+}
+
+/// Reads a docket within the standard limits, and writes what keeps its sheet from being stable.
 ///
 /// A journal in the docket is read and must be well formed, and isn't used.
 pub fn serve_audit<R: Read + Drop, W: Write, H: RandomSource>(
@@ -227,14 +262,30 @@ pub fn serve_audit<R: Read + Drop, W: Write, H: RandomSource>(
     ensures fault { IfErr result (λ fault. (bytes : List ℕ) → R.remaining reader ≡ Some bytes → IsFaultOf IsAuditFault bytes fault) }
     ensures before { IfErr result (λ fault. IsBeforeWriting fault → writer.new ≡ writer.old) }
 {
-    match read_docket(rt, alloc, reader) {
+    serve_audit_within(rt, alloc, Limits::Standard, reader, writer)
+}
+
+/// Does what `serve_audit` does, within these limits.
+pub fn serve_audit_within<R: Read + Drop, W: Write, H: RandomSource>(
+    rt: &H,
+    alloc: Global,
+    limits: Limits,
+    reader: R,
+    writer: &mut W,
+) -> Result<Status, ServeFault>
+    ensures report { IfOk result (λ status. (bytes : List ℕ) → R.remaining reader ≡ Some bytes
+        → AreDocketWithin limits (λ d. WritesReport d status (W.contents writer.old) (W.contents writer.new)) bytes) }
+    ensures fault { IfErr result (λ fault. (bytes : List ℕ) → R.remaining reader ≡ Some bytes → IsFaultWithin limits IsAuditFault bytes fault) }
+    ensures before { IfErr result (λ fault. IsBeforeWriting fault → writer.new ≡ writer.old) }
+{
+    match read_docket_within(rt, alloc, limits, reader) {
         Ok(docket) => write_audit(alloc, &docket, writer),
         Err(fault) => Err(ServeFault::Docket(fault)),
     }
 }
 
-/// Reads a docket, and writes whether its journal is a good exchange. If it has a sheet, it also writes whether the
-/// exchange gives that sheet.
+/// Reads a docket within the standard limits, and writes whether its journal is a good exchange. If it has a sheet, it also
+/// writes whether the exchange gives that sheet.
 pub fn serve_replay<R: Read + Drop, W: Write, H: RandomSource>(
     rt: &H,
     alloc: Global,
@@ -246,17 +297,34 @@ pub fn serve_replay<R: Read + Drop, W: Write, H: RandomSource>(
     ensures fault { IfErr result (λ fault. (bytes : List ℕ) → R.remaining reader ≡ Some bytes → IsFaultOf IsReplayFault bytes fault) }
     ensures before { IfErr result (λ fault. IsBeforeWriting fault → writer.new ≡ writer.old) }
 {
-    match read_docket(rt, alloc, reader) {
+    serve_replay_within(rt, alloc, Limits::Standard, reader, writer)
+}
+
+/// Does what `serve_replay` does, within these limits.
+pub fn serve_replay_within<R: Read + Drop, W: Write, H: RandomSource>(
+    rt: &H,
+    alloc: Global,
+    limits: Limits,
+    reader: R,
+    writer: &mut W,
+) -> Result<Status, ServeFault>
+    ensures answer { IfOk result (λ status. (bytes : List ℕ) → R.remaining reader ≡ Some bytes
+        → AreDocketWithin limits (λ d. WritesReplay d status (W.contents writer.old) (W.contents writer.new)) bytes) }
+    ensures fault { IfErr result (λ fault. (bytes : List ℕ) → R.remaining reader ≡ Some bytes → IsFaultWithin limits IsReplayFault bytes fault) }
+    ensures before { IfErr result (λ fault. IsBeforeWriting fault → writer.new ≡ writer.old) }
+{
+    match read_docket_within(rt, alloc, limits, reader) {
         Ok(docket) => write_answer(alloc, &docket, writer),
         Err(fault) => Err(ServeFault::Docket(fault)),
     }
 }
 
-/// Serves an order for a program that ends right after it. A match doesn't give back what it used piece by piece: the
-/// system takes it back faster. The gate never stops a run.
-pub fn serve<R, W, G, H>(
+/// Serves an order within these limits, for a program that ends right after it. A match doesn't give back what it used
+/// piece by piece: the system takes it back faster. The gate never stops a run.
+pub fn serve_within<R, W, G, H>(
     rt: H,
     alloc: Global,
+    limits: Limits,
     order: &Order,
     reader: R,
     writer: &mut W,
@@ -268,13 +336,14 @@ where
     G: Gate + Sync,
     H: Threads + Wait + RandomSource + Sync + Send + Copy,
     requires { G.MAY_STOP ≡ false }
-    ensures answer { (bytes : List ℕ) → R.remaining reader ≡ Some bytes → IsAnswerTo order.now bytes (W.contents writer.old) (W.contents writer.new) result }
+    ensures answer { (bytes : List ℕ) → R.remaining reader ≡ Some bytes → IsAnswerWithin limits order.now bytes (W.contents writer.old) (W.contents writer.new) result }
 {
     match order {
         Order::Match(options) => {
             match_read(
                 rt,
                 alloc,
+                limits,
                 reader,
                 writer,
                 options,
@@ -282,7 +351,7 @@ where
                 Spent::LeftToTheSystem,
             )
         }
-        Order::Audit => serve_audit(&rt, alloc, reader, writer),
-        Order::Replay => serve_replay(&rt, alloc, reader, writer),
+        Order::Audit => serve_audit_within(&rt, alloc, limits, reader, writer),
+        Order::Replay => serve_replay_within(&rt, alloc, limits, reader, writer),
     }
 }

@@ -10,7 +10,7 @@ from ..market import Market
 from ..passes import Passes
 from ..records import records
 from ..text import decode
-from . import compare, folder, running, sealing, seal, sheets, stopping, writing
+from . import compare, folder, national, running, sealing, seal, sheets, stopping, writing
 from .cells import DELIMITERS, known_delimiter
 from .faults import MOST_SHOWN, Faults, OfficeError, TablesError, counted, shown
 from .headings import Words
@@ -159,9 +159,10 @@ def tell_docket(data: bytes, label: str, all_of_them: bool) -> int:
     """Tells a docket's faults, one at a time as they are found. A docket without a member has none for the program, and is
     told here, since it is a file that a failed command left empty."""
     more: Dict[str, int] = {}
-    count = 0
+    count, is_over = 0, False
     for fault in Passes().faults(records(data)):
         count += 1
+        is_over = is_over or fault.text.startswith(national.OVER)
         if all_of_them or count <= MOST_SHOWN:
             say(str(fault))
         else:
@@ -169,6 +170,8 @@ def tell_docket(data: bytes, label: str, all_of_them: bool) -> int:
     if more:
         kinds = ", ".join(f"{number:,} {text}" for text, number in sorted(more.items(), key=lambda one: -one[1]))
         say(f"and {sum(more.values()):,} more faults: {kinds} (--all tells each)")
+    if is_over:
+        say(national.line())
     if not count and not any(line[:1] in (b"Q", b"R", b'"') for line in data.removeprefix(b"\xef\xbb\xbf").splitlines()):
         say(f"{label} has no programme and no resident: it is empty, or no docket")
         return 3

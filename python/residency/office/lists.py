@@ -7,6 +7,7 @@ from ..market import Market
 from ..names import PROGRAMME, RESIDENT, Member, Names, docket_names
 from ..near import NearNames, edits, folded
 from ..records import is_name
+from . import national
 from .faults import Faults, counted, place_of, shown
 from .remarks import is_remark
 from .tables import SCIENTIFIC, Entry, Item, Options, Table
@@ -221,7 +222,8 @@ def market_of(programmes: Table, residents: Table, faults: Faults, options: Opti
         note_shared(table)
     pairs = mutual_pairs(programme_lists, resident_lists)
     if pairs > MOST_PAIRS:
-        faults.tell("limit", programmes.name, None, None, f"{pairs:,} pairs rank one another, more than {MOST_PAIRS:,}")
+        hint = national.hint(national.MOST_PAIRS, "pairs")
+        faults.tell("limit", programmes.name, None, None, f"{pairs:,} pairs rank one another, more than {MOST_PAIRS:,}{hint}")
     if len(faults):
         return None
     names = Names([Member(PROGRAMME, made, entry.name, entry.id)

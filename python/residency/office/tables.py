@@ -5,7 +5,7 @@ from dataclasses import dataclass, field
 from typing import Dict, List, NamedTuple, Optional, Set, Tuple
 
 from ..docket import MOST_PLACES, MOST_PROGRAMMES, MOST_RESIDENTS
-from . import sheets
+from . import national, sheets
 from .cells import Cells, Rows, other_mark, rows_of, tidied
 from .faults import Faults, column_letters, counted, shown
 from .headings import Columns, Words, columns_of, plain
@@ -233,7 +233,8 @@ class Members:
             self.by_id[ident] = entry
         self.table.entries.append(entry)
         if len(self.table.entries) == MOST[self.table.owners] + 1:
-            self.tell("limit", number, self.columns.owner, f"more than {MOST[self.table.owners]:,} {self.table.owners}s")
+            hint = national.hint(national.MOST[self.table.owners], f"{self.table.owners}s")
+            self.tell("limit", number, self.columns.owner, f"more than {MOST[self.table.owners]:,} {self.table.owners}s{hint}")
         return entry
 
     def keep(self, number: int, entry: Entry, row: List[str]) -> None:

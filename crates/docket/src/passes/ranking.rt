@@ -75,6 +75,7 @@ fn rank_residents(
     requires kind { kind_of (row_at tables.now k) ≡ PROGRAMME_LIST }
     requires ranked { IsRanked builder.old tables.now (take k tables.now) }
     ensures ranked { OnOk result (IsRanked builder.new tables.now (take (k + 1) tables.now)) }
+    ensures limits { OnOk result (builder.new.limits ≡ builder.old.limits) }
     ensures fault { Answers (ranking_fault tables.now (take k tables.now) (row_at tables.now k)) result }
 {
     let place = tables.place(k);
@@ -99,6 +100,7 @@ fn rank_programmes(
     requires kind { kind_of (row_at tables.now k) ≡ RESIDENT_LIST }
     requires ranked { IsRanked builder.old tables.now (take k tables.now) }
     ensures ranked { OnOk result (IsRanked builder.new tables.now (take (k + 1) tables.now)) }
+    ensures limits { OnOk result (builder.new.limits ≡ builder.old.limits) }
     ensures fault { Answers (ranking_fault tables.now (take k tables.now) (row_at tables.now k)) result }
 {
     let place = tables.place(k);
@@ -123,6 +125,7 @@ fn withdraw_programme(
     requires side { field (row_at tables.now k) 1 ≡ codes "P" }
     requires ranked { IsRanked builder.old tables.now (take k tables.now) }
     ensures ranked { OnOk result (IsRanked builder.new tables.now (take (k + 1) tables.now)) }
+    ensures limits { OnOk result (builder.new.limits ≡ builder.old.limits) }
     ensures fault { Answers (ranking_fault tables.now (take k tables.now) (row_at tables.now k)) result }
 {
     let place = tables.place(k);
@@ -146,6 +149,7 @@ fn withdraw_resident(
     requires side { field (row_at tables.now k) 1 ≡ codes "R" }
     requires ranked { IsRanked builder.old tables.now (take k tables.now) }
     ensures ranked { OnOk result (IsRanked builder.new tables.now (take (k + 1) tables.now)) }
+    ensures limits { OnOk result (builder.new.limits ≡ builder.old.limits) }
     ensures fault { Answers (ranking_fault tables.now (take k tables.now) (row_at tables.now k)) result }
 {
     let place = tables.place(k);
@@ -170,6 +174,7 @@ fn withdraw(
     requires side { field (row_at tables.now k) 1 ≡ side_text side }
     requires ranked { IsRanked builder.old tables.now (take k tables.now) }
     ensures ranked { OnOk result (IsRanked builder.new tables.now (take (k + 1) tables.now)) }
+    ensures limits { OnOk result (builder.new.limits ≡ builder.old.limits) }
     ensures fault { Answers (ranking_fault tables.now (take k tables.now) (row_at tables.now k)) result }
 {
     match side {
@@ -189,6 +194,7 @@ fn rank_row(
     requires place { k < length tables.now }
     requires ranked { IsRanked builder.old tables.now (take k tables.now) }
     ensures ranked { OnOk result (IsRanked builder.new tables.now (take (k + 1) tables.now)) }
+    ensures limits { OnOk result (builder.new.limits ≡ builder.old.limits) }
     ensures fault { Answers (ranking_fault tables.now (take k tables.now) (row_at tables.now k)) result }
 {
     match tables.kind(k) {
@@ -203,6 +209,7 @@ fn rank_row(
 fn rank(alloc: Global, tables: &Tables, builder: &mut InstanceBuilder) -> Result<(), DocketFault>
     requires { IsRanked builder.old tables.now [] }
     ensures ranked { OnOk result (IsRanked builder.new tables.now tables.now) }
+    ensures limits { OnOk result (builder.new.limits ≡ builder.old.limits) }
     ensures fault { Answers (first_from (ranking_fault tables.now) [] tables.now) result }
 {
     let mut residents = Vec::new(alloc);
@@ -222,7 +229,7 @@ fn finished(
     requires { IsRanked builder tables.now tables.now }
     ensures instance { IfOk result (λ made. made.0 ≡ made_of (draft_of tables.now)) }
     ensures lists { IfOk result (λ made. made.1 ≡ lists_if keeps_lists tables.now) }
-    ensures fault { Answers (pairs_fault tables.now) result }
+    ensures fault { Answers (pairs_fault builder.limits tables.now) result }
 {
     let place = tables.len() as u32;
     match builder.finish_with_lists() {
@@ -242,7 +249,7 @@ pub(crate) fn instance_of(
     requires { IsRanked builder tables.now [] }
     ensures instance { IfOk result (λ made. made.0 ≡ made_of (draft_of tables.now)) }
     ensures lists { IfOk result (λ made. made.1 ≡ lists_if keeps_lists tables.now) }
-    ensures fault { Answers (option_or (first_from (ranking_fault tables.now) [] tables.now) (pairs_fault tables.now)) result }
+    ensures fault { Answers (option_or (first_from (ranking_fault tables.now) [] tables.now) (pairs_fault builder.limits tables.now)) result }
 {
     rank(alloc, tables, &mut builder)?;
     finished(builder, tables, keeps_lists)

@@ -1,4 +1,6 @@
 //! Each limit, and one more.
+mod national;
+
 use super::{read, tells};
 use crate::commands::{MATCH, serves};
 use crate::markets::{push_all, push_lists};

@@ -3,7 +3,6 @@ use Rattle.std.specs.List.{All, list_all, sum_by}
 use Rattle.std.specs.Prelude.{Some, false, OnOk, IfOk, IfErr}
 use Rattle.match_model.specs.Draft.{lists_left, are_over, IsGatherFault, AreLists}
 use Rattle.match_model.specs.Owners.{AreOwners, AreRows}
-use Rattle.match_model.specs.declared.limits.TheConstants.{MAX_PAIRS}
 use Rattle.match_model.proofs.Mutual.{left_below, left_distinct}
 use Rattle.match_model.proofs.Entered.{AreRows-owners, made_is}
 use Rattle.match_model.proofs.mutual_parts.mutual.Goals as goal
@@ -37,11 +36,11 @@ returns-clause-within c =
     let left : List (List ℕ) = lists_left c.args.theirs.now c.args.theirs_withdrawn.now in
     let owned : AreOwners (length c.args.mine.now) (length c.args.theirs.now) left c.in_ok-rows.rows.rows = subst (λ (n : ℕ). AreOwners n (length c.args.theirs.now) left c.in_ok-rows.rows.rows) c.len.ensures c.in_ok-rows.ensures in
     let made = made_is c.args.mine.now c.args.theirs.now c.args.mine_withdrawn.now c.args.theirs_withdrawn.now c.in_ok-rows.rows.rows owned in
-    subst (λ (lists : List (List ℕ)). OnOk c.kept_with_ranks.result (are_over (Some MAX_PAIRS) (sum_by length lists) ≡ false)) made c.kept_with_ranks.ensures.within
+    subst (λ (lists : List (List ℕ)). OnOk c.kept_with_ranks.result (are_over (Some c.args.most) (sum_by length lists) ≡ false)) made c.kept_with_ranks.ensures.within
 
 pub returns-clause-cause : goal.returns-clause-cause
 returns-clause-cause c =
     let left : List (List ℕ) = lists_left c.args.theirs.now c.args.theirs_withdrawn.now in
     let owned : AreOwners (length c.args.mine.now) (length c.args.theirs.now) left c.in_ok-rows.rows.rows = subst (λ (n : ℕ). AreOwners n (length c.args.theirs.now) left c.in_ok-rows.rows.rows) c.len.ensures c.in_ok-rows.ensures in
     let made = made_is c.args.mine.now c.args.theirs.now c.args.mine_withdrawn.now c.args.theirs_withdrawn.now c.in_ok-rows.rows.rows owned in
-    subst (λ (lists : List (List ℕ)). IfErr c.kept_with_ranks.result (IsGatherFault (Some MAX_PAIRS) (sum_by length lists))) made c.kept_with_ranks.ensures.cause
+    subst (λ (lists : List (List ℕ)). IfErr c.kept_with_ranks.result (IsGatherFault (Some c.args.most) (sum_by length lists))) made c.kept_with_ranks.ensures.cause

@@ -1,4 +1,4 @@
-use Rattle.std.proofs.Common.{◌≡◌, ℕ, List, ◌<◌, length, get_or, unwrap_or, Option, refl, ap, ◌∙◌}
+use Rattle.std.proofs.Common.{ℕ, List, ◌<◌, length, get_or, unwrap_or, Option, refl, ap, ◌∙◌}
 use Rattle.match_model.proofs.Mutual.{list_all_at}
 use Rattle.match_model.proofs.OfferRanks.{ranks_more, rank_there}
 use Rattle.match_model.specs.Instance.{list_at}

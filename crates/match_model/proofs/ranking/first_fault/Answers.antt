@@ -1,7 +1,6 @@
-use Rattle.std.proofs.Common.{◌≡◌, ℕ, ◌+◌, ◌≤◌, ◌<◌, List, Bool, take, drop, true, false, ◌++◌, ◌∷◌, [], not, ◌&&◌, ltb, get_or, length, sym, ap, ◌∙◌, refl, arith, take-append-drop}
-use Rattle.std.specs.List.{list_all}
+use Rattle.std.proofs.Common.{◌≡◌, ℕ, ◌+◌, ◌<◌, List, Bool, take, drop, true, false, ◌++◌, ◌∷◌, [], not, ◌&&◌, ltb, get_or, sym, ap, ◌∙◌, refl, arith, take-append-drop}
 use Rattle.std.proofs.lemmas.Bool.{lt-ltb}
-use Rattle.std.proofs.lemmas.List.{take_more, take_all, get_or-take, length-take}
+use Rattle.std.proofs.lemmas.List.{take_more, get_or-take, length-take}
 use Rattle.std.proofs.lemmas.List.Folds.{list_all_more}
 use Rattle.match_model.specs.Ranking.{is_listed}
 use Rattle.match_model.specs.Draft.{has_no_repeats}

@@ -1,4 +1,4 @@
-use Rattle.std.proofs.Common.{◌≡◌, ◌∙◌, [], true, false, sym}
+use Rattle.std.proofs.Common.{◌≡◌, ◌∙◌, true, false, sym}
 use Rattle.match_model.specs.Instance.{is_withdrawn}
 use Rattle.match_model.specs.Draft.{given_lists}
 use Rattle.match_model.proofs.Mutual.{given_at}

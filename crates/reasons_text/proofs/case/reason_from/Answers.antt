@@ -8,7 +8,7 @@ use Rattle.reasons_text.proofs.case.reason_from.Goals as goal
 pub new-listed-requires : goal.new-listed-requires
 new-listed-requires c =
     subst (λ (i : Instance). AreWritten i c.args.lists.now) (sym c.instance.ensures.instance)
-    (made_of_lists None c.args.docket.now c.args.lists.now c.requires.case.read)
+    (made_of_lists c.requires.case.limits None c.args.docket.now c.args.lists.now c.requires.case.read)
 
 pub returns : goal.returns
 returns c =

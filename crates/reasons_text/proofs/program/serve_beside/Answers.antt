@@ -10,7 +10,7 @@ returns-clause-answered g c =
       sheet = c.as_slice-2.result.now;
       input_is = rw c.as_slice.ensures.value c.in-Ok-input_of.ensures.bytes;
     } in
-    on_ok_weaker c.serve_why_files.result (λ told. (files, told)) c.serve_why_files.ensures.text
+    on_ok_weaker c.serve_why_files_within.result (λ told. (files, told)) c.serve_why_files_within.ensures.text
 
 pub returns-clause-failed : goal.returns-clause-failed
 returns-clause-failed g c =
@@ -19,4 +19,4 @@ returns-clause-failed g c =
       sheet = c.as_slice-2.result.now;
       input_is = rw c.as_slice.ensures.value c.in-Ok-input_of.ensures.bytes;
     } in
-    IfErr-weaker c.serve_why_files.result _ _ (λ fault holds. inr (inr (files, holds))) c.serve_why_files.ensures.fault
+    IfErr-weaker c.serve_why_files_within.result _ _ (λ fault holds. inr (inr (files, holds))) c.serve_why_files_within.ensures.fault

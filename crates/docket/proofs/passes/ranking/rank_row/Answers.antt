@@ -1,3 +1,4 @@
+use Rattle.std.proofs.Common.{refl}
 use Rattle.docket.specs.Rows.{row_at}
 use Rattle.docket.proofs.KindFacts.{no_list, no_resident, no_withdrawal}
 use Rattle.docket.proofs.RankingFacts.{ranked_other, ranking_fault-other}
@@ -10,5 +11,6 @@ returns-in_default c =
     let gone = no_withdrawal c.kind.result (row_at c.args.tables.now c.args.k) c.in_default.not-Withdrawal c.kind.ensures in
     record {
       ranked = ranked_other c.args.builder.now c.args.tables.now c.args.k c.requires.place list resident gone c.requires.ranked;
+      limits = refl;
       fault = ranking_fault-other c.args.tables.now _ (row_at c.args.tables.now c.args.k) list resident gone;
     }

@@ -4,4 +4,4 @@ use Rattle.match_model.proofs.builder.InstanceBuilder.add_programme.Goals as goa
 
 pub invariant_of-self-in-Ok-add_member : goal.invariant_of-self-in-Ok-add_member
 invariant_of-self-in-Ok-add_member c =
-    rw (c.in_ok-push.ensures.items, c.in-Ok.ensures.items, c.in-Ok-add_member.ensures.added) (IsDraft-with_programme _ _ c.self.invariant (omega arith) (omega arith))
+    rw (c.in_ok-push.ensures.items, c.in-Ok.ensures.items, c.in-Ok-add_member.ensures.added) (IsDraft-with_programme _ _ c.self.invariant (omega (arith, c.if-number-programmes.false, c.programmes.ensures.number, c.len-number.ensures)) (omega arith))

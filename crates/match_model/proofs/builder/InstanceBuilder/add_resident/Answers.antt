@@ -4,4 +4,4 @@ use Rattle.match_model.proofs.builder.InstanceBuilder.add_resident.Goals as goal
 
 pub invariant_of-self-in-Ok : goal.invariant_of-self-in-Ok
 invariant_of-self-in-Ok c =
-    rw (c.in_ok-push.ensures.items, c.in-Ok.ensures.added) (IsDraft-with_resident _ c.self.invariant (omega (arith, c.if-number-ge-MAX_RESIDENTS.false, c.len-number.ensures)))
+    rw (c.in_ok-push.ensures.items, c.in-Ok.ensures.added) (IsDraft-with_resident _ c.self.invariant (omega (arith, c.if-number-residents.false, c.residents.ensures.number, c.len-number.ensures)))

@@ -1,15 +1,17 @@
-use Rattle.std.proofs.Common.{◌≡◌, ◌≤◌, ◌+◌, ℕ, Bool, List, [], length, arith, refl, sym, ap, ◌∙◌, subst, ltb, true}
+use Rattle.std.proofs.Common.{◌≡◌, ◌≤◌, ◌+◌, ℕ, Bool, List, [], length, arith, sym, ap, ◌∙◌, subst, ltb, true}
 use Rattle.std.proofs.lemmas.Bool.{ltb-false}
 use Rattle.std.specs.Prelude.{Option, ◌<◌, ◌⊎◌}
 use Rattle.match_model.specs.declared.fault.ModelFault.{ModelFault}
 use Rattle.match_model.specs.declared.fault.ModelFault.TheVariants.{Memory, TooManyPairs}
 use Rattle.match_model.specs.Instance.{Instance, IsWellFormed, pair_count, list_at}
 use Rattle.std.specs.List.{All, list_all, sum_by}
+use Rattle.match_model.specs.Limits.{most_pairs, IsWithin}
+use Rattle.match_model.proofs.LimitFacts.{programmes_bounded, residents_bounded}
 use Rattle.match_model.specs.RankTable.{AreRankTables, AreListedBack, AreOfferRanks}
 use Rattle.match_model.specs.Rows.{RowLists}
 use Rattle.match_model.specs.declared.limits.TheConstants.{MAX_PAIRS}
 use Rattle.match_model.specs.Draft.{Draft, AreLists, IsFinishFault, instance_of, lists_left, mutual_left, mutual_lists, has_no_repeats}
-use Rattle.match_model.proofs.Kept.{IsWellFormed-instance_of, mutual_in_turn, listed_back}
+use Rattle.match_model.proofs.Kept.{IsWithin-instance_of, IsWellFormed-instance_of, mutual_in_turn, listed_back}
 use Rattle.match_model.proofs.Mutual.{left_below, left_distinct, length-mutual_lists, length-lists_left}
 use Rattle.match_model.proofs.Entered.{mutual_below, mutual_distinct}
 use Rattle.match_model.proofs.Gathered.{same_err, fault_of_most}
@@ -56,7 +58,7 @@ pub mutual_in_turn-requires-clause-few : goal.mutual_in_turn-requires-clause-few
 mutual_in_turn-requires-clause-few c =
     let many = many_rows _ _ _ _ c.in_ok-programmes.programmes c.in_ok-programmes.ensures.lists in
     let each = c.self.invariant.one_list_each in
-    omega (arith, many, each, c.self.invariant.programmes_within)
+    omega (arith, many, each, c.self.invariant.programmes_within, programmes_bounded c.self.inside.limits)
 
 pub mutual_in_turn-requires-clause-lists : goal.mutual_in_turn-requires-clause-lists
 mutual_in_turn-requires-clause-lists c =
@@ -81,7 +83,7 @@ pub offer_ranks-requires-clause-few : goal.offer_ranks-requires-clause-few
 offer_ranks-requires-clause-few c =
     let many = many_rows _ _ _ _ c.in_ok-programmes.programmes c.in_ok-programmes.ensures.lists in
     let each = c.self.invariant.one_list_each in
-    omega (arith, many, each, c.self.invariant.programmes_within)
+    omega (arith, many, each, c.self.invariant.programmes_within, programmes_bounded c.self.inside.limits)
 
 pub offer_ranks-requires-clause-below : goal.offer_ranks-requires-clause-below
 offer_ranks-requires-clause-below c =
@@ -104,10 +106,10 @@ invariant_of-result c =
     let ps = made_ps ∙ programmes in
     let rs = made_rs ∙ residents in
     let parts = same_instance _ _ _ _ _ _ _ _ _ _ (c.in_ok-from_slice.ensures.items ∙ c.deref-4.ensures.value) ps rs (c.in_ok-from_slice-2.ensures.items ∙ c.deref-5.ensures.value) (c.in_ok-from_slice-3.ensures.items ∙ c.deref-6.ensures.value) in
-    let d : Draft = record { quotas = c.self.inside.quotas.items; programme_lists = c.self.inside.programme_lists; resident_lists = c.self.inside.resident_lists; programmes_withdrawn = c.self.inside.programmes_withdrawn.items; residents_withdrawn = c.self.inside.residents_withdrawn.items } in
+    let d : Draft = record { limits = c.self.inside.limits; quotas = c.self.inside.quotas.items; programme_lists = c.self.inside.programme_lists; resident_lists = c.self.inside.resident_lists; programmes_withdrawn = c.self.inside.programmes_withdrawn.items; residents_withdrawn = c.self.inside.residents_withdrawn.items } in
     let same = same_mutual _ _ _ _ _ _ c.deref.ensures.value c.deref-2.ensures.value in
     let made : sum_by (length {A = ℕ}) (mutual_left _ _ _ _) ≡ pair_count (instance_of d) = ap (sum_by (length {A = ℕ})) same in
-    let few : pair_count (instance_of d) ≤ MAX_PAIRS = (let most = ltb-false MAX_PAIRS _ c.in_ok-programmes.ensures.within in omega arith) in
+    let few : pair_count (instance_of d) ≤ MAX_PAIRS = (let most = ltb-false c.pairs.result _ c.in_ok-programmes.ensures.within in omega (arith, most, made, c.pairs.ensures.within)) in
     let all = ap (λ (v : RowLists ℕ). sum_by (length {A = ℕ}) v.rows + length v.begun) c.in_ok-programmes.ensures.lists in
     let counted : c.item_count-pairs.result ≡ pair_count (instance_of d) = omega (arith, c.item_count-pairs.ensures, all, made) in
     record {
@@ -132,11 +134,18 @@ returns-in_err-programmes-clause-cause c =
     let e : ModelFault = c.in_err-programmes.field-0.0 in
     let same = same_mutual _ _ _ _ _ _ c.deref.ensures.value c.deref-2.ensures.value in
     let pairs = ap (sum_by (length {A = ℕ})) same ∙ ap (λ (d : Draft). pair_count (instance_of d)) c.self.view_is in
-    let cause = subst (λ (n : ℕ). (e ≡ Memory) ⊎ ((e ≡ TooManyPairs) × (MAX_PAIRS < n))) pairs (fault_of_most MAX_PAIRS _ e c.in_err-programmes.ensures.cause) in
+    let most = c.pairs.ensures.number ∙ ap (λ (d : Draft). most_pairs d.limits) c.self.view_is in
+    let over = subst (λ (n : ℕ). (e ≡ Memory) ⊎ ((e ≡ TooManyPairs) × (c.pairs.result < n))) pairs (fault_of_most c.pairs.result _ e c.in_err-programmes.ensures.cause) in
+    let cause = subst (λ (m : ℕ). (e ≡ Memory) ⊎ ((e ≡ TooManyPairs) × (m < pair_count (instance_of c.args.self.now)))) most over in
     same_err c.from_residual.result e (IsFinishFault c.args.self.now) c.from_residual.ensures.1 cause
+
+pub mutual-requires-clause-few : goal.mutual-requires-clause-few
+mutual-requires-clause-few c = omega (arith, c.self.invariant.residents_within, residents_bounded c.self.inside.limits)
 
 pub returns-clause-within : goal.returns-clause-within
 returns-clause-within c =
+    let d : Draft = record { limits = c.self.inside.limits; quotas = c.self.inside.quotas.items; programme_lists = c.self.inside.programme_lists; resident_lists = c.self.inside.resident_lists; programmes_withdrawn = c.self.inside.programmes_withdrawn.items; residents_withdrawn = c.self.inside.residents_withdrawn.items } in
     let same = same_mutual _ _ _ _ _ _ c.deref.ensures.value c.deref-2.ensures.value in
-    let pairs = ap (sum_by (length {A = ℕ})) same ∙ ap (λ (d : Draft). pair_count (instance_of d)) c.self.view_is in
-    subst (λ (n : ℕ). n ≤ MAX_PAIRS) pairs (ltb-false MAX_PAIRS _ c.in_ok-programmes.ensures.within)
+    let made : sum_by (length {A = ℕ}) (mutual_left _ _ _ _) ≡ pair_count (instance_of d) = ap (sum_by (length {A = ℕ})) same in
+    let few : pair_count (instance_of d) ≤ most_pairs d.limits = (let most = ltb-false c.pairs.result _ c.in_ok-programmes.ensures.within in omega (arith, most, made, c.pairs.ensures.number)) in
+    subst (λ (b : Draft). IsWithin b.limits (instance_of b)) c.self.view_is (IsWithin-instance_of d c.self.invariant few)

@@ -1,4 +1,4 @@
-use Rattle.reasons_text.proofs.answering.serve_why.Goals as goal
+use Rattle.reasons_text.proofs.answering.serve_why_within.Goals as goal
 
 pub returns-in-Ok-write_all-clause-text : goal.returns-in-Ok-write_all-clause-text
 returns-in-Ok-write_all-clause-text g c = record {

@@ -2,7 +2,7 @@ use Rattle.std.proofs.Common.{inl, inr, refl}
 use Rattle.program_shell.proofs.OfTexts.{fault_of_texts, order_of_texts}
 use Rattle.program_shell.specs.declared.fault.UsageFault.TheVariants.{Line}
 use Rattle.reasons_text.specs.Line.{Asks, Refuses}
-use Rattle.reasons_text.proofs.program.tell_words.Goals as goal
+use Rattle.reasons_text.proofs.program.tell_words_within.Goals as goal
 
 pub returns-in-Ok-read_line : goal.returns-in-Ok-read_line
 returns-in-Ok-read_line g c = inr (

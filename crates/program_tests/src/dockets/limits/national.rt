@@ -1,0 +1,92 @@
+//! The national limits: what is beyond the standard ones, each limit, and one more.
+use super::{ELEVENTH, closes, numbered, ranked};
+use docket::read_docket_within;
+use match_model::Limits;
+use match_pool::OpenGate;
+use residency::{JournalForm, MatchOptions, Status, serve_match_within};
+use std::alloc::{AllocError, Global};
+use std::test::Fail;
+use test_support::randomness::OneByte;
+
+// Whether this is told of a docket that is read within the national limits: its fault, or `read`.
+fn tells(alloc: Global, text: &str, wanted: &str) -> Result<bool, AllocError> {
+    let limits = Limits::National;
+    match read_docket_within(&OneByte(7), alloc, limits, text.as_bytes()) {
+        Ok(_) => Ok(wanted == "read"),
+        Err(fault) => {
+            let told = fault.within(limits).to_string(alloc)?;
+            Ok(told.as_str() == wanted)
+        }
+    }
+}
+
+#[test]
+fn programmes(rt: HostRuntime) -> Result<(), Fail> {
+    for (count, wanted) in [
+        (2_001, "read"),
+        (10_000, "read"),
+        (10_001, "record 10001: more than 10000 programmes"),
+    ] {
+        let text = numbered(rt.alloc(), "Q,p", count, ",10000\n")?;
+        assert!(rt; tells(rt.alloc(), text.as_str(), wanted)?, "{wanted}");
+    }
+    Ok(())
+}
+
+#[test]
+fn residents(rt: HostRuntime) -> Result<(), Fail> {
+    for (count, wanted) in [
+        (20_001, "read"),
+        (100_000, "read"),
+        (100_001, "record 100001: more than 100000 residents"),
+    ] {
+        let text = numbered(rt.alloc(), "R,r", count, "\n")?;
+        assert!(rt; tells(rt.alloc(), text.as_str(), wanted)?, "{wanted}");
+    }
+    Ok(())
+}
+
+#[test]
+fn pairs(rt: HostRuntime) -> Result<(), Fail> {
+    let text = ranked(rt.alloc(), ELEVENTH)?;
+    assert!(rt; tells(rt.alloc(), text.as_str(), "read")?);
+    Ok(())
+}
+
+#[test]
+fn records(rt: HostRuntime) -> Result<(), Fail> {
+    let text = closes(rt.alloc(), 2_000_001)?;
+    assert!(rt; tells(rt.alloc(), text.as_str(), "read")?);
+    Ok(())
+}
+
+// A match by two workers, without a journal.
+const MATCH: MatchOptions = MatchOptions {
+    workers: 2,
+    capacity: exchange_core::Capacity::Full,
+    journal: JournalForm::Absent,
+};
+
+#[test]
+fn matches_beyond_the_standard_limits(rt: HostRuntime) -> Result<(), Fail> {
+    let mut text = numbered(rt.alloc(), "Q,p", 2_001, ",1\n")?;
+    text.push_str("P,p2000,r\nR,r,p2000\n")?;
+    let mut sheet = Vec::new(rt.alloc());
+    let answer = serve_match_within(
+        rt,
+        rt.alloc(),
+        Limits::National,
+        text.as_bytes(),
+        &mut sheet,
+        &MATCH,
+        &OpenGate,
+    );
+    assert!(rt; answer == Ok(Status::Closed));
+    assert!(rt;
+        sheet
+            .as_slice()
+            .starts_with(b"M,r,p2000\nF,p0,0,1\n".as_slice())
+    );
+    assert!(rt; sheet.as_slice().ends_with(b"F,p2000,1,1\n".as_slice()));
+    Ok(())
+}
