@@ -7,3 +7,8 @@ pub mod ServeFacts
 pub mod ReadingFacts
 pub mod OpenFacts
 pub mod TextLaw
+pub mod FieldFacts
+pub mod DigitFacts
+pub mod OpeningFacts
+pub mod PointFacts
+pub mod CheckFacts

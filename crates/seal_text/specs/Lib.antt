@@ -5,3 +5,6 @@ pub mod Sealed
 pub mod Grown
 pub mod Serving
 pub mod Laws
+pub mod Digits
+pub mod Receipt
+pub mod Reasons

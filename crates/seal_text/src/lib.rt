@@ -4,6 +4,7 @@
 //! the work is over their bytes.
 #![tactic(auto)]
 
+mod digits;
 mod fault;
 mod grow;
 mod grown;
@@ -15,6 +16,7 @@ mod opening;
 mod points;
 mod program;
 mod reading;
+mod reasons;
 mod receipt;
 mod receipts;
 mod records;

@@ -1,13 +1,19 @@
 //! The rows of a receipt that tell a root and an opening.
-ghost use Rattle.std.specs.Prelude.{◌≤◌, OnOk, length};
+ghost use Rattle.std.specs.Prelude.{◌≡◌, ◌≢◌, ◌≤◌, ℕ, List, ◌∷◌, [], All, IfOk, MatchOption, MatchResult, OnOk, codes, decimal, drop, length, map};
+ghost use Rattle.csv.specs.Records.{fields_of};
+ghost use Rattle.hex.specs.Hex.{encode_lower};
+ghost use Rattle.docket_parts.specs.Lines.{lines};
+ghost use Rattle.docket_parts.specs.Parts.{Fields};
+ghost use Rattle.seal_text.specs.Receipt.{IfWrong, IsDigest, Opens, TellsRoot, TellsPlace};
+ghost use Rattle.seal_text.specs.Records.{rows_in};
+ghost use Rattle.seal_text.specs.Sealed.{word_of};
 
+use crate::digits::{digest_of, plain_number};
 use crate::leaves::Section;
 use crate::records::{field, has};
 use crate::wrong::{ReceiptFault, Wrong, at};
 use csv::ByteRecord;
-use docket_names::number_of;
 use docket_parts::put_line;
-use hex::FromHex;
 use seal::{leaf_hash, opens};
 use std::alloc::{AllocError, Global};
 
@@ -20,47 +26,48 @@ pub(crate) struct Opened {
     pub(crate) index: usize,
 }
 
-// The number that these digits write, without zeros before it.
-fn plain_number(text: &[u8]) -> Option<usize> {
-    if text.len() > 1 && text[0] == b'0' {
-        return None;
-    }
-    match number_of(text) {
-        Some(number) => Some(number as usize),
-        None => None,
-    }
-}
-
-/// The digest that 64 small hexadecimal digits write.
-pub(crate) fn digest_of(text: &[u8]) -> Option<[u8; 32]> {
-    if text.iter().any(|c| *c < b'a' && *c > b'9') {
-        return None;
-    }
-    match <[u8; 32] as FromHex>::from_hex(text) {
-        Ok(digest) => Some(digest),
-        Err(_) => None,
-    }
-}
-
 // The records, a line each.
-fn text_of(alloc: Global, records: &[ByteRecord]) -> Result<Vec<u8>, AllocError> {
+fn text_of(alloc: Global, records: &[ByteRecord]) -> Result<Vec<u8>, AllocError>
+    ensures { IfOk result (λ text. text.items ≡ lines (rows_in records.now)) }
+{
     let mut text = Vec::new(alloc);
-    for row in records {
-        put_line(&mut text, row)?;
+    for k in 0..records.len() {
+        put_line(&mut text, &records[k])?;
     }
     Ok(text)
 }
 
 // The count in the row of a root, if it is one with this root.
-fn count_in(row: &ByteRecord, section: Section, root: &[u8; 32]) -> Result<usize, Wrong> {
+fn count_in(row: &ByteRecord, section: Section, root: &[u8; 32]) -> Result<usize, Wrong>
+    ensures { MatchResult result
+        (λ count. TellsRoot (word_of section) root.now count (fields_of row.now))
+        (λ _. (count : ℕ) → ¬ TellsRoot (word_of section) root.now count (fields_of row.now)) }
+{
     if row.len() != 3 || !has(row, 0, section.word()) {
         return Err(Wrong::RootRow);
     }
-    match (plain_number(field(row, 1)), digest_of(field(row, 2))) {
-        (Some(count), Some(told)) if told == *root => Ok(count),
-        (Some(_), Some(_)) => Err(Wrong::Root),
-        _ => Err(Wrong::RootRow),
+    let Some(count) = plain_number(field(row, 1)) else {
+        return Err(Wrong::RootRow);
+    };
+    let Some(told) = digest_of(field(row, 2)) else {
+        return Err(Wrong::RootRow);
+    };
+    if told != *root {
+        return Err(Wrong::Root);
     }
+    Ok(count)
+}
+
+// The place in the row of an opening, if it is one.
+fn place_in(row: &ByteRecord, section: Section) -> Option<usize>
+    ensures { MatchOption result
+        ((index : ℕ) → ¬ TellsPlace (word_of section) index (fields_of row.now))
+        (λ index. TellsPlace (word_of section) index (fields_of row.now)) }
+{
+    if !has(row, 0, b"opens") || !has(row, 1, section.word()) {
+        return None;
+    }
+    plain_number(field(row, 2))
 }
 
 // The digests in a record's fields from this one on, if they are some.
@@ -68,7 +75,11 @@ fn digests_from(
     alloc: Global,
     row: &ByteRecord,
     from: usize,
-) -> Result<Option<Vec<[u8; 32]>>, AllocError> {
+) -> Result<Option<Vec<[u8; 32]>>, AllocError>
+    ensures { IfOk result (λ found. MatchOption found
+        ((ds : List (List ℕ)) → All IsDigest ds → drop from (fields_of row.now) ≢ map encode_lower ds)
+        (λ ds. All IsDigest ds.items × (drop from (fields_of row.now) ≡ map encode_lower ds.items))) }
+{
     let mut digests = Vec::new(alloc);
     for i in from..row.len() {
         match digest_of(field(row, i)) {
@@ -87,7 +98,10 @@ pub(crate) fn read_opening(
     rows: &[ByteRecord],
     place: usize,
 ) -> Result<Opened, ReceiptFault>
-    ensures { OnOk result (2 ≤ length rows.now) }
+    ensures long { OnOk result (2 ≤ length rows.now) }
+    ensures opens { MatchResult result
+        (λ told. Opens (word_of section) root.now told.count told.index (rows_in rows.now))
+        (λ fault. IfWrong fault ((count index : ℕ) → ¬ Opens (word_of section) root.now count index (rows_in rows.now))) }
 {
     if rows.len() < 2 {
         return Err(at(place, rows.len(), Wrong::Missing));
@@ -97,10 +111,7 @@ pub(crate) fn read_opening(
         Err(wrong) => return Err(at(place, 0, wrong)),
     };
     let opening = &rows[1];
-    if !has(opening, 0, b"opens") || !has(opening, 1, section.word()) {
-        return Err(at(place, 1, Wrong::OpeningRow));
-    }
-    let Some(index) = plain_number(field(opening, 2)) else {
+    let Some(index) = place_in(opening, section) else {
         return Err(at(place, 1, Wrong::OpeningRow));
     };
     let Some(digests) = digests_from(alloc, opening, 3)? else {

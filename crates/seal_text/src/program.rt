@@ -1,9 +1,9 @@
 //! The program, over any streams: it seals a docket or checks a receipt, and its exit status tells how that ended.
 
+use crate::digits::digest_of;
 use crate::fault::SealFault;
 use crate::line::{Files, Order, Roots, read_line};
 use crate::load::{Loaded, Unread, load, load_input};
-use crate::opening::digest_of;
 use crate::receipt::serve_receipt;
 use crate::serve::{serve_receipts, serve_seal};
 use crate::status::{receipt_status, seal_status};

@@ -1,5 +1,9 @@
 //! Checking a receipt.
-ghost use Rattle.std.specs.Prelude.{◌≡◌, ◌≢◌, ◌≤◌, ◌⊎◌, IfErr, length};
+ghost use Rattle.std.specs.Prelude.{◌≡◌, ◌≢◌, ◌≤◌, IfErr, IfNone, IfOk, IfSome, OnOk, length, option_map};
+ghost use Rattle.csv.specs.Records.{fields_of};
+ghost use Rattle.docket_parts.specs.Lines.{lines};
+ghost use Rattle.seal_text.specs.Receipt.{AreGoodRows, IsGoodReceipt, IsGoodResult, IsGoodResultIf, first_fields};
+ghost use Rattle.seal_text.specs.Records.{rows_in};
 
 use crate::leaves::Section;
 use crate::opening::{Opened, read_opening};
@@ -17,7 +21,9 @@ fn unlike_written(
     alloc: Global,
     bytes: &[u8],
     rows: &[ByteRecord],
-) -> Result<Option<usize>, AllocError> {
+) -> Result<Option<usize>, AllocError>
+    ensures { IfOk result (λ place. IfNone place (bytes.now ≡ lines (rows_in rows.now))) }
+{
     let mut left = bytes;
     for k in 0..rows.len() {
         let mut line = Vec::new(alloc);
@@ -27,38 +33,40 @@ fn unlike_written(
             None => return Ok(Some(k)),
         }
     }
-    Ok(if left.is_empty() {
-        None
-    } else {
-        Some(rows.len())
-    })
+    if left.is_empty() {
+        return Ok(None);
+    }
+    Ok(Some(rows.len()))
 }
 
 // The member of a receipt's first row.
-fn member_of(row: &ByteRecord) -> Option<Member<'_>> {
+fn member_of(row: &ByteRecord) -> Option<Member<'_>>
+    ensures { IfSome result (λ member. fields_of row.now ≡ first_fields member.kind member.name.now) }
+{
     if row.len() != 4 || !has(row, 0, b"receipt") || !has(row, 1, b"1") {
         return None;
     }
     let name = field(row, 3);
-    match field(row, 2) {
-        b"P" => Some(Member {
+    if has(row, 2, b"P") {
+        return Some(Member {
             kind: Kind::Programme,
             name,
-        }),
-        b"R" => Some(Member {
+        });
+    }
+    if has(row, 2, b"R") {
+        return Some(Member {
             kind: Kind::Resident,
             name,
-        }),
-        _ => None,
+        });
     }
+    None
 }
 
-// Where the result begins, or how many rows there are. The first three rows are of the lists.
+// Where the result begins in the rows after the first, or how many they are. The first two of them are of the lists.
 fn result_start(rows: &[ByteRecord]) -> usize
-    ensures within { result ≤ length rows.now }
-    ensures past { (3 ≤ result) ⊎ (result ≡ length rows.now) }
+    ensures { result ≤ length rows.now }
 {
-    for k in 3..rows.len() {
+    for k in 2..rows.len() {
         if has(&rows[k], 0, b"result") {
             return k;
         }
@@ -82,7 +90,9 @@ fn good_result<'a>(
     place: usize,
     good: &Good,
     opened: Opened,
-) -> Result<&'a [ByteRecord], ReceiptFault> {
+) -> Result<&'a [ByteRecord], ReceiptFault>
+    ensures { IfOk result (λ _. IsGoodResult root.now good.now.member.kind good.now.member.name.now good.now.lists.quota.now (option_map (λ row. fields_of row.now) good.now.lists.list) opened.count opened.index (rows_in rows.now)) }
+{
     let told = read_opening(alloc, Section::Outcome, root, rows, place)?;
     if told.count != opened.count {
         return Err(at(place, 0, Wrong::Count));
@@ -90,14 +100,11 @@ fn good_result<'a>(
     if told.index != opened.index {
         return Err(at(place, 1, Wrong::Place));
     }
-    match result_fault(
-        &rows[2..],
-        place.saturating_add(2),
-        good.member,
-        &good.lists,
-    ) {
+    let shown = &rows[2..];
+    let after = place.saturating_add(2);
+    match result_fault(shown, after, good.member, &good.lists) {
         Some(fault) => Err(fault),
-        None => Ok(&rows[2..]),
+        None => Ok(shown),
     }
 }
 
@@ -109,12 +116,17 @@ fn good_result_if<'a>(
     place: usize,
     good: &Good,
     opened: Opened,
-) -> Result<Option<&'a [ByteRecord]>, ReceiptFault> {
-    match root {
-        Some(root) => Ok(Some(good_result(alloc, root, rows, place, good, opened)?)),
-        None if rows.is_empty() => Ok(None),
-        None => Err(at(place, 0, Wrong::Unasked)),
-    }
+) -> Result<Option<&'a [ByteRecord]>, ReceiptFault>
+    ensures { IfOk result (λ _. IsGoodResultIf (option_map (λ root. root.now) root.entry) good.now.member.kind good.now.member.name.now good.now.lists.quota.now (option_map (λ row. fields_of row.now) good.now.lists.list) opened.count opened.index (rows_in rows.now)) }
+{
+    let Some(root) = root else {
+        if rows.is_empty() {
+            return Ok(None);
+        }
+        return Err(at(place, 0, Wrong::Unasked));
+    };
+    let shown = good_result(alloc, root, rows, place, good, opened)?;
+    Ok(Some(shown))
 }
 
 // What a receipt shows of a member, if it is good.
@@ -123,22 +135,26 @@ fn good_receipt<'a>(
     rows: &'a [ByteRecord],
     lists_root: &[u8; 32],
     result_root: Option<&[u8; 32]>,
-) -> Result<Good<'a>, ReceiptFault> {
-    if rows.is_empty() {
-        return Err(at(0, 0, Wrong::Header));
-    }
-    let Some(member) = member_of(&rows[0]) else {
+) -> Result<Good<'a>, ReceiptFault>
+    ensures { IfOk result (λ _. AreGoodRows lists_root.now (option_map (λ root. root.now) result_root.entry) (rows_in rows.now)) }
+{
+    let Some((first, rest)) = rows.split_first() else {
         return Err(at(0, 0, Wrong::Header));
     };
-    let start = result_start(rows);
-    let opened = read_opening(alloc, Section::Lists, lists_root, &rows[1..start], 1)?;
-    let lists = lists_in(&rows[3..start], 3, member)?;
+    let Some(member) = member_of(first) else {
+        return Err(at(0, 0, Wrong::Header));
+    };
+    let start = result_start(rest);
+    let before = &rest[..start];
+    let opened = read_opening(alloc, Section::Lists, lists_root, before, 1)?;
+    let lists = lists_in(&before[2..], 3, member)?;
     let early = Good {
         member,
         lists,
         result: None,
     };
-    let shown = good_result_if(alloc, result_root, &rows[start..], start, &early, opened)?;
+    let place = start.saturating_add(1);
+    let shown = good_result_if(alloc, result_root, &rest[start..], place, &early, opened)?;
     Ok(Good {
         member,
         lists,
@@ -152,7 +168,9 @@ fn words_of(
     bytes: &[u8],
     lists_root: &[u8; 32],
     result_root: Option<&[u8; 32]>,
-) -> Result<Vec<u8>, ReceiptFault> {
+) -> Result<Vec<u8>, ReceiptFault>
+    ensures { OnOk result (IsGoodReceipt lists_root.now (option_map (λ root. root.now) result_root.entry) bytes.now) }
+{
     let rows = read_rows(alloc, bytes)?;
     if let Some(place) = unlike_written(alloc, bytes, rows.as_slice())? {
         return Err(at(place, 0, Wrong::Written));
@@ -175,7 +193,8 @@ pub fn serve_receipt<W: Write>(
     result_root: Option<&[u8; 32]>,
     writer: &mut W,
 ) -> Result<(), ReceiptFault>
-    ensures { IfErr result (λ fault. fault ≢ ReceiptFault.Write → writer.new ≡ writer.old) }
+    ensures good { OnOk result (IsGoodReceipt lists_root.now (option_map (λ root. root.now) result_root.entry) receipt.now) }
+    ensures unwritten { IfErr result (λ fault. fault ≢ ReceiptFault.Write → writer.new ≡ writer.old) }
 {
     let text = words_of(alloc, receipt, lists_root, result_root)?;
     match writer.write_all(text.as_slice()) {

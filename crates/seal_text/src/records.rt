@@ -1,5 +1,6 @@
 //! The records of files, as they were written.
-ghost use Rattle.std.specs.Prelude.{◌≡◌, ℕ, List, [], IfOk, MatchOption, OnOk, Some, bytes_eq, find, map, option_map, slice_get, true, false};
+ghost use Rattle.std.specs.Prelude.{◌≡◌, ℕ, List, [], ◌∷◌, IfOk, MatchOption, OnOk, Some, bytes_eq, find, map, option_map, slice_get, true, false};
+ghost use Rattle.std.specs.Bool.{OnTrue};
 ghost use Rattle.csv.specs.Records.{fields_of};
 ghost use Rattle.docket.specs.Fields.{field as field_in};
 ghost use Rattle.docket_parts.specs.Parts.{rows_of};
@@ -35,6 +36,16 @@ pub(crate) fn has(row: &ByteRecord, i: usize, text: &[u8]) -> bool
     ensures { result ≡ bytes_eq (field_in (fields_of row.now) i) text.now }
 {
     field(row, i) == text
+}
+
+/// Whether the record has just these three fields.
+pub(crate) fn is_triple(row: &ByteRecord, first: &[u8], second: &[u8], third: &[u8]) -> bool
+    ensures { OnTrue result (fields_of row.now ≡ first.now ∷ second.now ∷ third.now ∷ []) }
+{
+    if row.len() == 3 && has(row, 0, first) && has(row, 1, second) && has(row, 2, third) {
+        return true;
+    }
+    false
 }
 
 // Reads the next record, and says whether there was one. A reader of bytes in memory fails for want of memory alone.

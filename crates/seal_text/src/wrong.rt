@@ -1,4 +1,6 @@
 //! What is wrong with a receipt.
+ghost use Rattle.std.specs.Prelude.{◌≡◌};
+ghost use Rattle.seal_text.specs.declared.wrong.ReceiptFault.TheVariants.{Memory};
 
 use std::alloc::AllocError;
 use thiserror::Error;
@@ -77,6 +79,8 @@ pub enum ReceiptFault {
 }
 
 impl From<AllocError> for ReceiptFault {
+    ghost from_gives = { λ _ fault. fault ≡ Memory };
+
     fn from(_error: AllocError) -> ReceiptFault {
         ReceiptFault::Memory
     }

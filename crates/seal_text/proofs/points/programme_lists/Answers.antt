@@ -1,0 +1,26 @@
+use Rattle.std.proofs.Common.{refl, sym, ◌∙◌, ap, List, ◌∷◌, [], Some}
+use Rattle.csv.specs.Records.{Row, fields_of}
+use Rattle.seal_text.specs.Records.{rows_in}
+use Rattle.seal_text.proofs.points.programme_lists.Goals as goal
+
+pub returns-then-is_row_of : goal.returns-then-is_row_of
+returns-then-is_row_of c = record {
+  quota_row = fields_of c.in-Some.first.now;
+  listed = fields_of c.in-Some-split_first.listed.now ∷ [];
+  gone = rows_in c.in-Some-split_first.gone.now;
+  rows_are = ap rows_in c.in-Some.ensures.cases.0 ∙ ap (λ (r : List Row). fields_of c.in-Some.first.now ∷ rows_in r) c.in-Some-split_first.ensures.cases.0;
+  quota_is = rw c.field-quota.ensures c.if-not-is_quota_row.ensures;
+  list_is = (c.if-is_row_of.ensures, refl);
+  gone_is = c.in_ok-withdrawn.ensures;
+}
+
+pub returns : goal.returns
+returns c = record {
+  quota_row = fields_of c.in-Some.first.now;
+  listed = [];
+  gone = rows_in c.in-Some.rest.now;
+  rows_are = ap rows_in c.in-Some.ensures.cases.0;
+  quota_is = rw c.field-quota.ensures c.if-not-is_quota_row.ensures;
+  list_is = refl;
+  gone_is = c.in_ok-withdrawn-2.ensures;
+}
