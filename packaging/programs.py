@@ -14,6 +14,8 @@ PROGRAMS = {
     "residency-seal": "residency_seal",
 }
 OFFICE = "residency-office"
+# A program of the national limits has the words of the one of the standard limits, and its help and version have that one's name.
+CALLED = {"residency-national": "residency", "residency-why-national": "residency-why"}
 
 
 def listed(top: str) -> Dict[str, str]:
@@ -21,3 +23,8 @@ def listed(top: str) -> Dict[str, str]:
     with open(f"{top}/crates.txt") as file:
         crates = {line.split(":")[0].strip() for line in file if ":" in line and not line.startswith("#")}
     return {name: crate for name, crate in PROGRAMS.items() if crate in crates}
+
+
+def called(name: str) -> str:
+    """The name that a program's help and version have."""
+    return CALLED.get(name, name)

@@ -407,7 +407,7 @@ class Limits(Tables):
         rows = [f"Q,p{number},1" for number in range(2001)]
         said = office("lint", self.write("docket.csv", "\n".join(rows)))
         self.assertEqual((said.status, said.out.splitlines()), (3, ["record 2001: more than 2000 programmes", line]), said)
-        for given, wanted in ((rows[:2000], ["no fault"]), ([*rows[:2], "Q,p2,10001"], ["record 3: quota over 10000"])):
+        for given, wanted in ((rows[:2000], ["no fault"]), ([*rows[:2], "Q,p2,10001"], ["record 3: quota over 10000 (cell 3: 10001)"])):
             said = office("lint", self.write("docket.csv", "\n".join(given)))
             self.assertEqual(said.out.splitlines(), wanted, said)
 

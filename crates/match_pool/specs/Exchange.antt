@@ -1,17 +1,70 @@
 -- What stands under the ledger's lock.
 use Rattle.std.specs.Option.{ForSome}
-use Rattle.std.specs.Prelude.{◌≡◌, true, Option}
+use Rattle.std.specs.Prelude.{◌≡◌, ℕ, ◌+◌, Bool, true, Option, Some, None, length, min}
 use Rattle.match_model.specs.Instance.{Instance}
+use Rattle.desk_scheduler.specs.Waits.{Waits, linked_at}
 use Rattle.exchange_core.specs.declared.event.Event.{Event}
+use Rattle.exchange_core.specs.declared.event.Event.TheVariants.{Offer, Take, Answer, Hear, Close}
 use Rattle.exchange_core.specs.declared.event.Capacity.{Capacity}
+use Rattle.exchange_core.specs.declared.event.Refused.TheVariants.{MailboxFull}
 use Rattle.exchange_core.specs.Legal.{MayFollow}
 use Rattle.offer_ledger.specs.Ledger.{Entries}
+use Rattle.offer_ledger.specs.declared.fault.EntryRefused.{EntryRefused}
+use Rattle.offer_ledger.specs.declared.fault.EntryRefused.TheVariants.{Spoiled, Step, PutRefused}
+use Rattle.offer_ledger.specs.declared.fault.PutRefusal.TheVariants.{Full, Gone}
 use Rattle.match_pool.specs.Done.{IsReceipt}
+use Rattle.match_pool.specs.declared.exchange.Entry.{Entry}
+use Rattle.match_pool.specs.declared.exchange.Entry.TheVariants as entry
+use Rattle.match_pool.specs.declared.exchange.Found.{Found}
+use Rattle.match_pool.specs.declared.exchange.Found.TheVariants as found
 
--- the ledger, and the receipt that its core refused, if it refused one
+-- the ledger, the receipt that its core refused, if it refused one, and which desks wait for room
 pub record Exchanged (P Q : Type 0) : Type 0 where
   pub ledger : Entries P Q
   pub out_of_step : Option Event
+  pub waits : Waits
+
+-- what an entry that is made tells: whether its desk's mailbox has more, and whom it woke
+abbrev pub IfMade : Entry → (Bool → Option ℕ → Type 0) → Type 0
+IfMade (entry.Made more woken) told = told more woken
+IfMade other told = Unit {0}
+
+-- what a worker that asked the core for something to do was told, if that is a desk
+abbrev pub IfDesk : {C : Type 0} → Found C → (ℕ → Type 0) → Type 0
+IfDesk (found.Desk desk) property = property desk
+IfDesk other property = Unit {0}
+
+-- what becomes of a put that was refused for this cause
+abbrev pub refused_put : EntryRefused → Entry
+refused_put Spoiled = entry.Ended
+refused_put (Step MailboxFull) = entry.Later
+refused_put (Step cause) = entry.Refused
+refused_put (PutRefused Full) = entry.Missed
+refused_put (PutRefused Gone) = entry.Gone
+
+-- what becomes of a receipt that was refused for this cause. It puts nothing, so that no mailbox refuses it
+abbrev pub refused_receipt : EntryRefused → Entry
+refused_receipt Spoiled = entry.Ended
+refused_receipt (Step cause) = entry.Refused
+refused_receipt (PutRefused cause) = entry.Refused
+
+-- the number of a programme's desk, behind those of the residents
+abbrev pub number_of_programme : Instance → ℕ → ℕ
+number_of_programme inst p = min (length inst.resident_lists + p) 4294967295
+
+-- the number of the desk whose event it is; none of a close
+abbrev pub number_of_desk : Instance → Event → Option ℕ
+number_of_desk inst (Offer p r) = Some (number_of_programme inst p)
+number_of_desk inst (Take r p) = Some r
+number_of_desk inst (Answer r p k) = Some r
+number_of_desk inst (Hear p r k) = Some (number_of_programme inst p)
+number_of_desk inst Close = None
+
+-- an event of this desk may follow
+pub record HasEvent {P Q : Type 0} (inst : Instance) (cap : Capacity) (ledger : Entries P Q) (desk : ℕ) : Type 0 where
+  pub event : Event
+  pub may_follow : MayFollow inst cap ledger.journal event
+  pub of_desk : number_of_desk inst event ≡ Some desk
 
 module _ {P Q : Type 0} where
   -- a ledger that takes no more, and a receipt that may not follow its journal

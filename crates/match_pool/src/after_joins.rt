@@ -1,11 +1,13 @@
 //! What a run gives once its workers are joined, and the room that it reserves for that at its start.
-ghost use Rattle.std.specs.Prelude.{◌≡◌, ◌↔◌, Bool, length, replicate, true, IfOk, IfErr};
+ghost use Rattle.std.specs.Prelude.{◌≡◌, ◌≢◌, ◌↔◌, Bool, None, Some, Err, length, replicate, true, IfOk, IfErr};
 ghost use Rattle.exchange_core.specs.declared.event.Event.{Event};
 ghost use Rattle.exchange_core.specs.Legal.{IsClosed};
 ghost use Rattle.exchange_core.specs.Mail.{takes, hears};
 ghost use Rattle.match_pool.specs.Compare.{AreLogs, AreByResident, AreByProgramme, taken_of, heard_of};
 ghost use Rattle.match_pool.specs.Done.{IsRunOf, AreCounted, IsFault};
 ghost use Rattle.match_pool.specs.Exchange.{IsOutOfStep};
+ghost use Rattle.match_pool.specs.RunState.{fault_of};
+ghost use Rattle.match_pool.specs.declared.fault.RunFault.{RunFault};
 ghost use Rattle.match_pool.specs.declared.fault.RunFault.TheVariants.{Memory};
 
 use crate::compare::{Agents, Logs, compare};
@@ -123,6 +125,8 @@ fn outcome_of<J: ExchangeIdentity + WorkersIdentity, M: Mailboxes, G: Gate>(
     ensures closed { IfOk result (λ outcome. (outcome.1 ≡ Ending.Closed) ↔ IsClosed outcome.0.journal) }
     ensures stopped { IfOk result (λ outcome. outcome.1 ≡ Ending.Stopped → G.MAY_STOP ≡ true) }
     ensures fault { IfErr result (IsFault inst.now J.cap) }
+    ensures told { (fault : RunFault) → fault_of state.now.trouble ≡ Some fault → result ≡ Err fault }
+    ensures refused { exchange.out_of_step ≢ None → IfOk result (λ _. ⊥) }
 {
     match state.trouble() {
         Some(Trouble::Torn(desk)) => return Err(RunFault::Torn(desk)),

@@ -1,7 +1,10 @@
 //! What lies under the ledger's lock: the ledger, and the desks that wait for room in a mailbox.
-ghost use Rattle.std.specs.Prelude.{◌≡◌, None};
+ghost use Rattle.std.specs.Prelude.{◌≡◌, ◌<◌, None, Some, length};
+ghost use Rattle.desk_scheduler.specs.Waits.{linked_at};
+ghost use Rattle.exchange_core.specs.Mail.{answers_wait, offers_wait};
+ghost use Rattle.exchange_core.specs.Shown.{IsCapacity};
 ghost use Rattle.match_pool.specs.Done.{IsReceipt};
-ghost use Rattle.match_pool.specs.Exchange.{IsRefusedForGood};
+ghost use Rattle.match_pool.specs.Exchange.{IfDesk, IfMade, IsRefusedForGood, HasEvent, number_of_desk, number_of_programme, refused_put, refused_receipt};
 ghost use Rattle.offer_ledger.specs.Ledger.{IsRefused};
 
 use crate::mailboxes::Mailboxes;
@@ -25,7 +28,7 @@ impl<J: ExchangeIdentity, M: Mailboxes> Model for Exchange<J, M> {
 
     ghost Value = { Exchanged M.OfferPut M.AnswerPut };
 
-    ghost view = { λ e. record { ledger = e.ledger; out_of_step = e.out_of_step } };
+    ghost view = { λ e. record { ledger = e.ledger; out_of_step = e.out_of_step; waits = e.wait_queues } };
 
     ghost invariant = { λ e. IsRefusedForGood J.inst J.cap e.ledger e.out_of_step };
 }
@@ -76,7 +79,8 @@ impl<J: ExchangeIdentity, M: Mailboxes> Exchange<J, M> {
 
     /// The ledger, and the receipt that its core refused, if it refused one.
     pub(crate) fn into_parts(self) -> (Ledger<J, M::OfferPut, M::AnswerPut>, Option<Event>)
-        ensures { IsRefusedForGood J.inst J.cap result.0 result.1 }
+        ensures refused { IsRefusedForGood J.inst J.cap result.0 result.1 }
+        ensures receipt { result.1 ≡ self.out_of_step }
     {
         let Exchange {
             ledger,
@@ -123,6 +127,9 @@ impl<J: ExchangeIdentity, M: Mailboxes> Exchange<J, M> {
         resident: ResidentNo,
     ) -> Entry
         requires { inst.now ≡ J.inst }
+        ensures more { IfMade result (λ more woken. more ≡ answers_wait programme self.new.ledger.journal) }
+        ensures waits_not { IfMade result (λ more woken. linked_at self.new.waits.mailbox
+            (number_of_programme inst.now programme) ≡ None) }
     {
         let sender = desk_of_programme(inst, programme);
         match self
@@ -150,6 +157,8 @@ impl<J: ExchangeIdentity, M: Mailboxes> Exchange<J, M> {
         kind: AnswerKind,
     ) -> Entry
         requires { inst.now ≡ J.inst }
+        ensures more { IfMade result (λ more woken. more ≡ offers_wait resident self.new.ledger.journal) }
+        ensures waits_not { IfMade result (λ more woken. linked_at self.new.waits.mailbox resident ≡ None) }
     {
         let receiver = desk_of_programme(inst, programme);
         match self
@@ -202,6 +211,7 @@ impl<J: ExchangeIdentity, M: Mailboxes> Exchange<J, M> {
         kind: AnswerKind,
     ) -> Entry
         requires { inst.now ≡ J.inst }
+        ensures { IfMade result (λ more woken. more ≡ answers_wait programme self.new.ledger.journal) }
     {
         match self
             .ledger
@@ -226,7 +236,11 @@ impl<J: ExchangeIdentity, M: Mailboxes> Exchange<J, M> {
 
     // What became of a put that was refused. Its sender waits for room in a mailbox that was full.
     #[cold]
-    fn put_refused(&mut self, refused: EntryRefused, mailbox: u32, sender: u32) -> Entry {
+    fn put_refused(&mut self, refused: EntryRefused, mailbox: u32, sender: u32) -> Entry
+        ensures told { result ≡ refused_put refused }
+        ensures waits { result ≡ Entry.Later → sender < length self.old.waits.mailbox →
+            linked_at self.new.waits.mailbox sender ≡ Some mailbox }
+    {
         match refused {
             EntryRefused::Step(Refused::MailboxFull) => {
                 self.wait_queues.join(mailbox, sender);
@@ -244,6 +258,7 @@ impl<J: ExchangeIdentity, M: Mailboxes> Exchange<J, M> {
     fn receipt_refused(&mut self, refused: EntryRefused, receipt: Event) -> Entry
         requires receipt { IsReceipt receipt }
         requires refused { IsRefused J.inst J.cap self.old.ledger receipt ⊥ ⊥ refused }
+        ensures { result ≡ refused_receipt refused }
     {
         match refused {
             EntryRefused::Spoiled => Entry::Ended,
@@ -258,8 +273,13 @@ impl<J: ExchangeIdentity, M: Mailboxes> Exchange<J, M> {
     }
 
     /// Some event that may follow; where that is the close it is entered, and this is none.
-    pub(crate) fn close_or_find(&mut self, inst: &Instance, tally: &mut Tally<J>) -> Found<J>
+    pub(crate) fn close_or_find(
+        &mut self,
+        inst: &Instance,
+        tally: &mut Tally<J>,
+    ) -> Found<CloseToken<J>>
         requires { inst.now ≡ J.inst }
+        ensures { IsCapacity J.cap → IfDesk result (HasEvent J.inst J.cap self.old.ledger) }
     {
         let Some(event) = self.ledger.core().some_enabled(inst) else {
             return Found::Ended;
@@ -276,9 +296,9 @@ impl<J: ExchangeIdentity, M: Mailboxes> Exchange<J, M> {
 
 /// What a worker finds that asked the core for something to do.
 #[derive(Drop)]
-pub(crate) enum Found<J: ExchangeIdentity> {
+pub(crate) enum Found<C> {
     /// The exchange was at rest, and the close is entered. The end is to be told.
-    Closed(CloseToken<J>),
+    Closed(C),
     /// Nothing is entered any more. Another worker closed or was refused a receipt, and tells the end.
     Ended,
     /// Some event of this desk may follow.
@@ -287,12 +307,16 @@ pub(crate) enum Found<J: ExchangeIdentity> {
 
 /// The number of a programme's desk: residents' desks come first.
 #[inline(always)]
-pub(crate) fn desk_of_programme(inst: &Instance, programme: ProgrammeNo) -> u32 {
+pub(crate) fn desk_of_programme(inst: &Instance, programme: ProgrammeNo) -> u32
+    ensures { result ≡ number_of_programme inst.now programme }
+{
     inst.residents().saturating_add(programme.0)
 }
 
 // The number of the desk whose event this is; none of a close.
-fn desk_of(inst: &Instance, event: Event) -> Option<u32> {
+fn desk_of(inst: &Instance, event: Event) -> Option<u32>
+    ensures { result ≡ number_of_desk inst.now event }
+{
     match event {
         Event::Take { resident, .. } => Some(resident.0),
         Event::Answer { resident, .. } => Some(resident.0),

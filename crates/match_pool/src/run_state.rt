@@ -1,5 +1,5 @@
 //! What lies under the third lock: who has which desk and which may have work, and who told the end of the run.
-ghost use Rattle.std.specs.Prelude.{◌≡◌, true, false};
+ghost use Rattle.std.specs.Prelude.{◌≡◌, Some, true, false, MatchOption};
 ghost use Rattle.match_pool.specs.RunState.{is_told};
 
 use crate::fault::Trouble;
@@ -49,7 +49,10 @@ impl<'a, J: ExchangeIdentity + WorkersIdentity, G: Gate> RunState<'a, J, G> {
     }
 
     /// The run ends for a trouble, of which the first one is kept.
-    pub(crate) fn fail(&mut self, trouble: Trouble) {
+    pub(crate) fn fail(&mut self, trouble: Trouble)
+        ensures { MatchOption self.old.trouble (self.new.trouble ≡ Some trouble)
+            (λ first. self.new.trouble ≡ Some first) }
+    {
         let first = self.trouble.unwrap_or(trouble);
         self.trouble = Some(first);
         self.end();
@@ -58,12 +61,15 @@ impl<'a, J: ExchangeIdentity + WorkersIdentity, G: Gate> RunState<'a, J, G> {
     // No desk comes into a hand any more. Only whoever closed, stopped or failed tells so.
     fn end(&mut self)
         requires { is_told self.old.closed self.old.stopped self.old.trouble ≡ true }
+        ensures { self.new.trouble ≡ self.old.trouble }
     {
         self.shift.end();
     }
 
     /// The trouble that ended the run, if one did.
-    pub(crate) fn trouble(&self) -> Option<Trouble> {
+    pub(crate) fn trouble(&self) -> Option<Trouble>
+        ensures { result ≡ self.now.trouble }
+    {
         self.trouble
     }
 

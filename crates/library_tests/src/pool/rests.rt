@@ -1,17 +1,22 @@
 //! Runs in which all workers but one are held until nothing more happens. Then whatever may happen is in the held
 //! hands.
+ghost use Rattle.std.specs.Prelude.{true, false};
+
 use super::runs::ran_on;
 use crate::exchange::run::Run;
 use crate::instances::{Members, TWO_PLACES, made};
+use crate::markets::made_pairs;
 use exchange_core::{Capacity, Desk, Event};
 use match_model::{Instance, InstanceBuilder, ModelFault, ProgrammeNo, ResidentNo};
-use match_pool::Ending;
+use match_pool::{Ending, Gate, Go};
 use std::alloc::Global;
 use std::sync::Wait;
+use std::sync::atomic::{AtomicBool, AtomicU32, AtomicU64, Ordering};
 use std::test::Fail;
 use std::thread::Threads;
+use std::time::Duration;
 use test_support::events::{DECLINE, HOLD, RELEASE, answer, desk_of, hear, offer, take};
-use test_support::rests::{RestsAfterEntry, RestsInPass};
+use test_support::rests::RestsInPass;
 
 // Two programmes of three and two places, and five residents who like the later one better.
 const FIVE: Members = (
@@ -105,47 +110,6 @@ fn rests_in_pass<R: Threads + Wait + Sync + Send + Copy>(
     Ok((left, true))
 }
 
-// The desk of the last of so many events that one worker made.
-fn last_desk(journal: &[Event], who: &[u8], worker: u8, own: u32) -> Option<Desk> {
-    let mut seen = 0_u32;
-    for (event, by) in journal.iter().zip(who) {
-        if *by == worker {
-            seen = seen.saturating_add(1);
-            if seen == own {
-                return desk_of(event);
-            }
-        }
-    }
-    None
-}
-
-// What a run leaves undone that is in nobody's hands, while the worker that enters the event of this number is held.
-// And whether it was held until the run was at rest.
-fn rests_after_entry<R: Threads + Wait + Sync + Send + Copy>(
-    rt: R,
-    alloc: Global,
-    inst: Instance,
-    workers: usize,
-    place: u64,
-) -> Result<(Option<Event>, bool), Fail> {
-    let cap = Capacity::Full;
-    let gate = RestsAfterEntry::new(rt, place);
-    let Ok(told) = ran_on(rt, alloc, &inst, cap, workers, &gate) else {
-        return Err(Fail::from("a fault of the run"));
-    };
-    let Some(entered) = gate.entered() else {
-        return Ok((None, false));
-    };
-    let held = [
-        last_desk(&told.journal, &told.who, 0, gate.own(0)),
-        last_desk(&told.journal, &told.who, 1, gate.own(1)),
-        last_desk(&told.journal, &told.who, 2, gate.own(2)),
-    ];
-    let events = told.journal.get(..entered as usize).unwrap_or(&[]);
-    let left = left_undone(alloc, inst, cap, events, &held)?;
-    Ok((left, true))
-}
-
 #[test]
 fn no_work_is_left_while_workers_are_held_in_passes(rt: HostRuntime) -> Result<(), Fail> {
     for members in [TWO_PLACES, FIVE] {
@@ -172,15 +136,110 @@ fn no_work_is_left_while_workers_are_held_in_passes(rt: HostRuntime) -> Result<(
     Ok(())
 }
 
+// What a worker is told of next, in a market of pairs through full mailboxes.
+const A_PUT: u32 = 0;
+
+const A_TAKE: u32 = 1;
+
+const A_HEAR: u32 = 2;
+
+const ITS_ANSWER: u32 = 3;
+
+// How many pairs there are, each with four events.
+const PAIRS: u32 = 4;
+
+// How often a gate looks, a millisecond apart, whether what has to come is entered.
+const LOOKS: u32 = 10_000;
+
+// A gate for pairs of a programme with one place and a resident. It holds the worker that is told of the event of one number,
+// from 1, until all is entered that doesn't need its desk.
+#[derive(Drop)]
+struct HoldsTold<R: Wait + Copy> {
+    rt: R,
+    clock: AtomicU64,
+    place: u32,
+    told: AtomicU32,
+    next: [AtomicU32; 3],
+    is_over: AtomicBool,
+}
+
+impl<R: Wait + Copy> HoldsTold<R> {
+    fn new(rt: R, place: u32) -> HoldsTold<R> {
+        HoldsTold {
+            rt,
+            clock: AtomicU64::new(0),
+            place,
+            told: AtomicU32::new(0),
+            next: [
+                AtomicU32::new(A_PUT),
+                AtomicU32::new(A_PUT),
+                AtomicU32::new(A_PUT),
+            ],
+            is_over: AtomicBool::new(false),
+        }
+    }
+
+    // How many events of its pair need a worker that is told of its next event.
+    fn needed(&self, worker: usize) -> u32 {
+        let Some(next) = self.next.get(worker) else {
+            return 0;
+        };
+        let now = next.load(Ordering::SeqCst);
+        next.store(
+            if now == A_TAKE { ITS_ANSWER } else { A_PUT },
+            Ordering::SeqCst,
+        );
+        match now {
+            A_TAKE => 2,
+            A_HEAR | ITS_ANSWER => 0,
+            // an offer, the answer to which only this desk hears
+            _ => 1,
+        }
+    }
+}
+
+impl<R: Wait + Copy + Sync> Gate for HoldsTold<R> {
+    ghost MAY_STOP = { false };
+
+    const MAY_STOP: bool = false;
+
+    fn pass(&self, worker: usize, desk: Desk) -> Go {
+        if let Some(next) = self.next.get(worker) {
+            let receipt = match desk {
+                Desk::Resident(_) => A_TAKE,
+                Desk::Programme(_) => A_HEAR,
+            };
+            next.store(receipt, Ordering::SeqCst);
+        }
+        Go::On
+    }
+
+    fn entered(&self, worker: usize) {
+        let needed = self.needed(worker);
+        if self.told.fetch_add(1, Ordering::SeqCst).saturating_add(1) != self.place {
+            return;
+        }
+        for _ in 0..LOOKS {
+            if self.told.load(Ordering::SeqCst).saturating_add(needed) >= 4 * PAIRS {
+                self.is_over.store(true, Ordering::SeqCst);
+                return;
+            }
+            self.clock
+                .park_timeout(&self.rt, 0, Duration::from_millis(1));
+        }
+    }
+}
+
 #[test]
 fn no_work_is_left_while_a_worker_is_told_of_an_entry(rt: HostRuntime) -> Result<(), Fail> {
+    let inst = made_pairs(rt.alloc(), PAIRS)?;
     for workers in [2, 3] {
-        for place in 1..=18 {
-            let inst = made(rt.alloc(), FIVE)?;
-            let (left, is_held) = rests_after_entry(rt, rt.alloc(), inst, workers, place)?;
+        for place in 1..=4 * PAIRS {
+            let gate = HoldsTold::new(rt, place);
+            let told = ran_on(rt, rt.alloc(), &inst, Capacity::Full, workers, &gate)?;
             assert!(rt;
-                left.is_none() && is_held,
-                "event {place}, {workers} workers: {left:?}"
+                told.ending == Ending::Closed && gate.is_over.load(Ordering::SeqCst),
+                "event {place}, {workers} workers"
             );
         }
     }

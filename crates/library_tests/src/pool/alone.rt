@@ -1,0 +1,172 @@
+//! Runs by one worker: in which order it does what there is to do.
+use super::runs::ran;
+use crate::instances::Members;
+use exchange_core::{Capacity, Event};
+use match_model::{ProgrammeNo, ResidentNo};
+use match_pool::OpenGate;
+use std::test::Fail;
+use test_support::events::{A, B, HOLD, RELEASE, X, Y, Z, answer, offer, take};
+
+// Two pairs of a programme with one place and a resident.
+const TWO_PAIRS: Members = (&[(1, &[0]), (1, &[1])], &[&[0], &[1]]);
+
+#[test]
+fn what_a_visit_woke_comes_before_any_programme(rt: HostRuntime) -> Result<(), Fail> {
+    let told = ran(rt, rt.alloc(), TWO_PAIRS, Capacity::Full, 1, &OpenGate)?;
+    let wanted = [
+        offer(A, X),
+        take(X, A),
+        answer(X, A, HOLD),
+        offer(B, Y),
+        take(Y, B),
+        answer(Y, B, HOLD),
+    ];
+    for (event, other) in told.journal.iter().zip(&wanted) {
+        assert!(rt; event == other, "{event:?} for {other:?}");
+    }
+    assert!(rt; told.journal.len() == 9);
+    Ok(())
+}
+
+// Markets through whose mailboxes of one place a programme waits for room at a resident, while an answer of another one waits
+// at it. When it is called it offers, and then it hears that answer.
+const CALLED: [(Members, Event, Event); 3] = [
+    (
+        (
+            &[(2, &[0, 1]), (2, &[1, 0]), (3, &[1, 0]), (2, &[1, 0])],
+            &[&[1, 0, 3, 2], &[3, 1, 2, 0]],
+        ),
+        Event::Offer {
+            programme: ProgrammeNo(3),
+            resident: X,
+        },
+        Event::Hear {
+            programme: ProgrammeNo(3),
+            resident: Y,
+            kind: HOLD,
+        },
+    ),
+    (
+        (
+            &[(2, &[2, 0, 1]), (2, &[2, 0, 1]), (3, &[0, 1, 2])],
+            &[&[1, 2, 0], &[1, 0, 2], &[0, 1, 2]],
+        ),
+        Event::Offer {
+            programme: ProgrammeNo(2),
+            resident: Z,
+        },
+        Event::Hear {
+            programme: ProgrammeNo(2),
+            resident: Y,
+            kind: RELEASE,
+        },
+    ),
+    (
+        (
+            &[
+                (3, &[1, 2, 0]),
+                (1, &[2, 3, 0]),
+                (1, &[2, 0, 3]),
+                (3, &[3, 0, 2, 1]),
+            ],
+            &[&[1, 0], &[3, 1, 2], &[0, 1, 3], &[1, 3, 0, 2]],
+        ),
+        Event::Offer {
+            programme: ProgrammeNo(3),
+            resident: Z,
+        },
+        Event::Hear {
+            programme: ProgrammeNo(3),
+            resident: ResidentNo(3),
+            kind: RELEASE,
+        },
+    ),
+];
+
+// Whether one event comes right after another.
+fn is_followed(journal: &[Event], first: &Event, next: &Event) -> bool {
+    let mut is_after = false;
+    for event in journal {
+        if is_after && event == next {
+            return true;
+        }
+        is_after = event == first;
+    }
+    false
+}
+
+#[test]
+fn a_called_programme_offers_first_and_hears_then(rt: HostRuntime) -> Result<(), Fail> {
+    for (members, offered, heard) in CALLED {
+        let told = ran(rt, rt.alloc(), members, Capacity::Each(1), 1, &OpenGate)?;
+        assert!(rt;
+            is_followed(&told.journal, &offered, &heard),
+            "{offered:?}, {heard:?}"
+        );
+    }
+    Ok(())
+}
+
+// The same where another programme has used the room before the one that was called comes: it goes on waiting, and hears.
+const REFUSED_AGAIN: [(Members, Event, Event); 2] = [
+    (
+        (
+            &[
+                (3, &[0, 2, 1]),
+                (2, &[1, 2, 0]),
+                (2, &[0, 1, 2]),
+                (2, &[1, 2, 0]),
+                (3, &[2, 1, 0]),
+            ],
+            &[&[4, 1, 3, 0, 2], &[2, 3, 0, 4, 1], &[3, 2, 4, 1, 0]],
+        ),
+        Event::Offer {
+            programme: ProgrammeNo(3),
+            resident: X,
+        },
+        Event::Hear {
+            programme: ProgrammeNo(4),
+            resident: Z,
+            kind: HOLD,
+        },
+    ),
+    (
+        (
+            &[
+                (2, &[1, 2, 0]),
+                (2, &[2, 0, 1]),
+                (2, &[2, 0, 1]),
+                (3, &[2, 1, 0]),
+                (2, &[1, 2, 0]),
+                (3, &[0, 1, 2]),
+            ],
+            &[
+                &[4, 1, 3, 0, 5, 2],
+                &[1, 2, 3, 4, 0, 5],
+                &[3, 2, 4, 1, 5, 0],
+            ],
+        ),
+        Event::Hear {
+            programme: ProgrammeNo(4),
+            resident: X,
+            kind: HOLD,
+        },
+        Event::Hear {
+            programme: ProgrammeNo(3),
+            resident: Z,
+            kind: HOLD,
+        },
+    ),
+];
+
+#[test]
+fn a_called_programme_that_is_refused_hears(rt: HostRuntime) -> Result<(), Fail> {
+    for (members, before, heard) in REFUSED_AGAIN {
+        let told = ran(rt, rt.alloc(), members, Capacity::Each(1), 1, &OpenGate)?;
+        assert!(rt;
+            is_followed(&told.journal, &before, &heard),
+            "{before:?}, {heard:?}"
+        );
+    }
+    Ok(())
+}
