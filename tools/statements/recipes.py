@@ -15,26 +15,26 @@ class Recipe(NamedTuple):
 RECIPES: Dict[str, Recipe] = {
     "row": Recipe("the row `W` of a docket, which withdraws a member", r"\bWITHDRAWAL\b|\b\w*withdrawal_(?:row|fault|kind)\w*|\bWithdrawal\b"
                   r"|\bBadWithdrawal\b|(?<![\w!#\"])W,[PR]\b|\"W\"", [
-        "First its letter, its kind and what it says; then its own fault, and the fault that hangs on rows before it.",
-        "A worked docket for each of its faults goes to `tests/rows/run`, and one with it to `program_tests`.",
+        "First define the row's letter, its kind and its meaning. Then define its own fault, and the fault that depends on earlier rows.",
+        "Add a worked docket for each of its faults to `tests/rows/run`, and a docket with the row to `program_tests`.",
     ]),
     "field": Recipe("the number of workers, which a `C` row may have, and the worker of each event",
                     r"\b\w*by_worker\w*|\b(?:workers|worker|who)_(?:of|in|row|rows)\b|journal-by-worker", [
-        "First what the field says and its fault in the definitions of the row; then what keeps it, and what writes it.",
-        "A docket without the field has to stay as it is: the old worked rows are its test.",
+        "First define the field's meaning and its fault, with the definitions of its row. Then change the code that keeps the field, and the code that writes it.",
+        "A docket without the field has to keep its meaning: the old worked rows test this.",
     ]),
     "fault": Recipe("the fault `bad withdrawal row` of a docket", r"\bBadWithdrawal\b|bad withdrawal", [
-        "First its variant with its text, and the definition that says when it is told. Then the clause that pins it, and the body.",
-        "A fault that reaches a program has an exit status (`residency/src/status.rt`), which README's list has too.",
-        "Where a crate above rests on the fault, an edit that must fail tells another.",
+        "First add the fault's variant with its text, and define when the fault is told. Then change the clause about the fault, and the body.",
+        "A fault that reaches a program has an exit status (`residency/src/status.rt`). The README lists these statuses too.",
+        "If a higher crate relies on the fault, add an edit that must fail and tells another fault.",
     ]),
     "event": Recipe("the event `Hear`", r"/\w*hear\w*[/.]|\bHear\b|\bHEAR\b|\b\w*_hear\b|\bhear_\w+|\bfn hear\b|E,hear|\"hear\"", [
-        "First its variant and the definitions of the core, `exchange_core/specs/Legal` before all; then the laws, and upwards.",
-        "A worked journal with it goes to `library_tests`, and each place where it may not stand to `tests/journals/run`.",
+        "First add the event's variant and change the definitions of the core, `exchange_core/specs/Legal` before all others. Then change the laws, and the higher crates.",
+        "Add a worked journal with the event to `library_tests`, and each place where the event may not stand to `tests/journals/run`.",
     ]),
     "lemma": Recipe("the file of lemmas `exchange_core/proofs/Dues`", r"\bexchange_core\.proofs\.Dues\b|^pub mod Dues$|\bproofs/Dues\b", [
-        "A lemma that two functions need goes into the file of `proofs/` that is about it. A new file begins with a comment on what it has.",
-        "The folder's `Lib` lists the file, and `tools/pages --write` puts it into the map of the crate's README.",
+        "A lemma for two functions goes into the file of `proofs/` with its subject. A new file begins with a comment that says what it has.",
+        "The folder's `Lib` has to list the file. `tools/pages --write` adds the file to the map of the crate's README.",
     ]),
 }
 # Files that are searched, and pages that are made of them or that tell what once was.

@@ -1,4 +1,4 @@
--- What the reading of three files answers, and whom a difference of sheets names.
+-- The answer after three files are read, and that a difference of sheets names a resident.
 use Rattle.std.proofs.Common.{◌≡◌, ◌≢◌, ◌<◌, ℕ, List, Option, Some, None, length, refl, sym, ap, ◌∙◌, inl, inr, slice_get, arith}
 use Rattle.std.specs.Prelude.{◌⊎◌, MatchOption, MatchResult, IfOk, IfErr, Result, Ok, Err}
 use Rattle.std.proofs.lemmas.Bool.{cases_lt}
@@ -17,7 +17,7 @@ use Rattle.docket_parts.specs.Parts.{rows_of, rows_of_all, fault_of_all}
 use Rattle.audit_files.specs.Place.{told}
 use Rattle.audit_files.specs.Answer.{IsDocketIn, HasDocketFault, IsReadingFault, TellsFirst}
 
--- the docket reads records as the files are read
+-- a docket reads its records in the same way as files are read
 rows_same : (bytes : List ℕ) → rows_in bytes ≡ rows_of bytes
 unfolding rows_in rows_of
 rows_same bytes = refl
@@ -40,14 +40,14 @@ fault_read d s j text nd ns e own rows cd cs (inr (inr here)) =
     let same = rows_same text ∙ rows in
     inr (inr (record { own = own; first = e; is_first = inr (ap fault_of (sym same) ∙ here); is_told = rw (cd, cs) refl }))
 
--- two assignments of one length differ within it
+-- two assignments of the same length differ within it
 pub differs_within : (m n : List (Option ℕ)) (size r : ℕ) → length m ≡ size → length n ≡ size → IsFirstDifference m n r → r < size
 differs_within m n size r a b diff = elim (cases_lt r size) [
   | inl below ↦ below
   | inr past ↦ absurd (diff.differs (slice_get_past m r (omega (arith, a, past)) ∙ sym (slice_get_past n r (omega (arith, b, past)))))
 ]
 
--- the first resident at whom a docket's sheet differs is a resident
+-- the first resident for whom a docket's sheet differs is a resident of the docket
 pub unlike_is_resident : (d : Contents) (sheet : List (Option ℕ)) (first : Option ℕ) (r : ℕ) → IsWhole d → Some sheet ≡ d.sheet
     → MatchOption first (IsSettled d.instance sheet) (IsUnlikeResult d.instance sheet) → first ≡ Some r → IsResident d.instance r
 unlike_is_resident d sheet (Some q) r whole is unlike same =
@@ -57,12 +57,12 @@ unlike_is_resident d sheet (Some q) r whole is unlike same =
     rw (← it) (differs_within sheet unlike.0 (length d.instance.resident_lists) q entries settled unlike.2)
 unlike_is_resident d sheet None r whole is unlike same = absurd (cc same)
 
--- what is told of one sheet of a docket is told of its sheet
+-- an answer about one sheet of a docket is an answer about its sheet
 pub tells_first : (d : Contents) (sheet : List (Option ℕ)) (first : Option ℕ) → Some sheet ≡ d.sheet
     → MatchOption first (IsSettled d.instance sheet) (IsUnlikeResult d.instance sheet) → TellsFirst d first
 tells_first d sheet first is unlike other has = let same : sheet ≡ other = cc (is, has) in rw same at unlike
 
--- what is told of an answer at Ok and at a fault, before which a writer may have stayed as it was
+-- what an answer says on Ok and on a fault; before a fault the writer may be unchanged
 pub answered : {W T E C : Type 0} (contents : W → C) (old new : W) (r : Result T E) (P : T → Type 0) (Q B : E → Type 0) → IfOk r P → IfErr r Q
     → IfErr r (λ e. B e → new ≡ old) → MatchResult r P (λ e. Q e × (B e → contents new ≡ contents old))
 answered contents old new (Ok x) P Q B p q s = p

@@ -1,4 +1,4 @@
--- How a text grows by row after row.
+-- How a text grows row by row.
 use Rattle.std.proofs.Common.{add-one, ◌≡◌, ◌+◌, ℕ, List, Bool, ◌++◌}
 use Rattle.std.specs.Global.{Vec}
 use Rattle.docket_parts.specs.Lines.{Grows}
@@ -19,7 +19,7 @@ pub withdrawn_none : (side : List ℕ) (name : ℕ → List ℕ) (flags : List B
 unfolding withdrawn_rows
 withdrawn_none side name flags a = grows_none a
 
--- the row of a member more
+-- the row of one more member
 pub withdrawn_more : (side : List ℕ) (name : ℕ → List ℕ) (flags : List Bool) (n : ℕ) (a b c : Vec ℕ)
     → Grows a b (withdrawn_rows side name flags n) → Grows b c (withdrawn_row side name flags n) → Grows a c (withdrawn_rows side name flags (n + 1))
 unfolding withdrawn_rows

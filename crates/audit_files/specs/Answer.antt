@@ -1,4 +1,4 @@
--- What an audit over files answers, each file read as its own part.
+-- What an audit over files answers. Each file is read as its own part.
 use Rattle.std.specs.Prelude.{◌≡◌, ◌⊎◌, ℕ, ◌++◌, [], Bool, true, false, Option, Some, None, List, MatchOption, unwrap_or, length, ⊤}
 use Rattle.settle_law.specs.Stable.{IsSettled}
 use Rattle.match_audit.specs.Result.{IsUnlikeResult}
@@ -18,62 +18,63 @@ use Rattle.audit_files.specs.declared.fault.FilesFault.TheVariants as files
 use Rattle.audit_files.specs.declared.serve.Verdict.{Verdict}
 use Rattle.audit_files.specs.declared.serve.Verdict.TheVariants.{Good, Bad}
 
--- each record of the three files is of its file's part, and the records, one file after another, are a docket without a
--- fault, which is this one
+-- Each record of the three files belongs to its file's part. All records, one file after another, are this docket,
+-- without a fault.
 pub record IsDocketIn (docket sheet journal : List ℕ) (d : Contents) : Type 0 where
   pub own : fault_of_all docket sheet journal ≡ None
   pub sound : fault_of (rows_of_all docket sheet journal) ≡ None
   pub docket_is : d ≡ contents_of (rows_of_all docket sheet journal)
 
--- the fault of records that are all of their file's part is the first that a docket of them has, told in its file; or the
--- runtime had no randomness to read with
+-- Each record belongs to its file's part. The fault is the first that a docket of these records has, told with its
+-- file; or the machine had no randomness for the reader.
 pub record HasDocketFault (docket sheet journal : List ℕ) (fault : FilesFault) : Type 0 where
   pub own : fault_of_all docket sheet journal ≡ None
   pub first : DocketFault
   pub is_first : ((place : ℕ) × (first ≡ Read place)) ⊎ (fault_of (rows_of_all docket sheet journal) ≡ Some first)
   pub is_told : fault ≡ told (length (rows_of docket)) (length (rows_of sheet)) first
 
--- the fault is the first record of another part, or of none
+-- the fault is the first record that belongs to another part or to none
 pub record HasPartFault (docket sheet journal : List ℕ) (fault : FilesFault) : Type 0 where
   pub first : PartFault
   pub is_first : fault_of_all docket sheet journal ≡ Some first
   pub is_told : fault ≡ files.Part first
 
--- why three files are no docket: memory failed, a record belongs to another part or to none, or the records have a fault
+-- why three files are no docket: memory ran out, a record belongs to another part or to none, or the records have a
+-- fault
 abbrev pub IsReadingFault : List ℕ → List ℕ → List ℕ → FilesFault → Type 0
 IsReadingFault docket sheet journal fault =
     (fault ≡ files.Memory) ⊎ (HasPartFault docket sheet journal fault ⊎ HasDocketFault docket sheet journal fault)
 
--- none where the docket's sheet is the match's result, or else the first resident at whom it differs
+-- none if the docket's sheet is the match's result; else the first resident for whom the sheet differs
 abbrev pub TellsFirst : Contents → Option ℕ → Type 0
 TellsFirst d first =
     (sheet : List (Option ℕ)) → d.sheet ≡ Some sheet →
     MatchOption first (IsSettled d.instance sheet) (IsUnlikeResult d.instance sheet)
 
--- where there is a journal's file, the rows of its replay follow
+-- with a journal's file, the rows of its replay follow
 abbrev pub Replays : Contents → Option (List ℕ) → List ℕ → Option Status → List ℕ → Type 0
 Replays d None before status after = (status ≡ None) × (after ≡ before)
 Replays d (Some bytes) before None after = ⊥
 Replays d (Some bytes) before (Some status) after = WritesReplay d status (Some before) (Some after)
 
--- whether a replay was good, or none was wanted
+-- whether a replay was good, or was not wanted
 abbrev pub verdict_on_replay : Option Status → Verdict
 verdict_on_replay None = Good
 verdict_on_replay (Some ReplayGood) = Good
 verdict_on_replay (Some status) = Bad
 
--- good where the sheet is the result, and so the replay
+-- good if the sheet is the result and the replay is good
 abbrev pub verdict_on_result : Option ℕ → Option Status → Verdict
 verdict_on_result None replayed = verdict_on_replay replayed
 verdict_on_result (Some r) replayed = Bad
 
--- good where the sheet is stable, and so all else
+-- good if the sheet is stable and all else is good
 abbrev pub verdict_of : Status → Option ℕ → Option Status → Verdict
 verdict_of Stable first replayed = verdict_on_result first replayed
 verdict_of audited first replayed = Bad
 
--- what is told of a docket after a text: the rows of an audit, whether the sheet is the result, and the rows of a replay
--- where there is a journal
+-- What is added to a text about a docket: the rows of the audit, whether the sheet is the result, and with a journal
+-- the rows of the replay.
 pub record Tells (d : Contents) (journal : Option (List ℕ)) (start : List ℕ) (verdict : Verdict) (text : List ℕ) : Type 0 where
   pub audited : Status
   pub after_audit : List ℕ
@@ -84,26 +85,27 @@ pub record Tells (d : Contents) (journal : Option (List ℕ)) (start : List ℕ)
   pub replay : Replays d journal (after_audit ++ result_row d first) replayed text
   pub verdict_is : verdict ≡ verdict_of audited first replayed
 
--- the text is all that is told of the docket that the files say, after the facts where they are wanted
+-- The text has all rows about the docket in the files. The facts come first if they are wanted.
 pub record AnswersFiles (wants_facts : Bool) (docket sheet : List ℕ) (journal : Option (List ℕ)) (verdict : Verdict) (text : List ℕ) : Type 0 where
   pub d : Contents
   pub read : IsDocketIn docket sheet (unwrap_or journal []) d
   pub tells : Tells d journal (facts_if wants_facts d docket sheet journal) verdict text
 
--- why not all was told of a docket: it has no sheet, or no journal, or memory failed
+-- why the answer about a docket is not whole: it has no sheet or no journal, or memory ran out
 abbrev pub IsAnswerFault : Contents → FilesFault → Type 0
 IsAnswerFault d files.NoSheet = d.sheet ≡ None
 IsAnswerFault d files.NoJournal = d.journal ≡ None
 IsAnswerFault d files.Memory = ⊤
 IsAnswerFault d fault = ⊥
 
--- the files say a docket, and this is why not all was told of it
+-- the files are a docket, and this is why the answer about it is not whole
 pub record StopsAtDocket (docket sheet journal : List ℕ) (fault : FilesFault) : Type 0 where
   pub d : Contents
   pub read : IsDocketIn docket sheet journal d
   pub fault_is : IsAnswerFault d fault
 
--- why nothing, or not all, was written: the files are no docket, the docket lacks something, or the writer failed
+-- Why nothing was written, or not all of it. Either the files are no docket, or the docket lacks something, or the
+-- writer failed.
 abbrev pub IsServingFault : List ℕ → List ℕ → Option (List ℕ) → FilesFault → Type 0
 IsServingFault docket sheet journal fault =
     (fault ≡ files.Write) ⊎ (IsReadingFault docket sheet (unwrap_or journal []) fault ⊎ StopsAtDocket docket sheet (unwrap_or journal []) fault)

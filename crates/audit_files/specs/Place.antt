@@ -1,4 +1,4 @@
--- In which file a fault of the joined records is told, and at which of its records.
+-- Which file a fault of the joined records is in, and at which of the file's records.
 use Rattle.std.specs.Prelude.{ℕ, Option, Some, None}
 use Rattle.docket.specs.declared.fault.DocketFault.{DocketFault}
 use Rattle.docket.specs.declared.fault.DocketFault.TheVariants.{Read, TooManyRecords, UnknownKind, FieldCount, BadName, BadQuota, DeclaredTwice, UnknownName, Model, BadEvent, BadSheet, Memory, Write, BadVersion, BadWithdrawal}
@@ -7,16 +7,16 @@ use Rattle.docket_parts.specs.Place.{file_fault}
 use Rattle.audit_files.specs.declared.fault.FilesFault.{FilesFault}
 use Rattle.audit_files.specs.declared.fault.FilesFault.TheVariants as files
 
--- a fault that is of no record
+-- a fault without a record
 abbrev pub unplaced : DocketFault → FilesFault
 unplaced Memory = files.Memory
 unplaced fault = files.Write
 
--- a fault in its file and at its place there, where it has a place
+-- a fault, with its file and its place there if it has a record
 abbrev pub placed : DocketFault → Option FileFault → FilesFault
 placed fault None = unplaced fault
 placed fault (Some there) = files.Docket there.file there.fault
 
--- a fault of the joined records, where a docket and a sheet have so many records
+-- a fault of the joined records; the docket and the sheet have these numbers of records
 abbrev pub told : ℕ → ℕ → DocketFault → FilesFault
 told docket sheet fault = placed fault (file_fault docket sheet fault)

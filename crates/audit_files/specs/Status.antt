@@ -1,4 +1,4 @@
--- With which status the program ends, and what it wrote.
+-- The exit status of the program, and what it wrote.
 use Rattle.std.specs.Prelude.{◌≡◌, ◌≢◌, ◌⊎◌, ℕ, Bool, Option, Result, Ok, Err, IfErr, List, MatchResult, String}
 use Rattle.std.specs.Global.{Vec}
 use Rattle.std.specs.Io.KnownBytes.{Appends}
@@ -13,13 +13,13 @@ use Rattle.audit_files.specs.declared.fault.FilesFault.TheVariants.{Part, Docket
 use Rattle.audit_files.specs.declared.serve.Verdict.{Verdict}
 use Rattle.audit_files.specs.declared.serve.Verdict.TheVariants.{Good, Bad}
 
--- 3 where a record belongs elsewhere, 1 where memory failed
+-- 3 if a record belongs elsewhere; 1 if memory ran out
 abbrev pub part_status_of : PartFault → ℕ
 part_status_of (part.AnotherPart file place) = 3
 part_status_of (part.UnknownKind file place) = 3
 part_status_of part.Memory = 1
 
--- 3 where a file is at fault, 1 where memory, the reader or the writer failed
+-- 3 if a file is at fault; 1 if memory, the reader or the writer failed
 abbrev pub fault_status_of : FilesFault → ℕ
 fault_status_of (Part fault) = part_status_of fault
 fault_status_of (Docket file fault) = docket_status_of fault
@@ -28,24 +28,24 @@ fault_status_of NoJournal = 3
 fault_status_of Memory = 1
 fault_status_of Write = 1
 
--- 0 where all is good, 4 where something isn't
+-- 0 if all is good; 4 if something is not
 abbrev pub exit_status_of : Result Verdict FilesFault → ℕ
 exit_status_of (Ok Good) = 0
 exit_status_of (Ok Bad) = 4
 exit_status_of (Err fault) = fault_status_of fault
 
--- the words order nothing: nothing was written, and the status tells why
+-- the words give no order, nothing was written, and the status tells why
 pub record EndsRefused (old new : Option (List ℕ)) (status : ℕ) : Type 0 where
   pub fault : UsageFault
   pub nothing : new ≡ old
   pub tells : IsRefusedStatus fault status
 
--- a file couldn't be read: nothing was written, and the status is 1
+-- a file could not be read, nothing was written, and the status is 1
 pub record EndsUnread (old new : Option (List ℕ)) (status : ℕ) : Type 0 where
   pub nothing : new ≡ old
   pub tells : status ≡ 1
 
--- the files gave these bytes, and of them all was written, or this is why not; the status tells which
+-- The files have these bytes. Either the whole answer was written, or this is why not. The status tells which.
 pub record EndsServed (old new : Option (List ℕ)) (status : ℕ) : Type 0 where
   pub wants_facts : Bool
   pub docket : List ℕ
@@ -57,7 +57,7 @@ pub record EndsServed (old new : Option (List ℕ)) (status : ℕ) : Type 0 wher
       (λ fault. IsServingFault docket sheet journal fault × (fault ≢ Write → new ≡ old))
   pub tells : status ≡ exit_status_of answer
 
--- more than one file is to be standard input: nothing was written, and the status is 2
+-- more than one file should come from standard input; nothing was written, and the status is 2
 pub record EndsTwice (old new : Option (List ℕ)) (status : ℕ) : Type 0 where
   pub nothing : new ≡ old
   pub tells : status ≡ 2

@@ -1,4 +1,4 @@
-//! The facts of the files: their digests, how many members there are, and who is withdrawn.
+//! The facts about the files: their digests, the numbers of members, and the withdrawn members.
 ghost use Rattle.std.specs.Prelude.{◌≡◌, ◌≤◌, ◌++◌, OnOk, option_copied, codes, length};
 ghost use Rattle.docket_parts.specs.Lines.{Grows};
 ghost use Rattle.match_model.specs.Instance.{IsProgramme, IsResident};
@@ -25,7 +25,7 @@ fn put_digest(
     put_long_row(text, b"H", part, digits.as_bytes())
 }
 
-// Adds the digest of the journal's file, where there is one.
+// Adds the digest of the journal's file, if there is one.
 fn put_journal_digest(
     alloc: Global,
     text: &mut Vec<u8>,
@@ -39,7 +39,7 @@ fn put_journal_digest(
     }
 }
 
-// Adds how many members there are.
+// Adds the numbers of members.
 fn put_members(text: &mut Vec<u8>, docket: &Docket) -> Result<(), AllocError>
     ensures { OnOk result (Grows text.old text.new (spec.members_row docket.now)) }
 {
@@ -49,7 +49,7 @@ fn put_members(text: &mut Vec<u8>, docket: &Docket) -> Result<(), AllocError>
     put_long_row(text, b"T", programmes.as_bytes(), residents.as_bytes())
 }
 
-// Adds the row of a programme that is withdrawn.
+// Adds the row of a programme, if it is withdrawn.
 fn put_programme(
     text: &mut Vec<u8>,
     docket: &Docket,
@@ -66,7 +66,7 @@ fn put_programme(
     }
 }
 
-// Adds the row of a resident that is withdrawn.
+// Adds the row of a resident, if the resident is withdrawn.
 fn put_resident(text: &mut Vec<u8>, docket: &Docket, resident: ResidentNo) -> Result<(), AllocError>
     requires { IsResident docket.now.instance resident }
     ensures { OnOk result (Grows text.old text.new (spec.withdrawn_row (codes "R") (resident_name docket.now) docket.now.instance.residents_withdrawn resident)) }
@@ -79,7 +79,7 @@ fn put_resident(text: &mut Vec<u8>, docket: &Docket, resident: ResidentNo) -> Re
     }
 }
 
-// Adds the rows of the programmes that are withdrawn.
+// Adds the rows of the withdrawn programmes.
 fn put_programmes(text: &mut Vec<u8>, docket: &Docket) -> Result<(), AllocError>
     ensures { OnOk result (Grows text.old text.new (spec.withdrawn_rows (codes "P") (programme_name docket.now) docket.now.instance.programmes_withdrawn (length docket.now.instance.quotas))) }
 {
@@ -89,7 +89,7 @@ fn put_programmes(text: &mut Vec<u8>, docket: &Docket) -> Result<(), AllocError>
     Ok(())
 }
 
-// Adds the rows of the residents that are withdrawn.
+// Adds the rows of the withdrawn residents.
 fn put_residents(text: &mut Vec<u8>, docket: &Docket) -> Result<(), AllocError>
     ensures { OnOk result (Grows text.old text.new (spec.withdrawn_rows (codes "R") (resident_name docket.now) docket.now.instance.residents_withdrawn (length docket.now.instance.resident_lists))) }
 {

@@ -1,16 +1,16 @@
-//! Why files weren't audited.
+//! Why files were not audited.
 
 use docket::DocketFault;
 use docket_parts::{Part, PartFault};
 use thiserror::Error;
 
-/// Why files weren't audited.
+/// Why files were not audited.
 #[derive(Clone, Copy, Debug, PartialEq, Eq, Error)]
 pub enum FilesFault {
     /// A record belongs to another part, or to none.
     #[error(transparent)]
     Part(PartFault),
-    /// The records have this fault, in this file, and its place is that in the file.
+    /// The records have this fault, in this file, with the record's number there.
     #[error("{fault}")]
     Docket { file: Part, fault: DocketFault },
     /// The sheet's file has no record.
@@ -19,16 +19,16 @@ pub enum FilesFault {
     /// The journal's file has no record.
     #[error("no journal")]
     NoJournal,
-    /// A growth was refused.
+    /// The memory could not grow.
     #[error("out of memory")]
     Memory,
-    /// The writer answered a fault.
+    /// The writer failed.
     #[error("the output could not be written")]
     Write,
 }
 
 impl FilesFault {
-    /// The file at fault, if it is one.
+    /// The file at fault, if the fault has one.
     pub fn file(&self) -> Option<Part> {
         match self {
             FilesFault::Part(PartFault::AnotherPart { file, .. })

@@ -1,10 +1,11 @@
-//! An audit over files: the docket, the sheet and the journal, each read as its own part, and the result itself checked.
+//! An audit over files. The docket, the sheet and the journal are each read as their own part, and the sheet is
+//! compared with the result.
 //!
-//! The program is `audit_words`, over the words and the streams that it is given. What the files give no contract can say,
-//! so the work is `serve_files`, over their bytes.
+//! The program is `audit_words`, over its words and streams. No contract can say what files contain. So the work is
+//! done by `serve_files`, over their bytes.
 //!
-//! What only tests refuse: other texts of faults and of help, a file that is read for another, and a body that only answers
-//! that memory is wanting.
+//! Only tests refuse other texts of faults and of help, a file that is read in place of another, and a body that
+//! always answers out of memory.
 #![tactic(auto)]
 
 mod facts;

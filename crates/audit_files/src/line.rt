@@ -6,7 +6,7 @@ use std::alloc::{AllocError, Global};
 use std::convert::AsStr;
 use version::VERSION;
 
-// What the help says of the files, of what is written, of the exit status, and of examples.
+// The help about the files, about the output, about the exit status, and with examples.
 const HELP: &str =
     "Each file is read as its own part. A docket has V, Q, P, R and W records, a sheet M, U and F, a
 journal C and E. A record of another part is a fault, so no file can change what another one says.
@@ -26,7 +26,7 @@ command line; 1 where memory, reading or writing failed.
 Examples: residency-audit docket.csv sheet.csv
           residency-audit docket.csv sheet.csv journal.csv --facts";
 
-/// Which files are audited.
+/// Which files to audit.
 #[derive(Clone, Copy, Debug, PartialEq, Eq)]
 pub(crate) struct Order<'a> {
     /// The docket's file.
@@ -39,7 +39,7 @@ pub(crate) struct Order<'a> {
     pub(crate) facts: bool,
 }
 
-// A file that must be named.
+// The word for a file that has to be given.
 fn file_argument<'a>(
     alloc: Global,
     id: &'static str,
@@ -88,7 +88,7 @@ fn command<'a>(alloc: Global) -> Result<Command<'a>, AllocError> {
     command.arg(facts_option(alloc))
 }
 
-/// The order that the words give, the program's own name left out.
+/// The order of the words, without the program's own name.
 pub(crate) fn read_line<'a, S: AsStr>(
     alloc: Global,
     words: &'a [S],

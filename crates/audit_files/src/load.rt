@@ -1,4 +1,4 @@
-//! The bytes of the files that the words name.
+//! The bytes of the files in the words.
 ghost use Rattle.std.specs.Prelude.{◌≡◌};
 
 use crate::line::Order;
@@ -10,24 +10,24 @@ use std::{fs, io};
 /// The bytes of the files.
 #[derive(Drop)]
 pub(crate) struct Loaded {
-    /// Those of the docket's file.
+    /// The bytes of the docket's file.
     pub(crate) docket: Vec<u8>,
-    /// Those of the sheet's file.
+    /// The bytes of the sheet's file.
     pub(crate) sheet: Vec<u8>,
-    /// Those of the journal's file, if there is one.
+    /// The bytes of the journal's file, if there is one.
     pub(crate) journal: Option<Vec<u8>>,
 }
 
-/// A file that couldn't be read.
+/// A file that could not be read.
 #[derive(Clone, Copy, Debug, PartialEq, Eq)]
 pub(crate) struct Unread<'a> {
     /// The file.
     pub(crate) path: &'a str,
-    /// Whether memory was wanting.
+    /// Whether memory ran out.
     pub(crate) memory: bool,
 }
 
-// Whether the word is that of standard input.
+// Whether the word stands for standard input.
 pub(crate) fn is_input(path: &str) -> bool {
     path == "-"
 }
@@ -62,7 +62,7 @@ fn load_file<'a, R: Read, H: Files + AllocGlobal>(
     }
 }
 
-// The bytes of a file, or of standard input, where a file is named.
+// The bytes of a file, or of standard input, if a file is named.
 fn load_if<'a, R: Read, H: Files + AllocGlobal>(
     rt: &H,
     alloc: Global,
@@ -78,7 +78,7 @@ fn load_if<'a, R: Read, H: Files + AllocGlobal>(
     }
 }
 
-/// The bytes of the files that an order names.
+/// The bytes of the files in an order.
 pub(crate) fn load<'a, R: Read, H: Files + AllocGlobal>(
     rt: &H,
     alloc: Global,

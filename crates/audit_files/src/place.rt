@@ -1,4 +1,4 @@
-//! A fault of the joined records, told in its file.
+//! A fault of the joined records, told with its file.
 ghost use Rattle.std.specs.Prelude.{◌≡◌};
 ghost use Rattle.audit_files.specs.Place as spec;
 
@@ -6,7 +6,7 @@ use crate::fault::FilesFault;
 use docket::DocketFault;
 use docket_parts::{FileFault, Joined, file_fault};
 
-// A fault that is of no record.
+// A fault without a record.
 fn unplaced(fault: DocketFault) -> FilesFault
     ensures { result ≡ spec.unplaced fault }
 {
@@ -16,7 +16,7 @@ fn unplaced(fault: DocketFault) -> FilesFault
     }
 }
 
-/// A fault of the joined records, in its file and at its place there.
+/// A fault of the joined records, with its file and its record there.
 pub fn told(joined: &Joined, fault: DocketFault) -> FilesFault
     ensures { result ≡ spec.told joined.now.docket joined.now.sheet fault }
 {

@@ -1,4 +1,4 @@
-//! The program, over any streams: it audits the files that its words name, and its exit status tells how that ended.
+//! The program, over any streams. It audits the files in its words, and its exit status says how this ended.
 ghost use Rattle.std.specs.Prelude.{◌≡◌};
 ghost use Rattle.std.specs.Process.{exit_status as exit_status_in};
 ghost use Rattle.audit_files.specs.Status.{Ends, EndsServed, EndsUnread};
@@ -27,7 +27,7 @@ fn path_of<'a>(order: &Order<'a>, part: Part) -> &'a str {
     }
 }
 
-// Whether more than one of the files is standard input.
+// Whether more than one file is standard input.
 fn is_twice(order: &Order) -> bool {
     let journal = match order.journal {
         Some(path) => is_input(path),
@@ -37,7 +37,7 @@ fn is_twice(order: &Order) -> bool {
     docket && sheet || docket && journal || sheet && journal
 }
 
-// Tells why not all was served. No exit status depends on whether that text could be written.
+// Prints why the answer is not whole. The exit status never depends on whether this text could be written.
 fn tell<T: Eprint>(told: &T, order: &Order, fault: &FilesFault) {
     let _ = match fault.file() {
         Some(part) => eprintln!(told; "residency: {}: {fault}", path_of(order, part)),
@@ -45,7 +45,7 @@ fn tell<T: Eprint>(told: &T, order: &Order, fault: &FilesFault) {
     };
 }
 
-// Tells that a file couldn't be read.
+// Prints that a file could not be read.
 fn tell_unread<T: Eprint>(told: &T, unread: &Unread) -> ExitCode
     ensures { exit_status_in result ≡ 1 }
 {
@@ -58,7 +58,7 @@ fn tell_unread<T: Eprint>(told: &T, unread: &Unread) -> ExitCode
     ExitCode::from(1)
 }
 
-// Serves the bytes of the files, or tells why it couldn't.
+// Serves the bytes of the files, or prints why it could not.
 fn serve_loaded<W: Write, T: Eprint, H: RandomSource>(
     rt: &H,
     alloc: Global,
@@ -110,7 +110,7 @@ where
     }
 }
 
-// Tells that more than one file is to be standard input.
+// Prints that more than one file would come from standard input.
 fn refuse_inputs<T: Eprint>(told: &T) -> ExitCode
     ensures { exit_status_in result ≡ 2 }
 {
@@ -118,11 +118,11 @@ fn refuse_inputs<T: Eprint>(told: &T) -> ExitCode
     ExitCode::from(2)
 }
 
-/// Audits the files that the words name, and gives the exit status. It is 0 where all is good, and 4 where something isn't. It
-/// is 1 where memory, reading or writing failed, 2 for a wrong command line, and 3 for a file at fault.
+/// Audits the files in the words, and returns the exit status. It is 0 if all is good, and 4 if something is not. It
+/// is 1 if memory, reading or writing failed, 2 for a wrong command line, and 3 for a file at fault.
 ///
-/// The words are those after the program's own name. What help and the version say goes to standard output, and why nothing
-/// was told to standard error.
+/// The words are those after the program's own name. Help and the version go to standard output. The reason for a
+/// missing answer goes to standard error.
 pub fn audit_words<R, W, T, H>(
     rt: &H,
     alloc: Global,

@@ -21,9 +21,10 @@ use std::random::RandomSource;
 /// What an audit over files found.
 #[derive(Clone, Copy, Debug, PartialEq, Eq)]
 pub enum Verdict {
-    /// The sheet is stable, and it is the match's result. Where there is a journal, it is a good exchange that gives the sheet.
+    /// The sheet is stable and is the match's result. If there is a journal, it is a good exchange and gives the
+    /// sheet.
     Good,
-    /// Something of this is not so.
+    /// One of these is not true.
     Bad,
 }
 
@@ -74,7 +75,7 @@ fn add_replay(alloc: Global, docket: &Docket, text: &mut Vec<u8>) -> Result<Stat
     }
 }
 
-// Adds the rows of a replay, where there is a journal.
+// Adds the rows of a replay, if there is a journal.
 fn add_replay_if(
     alloc: Global,
     docket: &Docket,
@@ -93,7 +94,7 @@ fn add_replay_if(
     }
 }
 
-// What was found, all in all.
+// The verdict over everything that was found.
 fn verdict_on(audited: Status, first: Option<ResidentNo>, replayed: Option<Status>) -> Verdict
     ensures { result ≡ verdict_of audited first replayed }
 {
@@ -103,7 +104,7 @@ fn verdict_on(audited: Status, first: Option<ResidentNo>, replayed: Option<Statu
     }
 }
 
-// Adds all that is told of a docket but the facts.
+// Adds all rows about a docket, except the facts.
 fn add_answer(
     alloc: Global,
     docket: &Docket,
@@ -128,7 +129,7 @@ fn add_answer(
     Ok(verdict_on(audited, first, replayed))
 }
 
-// The text of the facts, where they are wanted, and else an empty one.
+// The text of the facts, if they are wanted; else an empty text.
 fn facts_of(
     alloc: Global,
     wants_facts: bool,
@@ -149,7 +150,7 @@ fn facts_of(
     Ok(text)
 }
 
-// The bytes of a file, or none where there is no file.
+// The bytes of a file, or none without a file.
 fn bytes_of(file: Option<&[u8]>) -> &[u8]
     ensures { result.now ≡ unwrap_or (option_copied file.entry) [] }
 {
@@ -159,10 +160,11 @@ fn bytes_of(file: Option<&[u8]>) -> &[u8]
     }
 }
 
-/// Audits a sheet against the docket of another file, and against the match's result, and replays a journal where there is
-/// one. Each file is read as its own part. All that is told is made before the first byte is written.
+/// Audits a sheet against the docket of another file, and against the match's result. If there is a journal, replays
+/// it. Each file is read as its own part. The whole answer is made before the first byte is written.
 ///
-/// The facts, where they are wanted, come first: the SHA-256 of each file, how many members there are, and who is withdrawn.
+/// If they are wanted, the facts come first: the SHA-256 of each file, the numbers of members, and the withdrawn
+/// members.
 pub fn serve_files<W: Write, H: RandomSource>(
     rt: &H,
     alloc: Global,

@@ -1,4 +1,4 @@
-//! With which status the program ends.
+//! The exit status of the program.
 ghost use Rattle.std.specs.Prelude.{◌≡◌};
 ghost use Rattle.audit_files.specs.Status.{exit_status_of};
 
@@ -7,8 +7,8 @@ use crate::serve::Verdict;
 use docket_parts::PartFault;
 use program_shell::docket_status;
 
-/// The exit status after an audit over files. It is 0 where all is good, and 4 where something isn't. It is 1 where memory,
-/// reading or writing failed, and 3 where a file is at fault.
+/// The exit status after an audit over files. It is 0 if all is good, and 4 if something is not. It is 1 if memory,
+/// reading or writing failed, and 3 if a file is at fault.
 pub(crate) fn exit_status(answer: &Result<Verdict, FilesFault>) -> u8
     ensures { result ≡ exit_status_of answer.now }
 {

@@ -1,4 +1,4 @@
--- What an audit reports is of the docket, and tells whether its sheet is stable.
+-- An audit's report is about the docket, and says whether its sheet is stable.
 use Rattle.std.proofs.Common.{◌≡◌, ℕ, ◌<◌, inl, inr, Bool, true, false, Option, Some, List, [], length, refl, arith}
 use Rattle.std.specs.List.{All, Contains}
 use Rattle.std.proofs.lemmas.List.{get_or_past}
@@ -18,7 +18,7 @@ use Rattle.audit_text.specs.declared.status.Status.TheVariants.{Stable, Unstable
 use Rattle.audit_text.specs.Report.{IsPairOf, IsReportOf}
 use Rattle.audit_text.specs.Serving.{TellsStable}
 
--- whoever has an acceptable resident is a programme
+-- a number with an acceptable resident is a programme
 pub programme_of_acceptable : (inst : Instance) (r p : ℕ) → IsInstance inst → Acceptable inst r p → IsProgramme inst p
 programme_of_acceptable inst r p instance listed = elim (cases_lt p (length inst.programme_lists)) [
   | inl below ↦ omega (arith, instance.one_list_each)
@@ -28,7 +28,7 @@ programme_of_acceptable inst r p instance listed = elim (cases_lt p (length inst
       absurd (omega arith)
 ]
 
--- whoever has an acceptable programme is a resident
+-- a number with an acceptable programme is a resident
 resident_of_acceptable : (inst : Instance) (r p : ℕ) → IsInstance inst → Acceptable inst r p → IsResident inst r
 resident_of_acceptable inst r p instance listed = elim (cases_lt r (length inst.resident_lists)) [
   | inl below ↦ below
@@ -38,7 +38,7 @@ resident_of_acceptable inst r p instance listed = elim (cases_lt r (length inst.
       absurd (omega arith)
 ]
 
--- what holds of each pair of which R holds, holds of all that are listed
+-- a property of each pair for which R holds also holds for all listed pairs
 all_listed : (R : ℕ → ℕ → Type 0) (P : ℕ × ℕ → Type 0) (pairs : List (ℕ × ℕ)) → Lists R pairs → ((a b : ℕ) → R a b → P (a, b)) → All P pairs
 all_listed R P pairs lists h =
     All-weaker (Contains pairs) P (λ x k. h x.0 x.1 ((lists.each x.0 x.1).0 k)) pairs (All-contains_itself pairs)

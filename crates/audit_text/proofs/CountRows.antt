@@ -5,7 +5,7 @@ use Rattle.row_writer.specs.declared.writer.RowWriter.{RowWriter}
 use Rattle.row_writer.proofs.RowTextFacts.{adds_none, adds_both}
 use Rattle.audit_text.specs.Answer.{worker_row, worker_rows}
 
--- the rows of the first counts, and one more
+-- the rows of the first counts, and of one more
 worker_rows-more : (first : ℕ) (counts : List ℕ) (k : ℕ) → k < length counts
     → worker_rows first (take (k + 1) counts) ≡ worker_rows first (take k counts) ++ worker_row (first + k) (get_or counts k 0)
 unfolding worker_rows

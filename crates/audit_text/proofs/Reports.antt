@@ -39,7 +39,7 @@ stability_row-unstable report h = by_test (finds_nothing report) refl
     by_test true e = absurd (h (is_nothing report e))
     by_test false e = rw e
 
--- the report is its four parts
+-- the report consists of its four parts
 pub report_text-rows : {W : Type 0} (contents : W → Option (List ℕ)) (d : Contents) (report : AuditReport)
     (none start unacceptable over whole : RowWriter W) → Adds contents none start (stability_row report)
     → Adds contents start unacceptable (flat_map (pair_row d (codes "X")) report.unacceptable.items)

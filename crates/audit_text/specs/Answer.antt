@@ -12,7 +12,7 @@ use Rattle.match_audit.specs.declared.replayer.ReplayFault.{ReplayFault}
 use Rattle.match_audit.specs.declared.replayer.ReplayFault.TheVariants.{BadCapacity, Memory, At, NotClosed, SheetDiffers}
 use Rattle.match_audit.specs.Replay.{NamesMember}
 
--- the word of a refusal
+-- the word for a refusal
 abbrev pub refusal_word : Refused → List ℕ
 refusal_word Closed = codes "closed"
 refusal_word NoSuchDesk = codes "no-such-desk"
@@ -25,7 +25,7 @@ refusal_word NotDue = codes "not-due"
 refusal_word MailboxFull = codes "mailbox-full"
 refusal_word (StillPending what) = codes "still-pending"
 
--- what is pending
+-- the word for what is pending
 abbrev pub pending_word : Pending → List ℕ
 pending_word (Offers r) = codes "offers"
 pending_word (Due r) = codes "due"
@@ -39,25 +39,25 @@ pending_name d (Due r) = resident_name d r
 pending_name d (Answers p) = programme_name d p
 pending_name d (Wish p) = programme_name d p
 
--- what follows the word of a refusal: what is pending, where it refuses a close
+-- the fields after the word of a refusal; for a close they say what is pending
 abbrev pub refusal_fields : Contents → Refused → List (List ℕ)
 refusal_fields d (StillPending what) = pending_word what ∷ pending_name d what ∷ []
 refusal_fields d refused = []
 
--- the fields of the row of a close that was refused, since something of this kind is pending at the desk of this name
+-- the fields of a row for a refused close: what is pending, and the name of its desk
 abbrev pub pending_fields : List ℕ → List ℕ → List ℕ → List (List ℕ)
 pending_fields place kind name = codes "N" ∷ place ∷ codes "still-pending" ∷ kind ∷ name ∷ []
 
--- the fields of the row of an event that was refused at this place
+-- the fields of a row for an event that was refused at this place
 abbrev pub refused_fields : Contents → List ℕ → Refused → List (List ℕ)
 refused_fields d place refused = codes "N" ∷ place ∷ refusal_word refused ∷ refusal_fields d refused
 
--- how many events the journal has, or 0 where there is none
+-- how many events the journal has, or 0 without a journal
 abbrev pub event_count : Option JournalParts → ℕ
 event_count (Some journal) = length journal.events
 event_count None = 0
 
--- the fields of a fault's row; the place is that of a refused event, from 1, or the one after the last event
+-- the fields of a fault's row; the place is that of the refused event, from 1, or one past the last event
 abbrev pub fault_fields : Contents → ReplayFault → List (List ℕ)
 fault_fields d BadCapacity = codes "N" ∷ codes "0" ∷ codes "bad-capacity" ∷ []
 fault_fields d Memory = codes "N" ∷ codes "0" ∷ codes "memory" ∷ []
@@ -70,16 +70,16 @@ abbrev pub answer_fields : Contents → Result Replayed ReplayFault → List (Li
 answer_fields d (Ok replayed) = codes "G" ∷ decimal replayed.events ∷ []
 answer_fields d (Err fault) = fault_fields d fault
 
--- the row of a worker: its number, and how many events it made
+-- the row of a worker: the worker's number, and how many events the worker made
 unfoldable pub worker_row : ℕ → ℕ → List ℕ
 worker_row worker events = row (codes "K" ∷ decimal worker ∷ decimal events ∷ [])
 
--- a row for each count: the worker, from this number on, and its count
+-- one row for each count: the worker's number, from this number on, and the count
 unfoldable pub worker_rows : ℕ → List ℕ → List ℕ
 worker_rows first [] = []
 worker_rows first (events ∷ counts) = worker_row first events ++ worker_rows (first + 1) counts
 
--- what follows the row of an answer: after a good one each worker's row, where there are counts
+-- the rows after a good answer's row: one for each worker, if there are counts
 unfoldable pub count_rows : Result Replayed ReplayFault → Option (List ℕ) → List ℕ
 count_rows (Ok replayed) (Some counts) = worker_rows 0 counts
 count_rows answer counts = []
@@ -88,7 +88,7 @@ count_rows answer counts = []
 unfoldable pub replay_text : Contents → Result Replayed ReplayFault → Option (List ℕ) → List ℕ
 replay_text d answer counts = row (answer_fields d answer) ++ count_rows answer counts
 
--- whoever the answer names is a member of the docket
+-- the answer names only members of the docket
 abbrev pub IsAnswerOf : Contents → Result Replayed ReplayFault → Type 0
 IsAnswerOf d (Ok replayed) = Unit {0}
 IsAnswerOf d (Err fault) = NamesMember d.instance fault

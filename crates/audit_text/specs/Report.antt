@@ -8,25 +8,25 @@ use Rattle.docket.specs.Texts.{programme_name, programme_row, resident_name}
 use Rattle.match_audit.specs.declared.report.AuditReport.{AuditReport}
 use Rattle.std.specs.List.{All}
 
--- whether nothing was found that keeps the sheet from being stable
+-- whether the report found nothing that keeps the sheet from being stable
 abbrev pub finds_nothing : AuditReport → Bool
 finds_nothing report =
     (length report.unacceptable.items == 0) && (length report.over.items == 0) && (length report.blocking.items == 0)
 
--- `S,stable` or `S,unstable`
+-- the row `S,stable` or `S,unstable`
 unfoldable pub stability_row : AuditReport → List ℕ
 stability_row report = row (codes "S" ∷ (if finds_nothing report then codes "stable" else codes "unstable") ∷ [])
 
--- the row of a kind, a resident and a programme
+-- the row with this letter for a resident and a programme
 unfoldable pub pair_row : Contents → List ℕ → ℕ × ℕ → List ℕ
 pair_row d kind pair = row (kind ∷ resident_name d pair.0 ∷ programme_name d pair.1 ∷ [])
 
--- `O,programme,filled,quota`
+-- the row `O,programme,filled,quota`
 abbrev pub over_row : Contents → ℕ × ℕ → List ℕ
 over_row d over = programme_row d (codes "O") over.0 over.1
 
--- the rows of a report: the answer, the pairs that aren't acceptable, the programmes over their quota, and the blocking
--- pairs
+-- The rows of a report: whether the sheet is stable, the unacceptable pairs, the programmes over their quota, and the
+-- blocking pairs.
 unfoldable pub report_text : Contents → AuditReport → List ℕ
 report_text d report =
     stability_row report
@@ -38,7 +38,7 @@ report_text d report =
 abbrev pub IsPairOf : Contents → ℕ × ℕ → Type 0
 IsPairOf d pair = IsResident d.instance pair.0 × IsProgramme d.instance pair.1
 
--- whoever the report names is a member of the docket
+-- the report names only members of the docket
 pub record IsReportOf (d : Contents) (report : AuditReport) : Type 0 where
   pub unacceptable : All (IsPairOf d) report.unacceptable.items
   pub over : All (λ over. IsProgramme d.instance over.0) report.over.items

@@ -1,4 +1,4 @@
--- What was told of a docket's sheet and of its journal, and why nothing was.
+-- What was written about a docket's sheet and about its journal, or why nothing was.
 use Rattle.std.specs.Prelude.{◌≡◌, ◌≢◌, ◌⊎◌, ◌↔◌, ℕ, Option, Some, None, Result, Ok, Err, List, IsSome, option_map}
 use Rattle.std.specs.Io.KnownBytes.{Appends}
 use Rattle.match_model.specs.Instance.{Instance}
@@ -20,25 +20,25 @@ use Rattle.audit_text.specs.declared.status.Status.TheVariants.{Stable, Unstable
 use Rattle.audit_text.specs.Report.{report_text}
 use Rattle.audit_text.specs.Answer.{replay_text}
 
--- the status tells whether the sheet is stable
+-- the status says whether the sheet is stable
 pub record TellsStable (inst : Instance) (sheet : List (Option ℕ)) (status : Status) : Type 0 where
   pub either : (status ≡ Stable) ⊎ (status ≡ Unstable)
   pub stable : (status ≡ Stable) ↔ IsStable inst sheet
 
--- the docket's sheet, and the report on it
+-- the docket's sheet, and the report about it
 pub record SheetReport (d : Contents) : Type 0 where
   pub sheet : List (Option ℕ)
   pub has_sheet : d.sheet ≡ Some sheet
   pub report : AuditReport
   pub reports : Reports d.instance sheet report
 
--- what was appended, if it is known, is the report on the docket's sheet
+-- the text that was appended, if it is known, is the report about the docket's sheet
 pub record WritesReport (d : Contents) (status : Status) (old new : Option (List ℕ)) : Type 0 where
   pub audit : SheetReport d
   pub tells : TellsStable d.instance audit.sheet status
   pub appended : Appends old new (report_text d audit.report)
 
--- the answer is that of a replay, or of a check where there is a sheet, and it isn't want of memory
+-- the answer is that of a replay, or of a check if there is a sheet, and is not out of memory
 abbrev pub IsReplayAnswer : Instance → JournalParts → Option (List (Option ℕ)) → Result Replayed ReplayFault → Type 0
 IsReplayAnswer inst j None (Ok replayed) = IsGood inst j.capacity j.events × IsReplayOf inst j.events replayed
 IsReplayAnswer inst j None (Err fault) = IsListFault inst j.capacity j.events fault
@@ -46,24 +46,24 @@ IsReplayAnswer inst j (Some sheet) (Ok replayed) =
     IsGood inst j.capacity j.events × IsReplayOf inst j.events replayed × (sheet ≡ given inst j.events)
 IsReplayAnswer inst j (Some sheet) (Err fault) = IsCheckFault inst j.capacity j.events sheet fault
 
--- how many events each worker made, where the journal is by worker
+-- how many events each worker made, if the journal is by worker
 abbrev pub counts_in : JournalParts → Option (List ℕ)
 counts_in j = option_map (λ by. counts_of by.workers by.who) j.by
 
--- the status of an answer
+-- the status for an answer
 abbrev pub replay_status : Result Replayed ReplayFault → Status
 replay_status (Ok replayed) = ReplayGood
 replay_status (Err fault) = ReplayBad
 
--- the docket's journal, and the answer on it
+-- the docket's journal, and the answer about it
 pub record JournalAnswer (d : Contents) : Type 0 where
   pub journal : JournalParts
   pub has_journal : d.journal ≡ Some journal
   pub answer : Result Replayed ReplayFault
   pub answers : IsReplayAnswer d.instance journal d.sheet answer
 
--- What was appended, if it is known, is the row of the answer on the docket's journal. Each worker's count follows
--- where the answer is good and the journal is by worker.
+-- The text that was appended, if it is known, is the row of the answer about the docket's journal. If the answer is
+-- good and the journal is by worker, each worker's count follows.
 pub record WritesReplay (d : Contents) (status : Status) (old new : Option (List ℕ)) : Type 0 where
   pub replay : JournalAnswer d
   pub tells : status ≡ replay_status replay.answer
@@ -73,16 +73,16 @@ pub record WritesReplay (d : Contents) (status : Status) (old new : Option (List
 abbrev pub IsWriteFault : DocketFault → Type 0
 IsWriteFault fault = (fault ≡ docket.Memory) ⊎ (fault ≡ docket.Write)
 
--- why an audit wrote no whole report: memory or the writer failed after it was made, there is no sheet, or memory
--- failed before
+-- Why an audit wrote no whole report. Memory or the writer failed after the report was made, or the docket has no
+-- sheet, or memory ran out before.
 abbrev pub IsAuditFault : Contents → AnswerFault → Type 0
 IsAuditFault d (Docket fault) = SheetReport d × IsWriteFault fault
 IsAuditFault d NoSheet = d.sheet ≡ None
 IsAuditFault d Memory = IsSome d.sheet
 IsAuditFault d fault = ⊥
 
--- why a replay wrote no whole answer: memory or the writer failed after it was found, there is no journal, or memory
--- failed before
+-- Why a replay wrote no whole answer. Memory or the writer failed after the answer was found, or the docket has no
+-- journal, or memory ran out before.
 abbrev pub IsReplayFault : Contents → AnswerFault → Type 0
 IsReplayFault d (Docket fault) = JournalAnswer d × IsWriteFault fault
 IsReplayFault d NoJournal = d.journal ≡ None

@@ -1,4 +1,4 @@
-//! Writing what a replay answered.
+//! How the answer of a replay is written.
 ghost use Rattle.std.specs.Prelude.{◌≡◌, ◌≢◌, ◌++◌, ◌∷◌, [], ◌+◌, ◌<◌, ◌^◌, codes, decimal, option_copied, OnOk, IfErr};
 ghost use Rattle.row_writer.specs.RowText.{Adds, Writes, row};
 ghost use Rattle.match_audit.specs.Replay.{NamesMember, RefusesMember, IsPendingMember};
@@ -11,7 +11,7 @@ use match_audit::{ReplayFault, Replayed};
 use std::alloc::Global;
 use std::io::Write;
 
-// The word of a refusal.
+// The word for a refusal.
 fn refusal_word(refused: &Refused) -> &'static str
     ensures { result.now ≡ word_of refused.now }
 {
@@ -29,7 +29,7 @@ fn refusal_word(refused: &Refused) -> &'static str
     }
 }
 
-// What is pending.
+// The word for what is pending.
 fn pending_word(what: &Pending) -> &'static str
     ensures { result.now ≡ kind_of what.now }
 {
@@ -65,7 +65,7 @@ fn event_count(docket: &Docket) -> usize
     }
 }
 
-// Adds the row of a fault that is told by one word.
+// Adds the row of a fault that has only a word.
 fn push_word<W: Write>(
     rows: &mut RowWriter<'_, W>,
     place: &[u8],
@@ -76,7 +76,7 @@ fn push_word<W: Write>(
     rows.push(&[b"N", place, word.as_bytes()])
 }
 
-// Adds the row of a close that was refused, since something is pending.
+// Adds the row of a close that was refused because something is pending.
 fn push_pending<W: Write>(
     rows: &mut RowWriter<'_, W>,
     place: &[u8],
@@ -188,7 +188,7 @@ fn push_workers<W: Write>(rows: &mut RowWriter<'_, W>, counts: &[u64]) -> Result
     Ok(())
 }
 
-// Adds what follows the row of an answer.
+// Adds the rows after the row of an answer.
 #[tactic(auto, unfolding(crate::specs::Answer::count_rows))]
 fn push_counts<W: Write>(
     rows: &mut RowWriter<'_, W>,
@@ -203,7 +203,7 @@ fn push_counts<W: Write>(
     }
 }
 
-// Adds the row of an answer, and what follows it.
+// Adds the row of an answer, and the rows after it.
 fn push_replay<W: Write>(
     rows: &mut RowWriter<'_, W>,
     docket: &Docket,
@@ -217,10 +217,10 @@ fn push_replay<W: Write>(
     push_counts(rows, answer, counts)
 }
 
-/// Writes what a replay of the docket's journal answered, in one row. After a good answer with counts, a row for each
+/// Writes the answer of a replay of the docket's journal, in one row. After a good answer with counts, a row for each
 /// worker says how many events it made.
 ///
-/// Whoever the answer names is a member of the docket. Before a fault other than the writer's nothing was written.
+/// The answer names only members of the docket. Before a fault that is not the writer's, nothing was written.
 pub fn write_replay<W: Write>(
     alloc: Global,
     docket: &Docket,

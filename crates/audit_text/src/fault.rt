@@ -1,12 +1,12 @@
-//! Why a docket wasn't told of.
+//! Why there is no answer about a docket.
 
 use docket::DocketFault;
 use thiserror::Error;
 
-/// Why a docket wasn't told of.
+/// Why there is no answer about a docket.
 #[derive(Clone, Copy, Debug, PartialEq, Eq, Error)]
 pub enum AnswerFault {
-    /// Memory failed, or the answer could not be written.
+    /// Memory ran out, or the answer could not be written.
     #[error(transparent)]
     Docket(DocketFault),
     /// The docket has no sheet.
@@ -15,7 +15,7 @@ pub enum AnswerFault {
     /// The docket has no journal.
     #[error("no journal in the docket")]
     NoJournal,
-    /// A growth was refused in an audit or a replay.
+    /// The memory could not grow in an audit or a replay.
     #[error("out of memory")]
     Memory,
 }

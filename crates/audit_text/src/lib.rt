@@ -1,6 +1,6 @@
-//! What an audit and a replay of a docket write, row by row.
+//! The rows that an audit and a replay of a docket write.
 //!
-//! It stands on no thread, so the auditor's program needs none.
+//! The crate uses no threads, so the auditor's program needs none.
 #![tactic(auto)]
 
 mod answer;

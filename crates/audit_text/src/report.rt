@@ -1,4 +1,4 @@
-//! Writing what an audit or a replay found.
+//! How the findings of an audit are written.
 ghost use Rattle.std.specs.Prelude.{◌≡◌, ◌≢◌, ◌++◌, OnOk, IfErr};
 ghost use Rattle.std.specs.List.{All, flat_map};
 ghost use Rattle.match_model.specs.Instance.{IsProgramme};
@@ -59,7 +59,7 @@ fn push_all_over<W: Write>(
     Ok(())
 }
 
-// Adds the answer's row.
+// Adds the row `S,stable` or `S,unstable`.
 fn push_stability<W: Write>(
     rows: &mut RowWriter<'_, W>,
     report: &AuditReport,
@@ -88,10 +88,10 @@ fn push_report<W: Write>(
     push_pairs(rows, docket, b"B", report.blocking.as_slice())
 }
 
-/// Writes what an audit found: whether the sheet is stable, the pairs that aren't acceptable, the programmes over their
-/// quota, and the blocking pairs.
+/// Writes what an audit found: whether the sheet is stable, the unacceptable pairs, the programmes over their quota,
+/// and the blocking pairs.
 ///
-/// Whoever the report names is a member of the docket. Before a fault other than the writer's nothing was written.
+/// The report names only members of the docket. Before a fault that is not the writer's, nothing was written.
 pub fn write_report<W: Write>(
     alloc: Global,
     docket: &Docket,

@@ -1,4 +1,4 @@
-//! What a docket's sheet and its journal are told to be.
+//! What is written about a docket's sheet and its journal.
 ghost use Rattle.std.specs.Prelude.{◌≡◌, ◌≢◌, ℕ, length, option_copied, option_map, IfOk, IfErr, IfSome};
 ghost use Rattle.std.specs.Global.{Vec};
 ghost use Rattle.match_audit.specs.Report.{Reports};
@@ -15,7 +15,7 @@ use match_model::Assignment;
 use std::alloc::Global;
 use std::io::Write;
 
-// The report of an audit of the docket's sheet. An error is want of memory.
+// The report of an audit of the docket's sheet. The only error is out of memory.
 fn report_of(alloc: Global, docket: &Docket, sheet: &Assignment) -> Result<AuditReport, AnswerFault>
     requires { length sheet.now ≡ length docket.now.instance.resident_lists }
     ensures report { IfOk result (Reports docket.now.instance sheet.now) }
@@ -28,7 +28,8 @@ fn report_of(alloc: Global, docket: &Docket, sheet: &Assignment) -> Result<Audit
     }
 }
 
-/// Writes what keeps a docket's sheet from being stable. Before a fault other than the writer's nothing was written.
+/// Writes what keeps a docket's sheet from being stable. Before a fault that is not the writer's, nothing was
+/// written.
 pub fn audit_docket<W: Write>(
     alloc: Global,
     docket: &Docket,
@@ -41,7 +42,7 @@ pub fn audit_docket<W: Write>(
     let Some(sheet) = docket.sheet() else {
         return Err(AnswerFault::NoSheet);
     };
-    // For the proof alone: reading an instance tells that its rankings are mutual and within the limits.
+    // Only for the proof: the rankings of an instance are mutual and within the limits.
     let _instance = docket.instance().residents();
     let report = report_of(alloc, docket, sheet)?;
     match write_report(alloc, docket, &report, writer) {
@@ -51,7 +52,7 @@ pub fn audit_docket<W: Write>(
     }
 }
 
-// How many events each worker made, where the journal is by worker. An error is want of memory.
+// How many events each worker made, if the journal is by worker. The only error is out of memory.
 fn counts_of(alloc: Global, journal: &Journal) -> Result<Option<Vec<u64>>, AnswerFault>
     requires { IfSome journal.now.by (IsByWorker journal.now.events) }
     ensures counts { IfOk result (λ counts. option_map (λ (v : Vec ℕ). v.items) counts ≡ counts_in journal.now) }
@@ -66,7 +67,7 @@ fn counts_of(alloc: Global, journal: &Journal) -> Result<Option<Vec<u64>>, Answe
     }
 }
 
-// The counts, as they are lent.
+// A borrow of the counts.
 fn lent(counts: &Option<Vec<u64>>) -> Option<&[u64]>
     ensures { option_copied result ≡ option_map (λ (v : Vec ℕ). v.items) counts.now }
 {
@@ -76,8 +77,8 @@ fn lent(counts: &Option<Vec<u64>>) -> Option<&[u64]>
     }
 }
 
-/// Writes whether a docket's journal is a good exchange, and whether it gives the docket's sheet, if there is one. Before a
-/// fault other than the writer's nothing was written.
+/// Writes whether a docket's journal is a good exchange. If there is a sheet, also writes whether the journal gives
+/// this sheet. Before a fault that is not the writer's, nothing was written.
 pub fn replay_docket<W: Write>(
     alloc: Global,
     docket: &Docket,

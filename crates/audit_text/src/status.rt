@@ -1,14 +1,14 @@
-//! What was told.
+//! The outcome of an audit or a replay.
 
-/// What was told.
+/// The outcome of an audit or a replay.
 #[derive(Clone, Copy, Debug, PartialEq, Eq)]
 pub enum Status {
     /// The sheet is stable.
     Stable,
     /// The sheet isn't stable.
     Unstable,
-    /// The journal is a good exchange, and the sheet is what it gives.
+    /// The journal is a good exchange, and gives the sheet.
     ReplayGood,
-    /// The journal isn't, or the sheet differs from what it gives.
+    /// The journal is not a good exchange, or does not give the sheet.
     ReplayBad,
 }

@@ -1,4 +1,4 @@
--- What the queues keep as desks join and leave.
+-- What the queues keep while desks join and leave.
 use Rattle.std.proofs.Common.{◌≡◌, ◌≢◌, ℕ, ◌+◌, ◌*◌, ◌<◌, ◌≤◌, ◌==◌, inl, inr, Bool, true, false, List, [], ◌∷◌, ◌++◌, Option, Some, None, length, set, refl, sym, ap, ◌∙◌, subst, arith, length-append, append_assoc}
 use Rattle.std.specs.Prelude.{sum_by, replicate}
 use Rattle.std.proofs.lemmas.Bool.{eqb-true, eqb-false, cases_lt}
@@ -53,7 +53,7 @@ nobody_yet w n first last mailbox before behind = (
 -- A desk joins
 
 module _ (w : Waits) (count m d : ℕ) (are : AreQueues w count) (within : d < length w.mailbox) (waits_not : linked_at w.mailbox d ≡ None) where
-  -- a desk that waits is another
+  -- a desk that waits is a different desk
   waits_apart : (k n : ℕ) → linked_at w.mailbox k ≡ Some n → k ≢ d
   waits_apart k n waits same =
       let bad : linked_at w.mailbox d ≡ Some n = subst (λ (j : ℕ). linked_at w.mailbox j ≡ Some n) same waits in
@@ -69,14 +69,14 @@ module _ (w : Waits) (count m d : ℕ) (are : AreQueues w count) (within : d < l
   before_other : (k n : ℕ) → linked_at w.mailbox k ≡ Some n → linked_at (joined_rows w m d).before k ≡ linked_at w.before k
   before_other k n waits = get_or-set_other w.before d k (linked_at w.last m) None (waits_apart k n waits)
 
-  -- a desk is linked on as before, but the one that was last
+  -- the links of all desks stay, except that of the last desk
   behind_other : (k n : ℕ) → linked_at w.mailbox k ≡ Some n → ((e : ℕ) → linked_at w.last m ≡ Some e → k ≢ e)
       → linked_at (joined_rows w m d).behind k ≡ linked_at w.behind k
   behind_other k n waits apart =
       get_or-set_other (linked_to w.behind (linked_at w.last m) (Some d)) d k None None (waits_apart k n waits)
       ∙ linked_to_other w.behind (linked_at w.last m) (Some d) k apart
 
-  -- who waits for another mailbox isn't last here
+  -- a desk that waits for another mailbox isn't the last one here
   elsewhere_apart : (k n : ℕ) → n ≢ m → linked_at w.mailbox k ≡ Some n → (e : ℕ) → linked_at w.last m ≡ Some e → k ≢ e
   elsewhere_apart k n apart waits e last same =
       let here : linked_at w.mailbox k ≡ Some m = subst (λ (j : ℕ). linked_at w.mailbox j ≡ Some m) (sym same) (last_waits w count are m e last) in
@@ -105,7 +105,7 @@ module _ (w : Waits) (count m d : ℕ) (are : AreQueues w count) (within : d < l
       sum : sum_by (one_waits_at n) (set w.mailbox d (Some m)) ≡ sum_by (one_waits_at n) w.mailbox
       sum = omega (arith, sum_by-set (one_waits_at n) w.mailbox d (Some m) None within, none, waits_elsewhere n m (λ f. apart (sym f)))
 
-  -- this one has the desk behind all who waited
+  -- the new desk stands behind all others that wait here
   joined_here : m < length w.first → IsQueue (joined_rows w m d) m (queue_of w m ++ d ∷ [])
   joined_here l = record {
     first = first_by (queue_of w m) (are.queued m l).first (are.queued m l).last;
@@ -141,7 +141,7 @@ module _ (w : Waits) (count m d : ℕ) (are : AreQueues w count) (within : d < l
           let new : one_waits_at m (linked_at (set w.mailbox d (Some m)) k) ≡ one_waits_at m (linked_at w.mailbox k) = ap (one_waits_at m) (mailbox_other k apart) in
           omega (arith, sum_by_push (one_for k) (queue_of w m) d, (are.queued m l).once k, not_one, new)
 
-      -- a desk that waited here
+      -- a desk that already waited here
       link_front : (xs : List ℕ) (k : ℕ) (zs : List ℕ) → queue_of w m ≡ xs ++ k ∷ zs → Linked (joined_rows w m d) xs k (zs ++ d ∷ [])
       link_front xs k [] e =
           let old = (are.queued m l).links xs k [] e in
@@ -245,7 +245,7 @@ module _ (w : Waits) (count m d : ℕ) (are : AreQueues w count) (within : d < l
     | inr past ↦ queue_past (joined_rows w m d) n (omega (arith, past, length_ended_at w.first (linked_at w.last m) m (Some d))) ∙ sym (queue_past w n past)
   ]
 
--- who was called is no matter of the queues
+-- the queues do not depend on which desks were called
 pub marked : (w : Waits) (count : ℕ) (called : List Bool) → AreQueues w count → AreQueues (record w { called = called }) count
 marked w count called are = record {
   counted = are.counted;
@@ -259,11 +259,11 @@ marked w count called are = record {
 -- A desk leaves
 
 module _ (w : Waits) (count m d : ℕ) (are : AreQueues w count) (waits : linked_at w.mailbox d ≡ Some m) where
-  -- the queue of its mailbox, cut at it
+  -- the queue of the desk's mailbox, split at the desk
   cut_here : m < length w.first → CutAt d (queue_of w m)
   cut_here l = cut_at d (queue_of w m) (omega (arith, (are.queued m l).once d, ap (one_waits_at m) waits, waits_here m))
 
-  -- who is before or behind it waits for the same mailbox
+  -- the desks before and behind it wait for the same mailbox
   before_waits : (e : ℕ) → linked_at w.before d ≡ Some e → linked_at w.mailbox e ≡ Some m
   before_waits e at = elim (cases_lt m (length w.first)) [
     | inl l ↦
@@ -284,7 +284,7 @@ module _ (w : Waits) (count m d : ℕ) (are : AreQueues w count) (waits : linked
     | inr past ↦ absurd (none_some e (sym (are.unlinked d m waits past).behind ∙ at))
   ]
 
-  -- so who waits for another is neither
+  -- two desks that wait for different mailboxes are different
   waits_else : (k n : ℕ) → n ≢ m → linked_at w.mailbox k ≡ Some n → (e : ℕ) → linked_at w.mailbox e ≡ Some m → k ≢ e
   waits_else k n apart there e here same =
       let both : linked_at w.mailbox k ≡ Some m = subst (λ (j : ℕ). linked_at w.mailbox j ≡ Some m) (sym same) here in
@@ -352,7 +352,7 @@ module _ (w : Waits) (count m d : ℕ) (are : AreQueues w count) (waits : linked
       ended_else w.last (linked_at w.behind d) m (linked_at w.before d) y (behind_is l xs (y ∷ ys) is)
       ∙ ((are.queued m l).last ∙ (ap last_of is ∙ (last_append None xs d (y ∷ ys) ∙ sym (last_append None xs y ys))))
 
-  -- the desks before it keep their links, but for the last
+  -- the desks before it keep their links, except the last of them
   front_links : (l : m < length w.first) (xs ys : List ℕ) → queue_of w m ≡ xs ++ d ∷ ys → (ahead : List ℕ) (k : ℕ) (zs : List ℕ) → xs ≡ ahead ++ k ∷ zs
       → Linked (left_rows w m d) ahead k (zs ++ ys)
   front_links l xs ys is ahead k zs front = record {
@@ -386,7 +386,7 @@ module _ (w : Waits) (count m d : ℕ) (are : AreQueues w count) (waits : linked
           absurd (omega (arith, some, here, at_most_one l xs ys is e)))
           ∙ ((are.queued m l).links ahead k ((z ∷ zs) ++ d ∷ ys) (whole (z ∷ zs) front)).behind
 
-  -- those behind it too, but for the first
+  -- the desks behind it keep their links, except the first of them
   rest_links : (l : m < length w.first) (xs ys : List ℕ) → queue_of w m ≡ xs ++ d ∷ ys → (zs : List ℕ) (k : ℕ) (bs : List ℕ) → ys ≡ zs ++ k ∷ bs
       → Linked (left_rows w m d) (xs ++ zs) k bs
   rest_links l xs ys is zs k bs rest = record {
@@ -456,7 +456,7 @@ module _ (w : Waits) (count m d : ℕ) (are : AreQueues w count) (waits : linked
       by false e =
           let there_before : linked_at w.mailbox k ≡ Some n = sym (gone k (eqb-false k d e)) ∙ there in
           let was = are.unlinked k n there_before past_rows in
-          -- who waits where it does isn't linked
+          -- if k is a neighbour of the desk, k waits for the same mailbox
           let alone : (o : ℕ) → linked_at w.mailbox o ≡ Some m → k ≡ o → n ≡ m = (λ o here same. some_same n m (sym there_before ∙ subst (λ (j : ℕ). linked_at w.mailbox j ≡ Some m) (sym same) here)) in
           record {
             before = left_before k (λ o at same. none_some o (sym (are.unlinked d m waits (omega (arith, past_rows, alone o (behind_waits o at) same))).behind ∙ at)) ∙ was.before;

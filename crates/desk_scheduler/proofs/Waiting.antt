@@ -9,7 +9,7 @@ at_most_one : (o : Option ℕ) → one_waits o ≤ 1
 at_most_one (Some mailbox) = omega arith
 at_most_one None = omega arith
 
--- where a desk waits not, fewer wait than there are
+-- if some desk does not wait, fewer desks wait than there are
 pub fewer_wait : (row : List (Option ℕ)) (d : ℕ) → d < length row → get_or row d None ≡ None → sum_by one_waits row < length row
 fewer_wait row d within none =
     let more = sum_by-set one_waits row d (Some 0) None within in

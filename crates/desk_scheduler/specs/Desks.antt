@@ -1,50 +1,52 @@
--- Which desks are in hands, and which may have work.
+-- Which desks a worker holds, and which desks may have work.
 use Rattle.std.specs.Prelude.{◌≡◌, ℕ, Bool, true, false, ◌||◌, ◌+◌, List, Option, Some, None, [], ◌∷◌, length, nat_lt, sum_by, slice_index_or, slice_set, cond, ◌==◌, ◌≤◌}
 use Rattle.desk_scheduler.specs.declared.side.Place.{Place}
 use Rattle.desk_scheduler.specs.declared.wake.Wake.{Wake}
 use Rattle.desk_scheduler.specs.declared.wake.Wake.TheVariants.{Work, Hold}
 use Rattle.desk_scheduler.specs.declared.side.Place.TheVariants.{Idle, Listed, InHand, InHandAgain}
 
--- where the desks of one kind are, by number, and those that are listed, in two tiers. Behind those that may have more to do
--- are those that were woken for a hold alone. In each the next one is first
+-- The place of each desk of one kind, and the two lists of desks that may have work. The second list has the desks
+-- that were woken for a hold only, and comes after the first. In each list the next desk stands first.
 pub record Desks : Type 0 where
   pub places : List Place
   pub ready : List ℕ
   pub behind : List ℕ
 
--- where a desk is
+-- the place of a desk
 abbrev pub place_of : Desks → ℕ → Place
 place_of desks d = slice_index_or desks.places d Idle
 
--- a desk is at this place now
+-- the desks, with this desk at this place
 abbrev pub moved : Desks → ℕ → Place → Desks
 moved desks d place = record { places = slice_set desks.places d place; ready = desks.ready; behind = desks.behind }
 
--- a desk is listed, and comes next
+-- the desks, with this desk listed first
 abbrev pub on_top : Desks → ℕ → Desks
 on_top desks d = record { places = slice_set desks.places d Listed; ready = d ∷ desks.ready; behind = desks.behind }
 
--- a desk is listed behind, and comes next of those
+-- the desks, with this desk first in the second list
 abbrev pub on_top_behind : Desks → ℕ → Desks
 on_top_behind desks d = record { places = slice_set desks.places d Listed; ready = desks.ready; behind = d ∷ desks.behind }
 
--- a desk is listed in the tier of what it is woken for
+-- the desks, with this desk in the list for its wake
 abbrev pub listed_for : Desks → ℕ → Wake → Desks
 listed_for desks d Work = on_top desks d
 listed_for desks d Hold = on_top_behind desks d
 
--- a desk at this place is woken. One with nobody is listed. One in a hand is marked, to be listed when it is let go
+-- A desk at this place is woken. An idle desk is listed. A desk that a worker holds is marked, so that it is listed
+-- when the worker lets go.
 abbrev pub listed_from : Desks → ℕ → Wake → Place → Desks
 listed_from desks d wake Idle = listed_for desks d wake
 listed_from desks d wake InHand = moved desks d InHandAgain
 listed_from desks d wake Listed = desks
 listed_from desks d wake InHandAgain = desks
 
--- a desk is woken
+-- the desks after this desk is woken
 abbrev pub listing : Desks → ℕ → Wake → Desks
 listing desks d wake = listed_from desks d wake (place_of desks d)
 
--- a desk at this place leaves a hand. One that may have work again is listed. One that is in no hand stays where it is
+-- A worker lets go of a desk at this place. If the desk may have work again, it is listed. A desk that no worker
+-- holds stays where it is.
 abbrev pub let_go_from : Desks → ℕ → Bool → Place → Desks
 let_go_from desks d again InHandAgain = on_top desks d
 let_go_from desks d true InHand = on_top desks d
@@ -52,15 +54,15 @@ let_go_from desks d false InHand = moved desks d Idle
 let_go_from desks d again Idle = desks
 let_go_from desks d again Listed = desks
 
--- a desk leaves a hand
+-- the desks after a worker lets go of this desk
 abbrev pub letting_go : Desks → ℕ → Bool → Desks
 letting_go desks d again = let_go_from desks d again (place_of desks d)
 
--- whether some desk is listed, in either tier
+-- whether either list has a desk
 abbrev pub is_listed : Desks → Bool
 is_listed desks = nat_lt 0 (length desks.ready) || nat_lt 0 (length desks.behind)
 
--- the desk on top, and what is left when it has come into a hand: the top of those behind, where no other is listed
+-- the first desk, and the lists without this desk; the second list is used only if the first is empty
 abbrev pub taken_from : Desks → List ℕ → List ℕ → Option (ℕ × Desks)
 taken_from desks (d ∷ ready) behind = Some (d, record { places = slice_set desks.places d InHand; ready = ready; behind = behind })
 taken_from desks [] (d ∷ behind) = Some (d, record { places = slice_set desks.places d InHand; ready = []; behind = behind })
@@ -76,12 +78,12 @@ times Listed = 1
 times InHand = 0
 times InHandAgain = 0
 
--- one for this desk, and nothing for another
+-- 1 for this desk, 0 for another
 abbrev pub one_for : ℕ → ℕ → ℕ
 one_for d x = cond (x == d) 1 0
 
--- each desk is listed once, in one of the tiers, where its place says so, and else never. As many are listed as places say, and
--- either tier has room for all
+-- A desk is listed once if its place says so, and else never. It is in the list that its place names. Each list has
+-- as many desks as places say, and has room for all.
 pub record AreListed (places : List Place) (listed behind : List ℕ) (reserved reserved_behind : ℕ) : Type 0 where
   pub once : (d : ℕ) → sum_by (one_for d) listed + sum_by (one_for d) behind ≡ times (slice_index_or places d Idle)
   pub as_many : length listed + length behind ≡ sum_by times places

@@ -1,4 +1,4 @@
--- What a scheduler's calls do.
+-- How the calls of a scheduler change the schedule.
 use Rattle.std.specs.Prelude.{ℕ, ◌+◌, ◌-◌, Bool, true, false, Option, Some, None, length, nat_lt, ◌||◌}
 use Rattle.desk_scheduler.specs.declared.scheduler.Next.{Next}
 use Rattle.desk_scheduler.specs.declared.wake.Wake.{Wake}
@@ -8,21 +8,23 @@ use Rattle.desk_scheduler.specs.declared.side.Place.TheVariants.{Idle, Listed, I
 use Rattle.desk_scheduler.specs.Desks.{Desks, place_of, moved, listing, is_listed, taken}
 use Rattle.desk_scheduler.specs.Schedule.{Schedule}
 
--- desks of one side change so
+-- the schedule after this change to the desks of one side
 abbrev pub at_side : (Desks → ℕ → Desks) → Schedule → ℕ → Bool → Bool → Schedule
 at_side change s d true b = record { residents = change s.residents d; programmes = s.programmes; waiting = s.waiting; ended = s.ended }
 at_side change s d false true = record { residents = s.residents; programmes = change s.programmes (d - length s.residents.places); waiting = s.waiting; ended = s.ended }
 at_side change s d false false = s
 
--- the desk of this number changes so: residents' desks come first, and past the programmes' there is none
+-- the schedule after this change to the desk with this number; residents' desks come first, and numbers past the
+-- programmes' change nothing
 abbrev pub at_desk : (Desks → ℕ → Desks) → Schedule → ℕ → Schedule
 at_desk change s d = at_side change s d (nat_lt d (length s.residents.places)) (nat_lt (d - length s.residents.places) (length s.programmes.places))
 
--- a desk is woken, by its number
+-- the schedule after the desk with this number is woken
 abbrev pub woken_by : Schedule → ℕ × Wake → Schedule
 woken_by s (d, wake) = at_desk (λ desks n. listing desks n wake) s d
 
--- the next desk comes into a hand: a resident's where one is listed, and none once the run ends
+-- A worker gets the next desk. A resident's desk comes first if one is listed. When the run ends, the worker gets
+-- none.
 abbrev pub next_from : Schedule → Bool → Option (ℕ × Desks) → Option (ℕ × Desks) → Next × Schedule
 next_from s true rs ps = (Ended, s)
 next_from s false (Some (r, rs)) ps = (Desk r, record { residents = rs; programmes = s.programmes; waiting = s.waiting; ended = s.ended })
@@ -32,7 +34,7 @@ next_from s false None None = (Nothing, s)
 abbrev pub next_of : Schedule → Next × Schedule
 next_of s = next_from s s.ended (taken s.residents) (taken s.programmes)
 
--- where the desk of this number is; past the programmes' there is none, so that nobody finds it idle
+-- the place of the desk with this number; a number past the programmes' counts as held, so it is never idle
 abbrev pub place_of_side : Schedule → ℕ → Bool → Bool → Place
 place_of_side s d true b = place_of s.residents d
 place_of_side s d false true = place_of s.programmes (d - length s.residents.places)
@@ -41,15 +43,16 @@ place_of_side s d false false = InHand
 abbrev pub place_at : Schedule → ℕ → Place
 place_at s d = place_of_side s d (nat_lt d (length s.residents.places)) (nat_lt (d - length s.residents.places) (length s.programmes.places))
 
--- a desk comes into a hand
+-- the desks after a worker gets this desk
 abbrev pub in_hand : Desks → ℕ → Desks
 in_hand desks d = moved desks d InHand
 
--- whether some desk is listed
+-- whether any desk is listed
 abbrev pub any_ready : Schedule → Bool
 any_ready s = is_listed s.residents || is_listed s.programmes
 
--- a desk at this place is claimed, if it is idle; else the one on top comes
+-- A worker claims a desk at this place. If the desk is idle, the worker gets it; else the worker gets the next listed
+-- desk.
 abbrev pub claimed_from : Schedule → ℕ → Bool → Place → Next × Schedule
 claimed_from s d true place = (Ended, s)
 claimed_from s d false Idle = (Desk d, at_desk in_hand s d)
@@ -60,21 +63,21 @@ claimed_from s d false InHandAgain = next_of s
 abbrev pub claim_or_next_of : Schedule → ℕ → Next × Schedule
 claim_or_next_of s d = claimed_from s d s.ended (place_at s d)
 
--- so many wait
+-- the schedule with this many workers waiting
 abbrev pub waiting_now : Schedule → ℕ → Schedule
 waiting_now s n = record { residents = s.residents; programmes = s.programmes; waiting = n; ended = s.ended }
 
--- the run ends
+-- the schedule once the run ends
 abbrev pub ended_now : Schedule → Schedule
 ended_now s = record { residents = s.residents; programmes = s.programmes; waiting = s.waiting; ended = true }
 
--- a desk at this place is in a hand, or past the last one
+-- a desk at this place is held by a worker, or has a number past the last desk
 abbrev pub IsInHandAt : Place → Type 0
 IsInHandAt Idle = ⊥
 IsInHandAt Listed = ⊥
 IsInHandAt InHand = Unit {0}
 IsInHandAt InHandAgain = Unit {0}
 
--- the desk of this number is in a hand, or there is none of this number
+-- a worker holds the desk with this number, or no desk has this number
 abbrev pub IsInHand : Schedule → ℕ → Type 0
 IsInHand s d = IsInHandAt (place_at s d)

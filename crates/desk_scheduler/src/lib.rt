@@ -1,4 +1,4 @@
-//! Which desks are in hands, which may have work and which wait for room, with no thread and no lock.
+//! Which desks workers hold, which may have work, and which wait for room. The crate has no thread and no lock.
 #![tactic(auto)]
 
 mod scheduler;

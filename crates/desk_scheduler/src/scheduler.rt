@@ -1,4 +1,4 @@
-//! Which desks are in a worker's hands, and which may have work.
+//! Which desks workers hold, and which desks may have work.
 ghost use Rattle.std.specs.Prelude.{◌≡◌, ◌≢◌, ◌+◌, ◌-◌, ◌<◌, ◌^◌, ◌||◌, ◌&&◌, [], true, false, length, fold, nat_lt, replicate, cond, IfOk};
 ghost use Rattle.std.specs.List.{range_with_len};
 ghost use Rattle.desk_scheduler.specs.Desks.{letting_go};
@@ -11,20 +11,20 @@ use crate::woken::Woken;
 use std::alloc::{AllocError, Global};
 use std::marker::Model;
 
-/// What a worker finds that looks for a desk.
+/// The answer to a worker that looks for a desk.
 #[derive(Clone, Copy, Debug, PartialEq, Eq)]
 pub enum Next {
-    /// This desk, which is in its hands now.
+    /// The worker gets this desk.
     Desk(u32),
-    /// None is listed.
+    /// No desk is listed.
     Nothing,
     /// The run ends.
     Ended,
 }
 
-/// The desks in hands and those that may have work, each listed at most once, by number: residents' desks before
-/// programmes'. Residents' are taken first, so that a programme hears many answers in a visit. Of each side those come first
-/// that may have more to do than to hear a hold. Of these the one listed last comes first, since most of it is still near.
+/// The held desks and the listed desks, by number: residents' desks before programmes'. Residents' desks come first,
+/// so that a programme hears many answers in one visit. On each side a desk that only has to hear a hold comes after
+/// the others. Otherwise the desk listed last comes first, since most of its data is still near.
 #[derive(Debug, Drop)]
 pub struct Scheduler {
     residents: Side,
@@ -45,7 +45,7 @@ impl Model for Scheduler {
 }
 
 impl Scheduler {
-    /// No desk is in a hand, and every programme's desk may have work, the first on top.
+    /// No desk is held. Every programme's desk may have work, the first programme's first.
     pub fn open(alloc: Global, residents: u32, programmes: u32) -> Result<Scheduler, AllocError>
         requires { residents + programmes < 2 ^ 32 }
         ensures residents { IfOk result (λ s. (s.residents.places ≡ replicate residents Idle)
@@ -64,7 +64,7 @@ impl Scheduler {
         })
     }
 
-    /// A desk is woken: one with nobody is listed in the tier of what it is woken for, one in a hand is marked.
+    /// Wakes a desk. An idle desk is listed in the tier for this wake. A held desk is marked.
     #[inline(always)]
     pub fn list(&mut self, desk: u32, wake: Wake)
         ensures listed { self.new ≡ woken_by self.old (desk, wake) }
@@ -78,7 +78,7 @@ impl Scheduler {
         }
     }
 
-    /// All these desks may have work. They are noted no more.
+    /// Lists all these desks. They are no longer noted.
     #[inline(always)]
     pub fn list_all(&mut self, woken: &mut Woken)
         ensures listed { self.new ≡ fold woken_by self.old woken.old }
@@ -93,7 +93,7 @@ impl Scheduler {
         woken.clear();
     }
 
-    /// A desk leaves a hand; it is listed where it may have work again.
+    /// A worker lets go of a desk. If the desk may have work again, it is listed.
     #[inline(always)]
     pub fn let_go(&mut self, desk: u32, again: bool)
         ensures let_go { self.new ≡ at_desk (λ desks d. letting_go desks d again) self.old desk }
@@ -107,7 +107,7 @@ impl Scheduler {
         }
     }
 
-    /// The desk on top of the list comes into a hand, while the run goes on.
+    /// A worker takes the first listed desk, until the run ends.
     #[inline(always)]
     pub fn next(&mut self) -> Next
         ensures next { (result, self.new) ≡ next_of self.old }
@@ -127,8 +127,8 @@ impl Scheduler {
         }
     }
 
-    /// This desk comes into a hand, if nobody has it and it isn't listed; else the one on top of the list. Nothing comes only
-    /// where this desk is in a hand and none is listed.
+    /// A worker takes this desk if it is idle, else the first listed desk. The answer is `Nothing` only if this desk
+    /// is held and no desk is listed.
     pub fn claim_or_next(&mut self, desk: u32) -> Next
         ensures next { (result, self.new) ≡ claim_or_next_of self.old desk }
         ensures in_hand { result ≡ Next.Nothing → IsInHand self.old desk }
@@ -146,7 +146,7 @@ impl Scheduler {
         self.next()
     }
 
-    // A desk with nobody that isn't listed comes into a hand. Whether it does.
+    // A worker takes this desk if it is idle. Returns whether it did.
     fn claim(&mut self, desk: u32) -> bool
         ensures claimed { result ≡ true → (place_at self.old desk ≡ Idle) × (self.new ≡ at_desk in_hand self.old desk) }
         ensures left { result ≡ false → (place_at self.old desk ≢ Idle) × (self.new ≡ self.old) }
@@ -167,21 +167,21 @@ impl Scheduler {
         self.waiting = self.waiting.saturating_add(1);
     }
 
-    /// A worker waits no more.
+    /// A worker no longer waits.
     pub fn wait_ends(&mut self)
         ensures { self.new ≡ waiting_now self.old (self.old.waiting - 1) }
     {
         self.waiting = self.waiting.saturating_sub(1);
     }
 
-    /// The run ends: no desk comes into a hand any more.
+    /// The run ends: no worker gets a desk any more.
     pub fn end(&mut self)
         ensures { self.new ≡ ended_now self.old }
     {
         self.ended = true;
     }
 
-    /// Whether a worker that waits has something to wake for.
+    /// Whether a waiting worker has a reason to wake.
     #[inline(always)]
     pub fn has_news(&self) -> bool
         ensures { result ≡ (self.now.ended || any_ready self.now) }
@@ -189,7 +189,7 @@ impl Scheduler {
         self.ended || self.residents.is_ready() || self.programmes.is_ready()
     }
 
-    /// Whether a worker waits for whom there is something to do.
+    /// Whether some worker waits and has a reason to wake.
     #[inline(always)]
     pub fn wakes_one(&self) -> bool
         ensures { result ≡ (nat_lt 0 self.now.waiting && any_ready self.now) }

@@ -1,4 +1,4 @@
-//! The workers of a run among its desks: one value, under one lock.
+//! The workers of a run and its desks: one value, under one lock.
 ghost use Rattle.std.specs.Prelude.{◌≡◌, ◌+◌, ◌<◌, ◌≤◌, ◌||◌, ◌&&◌, [], false, true, fold, nat_lt, IfOk, IfErr, IfSome, IfNone};
 ghost use Rattle.desk_scheduler.specs.Desks.{letting_go};
 ghost use Rattle.desk_scheduler.specs.Shift.{GetDesks, next_in, desks_in};
@@ -10,7 +10,8 @@ use crate::woken::Woken;
 use crate::workers::{Holding, Looking, Resting, Workers, WorkersIdentity};
 use std::marker::Model;
 
-/// A desk in a worker's hands. Only a worker that looked for one gets it, and only with it a desk is let go.
+/// A desk that a worker holds. Only a worker that looked for a desk gets one, and a desk is let go only with this
+/// value.
 #[derive(Drop)]
 pub struct Hand<J: WorkersIdentity> {
     desk: u32,
@@ -27,11 +28,11 @@ impl<J: WorkersIdentity> Hand<J> {
     }
 }
 
-/// What a worker of a run gets that looks for a desk.
+/// What a worker that looks for a desk gets in this run.
 pub type TurnOf<J> = Turn<Hand<J>, Looking<J>>;
 
-/// The schedule of a run, and its workers. Each has a token of what it does: a hand with a desk, `Looking`, or `Resting`. Only
-/// a call of this value gives one, and the next call takes it. Never do all rest.
+/// The schedule of a run, and its workers. Each worker has a token of what it does: a `Hand` with a desk, `Looking`,
+/// or `Resting`. Only a call of this value gives a token, and the next call takes it. Never do all workers rest.
 #[derive(Drop)]
 pub struct Shift<J: WorkersIdentity> {
     scheduler: Scheduler,
@@ -56,7 +57,7 @@ impl<J: WorkersIdentity> Model for Shift<J> {
 }
 
 impl<J: WorkersIdentity> Shift<J> {
-    /// This schedule, for workers that have not begun.
+    /// This schedule, before any worker begins.
     pub fn new(scheduler: Scheduler, workers: Workers<J>) -> Shift<J>
         requires nobody_waits { scheduler.waiting ≡ 0 }
         requires nobody { workers.begun ≡ 0 }
@@ -66,7 +67,7 @@ impl<J: WorkersIdentity> Shift<J> {
         Shift { scheduler, workers }
     }
 
-    /// One more worker begins: it looks for a desk. None where 63 have.
+    /// One more worker begins, and looks for a desk. None if 63 have begun.
     pub fn begins(&mut self) -> Option<Looking<J>>
         ensures begun { IfSome result (λ _. self.new.begun ≡ self.old.begun + 1) }
         ensures looks { IfSome result (λ _. self.new.looking ≡ self.old.looking + 1) }
@@ -77,7 +78,7 @@ impl<J: WorkersIdentity> Shift<J> {
         self.workers.begins()
     }
 
-    /// All these desks may have work. They are noted no more.
+    /// Lists all these desks. They are no longer noted.
     #[inline(always)]
     pub fn list_all(&mut self, woken: &mut Woken)
         ensures listed { self.new.schedule ≡ fold woken_by self.old.schedule woken.old }
@@ -88,7 +89,7 @@ impl<J: WorkersIdentity> Shift<J> {
         self.scheduler.list_all(woken);
     }
 
-    /// A worker lets its desk go, which is listed where it may have work again. It looks for another.
+    /// A worker lets go of its desk, and looks for another. If the desk may have work again, it is listed.
     #[inline(always)]
     pub fn let_go(&mut self, hand: Hand<J>, again: bool) -> Looking<J>
         ensures let_go { self.new.schedule ≡ at_desk (λ desks d. letting_go desks d again) self.old.schedule hand.desk }
@@ -100,7 +101,7 @@ impl<J: WorkersIdentity> Shift<J> {
         self.workers.lets_go(held)
     }
 
-    /// A worker that looks gets the desk on top of the list, while the run goes on.
+    /// A worker that looks for a desk gets the first listed one, until the run ends.
     #[inline(always)]
     pub fn next(&mut self, own: Looking<J>) -> TurnOf<J>
         ensures next { (next_in (λ hand. hand.desk) result, self.new.schedule) ≡ next_of self.old.schedule }
@@ -111,8 +112,8 @@ impl<J: WorkersIdentity> Shift<J> {
         self.gets(next, own)
     }
 
-    /// A worker that looks gets this desk, if nobody has it and it isn't listed; else the one on top of the list. It gets
-    /// nothing only where this desk is in a hand and none is listed.
+    /// A worker that looks gets this desk if it is idle, else the first listed desk. It gets nothing only if this
+    /// desk is held and no desk is listed.
     pub fn claim_or_next(&mut self, own: Looking<J>, desk: u32) -> TurnOf<J>
         ensures next { (next_in (λ hand. hand.desk) result, self.new.schedule) ≡ claim_or_next_of self.old.schedule desk }
         ensures in_hand { next_in (λ hand. hand.desk) result ≡ Next.Nothing → IsInHand self.old.schedule desk }
@@ -156,7 +157,7 @@ impl<J: WorkersIdentity> Shift<J> {
         Ok(resting)
     }
 
-    /// A worker that rested looks again.
+    /// A worker that rested looks for a desk again.
     pub fn wakes(&mut self, own: Resting<J>) -> Looking<J>
         ensures resting { self.new.resting + 1 ≡ self.old.resting }
         ensures looking { self.new.looking ≡ self.old.looking + 1 }
@@ -168,7 +169,7 @@ impl<J: WorkersIdentity> Shift<J> {
         self.workers.wakes(own)
     }
 
-    /// The run ends: no desk comes into a hand any more.
+    /// The run ends: no worker gets a desk any more.
     pub fn end(&mut self)
         ensures ended { self.new.schedule ≡ ended_now self.old.schedule }
         ensures counted { GetDesks self.old self.new 0 }
@@ -176,7 +177,7 @@ impl<J: WorkersIdentity> Shift<J> {
         self.scheduler.end();
     }
 
-    /// Whether a worker that rests has something to wake for.
+    /// Whether a resting worker has a reason to wake.
     #[inline(always)]
     pub fn has_news(&self) -> bool
         ensures { result ≡ (self.now.schedule.ended || any_ready self.now.schedule) }
@@ -184,7 +185,7 @@ impl<J: WorkersIdentity> Shift<J> {
         self.scheduler.has_news()
     }
 
-    /// Whether a worker rests for whom there is something to do.
+    /// Whether some worker rests and has a reason to wake.
     #[inline(always)]
     pub fn wakes_one(&self) -> bool
         ensures { result ≡ (nat_lt 0 self.now.resting && any_ready self.now.schedule) }

@@ -1,4 +1,4 @@
-//! The desks of one kind: where each is, and which may have work.
+//! The desks of one kind: the place of each, and which may have work.
 ghost use Rattle.std.specs.Prelude.{◌≡◌, ◌≢◌, ◌<◌, [], None, Some, true, false, length, replicate, nat_lt, MatchOption, IfOk};
 ghost use Rattle.std.specs.List.{range_with_len};
 ghost use Rattle.desk_scheduler.specs.Desks.{listing, letting_go, is_listed, moved, on_top, on_top_behind, place_of, taken, times};
@@ -8,21 +8,22 @@ use crate::wake::Wake;
 use std::alloc::{AllocError, Global};
 use std::marker::Model;
 
-/// Where a desk is.
+/// The place of a desk.
 #[derive(Clone, Copy, Debug, PartialEq, Eq)]
 pub(crate) enum Place {
-    /// With nobody, and not known to have work.
+    /// No worker holds the desk, and it has no known work.
     Idle,
     /// In the list of desks that may have work.
     Listed,
-    /// In a worker's hands.
+    /// A worker holds the desk.
     InHand,
-    /// In a worker's hands, and to be listed when it is let go.
+    /// A worker holds the desk. It is to be listed when the worker lets go.
     InHandAgain,
 }
 
-/// The desks of one kind, by number: where each is, and those that are listed, in two tiers. Behind are those that were
-/// woken for a hold alone, and they come when no other is listed. In each tier the one listed last is on top.
+/// The desks of one kind, by number: the place of each, and the listed ones, in two tiers. The second tier has the
+/// desks that were woken only for a hold. Their turn comes when no other desk is listed. In each tier the desk listed
+/// last comes first.
 #[derive(Debug, Drop)]
 pub(crate) struct Side {
     places: Vec<Place>,
@@ -43,7 +44,7 @@ impl Model for Side {
 }
 
 impl Side {
-    /// Desks with nobody and with no work.
+    /// Idle desks, without work.
     pub(crate) fn idle(alloc: Global, desks: u32) -> Result<Side, AllocError>
         ensures { IfOk result (λ side. (side.places ≡ replicate desks Idle)
             × (side.ready ≡ []) × (side.behind ≡ [])) }
@@ -55,7 +56,7 @@ impl Side {
         })
     }
 
-    /// Desks that may all have work, the first on top.
+    /// Desks that may all have work, the first desk first.
     pub(crate) fn ready(alloc: Global, desks: u32) -> Result<Side, AllocError>
         ensures desks { IfOk result (λ side. length side.places ≡ desks) }
         ensures all { IfOk result (λ side. side.ready ≡ range_with_len 0 desks) }
@@ -68,7 +69,7 @@ impl Side {
         Ok(side)
     }
 
-    /// Whether there is a desk of this number.
+    /// Whether there is a desk with this number.
     #[inline(always)]
     pub(crate) fn has(&self, desk: u32) -> bool
         ensures { result ≡ nat_lt desk (length self.now.places) }
@@ -84,7 +85,7 @@ impl Side {
         !self.listed.is_empty() || !self.behind.is_empty()
     }
 
-    /// A desk is woken.
+    /// Wakes a desk.
     #[inline(always)]
     pub(crate) fn list(&mut self, desk: u32, wake: Wake)
         requires { desk < length self.old.places }
@@ -100,7 +101,7 @@ impl Side {
         }
     }
 
-    /// A desk leaves a hand; it is listed where it may have work again.
+    /// A worker lets go of a desk. If the desk may have work again, it is listed.
     #[inline(always)]
     pub(crate) fn let_go(&mut self, desk: u32, again: bool)
         requires { desk < length self.old.places }
@@ -113,7 +114,7 @@ impl Side {
         }
     }
 
-    // Lists a desk that isn't listed, on top.
+    // Lists a desk that is not listed, as the next one.
     #[inline(always)]
     fn put(&mut self, desk: u32)
         requires within { desk < length self.old.places }
@@ -124,7 +125,7 @@ impl Side {
         self.listed.push_reserved(desk);
     }
 
-    // Lists a desk that isn't listed, behind those that have more to do.
+    // Lists a desk that is not listed, in the second tier.
     #[inline(always)]
     fn put_behind(&mut self, desk: u32)
         requires within { desk < length self.old.places }
@@ -135,7 +136,7 @@ impl Side {
         self.behind.push_reserved(desk);
     }
 
-    /// The desk that is listed on top comes into a hand: of those behind, where no other is listed.
+    /// A worker takes the first listed desk; from the second tier only if the first is empty.
     #[inline(always)]
     pub(crate) fn next(&mut self) -> Option<u32>
         ensures { MatchOption result ((taken self.old ≡ None) × (self.new ≡ self.old)) (λ desk.
@@ -150,7 +151,7 @@ impl Side {
         }
     }
 
-    // The desk on top of those behind comes into a hand, where no other is listed.
+    // A worker takes the first desk of the second tier, if the first tier is empty.
     #[inline(always)]
     fn next_behind(&mut self) -> Option<u32>
         requires { self.old.ready ≡ [] }
@@ -162,7 +163,7 @@ impl Side {
         Some(desk)
     }
 
-    /// A desk with nobody, and not known to have work, comes into a hand. Whether it does.
+    /// A worker takes this desk if it is idle. Returns whether it did.
     #[inline(always)]
     pub(crate) fn claim(&mut self, desk: u32) -> bool
         requires { desk < length self.old.places }

@@ -1,11 +1,11 @@
-//! What a worker gets that looks for a desk.
+//! The answer to a worker that looks for a desk.
 
-/// What a worker gets that looks for a desk: a hand, or what it has that looks on.
+/// The answer to a worker that looks for a desk: a hand with a desk, or its token back to look on.
 #[derive(Drop)]
 pub enum Turn<H, L> {
-    /// A desk is in its hands now.
+    /// The worker holds a desk now.
     Desk(H),
-    /// No desk is listed, and it looks on.
+    /// No desk is listed, and the worker looks on.
     Nothing(L),
     /// The run ends.
     Ended(L),

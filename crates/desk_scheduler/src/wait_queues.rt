@@ -6,10 +6,10 @@ ghost use Rattle.desk_scheduler.specs.Waits.{ended_at, joined_rows, left_rows, l
 use std::alloc::{AllocError, Global};
 use std::marker::Model;
 
-/// The desks that wait for room in a mailbox that refused their put as full. Each mailbox has its first and its last. Each
-/// desk has the mailbox, who waits before and behind it, and whether it was called. How many wait in all is counted, so
-/// that nothing is looked up while nobody does. Mailboxes and desks go by the number of the desk. Each desk waits for one
-/// mailbox at most.
+/// The desks that wait for room in a mailbox, after their put was refused as full. Each mailbox has its first and its
+/// last waiting desk. Each desk has its mailbox, the desks before and behind it, and whether it was called. The
+/// number of waiting desks is kept, so that nothing is looked up while no desk waits. Mailboxes and desks have the
+/// desk's number. Each desk waits for one mailbox at most.
 #[derive(Debug, Drop)]
 pub struct WaitQueues {
     first: Vec<Option<u32>>,
@@ -46,7 +46,7 @@ impl Model for WaitQueues {
 }
 
 impl WaitQueues {
-    /// Nobody waits, at this many desks.
+    /// No desk waits, for this many desks.
     pub fn with_desks(alloc: Global, desks: usize) -> Result<WaitQueues, AllocError>
         ensures none { IfOk result (λ q. (q.mailbox ≡ replicate desks None)
             × (q.called ≡ replicate desks false)) }
@@ -65,8 +65,8 @@ impl WaitQueues {
         })
     }
 
-    /// A desk begins to wait for room in a mailbox, behind all who do, and for no other. Where it waits there already it
-    /// keeps its place.
+    /// A desk begins to wait for room in a mailbox, behind all others, and for no other mailbox. If it already waits
+    /// there, it keeps its place.
     pub fn join(&mut self, mailbox: u32, desk: u32)
         ensures waits { desk < length self.old.mailbox →
             linked_at self.new.mailbox desk ≡ Some mailbox }
@@ -106,7 +106,7 @@ impl WaitQueues {
         }
     }
 
-    // A desk that waits for none begins to wait, behind all who do.
+    // A desk that waits for no mailbox begins to wait, behind all others.
     fn join_behind(&mut self, mailbox: u32, desk: u32)
         requires within { desk < length self.old.mailbox }
         requires waits_not { linked_at self.old.mailbox desk ≡ None }
@@ -130,7 +130,7 @@ impl WaitQueues {
         self.count += 1;
     }
 
-    /// A desk waits no more, if it does.
+    /// A desk no longer waits, if it did.
     #[inline(always)]
     pub fn leave(&mut self, desk: u32)
         ensures waits_not { linked_at self.new.mailbox desk ≡ None }
@@ -162,7 +162,7 @@ impl WaitQueues {
         self.unlink(mailbox, desk);
     }
 
-    // A desk that waits for room in this mailbox waits no more: who waits before it and who waits behind it are linked.
+    // A desk leaves this mailbox's queue: the desks before and behind it are linked.
     fn unlink(&mut self, mailbox: u32, desk: u32)
         requires waits { linked_at self.old.mailbox desk ≡ Some mailbox }
         ensures rows { self.new ≡ left_rows self.old mailbox desk }
@@ -176,7 +176,7 @@ impl WaitQueues {
         self.count -= 1;
     }
 
-    /// The desk that stands first for room in a mailbox is called, and waits no more.
+    /// The first desk that waits for room in a mailbox is called, and no longer waits.
     #[inline(always)]
     pub fn call_first(&mut self, mailbox: u32) -> Option<u32>
         ensures first { result ≡ linked_at self.old.first mailbox }
@@ -221,7 +221,8 @@ impl WaitQueues {
         mark(&mut self.called, desk, called);
     }
 
-    /// A desk comes into a worker's hands, and waits no more. Whether it was called since it came last.
+    /// A worker takes a desk, which then no longer waits. Returns whether the desk was called since it was last
+    /// taken.
     #[inline(always)]
     pub fn comes(&mut self, desk: u32) -> bool
         ensures called { result ≡ was_called self.old.called desk }
@@ -255,7 +256,7 @@ fn link(row: &mut Vec<Option<u32>>, at: u32, to: Option<u32>)
     }
 }
 
-// The link of the desk at `at` leads to that one now. Where there is no such desk, the mailbox's end does.
+// Sets the link of the desk `at`. Without such a desk, sets the end of the mailbox's queue.
 #[inline(always)]
 fn relink(
     links: &mut Vec<Option<u32>>,

@@ -1,11 +1,11 @@
-//! What a desk is woken for.
+//! The reason for which a desk is woken.
 
-/// What a desk is woken for, by which it comes sooner or later.
+/// The reason for which a desk is woken. It decides whether the desk comes sooner or later.
 #[derive(Clone, Copy, Debug, Default, PartialEq, Eq)]
 pub enum Wake {
-    /// It may have more to do than to hear a hold.
+    /// The desk may have more to do than to hear a hold.
     #[default]
     Work,
-    /// It was told of a hold, and has mostly nothing to do.
+    /// The desk got a hold, and mostly has nothing to do.
     Hold,
 }

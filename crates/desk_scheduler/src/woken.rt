@@ -8,7 +8,7 @@ use std::marker::Model;
 /// How many desks can be noted at once.
 const MOST: usize = 64;
 
-/// Desks by number, in the order in which they were noted. They leave by being listed alone.
+/// Desks by number, in the order in which they were noted. They are removed only by being listed.
 #[derive(Debug, Drop)]
 pub struct Woken {
     desks: ArrayVec<(u32, Wake), MOST>,
@@ -24,7 +24,7 @@ impl Model for Woken {
 }
 
 impl Woken {
-    /// None is noted.
+    /// No desk is noted.
     pub fn new() -> Woken
         ensures { result ≡ [] }
     {
@@ -33,7 +33,7 @@ impl Woken {
         }
     }
 
-    /// Whether none is noted.
+    /// Whether no desk is noted.
     #[inline(always)]
     pub fn is_empty(&self) -> bool
         ensures { (result ≡ true) ↔ (self.now ≡ []) }
@@ -41,7 +41,7 @@ impl Woken {
         self.desks.is_empty()
     }
 
-    /// Whether no more can be noted.
+    /// Whether no further desk can be noted.
     #[inline(always)]
     pub fn is_full(&self) -> bool
         ensures { (result ≡ false) ↔ (length self.now < 64) }
@@ -58,7 +58,7 @@ impl Woken {
         self.desks.push((desk, wake));
     }
 
-    /// The desks, in their order.
+    /// The noted desks, in order.
     #[inline(always)]
     pub(crate) fn desks(&self) -> &[(u32, Wake)]
         ensures { result.now ≡ self.now }
@@ -66,7 +66,7 @@ impl Woken {
         self.desks.as_slice()
     }
 
-    /// None is noted any more.
+    /// Removes all notes.
     #[inline(always)]
     pub(crate) fn clear(&mut self)
         ensures { self.new ≡ [] }

@@ -1,16 +1,16 @@
-//! The workers of a run, counted under the scheduler's lock: each has a desk in its hands, looks for one, or rests.
+//! The workers of a run, counted under the scheduler's lock. Each holds a desk, looks for one, or rests.
 ghost use Rattle.std.specs.Prelude.{◌≡◌, ◌+◌, ◌-◌, ◌<◌, ◌≤◌, ℕ, IfOk, IfErr, IfSome, IfNone};
 
 use std::marker::{Brand, PhantomData};
 use std::sync::ledger::{Blank, Book, Ledger, Share};
 
-/// How many workers begin at most.
+/// The greatest number of workers that can begin.
 const MOST: u64 = 63;
 
-/// Into how many parts each of the three ledgers is cut.
+/// Into how many parts each of the three count ledgers is cut.
 pub const WORKER_PARTS: u64 = 64;
 
-/// The names of the three ledgers that count the workers of a run. Each run has its own.
+/// The names of the three ledgers that count the workers of a run. Each run has its own three.
 pub trait WorkersIdentity {
     ghost holding: { ℕ };
 
@@ -30,17 +30,17 @@ impl WorkersIdentity for Brand {
 /// Three ledgers without a name, for the counts of one run's workers.
 #[derive(Drop)]
 pub struct WorkerBlanks {
-    /// For those that have a desk in their hands.
+    /// For the workers that hold a desk.
     pub holding: Blank,
-    /// For those that look for one.
+    /// For the workers that look for a desk.
     pub looking: Blank,
-    /// For those that rest.
+    /// For the workers that rest.
     pub resting: Blank,
     pub ghost parts: { (holding.parts ≡ 64) × (looking.parts ≡ 64) × (resting.parts ≡ 64) },
 }
 
 impl WorkerBlanks {
-    /// Three ledgers that nobody has opened.
+    /// Three ledgers that are not open yet.
     pub fn new() -> WorkerBlanks {
         WorkerBlanks {
             holding: Blank::new(WORKER_PARTS),
@@ -49,7 +49,7 @@ impl WorkerBlanks {
         }
     }
 
-    /// The counts of a run that the type names, in which no worker has begun.
+    /// The counts of the run in the type's name, before any worker begins.
     pub fn open<J: WorkersIdentity>(self) -> Workers<J>
         requires holding { self.holding.name ≡ J.holding }
         requires looking { self.looking.name ≡ J.looking }
@@ -65,13 +65,13 @@ impl WorkerBlanks {
     }
 }
 
-/// The ledger of the workers that have a desk in their hands.
+/// The ledger of the workers that hold a desk.
 pub struct HoldingLedger<J: WorkersIdentity>(PhantomData<J>);
 
-/// The ledger of those that look for one.
+/// The ledger of the workers that look for a desk.
 pub struct LookingLedger<J: WorkersIdentity>(PhantomData<J>);
 
-/// The ledger of those that rest.
+/// The ledger of the workers that rest.
 pub struct RestingLedger<J: WorkersIdentity>(PhantomData<J>);
 
 impl<J: WorkersIdentity> Ledger for HoldingLedger<J> {
@@ -92,7 +92,7 @@ impl<J: WorkersIdentity> Ledger for RestingLedger<J> {
     ghost parts = { 64 };
 }
 
-/// What a worker has that holds a desk. It takes no bytes, and only a worker that looked and took a desk has it.
+/// The token of a worker that holds a desk. It takes no bytes. Only a worker that looked and took a desk has it.
 #[derive(Drop)]
 pub struct Holding<J: WorkersIdentity> {
     holds: Share<HoldingLedger<J>>,
@@ -102,7 +102,7 @@ pub struct Holding<J: WorkersIdentity> {
     ghost amounts: { (holds.amount ≡ 1) × (looks.amount ≡ 0) × (rests.amount ≡ 0) },
 }
 
-/// What a worker has that looks for a desk.
+/// The token of a worker that looks for a desk.
 #[derive(Drop)]
 pub struct Looking<J: WorkersIdentity> {
     holds: Share<HoldingLedger<J>>,
@@ -112,7 +112,7 @@ pub struct Looking<J: WorkersIdentity> {
     ghost amounts: { (holds.amount ≡ 0) × (looks.amount ≡ 1) × (rests.amount ≡ 0) },
 }
 
-/// What a worker has that rests.
+/// The token of a worker that rests.
 #[derive(Drop)]
 pub struct Resting<J: WorkersIdentity> {
     holds: Share<HoldingLedger<J>>,
@@ -122,8 +122,9 @@ pub struct Resting<J: WorkersIdentity> {
     ghost amounts: { (holds.amount ≡ 0) × (looks.amount ≡ 0) × (rests.amount ≡ 1) },
 }
 
-/// How many workers have begun, and how many of them have no desk: they look or rest. The three ledgers count the workers that
-/// hold a desk, that look and that rest, and have what each of them has as its part. Never do all rest.
+/// How many workers have begun, and how many of them have no desk: these look or rest. The three ledgers count the
+/// workers that hold a desk, that look and that rest. Each worker's token is its part of a ledger. Never do all
+/// workers rest.
 #[derive(Drop)]
 pub struct Workers<J: WorkersIdentity> {
     begun: u64,
@@ -163,7 +164,7 @@ impl<J: WorkersIdentity> Workers<J> {
         }
     }
 
-    /// One more worker begins: it looks for a desk. None where 63 have.
+    /// One more worker begins, and looks for a desk. None if 63 have begun.
     pub fn begins(&mut self) -> Option<Looking<J>>
         ensures begun { IfSome result (λ _. self.new.begun ≡ self.old.begun + 1) }
         ensures looks { IfSome result (λ _. self.new.looking.total ≡ self.old.looking.total + 1) }
@@ -177,7 +178,7 @@ impl<J: WorkersIdentity> Workers<J> {
         Some(self.cut())
     }
 
-    // A part of each ledger for one more worker, which looks.
+    // A part of each ledger for one more worker, which looks for a desk.
     fn cut(&mut self) -> Looking<J>
         requires { self.old.begun < 63 }
         ensures begun { self.new.begun ≡ self.old.begun + 1 }
@@ -207,7 +208,7 @@ impl<J: WorkersIdentity> Workers<J> {
         }
     }
 
-    /// A worker that looks gets a desk into its hands.
+    /// A worker that looks for a desk gets one.
     pub fn takes(&mut self, own: Looking<J>) -> Holding<J>
         ensures holding { self.new.holding.total ≡ self.old.holding.total + 1 }
         ensures looking { self.new.looking.total + 1 ≡ self.old.looking.total }
@@ -235,7 +236,7 @@ impl<J: WorkersIdentity> Workers<J> {
         }
     }
 
-    /// A worker lets its desk go, and looks for another.
+    /// A worker lets go of its desk, and looks for another.
     pub fn lets_go(&mut self, own: Holding<J>) -> Looking<J>
         ensures holding { self.new.holding.total + 1 ≡ self.old.holding.total }
         ensures looking { self.new.looking.total ≡ self.old.looking.total + 1 }
@@ -306,7 +307,7 @@ impl<J: WorkersIdentity> Workers<J> {
         }
     }
 
-    /// A worker that rested looks again.
+    /// A worker that rested looks for a desk again.
     pub fn wakes(&mut self, own: Resting<J>) -> Looking<J>
         ensures resting { self.new.resting.total + 1 ≡ self.old.resting.total }
         ensures looking { self.new.looking.total ≡ self.old.looking.total + 1 }

@@ -34,7 +34,7 @@ use Rattle.docket.proofs.WithdrawalFacts.{withdrawn_of-none}
 use Rattle.docket.proofs.SoundFacts.{both_none}
 use Rattle.docket_names.proofs.TextFacts.{names_length}
 
--- a list with an item isn't empty
+-- a list with an item is not empty
 not_empty : {A : Type 0} (x : A) (xs : List A) → nat_eq (length (x ∷ xs)) 0 ≡ false
 not_empty x xs = search rules
 
@@ -42,7 +42,7 @@ and_false : (b : Bool) → (b && false) ≡ false
 and_false true = refl
 and_false false = refl
 
--- no names exactly where no row declares a member
+-- there are no names exactly if no row declares a member
 no_members : (rows : List Fields) → (nat_eq (length (programmes_of rows)) 0 && nat_eq (length (residents_of rows)) 0) ≡ not (list_any declares_member rows)
 unfolding programmes_of residents_of
 no_members [] = refl
@@ -58,7 +58,7 @@ no_members (r ∷ rows) = by (is_kind QUOTA r) (is_kind RESIDENT_LIST r) (no_mem
     by false true more = rw (not_empty (field r 1) (map (λ (row : Fields). field row 1) (rows_of RESIDENT_LIST rows))) (and_false (nat_eq (length (map (λ (row : Fields). field row 1) (rows_of QUOTA rows))) 0))
     by false false more = more
 
--- whether there is a sheet, by what is declared
+-- whether there is a sheet, from what is declared
 pub sheet_is : (d : Declarations) (texts : List (List ℕ)) (rows : List Fields) → IsDeclared d texts rows
     → (d.has_sheet_row || (nat_eq (length d.programmes) 0 && nat_eq (length d.residents) 0)) ≡ has_sheet rows
 unfolding has_sheet
@@ -67,7 +67,7 @@ sheet_is d texts rows h =
     let r : length d.residents ≡ length (residents_of rows) = names_length texts d.residents (residents_of rows) h.residents in
     rw (h.sheet_rows, p, r, no_members rows) refl
 
--- who made the events, as the first pass has it
+-- the workers of the events, as the first pass has them
 pub by_worker_is : (workers : Option ℕ) (who : List ℕ) (rows : List Fields) → AreByWorker workers who rows
     → (option_map (λ n. record { workers = n; who = who }) workers ≡ by_worker_of rows) × IfSome (by_worker_of rows) (λ by. AreWorkers by.workers by.who)
 by_worker_is None who rows h = rw (← h.workers_are) (refl, tt)
@@ -83,14 +83,14 @@ ranked_start d texts rows h = record {
   residents_withdrawn = h.no_resident_gone ∙ sym (withdrawn_of-none (codes "R") (residents_of rows));
 }
 
--- the answers of the whole, where the bytes are known: a fault as the records are read
+-- the whole call's answer, if the bytes are known: a fault from reading the records
 pub whole_reading : (lim : Limits) (known : Option (List ℕ)) (e : DocketFault) → IsReadFault e ⊎ Explains (option_map rows_in known) (first_from (reading_fault lim) []) e
     → IsReadFault e ⊎ IfSome known (λ bytes. Refuses (fault_within lim bytes) e)
 whole_reading lim known e (inl read) = inl read
 whole_reading lim None e (inr h) = inr tt
 whole_reading lim (Some bytes) e (inr h) = inr (refuses_first _ _ e h)
 
--- the docket, and the lists where they are kept
+-- the docket, and its lists if they are kept
 pub whole_read : (lim : Limits) (known : Option (List ℕ)) (keeps : Bool) (rows : List Fields) (r : Result (Contents × Option Written) DocketFault) → AreKeptOf lim (option_map rows_in known) rows
     → first_from (reading_fault lim) [] rows ≡ None → length rows ≤ most_records lim → IfOk r (λ read. read.0 ≡ contents_of rows) → IfOk r (λ read. read.1 ≡ lists_if keeps rows)
     → Answers (later_fault lim rows) r → IfOk r (λ read. IsReadAs lim known keeps read.0 read.1)
@@ -108,7 +108,7 @@ whole_later lim None rows (Err e) all sound few answers = inr tt
 whole_later lim (Some bytes) rows (Err e) all sound few answers =
     inr (refuses_second _ _ e all.1 (rw (sym (later_kept lim (rows_in bytes) rows all.0 (sound_widest lim rows sound) (few_widest lim (length rows) few)).0) answers))
 
--- the faults of a sheet are asked only where there is one
+-- a sheet's faults count only if there is a sheet
 pub sheet_asked : (rows : List Fields) → has_sheet rows ≡ true
     → sheet_fault rows ≡ option_or (first_from (mark_fault rows) [] rows) (option_or (missing_fault rows) (first_from (filled_fault rows) [] rows))
 unfolding sheet_fault
@@ -129,29 +129,29 @@ later_is lim rows = by (first_from (ranking_fault rows) [] rows)
     by None = refl
     by (Some f) = refl
 
--- where no later pass finds a fault, each event's names are declared
+-- if no later pass finds a fault, each event's names are declared
 pub events_known : (lim : Limits) (rows : List Fields) → later_fault lim rows ≡ None → first_from (event_fault rows) [] rows ≡ None
 unfolding later_fault
 events_known lim rows fine = (both_none (sheet_fault rows) _ (both_none (pairs_fault lim rows) _ (both_none (first_from (ranking_fault rows) [] rows) _ fine).1).1).1
 
--- the name of a programme, as the docket gives it
+-- the name of a programme, as the docket returns it
 pub programme_name-is : (d : Contents) (p : ℕ) (name : List ℕ) → slice_get d.programmes p ≡ Some name → programme_name d p ≡ name
 unfolding programme_name
 programme_name-is d p name h = get_or_from_slice_get d.programmes p name [] h
 
--- the name of a resident, as the docket gives it
+-- the name of a resident, as the docket returns it
 pub resident_name-is : (d : Contents) (r : ℕ) (name : List ℕ) → slice_get d.residents r ≡ Some name → resident_name d r ≡ name
 unfolding resident_name
 resident_name-is d r name h = get_or_from_slice_get d.residents r name [] h
 
--- contents of the same parts
+-- two contents with the same parts are equal
 pub same_contents : {a b : Contents} → a.programmes ≡ b.programmes → a.residents ≡ b.residents → a.instance ≡ b.instance → a.sheet ≡ b.sheet → a.journal ≡ b.journal → a ≡ b
 same_contents p r n s j = λ i. record { programmes = p i; residents = r i; instance = n i; sheet = s i; journal = j i }
 
 abbrev parts_of : List Event → Option ByWorkerParts → Capacity → JournalParts
 parts_of items by c = record { capacity = c; events = items; by = by }
 
--- the journal of a capacity and the events
+-- the journal with this capacity and these events
 pub journal_is : (rows : List Fields) (cap : Option Capacity) (items : List Event) (workers : Option ByWorkerParts) → cap ≡ capacity_in rows → items ≡ events_of rows
     → workers ≡ by_worker_of rows → option_map (parts_of items workers) cap ≡ journal_of rows
 unfolding capacity_in

@@ -1,4 +1,4 @@
--- Rows as they are kept, with one row more.
+-- The kept rows, after one more row.
 use Rattle.docket.specs.Limits.{most_records}
 use Rattle.match_model.specs.declared.limits.Limits.{Limits}
 use Rattle.std.proofs.Common.{◌≡◌, ◌⊎◌, ◌≤◌, ◌<◌, ℕ, List, [], ◌∷◌, ◌++◌, false, length, sym, ◌∙◌, refl, ap, arith, Option, Some, None, inl, inr, append_assoc, subst, count_by}
@@ -25,7 +25,7 @@ lists_alike all kept (inl same) = rw same (alike_same IsFront all)
 lists_alike all kept (inr h) =
     rw (h.all_are, h.kept_are) (alike_append IsFront h.front h.front (h.row ∷ h.rest) (h.short ∷ h.after) (alike_same IsFront h.front) (alike_first IsFront h.row h.short h.rest h.after (inr h.cut) h.alike))
 
--- so the first pass asks the same
+-- the first pass makes the same tests of the kept rows
 pub kept_length : (all kept : List Fields) → AreKept all kept → length kept ≡ length all
 kept_length all kept h =
     alike_length IsFront h.marked kept (lists_alike h.marked kept h.lists)
@@ -38,7 +38,7 @@ kept_reading lim all kept row h =
     ∙ alike_reading lim IsBlank blank_seen h.noted h.marked row (cut_alike IsBlank AreManyMarks h.noted h.marked h.sheet)
     ∙ alike_reading lim IsClose close_seen all h.noted row (cut_alike IsClose AreManyNames all h.noted h.journal)
 
--- one row more, whole or not
+-- one more row, whole or cut
 abbrev IsPut : (Fields → Fields → Type 0) → Type 0 → Fields → Fields → Type 0
 IsPut Is Many row short = (short ≡ row) ⊎ (Is row short × Many)
 
@@ -95,7 +95,7 @@ lists_push all kept row short put (inr h) = inr (record {
   alike = alike_append IsFront h.rest h.after (row ∷ []) (short ∷ []) h.alike (alike_one IsFront row short (put_is IsFront (AreMany (kept ++ short ∷ [])) row short put));
 })
 
--- the marks and the names that are kept are those of the rows before the lists were cut
+-- the kept marks and names are those of the rows before lists were cut
 marks_back : (marked kept : List Fields) → AreListsCut marked kept → AreManyMarks kept → AreManyMarks marked
 marks_back marked kept h many =
     let same = alike_filter IsFront is_sheet_row front_mark marked kept (lists_alike marked kept h) in
@@ -149,7 +149,7 @@ kept_push all kept new row h k = rw k.rows (by k.shown)
           lists = lists_push h.marked kept k.short k.short (inl refl) h.lists;
         }
 
--- what is kept of a row declares the same, and has no fault where the row has none
+-- the kept form of a row declares the same, and has no fault if the row has none
 pub keeps_declared : (d : Declarations) (texts : List (List ℕ)) (old new : List Fields) (row : Fields) → Keeps old new row → IsDeclared d texts (old ++ row ∷ []) → IsDeclared d texts new
 keeps_declared d texts old new row k h = rw k.rows (by k.shown)
   where
@@ -168,7 +168,7 @@ keeps_sound lim old new row k few e = by k.shown
     by (inr (inr (inl blank))) = let is = blank.0 in rw is.blank (blank_sound lim old few)
     by (inr (inr (inr close))) = close_sound lim old row k.short few close.0 e
 
--- at first nothing is kept
+-- at first no row is kept
 pub kept_none : (kept : List Fields) → kept ≡ [] → AreKept [] kept
 kept_none kept e = record { noted = []; marked = []; journal = inl refl; sheet = inl refl; lists = inl e }
 

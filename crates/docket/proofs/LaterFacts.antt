@@ -1,4 +1,4 @@
--- Rows that are kept as far as anything asks for them have the faults of all rows.
+-- Rows that are kept only as far as tests need them have the same faults as all rows.
 use Rattle.match_model.specs.declared.limits.Limits.{Limits}
 use Rattle.docket.specs.Limits.{widest}
 use Rattle.std.proofs.Common.{◌≡◌, ◌≤◌, List, [], length, ◌∙◌, None}
@@ -15,7 +15,7 @@ use Rattle.docket.proofs.SheetCutFacts.{sheet_later}
 as_good : (lim : Limits) (all noted kept : List Fields) → IsAsGood lim all noted → IsAsGood lim noted kept → IsAsGood lim all kept
 as_good lim all noted kept first second = (second.0 ∙ first.0, λ none. let same = second.1 none in same ∙ first.1 (rw same at none))
 
--- so the later passes have the same first fault, and where they have none the rows are whole
+-- the later passes have the same first fault; without a fault the rows are whole
 pub later_kept : (lim : Limits) (all kept : List Fields) → AreKept all kept → first_from (reading_fault widest) [] kept ≡ None → length kept ≤ MAX_RECORDS → IsAsGood lim all kept
 later_kept lim all kept h sound few =
     let members = few_members kept sound few in

@@ -1,4 +1,4 @@
--- Where only rows of a sheet or of a journal aren't kept whole, the second pass is that of all rows.
+-- If only rows of a sheet or of a journal are cut, the second pass is the same as for all rows.
 use Rattle.match_model.specs.declared.limits.Limits.{Limits}
 use Rattle.std.proofs.Common.{◌≡◌, ◌⊎◌, ℕ, List, [], ◌∷◌, ◌++◌, find, sym, ◌∙◌, refl, ap, Option, None, inl, inr}
 use Rattle.std.specs.Prelude.{codes, option_map, nat_le}
@@ -17,7 +17,7 @@ use Rattle.docket.specs.declared.fault.DocketFault.TheVariants.{Model}
 use Rattle.docket.proofs.KeptFacts.{IsSeen, IsQuiet, IsOffOf, off_same, off_kind, off_withdrawn, alike_append, alike_one, alike_length, alike_any, alike_find, alike_programmes, alike_residents, alike_quotas}
 use Rattle.docket.proofs.RankingFacts.{map-same, same_draft, ranking_fault-other}
 
--- a pass that asks the same of rows that are alike
+-- a pass that makes the same tests of rows that are alike
 abbrev pub AsksSame : (Fields → Fields → Type 0) → (List Fields → Fields → Option DocketFault) → (List Fields → Fields → Option DocketFault) → Type 0
 AsksSame Is f g = (before done : List Fields) (row short : Fields) → AreAlike Is before done → (short ≡ row) ⊎ Is row short → g done short ≡ f before row
 

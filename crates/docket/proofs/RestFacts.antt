@@ -1,4 +1,4 @@
--- The walks over the rows that aren't events end where nothing but events is left.
+-- The walks over rows other than events end when only events are left.
 use Rattle.std.proofs.Common.{◌≡◌, ◌≤◌, ◌<◌, ℕ, List, [], false, length, take, arith, sym, None}
 use Rattle.match_model.specs.Draft.{Draft}
 use Rattle.docket.specs.Fields.{Fields, is_kind, withdrawal_kind}

@@ -1,4 +1,4 @@
--- Where a sheet's rows aren't kept whole the third pass has a fault, and it is that of all rows.
+-- If a sheet's rows are not kept whole, the third pass has a fault, and it is the same for all rows.
 use Rattle.match_model.specs.declared.limits.Limits.{Limits}
 use Rattle.std.proofs.Common.{◌≡◌, ◌⊎◌, ◌≤◌, ◌<◌, ℕ, List, [], ◌∷◌, ◌++◌, Bool, true, false, length, map, filter, sym, ◌∙◌, refl, ap, arith, rules, Option, Some, None, inl, inr, count_by}
 use Rattle.std.specs.Prelude.{◌&&◌, ◌||◌, not, if◌then◌else◌, bytes_eq}
@@ -31,13 +31,13 @@ use Rattle.docket.proofs.SoundFacts.{both_none, unless_none}
 abbrev names_in : (Fields → Bool) → List Fields → List (List ℕ)
 names_in p rows = map (λ (r : Fields). field r 1) (filter p rows)
 
--- a pass that asks of such a row that its name is known, and that no such row before has it
+-- a pass that tests such a row's name: it has to be known, and new among such rows
 record Asks (p : Fields → Bool) (marks : List ℕ → Fields → Bool) (known : List (List ℕ)) (f : List Fields → Fields → Option DocketFault) : Type 0 where
   own : (name : List ℕ) (row : Fields) → p row ≡ true → bytes_eq name (field row 1) ≡ true → marks name row ≡ true
   there : (before : List Fields) (row : Fields) → p row ≡ true → f before row ≡ None → is_among known (field row 1) ≡ true
   first : (before : List Fields) (row : Fields) → p row ≡ true → f before row ≡ None → list_any (marks (field row 1)) before ≡ false
 
--- so such rows without a fault have known names, all different
+-- such rows without a fault have known names, all different
 names_known : (p : Fields → Bool) (marks : List ℕ → Fields → Bool) (known : List (List ℕ)) (f : List Fields → Fields → Option DocketFault) → Asks p marks known f
     → (before rows : List Fields) → first_from f before rows ≡ None → list_all (is_among known) (names_in p rows) ≡ true
 unfolding first_from
@@ -91,7 +91,7 @@ names_differ p marks known f asks before (row ∷ rows) none =
     by true e none more = (names_apart p marks known f asks (field row 1) (before ++ row ∷ []) rows (seen e) none, more)
     by false e none more = more
 
--- and are no more than are known
+-- these names are no more than the known names
 few_rows : (p : Fields → Bool) (marks : List ℕ → Fields → Bool) (known : List (List ℕ)) (f : List Fields → Fields → Option DocketFault) → Asks p marks known f
     → (rows : List Fields) → first_from f [] rows ≡ None → count_by p rows ≤ length known
 few_rows p marks known f asks rows none =
@@ -101,7 +101,7 @@ few_rows p marks known f asks rows none =
     let count = length-filter p rows in
     omega (arith, few, all, names, count)
 
--- the first walk asks that of M and U rows, and of F rows
+-- the first walk makes this test of M and U rows, and of F rows
 abbrev is_mark_row : Fields → Bool
 is_mark_row row = is_kind MATCHED row || is_kind UNMATCHED row
 
@@ -171,7 +171,7 @@ filled_asks rows = record {
   first = λ before row e none. (filled_told rows before row e none).1;
 }
 
--- so a sheet's rows without a fault are no more than there can be members
+-- a sheet's rows without a fault are no more than there can be members
 few_marks : (rows front : List Fields) → AreFew rows → first_from (mark_fault rows) [] front ≡ None → count_by is_sheet_row front ≤ MOST_MEMBERS
 few_marks rows front few none =
     let marks = few_rows is_mark_row is_mark_of (residents_of rows) (mark_fault rows) (marks_ask rows) front none in
@@ -201,7 +201,7 @@ mark_same : (all kept : List Fields) → AreAlike IsBlank all kept → (before :
 unfolding mark_fault
 mark_same all kept h before row = rw (alike_programmes IsBlank blank_seen all kept h, alike_residents IsBlank blank_seen all kept h) refl
 
--- where a sheet is cut
+-- the case that a sheet is cut
 sheet_told : (all kept : List Fields) (h : AreCutFrom IsBlank AreManyMarks all kept) → AreFew kept → (e : DocketFault) × (sheet_fault kept ≡ Some e) × (sheet_fault all ≡ Some e)
 unfolding sheet_fault has_sheet
 sheet_told all kept h few = by (first_from (mark_fault kept) [] h.front) refl

@@ -1,4 +1,4 @@
--- Rows of version 2: what they declare, and whom they withdraw.
+-- Rows of version 2: what they declare, and which members they withdraw.
 use Rattle.std.proofs.Common.{◌≡◌, ℕ, List, [], ◌∷◌, ◌++◌, Bool, true, false, map, filter, ◌∙◌, refl, ap, append-nil}
 use Rattle.std.specs.Prelude.{◌&&◌, ◌||◌, if◌then◌else◌, bytes_eq}
 use Rattle.std.specs.List.{list_any}
@@ -12,7 +12,7 @@ use Rattle.docket.specs.Passes.{is_version_2}
 use Rattle.docket.specs.Declarations.{names_withdrawn}
 use Rattle.docket_names.proofs.NameFacts.{is_declared-map}
 
--- the names that a side's W rows withdraw, with one row more
+-- the names that a side's W rows withdraw, after one more row
 pub names_withdrawn-if : (side : List ℕ) (rows : List Fields) (row : Fields)
     → names_withdrawn side (rows ++ row ∷ []) ≡ (if is_row_of withdrawal_kind side row then names_withdrawn side rows ++ field row 2 ∷ [] else names_withdrawn side rows)
 names_withdrawn-if side rows row =
@@ -28,7 +28,7 @@ names_withdrawn-if side rows row =
     by true = refl
     by false = append-nil (map second kept)
 
--- a name is withdrawn on a side exactly where some W row says so
+-- a name is withdrawn on a side exactly if some W row says so
 pub is_declared-withdrawn : (side : List ℕ) (rows : List Fields) (name : List ℕ) → is_declared (names_withdrawn side rows) name ≡ list_any (is_withdrawal_of side name) rows
 is_declared-withdrawn side rows name = is_declared-map (λ (r : Fields). field r 2) (filter (is_row_of withdrawal_kind side) rows) name ∙ kept rows
   where
@@ -42,13 +42,13 @@ is_declared-withdrawn side rows name = is_declared-map (λ (r : Fields). field r
         by true e = ap (λ x. bytes_eq name (field r 2) || x) e
         by false e = e
 
--- a row that is no V row leaves the version
+-- a row other than a V row does not change the version
 pub is_version_2-other : (rows : List Fields) (row : Fields) → is_kind version_kind row ≡ false → is_version_2 (rows ++ row ∷ []) ≡ is_version_2 rows
 unfolding is_version_2
 is_version_2-other [] row other = rw other refl
 is_version_2-other (r ∷ rows) row other = refl
 
--- by member who is withdrawn, with one row more of no withdrawal of the side
+-- which members are withdrawn, after one more row that is no withdrawal on this side
 pub withdrawn_of-other : (side : List ℕ) (names : List (List ℕ)) (before : List Fields) (row : Fields) → is_row_of withdrawal_kind side row ≡ false
     → withdrawn_of side names (before ++ row ∷ []) ≡ withdrawn_of side names before
 unfolding withdrawn_of
@@ -63,7 +63,7 @@ withdrawn_of-other side (x ∷ names) before row off =
     here : list_any (is_withdrawal_of side x) (before ++ row ∷ []) ≡ list_any (is_withdrawal_of side x) before
     here = rw (list_any-append (is_withdrawal_of side x) before (row ∷ []), off) (no (list_any (is_withdrawal_of side x) before))
 
--- nobody is withdrawn before the first row
+-- before the first row nobody is withdrawn
 pub withdrawn_of-none : (side : List ℕ) (names : List (List ℕ)) → withdrawn_of side names [] ≡ map (λ name. false) names
 unfolding withdrawn_of
 withdrawn_of-none side names = refl

@@ -1,4 +1,4 @@
--- How a call answers a fault.
+-- How a call answers when it finds a fault.
 use Rattle.std.specs.Prelude.{ℕ, Option, Result}
 use Rattle.docket.specs.declared.fault.DocketFault.{DocketFault}
 use Rattle.docket.specs.declared.fault.DocketFault.TheVariants.{Memory, Model}
@@ -6,15 +6,15 @@ use Rattle.match_model.specs.Fault as answers
 use Rattle.match_model.specs.declared.fault.ModelFault.{ModelFault}
 use Rattle.match_model.specs.declared.fault.ModelFault.TheVariants as model
 
--- the error is the fault, or want of memory
+-- the error is the fault, or out of memory
 abbrev pub Refuses : Option DocketFault → DocketFault → Type 0
 Refuses fault e = answers.Refuses Memory fault e
 
--- Ok comes only where there is no fault, and an error is that fault, or want of memory
+-- the answer is Ok only if there is no fault; an error is that fault, or out of memory
 abbrev pub Answers : {T : Type 0} → Option DocketFault → Result T DocketFault → Type 0
 Answers fault r = answers.Answers Memory fault r
 
--- the fault of a builder, at a record
+-- a fault of the builder, with the record at which it was found
 abbrev pub at_record : ℕ → ModelFault → DocketFault
 at_record n model.TooManyProgrammes = Model n model.TooManyProgrammes
 at_record n model.TooManyResidents = Model n model.TooManyResidents

@@ -1,4 +1,4 @@
--- What is wrong with a record by those before it.
+-- Faults of a record that depend on the records before it.
 use Rattle.std.specs.Prelude.{List, Option}
 use Rattle.std.specs.Option.{option_or}
 use Rattle.match_model.specs.declared.limits.Limits.{Limits}
@@ -6,6 +6,6 @@ use Rattle.docket.specs.Fields.{Fields}
 use Rattle.docket.specs.Passes.{repeat_fault, limit_fault}
 use Rattle.docket.specs.declared.fault.DocketFault.{DocketFault}
 
--- the fault of a record that only those before it show: a repetition, or a limit
+-- the fault of a record that shows only from the records before it: a repetition, or a limit
 abbrev pub context_fault : Limits → List Fields → Fields → Option DocketFault
 context_fault limits before row = option_or (repeat_fault before row) (limit_fault limits before row)

@@ -1,4 +1,4 @@
--- What the rows so far declare, as the code keeps it.
+-- What the rows read so far declare, as the code keeps it.
 use Rattle.std.specs.Prelude.{◌≡◌, ℕ, false, List, map, filter, find, codes, Option, None, option_map, unwrap_or, [], Some, IfSome}
 use Rattle.std.specs.List.{list_any}
 use Rattle.exchange_core.specs.declared.event.Capacity.{Capacity}
@@ -12,7 +12,7 @@ use Rattle.docket.specs.Whole.{AreWorkers}
 use Rattle.docket.specs.declared.store.declarations.Declarations.{Declarations}
 use Rattle.docket.specs.declared.vocabulary.TheConstants.{PROGRAMME_LIST, CAPACITY, EVENT}
 
--- the capacity in the C row, if there is one
+-- the capacity in the C row, if there is a C row
 unfoldable pub capacity_in : List Fields → Option Capacity
 capacity_in rows = option_map (λ row. unwrap_or (capacity_of (field row 1)) Full) (find (is_kind CAPACITY) rows)
 
@@ -20,18 +20,19 @@ capacity_in rows = option_map (λ row. unwrap_or (capacity_of (field row 1)) Ful
 abbrev pub names_withdrawn : List ℕ → List Fields → List (List ℕ)
 names_withdrawn side rows = map (λ row. field row 2) (filter (is_row_of withdrawal_kind side) rows)
 
--- the workers of the events, if the journal is by worker
+-- the workers of the events if the journal is by worker; else none
 abbrev pub who_if : Option ℕ → List Fields → List ℕ
 who_if None rows = []
 who_if (Some workers) rows = who_of rows
 
--- the number of workers, if the journal is by worker, and then the worker of each event
+-- if the journal is by worker, its number of workers and the worker of each event
 pub record AreByWorker (workers : Option ℕ) (who : List ℕ) (rows : List Fields) : Type 0 where
   pub workers_are : workers ≡ workers_in rows
   pub who_are : who ≡ who_if workers rows
   pub within : IfSome workers (λ n. AreWorkers n who)
 
--- nobody's list was handed in to the builder yet, and nobody was withdrawn; no event comes before the capacity; the rest is what the rows declare, names by the numbers of their texts
+-- The builder has no list and no withdrawal yet. No event stands before the capacity. All else is as the rows
+-- declare; a name is kept as the number of its text.
 pub record IsDeclared (d : Declarations) (texts : Fields) (rows : List Fields) : Type 0 where
   pub quotas : d.builder.quotas ≡ quotas_of rows
   pub programme_lists : d.builder.programme_lists ≡ map (λ name. None) (programmes_of rows)

@@ -1,4 +1,4 @@
--- One record: its fields, and the faults that it has by itself.
+-- One record: its fields, and the faults that need no other record.
 use Rattle.std.specs.Prelude.{ℕ, nat_lt, ◌&&◌, ◌||◌, ◌==◌, Bool, if◌then◌else◌, Option, Some, None, is_some, List, [], ◌∷◌, length, drop, codes, bytes_eq, unwrap_or, ◌+◌}
 use Rattle.std.specs.Option.{option_or}
 use Rattle.std.specs.List.{list_all}
@@ -15,17 +15,17 @@ use Rattle.docket.specs.declared.fault.DocketFault.TheVariants.{UnknownKind, Fie
 abbrev pub Fields : Type 0
 Fields = List (List ℕ)
 
--- field i of a record, from 0, which is empty past the end
+-- field i of a record, from 0; an empty field past the end
 unfoldable pub field : Fields → ℕ → List ℕ
 field row i = unwrap_or (field_at row i) []
 
--- the byte of a text of one byte, or 0
+-- the byte, if the text is one byte long; else 0
 abbrev pub lone_byte : List ℕ → ℕ
 lone_byte [] = 0
 lone_byte (c ∷ []) = c
 lone_byte (c ∷ d ∷ rest) = 0
 
--- the kind of a record: the one byte of its first field, or 0
+-- the kind of a record: its first field, if this is one byte long; else 0
 unfoldable pub kind_of : Fields → ℕ
 kind_of row = lone_byte (field row 0)
 
@@ -33,15 +33,15 @@ kind_of row = lone_byte (field row 0)
 abbrev pub is_kind : ℕ → Fields → Bool
 is_kind kind row = kind_of row == kind
 
--- whether the record is of the kind and its second field is the name
+-- whether the record has this kind, and this name in its second field
 abbrev pub is_row_of : ℕ → List ℕ → Fields → Bool
 is_row_of kind name row = is_kind kind row && bytes_eq name (field row 1)
 
--- the fault, where the test fails
+-- the fault if the test fails, else none
 abbrev pub unless : Bool → DocketFault → Option DocketFault
 unless test fault = if test then None else Some fault
 
--- which event a word names
+-- the event that a word stands for
 unfoldable pub event_word : List ℕ → Option EventWord
 event_word word =
     if bytes_eq word (codes "offer") then Some Offer
@@ -51,7 +51,7 @@ event_word word =
     else if bytes_eq word (codes "close") then Some Close
     else None
 
--- how many fields an event of this word has
+-- how many fields an event with this word has
 abbrev pub width_of : EventWord → ℕ
 width_of Offer = 4
 width_of Take = 4
@@ -59,66 +59,67 @@ width_of Answer = 5
 width_of Hear = 5
 width_of Close = 2
 
--- how many fields an event of this word has: one more where the journal is by this many workers
+-- how many fields an event with this word has; a journal by worker has one more
 abbrev pub event_width : Option ℕ → EventWord → ℕ
 event_width None word = width_of word
 event_width (Some workers) word = width_of word + 1
 
--- the worker's number at the end of an event, in a journal by this many workers, and else 0
+-- the worker's number at the end of an event, if the journal is by this many workers; else 0
 abbrev pub worker_at : Option ℕ → EventWord → Fields → Option ℕ
 worker_at None word row = Some 0
 worker_at (Some workers) word row = worker_of workers (field row (width_of word))
 
--- the faults below are those of record n by itself, first the number of its fields
+-- The definitions from here on give the faults of record n that need no other record. This one checks the number of
+-- fields.
 abbrev pub counted : ℕ → ℕ → Fields → Option DocketFault
 counted n width row = unless (length row == width) (FieldCount n)
 
--- `Q,programme,quota`
+-- the fault of `Q,programme,quota`
 abbrev pub quota_row_fault : ℕ → Fields → Option DocketFault
 quota_row_fault n row =
     option_or (counted n 3 row)
     (option_or (unless (is_name (field row 1)) (BadName n)) (unless (is_some (number_of (field row 2))) (BadQuota n)))
 
--- whether the fields from 1 on are names
+-- whether all fields after the first are names
 unfoldable pub lists_names : Fields → Bool
 lists_names row = list_all is_name (drop 1 row)
 
--- `P,programme,resident,..` and `R,resident,programme,..`
+-- the fault of `P,programme,resident,..` or `R,resident,programme,..`
 abbrev pub list_row_fault : ℕ → Fields → Option DocketFault
 list_row_fault n row =
     option_or (unless (nat_lt 1 (length row)) (FieldCount n)) (unless (lists_names row) (BadName n))
 
--- `M,resident,programme`
+-- the fault of `M,resident,programme`
 abbrev pub matched_row_fault : ℕ → Fields → Option DocketFault
 matched_row_fault n row = option_or (counted n 3 row) (unless (is_name (field row 1) && is_name (field row 2)) (BadName n))
 
--- `U,resident`
+-- the fault of `U,resident`
 abbrev pub unmatched_row_fault : ℕ → Fields → Option DocketFault
 unmatched_row_fault n row = option_or (counted n 2 row) (unless (is_name (field row 1)) (BadName n))
 
--- `F,programme,filled,quota`
+-- the fault of `F,programme,filled,quota`
 abbrev pub filled_row_fault : ℕ → Fields → Option DocketFault
 filled_row_fault n row =
     option_or (counted n 4 row)
     (option_or (unless (is_name (field row 1)) (BadName n))
     (unless (is_number (field row 2) && is_number (field row 3)) (BadSheet n)))
 
--- `C,full` or `C,n`, and in a journal by worker the number of workers at its end
+-- the fault of `C,full` or `C,n`; in a journal by worker the number of workers follows
 abbrev pub capacity_row_fault : ℕ → Fields → Option DocketFault
 capacity_row_fault n row =
     option_or (unless ((length row == 2) || (length row == 3)) (FieldCount n))
     (option_or (unless (is_some (capacity_of (field row 1))) (BadEvent n))
     (unless ((length row == 2) || is_some (workers_of (field row 2))) (BadEvent n)))
 
--- an event's two names
+-- the fault of the two names in an event
 abbrev pub event_names_fault : ℕ → Fields → Option DocketFault
 event_names_fault n row = unless (is_name (field row 2) && is_name (field row 3)) (BadName n)
 
--- an event's two names and the kind of its answer
+-- the fault of the two names and the kind of answer in an event
 abbrev pub answer_fault : ℕ → Fields → Option DocketFault
 answer_fault n row = option_or (event_names_fault n row) (unless (is_some (answer_of (field row 4))) (BadEvent n))
 
--- what stands after an event's word
+-- the fault of the fields after an event's word
 abbrev pub event_fields_fault : ℕ → Fields → EventWord → Option DocketFault
 event_fields_fault n row Offer = event_names_fault n row
 event_fields_fault n row Take = event_names_fault n row
@@ -126,43 +127,44 @@ event_fields_fault n row Answer = answer_fault n row
 event_fields_fault n row Hear = answer_fault n row
 event_fields_fault n row Close = None
 
--- an event whose word is known, or isn't, in a journal by this many workers, if it is by worker
+-- the fault of an event row, from its event word if the word is known, and from the number of workers if the journal
+-- is by worker
 abbrev pub worded_row_fault : ℕ → Option ℕ → Fields → Option EventWord → Option DocketFault
 worded_row_fault n workers row None = Some (BadEvent n)
 worded_row_fault n workers row (Some word) =
     option_or (counted n (event_width workers word) row)
     (option_or (event_fields_fault n row word) (unless (is_some (worker_at workers word row)) (BadEvent n)))
 
--- `E,word,..`, and in a journal by worker the worker's number at its end
+-- the fault of `E,word,..`; in a journal by worker the worker's number stands at the end
 abbrev pub event_row_fault : ℕ → Option ℕ → Fields → Option DocketFault
 event_row_fault n workers row =
     option_or (unless (nat_lt 1 (length row)) (FieldCount n)) (worded_row_fault n workers row (event_word (field row 1)))
 
--- the letter of a version row in ASCII, `V`
+-- the letter of a version row, `V`, in ASCII
 abbrev pub version_kind : ℕ
 version_kind = 86
 
--- the letter of a withdrawal row in ASCII, `W`
+-- the letter of a withdrawal row, `W`, in ASCII
 abbrev pub withdrawal_kind : ℕ
 withdrawal_kind = 87
 
--- `V,2`
+-- the fault of `V,2`
 abbrev pub version_row_fault : ℕ → Fields → Option DocketFault
 version_row_fault n row = option_or (counted n 2 row) (unless (bytes_eq (field row 1) (codes "2")) (BadVersion n))
 
--- whether the text names a side of the match: `P`, the programmes, or `R`, the residents
+-- whether the text is a side of the match: `P` for programmes or `R` for residents
 abbrev pub is_side : List ℕ → Bool
 is_side text = bytes_eq text (codes "P") || bytes_eq text (codes "R")
 
--- `W,P,programme` and `W,R,resident`
+-- the fault of `W,P,programme` or `W,R,resident`
 abbrev pub withdrawal_row_fault : ℕ → Fields → Option DocketFault
 withdrawal_row_fault n row =
     option_or (counted n 3 row)
     (option_or (unless (is_side (field row 1)) (BadWithdrawal n)) (unless (is_name (field row 2)) (BadName n)))
 
--- the first fault of record n by itself, where the journal is by this many workers, if it is by worker: its kind, the number
--- of its fields, its names, its numbers and words; of a V or W row none, since whether such a row is known at all hangs on
--- the records before it
+-- The first fault of record n that needs no other record. It is of the kind, of the number of fields, of the names,
+-- or of numbers and words. A journal may be by this many workers. A V or W row has none here: whether such a row is
+-- known depends on the records before it.
 unfoldable pub row_fault : ℕ → Option ℕ → Fields → Option DocketFault
 row_fault n workers row =
     if is_kind QUOTA row then quota_row_fault n row

@@ -1,4 +1,4 @@
--- How rows stand in one long record, which is cut where each row ends, and how texts stand there by number.
+-- How rows stand in one long record, with a list of where each row ends. In this record each text is a number.
 use Rattle.std.specs.Prelude.{◌≡◌, ℕ, ◌-◌, true, List, [], ◌∷◌, ◌++◌, length, take, drop}
 use Rattle.std.specs.List.{list_all}
 use Rattle.csv.specs.Records.{Rising, last_end}
@@ -6,12 +6,12 @@ use Rattle.docket_names.specs.Texts.{texts_at, AreNumbersOf, StartsWith}
 use Rattle.docket_names.specs.Words.{is_name}
 use Rattle.docket.specs.Fields.{Fields}
 
--- the parts of a list that end there, after a start
+-- the parts of a list, from this start, with these ends
 unfoldable pub cut : {A : Type 0} → ℕ → List ℕ → List A → List (List A)
 cut start [] items = []
 cut start (end ∷ ends) items = take (end - start) (drop start items) ∷ cut end ends items
 
--- the ends rise, and the last is the end of the list
+-- the ends rise, and the last end is the end of the list
 pub record AreCuts {A : Type 0} (ends : List ℕ) (items : List A) : Type 0 where
   pub rising : Rising 0 ends (length items)
   pub whole : last_end 0 ends ≡ length items
@@ -20,18 +20,18 @@ pub record AreCuts {A : Type 0} (ends : List ℕ) (items : List A) : Type 0 wher
 pub record AreNamed (texts : List (List ℕ)) : Type 0 where
   pub named : list_all is_name texts ≡ true
 
--- these texts join those of the numbers, and no text leaves
+-- the numbers gain these texts, and every known text stays
 pub record AddsTexts (texts : List (List ℕ)) (numbers : List ℕ) (more : List (List ℕ)) (all : List ℕ) (added : List (List ℕ)) : Type 0 where
   pub kept : StartsWith texts more
   pub within : AreNumbersOf more all
   pub joined : texts_at more all ≡ texts_at texts numbers ++ added
 
--- rows in order, and the different texts of their fields, by number
+-- the rows in order, and the different texts of their fields; a field is the number of a text
 pub record NumberedRows : Type 0 where
   pub rows : List Fields
   pub texts : Fields
 
--- numbers of texts, which are cut where each row ends
+-- the numbers of texts in all rows, with the place where each row ends
 pub record AreFlat (texts : List (List ℕ)) (numbers ends : List ℕ) : Type 0 where
   pub within : AreNumbersOf texts numbers
   pub cuts : AreCuts ends (texts_at texts numbers)

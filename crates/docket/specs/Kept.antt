@@ -1,4 +1,4 @@
--- Which rows are kept whole, and what stands in place of the others.
+-- Which rows are kept whole, and what is kept for the other rows.
 use Rattle.std.specs.Prelude.{◌≡◌, ◌⊎◌, ◌≤◌, ◌<◌, ◌&&◌, ◌||◌, ℕ, Bool, true, List, [], ◌∷◌, ◌++◌, length, take, drop, bytes_eq, codes, nat_lt, ⊤, count_by, slice_get, Some}
 use Rattle.std.specs.List.{IsDistinct, list_any, list_all}
 use Rattle.docket.specs.Fields.{Fields, field, kind_of, is_kind, width_of}
@@ -8,28 +8,28 @@ use Rattle.docket.specs.declared.vocabulary.EventWord.TheVariants.{Close}
 use Rattle.docket.specs.declared.vocabulary.TheConstants.{PROGRAMME_LIST, RESIDENT_LIST, EVENT}
 use Rattle.docket.specs.declared.store.rows.TheConstants.{MOST_LISTED, MOST_MEMBERS}
 
--- whether a row has a list
+-- whether a row is a rank list: a P or an R row
 abbrev pub is_list_row : Fields → Bool
 is_list_row row = is_kind PROGRAMME_LIST row || is_kind RESIDENT_LIST row
 
--- whether the text is among these
+-- whether the text is one of these texts
 abbrev pub is_among : List (List ℕ) → List ℕ → Bool
 is_among texts text = list_any (bytes_eq text) texts
 
--- whether the text is a field of a row with a list, and of some such row
+-- whether the row is a rank list with this text as a field; and whether some row is
 abbrev pub lists_text : List ℕ → Fields → Bool
 lists_text text row = is_list_row row && is_among row text
 
 abbrev pub is_listed : List Fields → List ℕ → Bool
 is_listed rows text = list_any (lists_text text) rows
 
--- these different texts have among them more fields of lists than there can be members
+-- more different texts stand in these rows' rank lists than there can be members
 pub record AreMany (rows : List Fields) : Type 0 where
   pub texts : List (List ℕ)
   pub distinct : IsDistinct bytes_eq texts
   pub many : MOST_LISTED < count_by (is_listed rows) texts
 
--- the front of a row with a list, with its owner at least
+-- the first fields of a rank list, at least two: its letter and its owner
 pub record IsFront (row short : Fields) : Type 0 where
   pub list : is_list_row row ≡ true
   pub count : ℕ
@@ -37,41 +37,42 @@ pub record IsFront (row short : Fields) : Type 0 where
   pub owner : 2 ≤ count
   pub few : count ≤ length row
 
--- `U,U` stands in place of a sheet's row
+-- `U,U` is kept for a row of a sheet
 pub record IsBlank (row short : Fields) : Type 0 where
   pub mark : is_sheet_row row ≡ true
   pub blank : short ≡ codes "U" ∷ codes "U" ∷ []
 
--- `E,close` with the worker stands in place of an event
+-- `E,close` is kept for an event, with its worker
 pub record IsClose (row short : Fields) : Type 0 where
   pub event : kind_of row ≡ EVENT
   pub close : short ≡ worded_row Close (drop (width_of (word_in row)) row)
 
--- there are more of a sheet's rows among these than there can be members
+-- these rows have more rows of a sheet than there can be members
 abbrev pub AreManyMarks : List Fields → Type 0
 AreManyMarks rows = MOST_MEMBERS < count_by is_sheet_row rows
 
--- whether the text is a name of an event, and of some event
+-- whether the row is an event with this text as a name; and whether some row is
 abbrev pub names_text : List ℕ → Fields → Bool
 names_text text row = is_kind EVENT row && nat_lt 2 (width_of (word_in row)) && (bytes_eq text (field row 2) || bytes_eq text (field row 3))
 
 abbrev pub is_named : List Fields → List ℕ → Bool
 is_named rows text = list_any (names_text text) rows
 
--- these different texts have among them more names of events than there can be members
+-- more different texts are names in these rows' events than there can be members
 pub record AreManyNames (rows : List Fields) : Type 0 where
   pub texts : List (List ℕ)
   pub distinct : IsDistinct bytes_eq texts
   pub many : MOST_MEMBERS < count_by (is_named rows) texts
 
--- each row is kept whole, or as what stands in its place
+-- each row is kept whole, or as its short form
 unfoldable pub AreAlike : (Fields → Fields → Type 0) → List Fields → List Fields → Type 0
 AreAlike Is [] [] = ⊤
 AreAlike Is [] (short ∷ kept) = ⊥
 AreAlike Is (row ∷ rows) [] = ⊥
 AreAlike Is (row ∷ rows) (short ∷ kept) = ((short ≡ row) ⊎ Is row short) × AreAlike Is rows kept
 
--- a row is kept whole, or otherwise where the rows have too many texts, marks or names by then
+-- A row is kept whole, or as its short form. The short form needs too many texts in lists, rows of a sheet or names
+-- in events by then.
 abbrev pub IsKeptAs : List Fields → List Fields → Fields → Fields → Type 0
 IsKeptAs old new row short =
     (short ≡ row) ⊎ ((IsFront row short × AreMany new) ⊎ ((IsBlank row short × AreManyMarks old) ⊎ (IsClose row short × AreManyNames old)))
@@ -81,7 +82,7 @@ pub record Keeps (old new : List Fields) (row : Fields) : Type 0 where
   pub rows : new ≡ old ++ short ∷ []
   pub shown : IsKeptAs old new row short
 
--- the rows are kept whole up to where there are too many, and from there on whole or as what stands in their place
+-- the rows are kept whole until there are too many; after that each row is kept whole or as its short form
 pub record AreCutFrom (Is : Fields → Fields → Type 0) (Many : List Fields → Type 0) (all kept : List Fields) : Type 0 where
   pub front : List Fields
   pub rest : List Fields
@@ -94,7 +95,7 @@ pub record AreCutFrom (Is : Fields → Fields → Type 0) (Many : List Fields �
 abbrev pub AreCut : (Fields → Fields → Type 0) → (List Fields → Type 0) → List Fields → List Fields → Type 0
 AreCut Is Many all kept = (kept ≡ all) ⊎ AreCutFrom Is Many all kept
 
--- the rows are kept whole up to one with which their lists have too many texts
+-- the rows are kept whole up to the list that brings too many texts
 pub record AreCutAt (all kept : List Fields) : Type 0 where
   pub front : List Fields
   pub row : Fields
@@ -110,7 +111,8 @@ pub record AreCutAt (all kept : List Fields) : Type 0 where
 abbrev pub AreListsCut : List Fields → List Fields → Type 0
 AreListsCut all kept = (kept ≡ all) ⊎ AreCutAt all kept
 
--- the rows are kept whole, or as far as anything asks for them: of the journal, then of the sheet, then of the lists
+-- The rows are kept whole, or as far as any later test needs them. First events are cut, then rows of the sheet, then
+-- lists.
 pub record AreKept (all kept : List Fields) : Type 0 where
   pub noted : List Fields
   pub marked : List Fields
@@ -118,25 +120,25 @@ pub record AreKept (all kept : List Fields) : Type 0 where
   pub sheet : AreCut IsBlank AreManyMarks noted marked
   pub lists : AreListsCut marked kept
 
--- the texts that joined are among these
+-- the new texts are among those added
 pub record HaveJoined (texts more added : List (List ℕ)) : Type 0 where
   pub extra : List (List ℕ)
   pub more_are : more ≡ texts ++ extra
   pub among : list_all (is_among added) extra ≡ true
 
--- the text has a number from this one on
+-- the text has this number or a later one
 pub record IsBrought (texts : List (List ℕ)) (start : ℕ) (text : List ℕ) : Type 0 where
   pub number : ℕ
   pub late : start ≤ number
   pub there : slice_get texts number ≡ Some text
 
--- and is a name of this event
+-- a name of this event is a text with this number or a later one
 pub record HasNew (texts : List (List ℕ)) (start : ℕ) (row : Fields) : Type 0 where
   pub text : List ℕ
   pub name : names_text text row ≡ true
   pub brought : IsBrought texts start text
 
--- at most as many texts, rows and names were counted as there are of lists, of a sheet and of events
+-- Each count is at most the true one: texts in rank lists, rows of a sheet, and names in events.
 abbrev pub AreCounted : ℕ → ℕ → ℕ → List Fields → List (List ℕ) → Type 0
 AreCounted listed marked named rows texts =
     (listed ≤ count_by (is_listed rows) texts) × (marked ≤ count_by is_sheet_row rows) × (named ≤ count_by (is_named rows) texts)

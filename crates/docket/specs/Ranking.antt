@@ -1,11 +1,11 @@
--- What the builder keeps, as the second pass hands the lists in.
+-- What the builder keeps during the second pass, while the lists are added.
 use Rattle.std.specs.Prelude.{◌≡◌, List, codes}
 use Rattle.match_model.specs.Draft.{Draft}
 use Rattle.docket.specs.Fields.{Fields}
 use Rattle.docket.specs.Contents.{programmes_of, residents_of, quotas_of, lists_of, withdrawn_of}
 use Rattle.docket.specs.declared.vocabulary.TheConstants.{PROGRAMME_LIST, RESIDENT_LIST}
 
--- the builder has every member, and the lists and withdrawals of the rows that are done
+-- the builder has every member, and the lists and withdrawals of the finished rows
 pub record IsRanked (builder : Draft) (rows done : List Fields) : Type 0 where
   pub quotas : builder.quotas ≡ quotas_of rows
   pub programme_lists : builder.programme_lists ≡ lists_of PROGRAMME_LIST (programmes_of rows) (residents_of rows) done

@@ -1,4 +1,4 @@
--- What a record says by itself, where it has no fault of its own.
+-- What a record without a fault of its own says.
 use Rattle.std.specs.Prelude.{◌≡◌, true, Bool, if◌then◌else◌, Option, Some, None, Result, Ok, Err, ℕ, List, codes, bytes_eq, nat_eq}
 use Rattle.std.specs.Option.{option_or}
 use Rattle.docket.specs.Words.{capacity_of, workers_of}
@@ -15,7 +15,7 @@ use Rattle.docket.specs.declared.vocabulary.TheConstants.{QUOTA, PROGRAMME_LIST,
 use Rattle.docket.specs.declared.fault.DocketFault.{DocketFault}
 use Rattle.docket.specs.declared.fault.DocketFault.TheVariants.{UnknownKind}
 
--- the kind that is kept
+-- the kind that is kept for the row
 abbrev pub kept_of : RowKind → KeptKind
 kept_of (Programme quota) = kept.Programme
 kept_of ProgrammeList = kept.ProgrammeList
@@ -28,25 +28,26 @@ kept_of (Event word worker) = kept.Event word
 kept_of Version = kept.Version
 kept_of (Withdrawal side) = kept.Withdrawal side
 
--- the side that a text names
+-- the side that a text stands for
 unfoldable pub side_of : List ℕ → Option Side
 side_of text = if bytes_eq text (codes "P") then Some Programmes else if bytes_eq text (codes "R") then Some Residents else None
 
--- the faults of record n by itself that is a V row, and that is a W row, where the docket is of version 2 or isn't
+-- the faults of record n on its own, if it is a V row, and if it is a W row; `second` says that the docket is of
+-- version 2
 abbrev pub version_fault : ℕ → Fields → Option DocketFault
 version_fault n row = option_or (unless (nat_eq n 1) (UnknownKind n)) (version_row_fault n row)
 
 abbrev pub withdrawal_fault : ℕ → Bool → Fields → Option DocketFault
 withdrawal_fault n second row = option_or (unless second (UnknownKind n)) (withdrawal_row_fault n row)
 
--- all that is wrong with record n by itself, where the docket is of version 2 or isn't
+-- the fault of record n on its own; `second` says that the docket is of version 2
 abbrev pub own_fault : ℕ → Option ℕ → Bool → Fields → Option DocketFault
 own_fault n workers second row =
     if is_kind version_kind row then version_fault n row
     else if is_kind withdrawal_kind row then withdrawal_fault n second row
     else row_fault n workers row
 
--- the record is of the kind, and says this, where the journal is by this many workers, if it is by worker
+-- the record is of this kind and has these values; the journal may be by this many workers
 abbrev pub IsReadAs : Option ℕ → RowKind → Fields → Type 0
 IsReadAs by (Programme quota) row = (kind_of row ≡ QUOTA) × (is_name (field row 1) ≡ true) × (number_of (field row 2) ≡ Some quota)
 IsReadAs by ProgrammeList row = (kind_of row ≡ PROGRAMME_LIST) × (is_name (field row 1) ≡ true)
@@ -60,12 +61,12 @@ IsReadAs by (Event word worker) row = IsEventOf (Some word) row × (worker_at by
 IsReadAs by Version row = kind_of row ≡ version_kind
 IsReadAs by (Withdrawal side) row = (kind_of row ≡ withdrawal_kind) × (field row 1 ≡ side_text side) × (is_name (field row 2) ≡ true)
 
--- the kind, unless there is a fault
+-- the kind if there is no fault, else the fault
 abbrev pub read_as : RowKind → Option DocketFault → Result RowKind DocketFault
 read_as kind None = Ok kind
 read_as kind (Some e) = Err e
 
--- the answer is the fault, or what the record says where there is none
+-- the answer is the fault; without a fault it is what the record says
 abbrev pub Reads : Option DocketFault → Option ℕ → Fields → Result RowKind DocketFault → Type 0
 Reads fault by row (Ok kind) = (fault ≡ None) × IsReadAs by kind row
 Reads fault by row (Err e) = fault ≡ Some e

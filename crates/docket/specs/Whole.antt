@@ -1,4 +1,4 @@
--- What every docket keeps, and whom the events name that are written with it.
+-- What every docket has, and which members its events may name.
 use Rattle.std.specs.Prelude.{◌≡◌, ℕ, ◌<◌, ◌≤◌, ⊤, IfSome, Option, Some, List, length}
 use Rattle.std.specs.List.{All}
 use Rattle.match_model.specs.Instance.{Instance, IsProgramme, IsResident}
@@ -7,17 +7,17 @@ use Rattle.exchange_core.specs.declared.event.Event.{Event}
 use Rattle.exchange_core.specs.declared.event.Event.TheVariants.{Offer, Take, Answer, Hear, Close}
 use Rattle.docket.specs.Contents.{Contents, JournalParts, ByWorkerParts}
 
--- one entry for each resident, and only programmes of the docket
+-- the sheet has one entry for each resident, and only programmes of the docket
 pub record IsSheetOf (d : Contents) (m : List (Option ℕ)) : Type 0 where
   pub one_entry_each : length m ≡ length d.residents
   pub members : (r p : ℕ) → IsMemberOf m r p → p < length d.programmes
 
--- a programme and a resident of the instance
+-- p and r are a programme and a resident of the instance
 pub record AreMembers (inst : Instance) (p r : ℕ) : Type 0 where
   pub programme : IsProgramme inst p
   pub resident : IsResident inst r
 
--- the numbers in an event are members
+-- the numbers in an event belong to members
 abbrev pub NamesMembers : Instance → Event → Type 0
 NamesMembers inst (Offer p r) = AreMembers inst p r
 NamesMembers inst (Take r p) = AreMembers inst p r
@@ -25,18 +25,19 @@ NamesMembers inst (Answer r p kind) = AreMembers inst p r
 NamesMembers inst (Hear p r kind) = AreMembers inst p r
 NamesMembers inst Close = ⊤
 
--- 1 to 8 workers, and only numbers below that
+-- there are 1 to 8 workers, and each number is below their count
 pub record AreWorkers (workers : ℕ) (who : List ℕ) : Type 0 where
   pub some : 1 ≤ workers
   pub few : workers ≤ 8
   pub numbers : All (λ w. w < workers) who
 
--- one number for each event, each that of one of 1 to 8 workers
+-- each event has one number, which is that of one of 1 to 8 workers
 pub record IsByWorker (events : List Event) (by : ByWorkerParts) : Type 0 where
   pub one_number_each : length by.who ≡ length events
   pub workers : AreWorkers by.workers by.who
 
--- a name for each member, a sheet of members, and a journal whose events name members, with its workers if it is by worker
+-- Each member has a name. The sheet has only members. The journal's events name only members. A journal by worker
+-- also has its workers.
 pub record IsWhole (d : Contents) : Type 0 where
   pub programmes : length d.programmes ≡ length d.instance.quotas
   pub residents : length d.residents ≡ length d.instance.resident_lists

@@ -1,4 +1,4 @@
--- What is read where the lists are wanted as they were written.
+-- How a docket is read when the lists are also wanted as they were written.
 use Rattle.std.specs.Prelude.{◌≡◌, ℕ, ◌<◌, Bool, true, false, Option, Some, None, option_map, unwrap_or, List, [], length, map, drop, find, nat_lt}
 use Rattle.std.specs.List.{list_all}
 use Rattle.match_model.specs.declared.limits.Limits.{Limits}
@@ -12,17 +12,17 @@ use Rattle.docket.specs.Read.{AreAll}
 use Rattle.docket.specs.Texts.{programme_name, resident_name}
 use Rattle.docket.specs.declared.vocabulary.TheConstants.{RESIDENT_LIST}
 
--- the fields after the name in the record of a kind that has this name, and none where there is no such record
+-- the fields after the name, in the record with this kind and this name; none if there is no such record
 abbrev pub fields_after : ℕ → List ℕ → List Fields → List (List ℕ)
 fields_after kind name rows = drop 2 (unwrap_or (find (is_row_of kind name) rows) [])
 
--- the lists that the records hand in, where they are kept
+-- the lists in the records, if lists are kept
 abbrev pub lists_if : Bool → List Fields → Option Written
 lists_if true rows = Some (written_of (draft_of rows))
 lists_if false rows = None
 
--- the docket of records without a fault within these limits, which are all that were read where the bytes are known, and their
--- lists where they are kept
+-- The docket of these records, which have no fault within these limits, and their lists if these are kept. If the bytes are
+-- known, the records are all of theirs.
 pub record IsReadAs (limits : Limits) (bytes : Option (List ℕ)) (keeps : Bool) (docket : Contents) (written : Option Written) : Type 0 where
   pub rows : List Fields
   pub all : AreAll (option_map rows_in bytes) rows
@@ -30,8 +30,8 @@ pub record IsReadAs (limits : Limits) (bytes : Option (List ℕ)) (keeps : Bool)
   pub docket_is : docket ≡ contents_of rows
   pub lists_are : written ≡ lists_if keeps rows
 
--- the docket of records without a fault within these limits, which are all that were read where the bytes are known, and their
--- lists: of these the instance is made, and each resident's list names the programmes in that resident's R record
+-- The docket of these records, which have no fault within these limits, and their lists. If the bytes are known, the records
+-- are all of theirs. The instance is made of the lists. Each resident's list names the programmes of that resident's R record.
 pub record IsReadWithin (limits : Limits) (bytes : Option (List ℕ)) (docket : Contents) (written : Written) : Type 0 where
   pub rows : List Fields
   pub all : AreAll (option_map rows_in bytes) rows

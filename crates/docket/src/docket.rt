@@ -1,4 +1,4 @@
-//! A docket: names, an instance, and maybe a sheet and a journal.
+//! A docket: names, an instance, and an optional sheet and journal.
 ghost use Rattle.std.specs.Prelude.{◌≡◌, option_copied};
 ghost use Rattle.match_model.specs.Instance.{IsProgramme, IsResident};
 ghost use Rattle.docket.specs.Texts as texts;
@@ -9,12 +9,12 @@ use exchange_core::{Capacity, Event};
 use match_model::{Assignment, Instance, ProgrammeNo, ResidentNo};
 use std::marker::Model;
 
-/// Who made the events of a journal.
+/// Which workers made the events of a journal.
 #[derive(Drop)]
 pub struct ByWorker {
     /// How many workers there were, from 1 to 8.
     pub workers: u32,
-    /// The worker of each event, in order, each below their number.
+    /// The worker of each event, in order. Each number is below the number of workers.
     pub who: Vec<u8>,
 }
 
@@ -26,15 +26,15 @@ impl Model for ByWorker {
     ghost view = { λ b. record { workers = b.workers; who = b.who.items } };
 }
 
-/// The journal of an exchange: the capacity of its mailboxes, and its events in order, with their workers where it is by
-/// worker.
+/// The journal of an exchange: the capacity of its mailboxes, and its events in order. A journal by worker also has
+/// their workers.
 #[derive(Drop)]
 pub struct Journal {
-    /// The capacity of its mailboxes.
+    /// The capacity of the mailboxes.
     pub capacity: Capacity,
-    /// Its events, in order.
+    /// The events, in order.
     pub events: Vec<Event>,
-    /// Who made them, if the journal says so.
+    /// The workers of the events, if the journal has them.
     pub by: Option<ByWorker>,
 }
 
@@ -46,7 +46,7 @@ impl Model for Journal {
     ghost view = { λ j. record { capacity = j.capacity; events = j.events.items; by = j.by } };
 }
 
-/// What a docket says.
+/// The contents of a docket.
 pub struct Docket {
     pub(crate) names: Names,
     pub(crate) instance: Instance,
@@ -65,7 +65,7 @@ impl Model for Docket {
     ghost invariant = { λ d. IsWhole (record { programmes = d.names.programmes; residents = d.names.residents; instance = d.instance; sheet = d.sheet; journal = d.journal }) };
 }
 
-// As one call, so that whoever lets a docket go proves nothing of its parts.
+// A single call. So a caller that drops a docket need not prove anything about its parts.
 impl Drop for Docket {
     fn drop(self) {
         let Docket {

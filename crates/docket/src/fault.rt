@@ -12,19 +12,19 @@ use thiserror::Error;
 /// Why a docket could not be read or written. `place` is the number, from 1, of the record at fault.
 #[derive(Clone, Copy, Debug, PartialEq, Eq, Error)]
 pub enum DocketFault {
-    /// The reader answered a fault other than that it was interrupted.
+    /// The reader failed, other than by an interruption.
     Read { place: u32 },
     /// There are more records than the limits allow.
     TooManyRecords { place: u32 },
-    /// The first field names no kind of row.
+    /// The first field is no known kind of row.
     UnknownKind { place: u32 },
-    /// The row has another number of fields than its kind.
+    /// The row has a wrong number of fields for its kind.
     FieldCount { place: u32 },
-    /// A name isn't 1 to 32 letters, digits, `-`, `_` or `.`.
+    /// A name is not 1 to 32 letters, digits, `-`, `_` or `.`.
     BadName { place: u32 },
-    /// A quota isn't 1 to 9 digits.
+    /// A quota is not 1 to 9 digits.
     BadQuota { place: u32 },
-    /// A row of the same kind declared the name before.
+    /// An earlier row of the same kind declared the name.
     DeclaredTwice { place: u32 },
     /// A name isn't declared.
     UnknownName { place: u32 },
@@ -34,13 +34,13 @@ pub enum DocketFault {
     BadEvent { place: u32 },
     /// The sheet is incomplete, or doesn't add up.
     BadSheet { place: u32 },
-    /// A growth was refused.
+    /// The memory could not grow.
     Memory,
-    /// The writer answered a fault.
+    /// The writer failed.
     Write,
-    /// The first row names a version of dockets other than 2.
+    /// The first row has a version other than 2.
     BadVersion { place: u32 },
-    /// A withdrawal is neither of a programme nor of a resident.
+    /// A withdrawal is neither for a programme nor for a resident.
     BadWithdrawal { place: u32 },
 }
 

@@ -1,10 +1,10 @@
-//! What a record says by its kind: as it is read, and as it is kept.
+//! The kind of a record: as it is read, and as it is kept.
 ghost use Rattle.std.specs.Prelude.{◌≡◌};
 
 use crate::vocabulary::{EventWord, Side};
 use exchange_core::Capacity;
 
-/// The kind of a row that is kept, by which later passes go.
+/// The kind of a kept row. Later passes look at this kind.
 #[derive(Clone, Copy)]
 pub(crate) enum KeptKind {
     /// A Q row
@@ -21,18 +21,18 @@ pub(crate) enum KeptKind {
     Filled,
     /// A C row
     Capacity,
-    /// An E row of this word
+    /// An E row with this word
     Event(EventWord),
     /// A V row
     Version,
-    /// A W row of this side
+    /// A W row for this side
     Withdrawal(Side),
 }
 
 impl KeptKind {
     ghost use Rattle.docket.specs.Rows.{word_of};
 
-    /// The word of an event.
+    /// The event word, if the kind is an event's.
     #[inline(always)]
     pub(crate) fn word(self) -> Option<EventWord>
         ensures { result ≡ word_of self }
@@ -44,7 +44,7 @@ impl KeptKind {
     }
 }
 
-/// What a record says by itself, where it has no fault of its own: its kind, and what was read from its fields.
+/// What a record without a fault of its own says: its kind, and the values in its fields.
 #[derive(Clone, Copy)]
 pub(crate) enum RowKind {
     /// `Q,programme,quota`
@@ -61,12 +61,12 @@ pub(crate) enum RowKind {
     Unmatched,
     /// `F,programme,filled,quota`
     Filled,
-    /// `C,full` or `C,n`, and in a journal by worker the number of workers
+    /// `C,full` or `C,n`; a journal by worker adds the number of workers
     Capacity {
         capacity: Capacity,
         workers: Option<u32>,
     },
-    /// `E,word,..`, and in a journal by worker the worker's number, which else is 0
+    /// `E,word,..`; a journal by worker adds the worker's number, else this is 0
     Event {
         word: EventWord,
         worker: u8,

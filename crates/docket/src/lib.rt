@@ -1,6 +1,6 @@
 //! Dockets: CSV rows to names, an instance, a sheet and a journal, and back.
 //!
-//! A docket is read exactly: what it says is what its rows say, and what is wrong with it is the first of its faults.
+//! A docket is read exactly: it means what its rows say, and its fault is the first of its faults.
 //!
 //! What only tests refuse: a body that only answers `Memory`, or a device's fault (`Read`, `Write`); one that tells an
 //! interrupted read as a fault, or csv's want of memory as a device's; one whose reading goes on past the record after the

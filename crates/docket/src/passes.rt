@@ -1,4 +1,4 @@
-//! The passes over the rows that are kept: the lists, the sheet, the journal.
+//! The passes over the kept rows: the lists, the sheet, the journal.
 
 pub(crate) mod journal;
 pub(crate) mod ranking;

@@ -1,4 +1,4 @@
-//! A reader that reads again where a read is interrupted.
+//! A reader that reads again after an interrupted read.
 ghost use Rattle.std.specs.Prelude.{◌≡◌, ◌≢◌, ◌<◌, true, false, length, take, IfOk, IfErr, OnErr};
 ghost use Rattle.std.specs.Io.{ReadsAtMost};
 ghost use Rattle.std.specs.Io.KnownBytes.{Consumes, IsAtEnd, Keeps};
@@ -8,7 +8,7 @@ ghost use Rattle.docket.specs.Retrying.{inner_of};
 use std::io;
 use std::io::{ErrorKind, Read};
 
-// Whether a signal came before anything was read.
+// Whether a signal interrupted the read before any byte was read.
 fn is_interrupted(error: &io::Error) -> bool
     ensures interrupted { result ≡ true → error_kind error.now ≡ ErrorKind.Interrupted }
     ensures other { result ≡ false → error_kind error.now ≢ ErrorKind.Interrupted }
@@ -16,7 +16,7 @@ fn is_interrupted(error: &io::Error) -> bool
     error.kind() == ErrorKind::Interrupted
 }
 
-// One read, made again where it is interrupted, up to 2^64 - 1 times.
+// One read. It is made again after an interruption, up to 2^64 - 1 times.
 fn read_again<R: Read>(reader: &mut R, buf: &mut [u8]) -> io::Result<usize>
     ensures bound { ReadsAtMost result buf.new }
     ensures ok { IfOk result (λ n. Consumes (R.remaining reader.old) (R.remaining reader.new) (take n buf.new)) }
@@ -37,14 +37,14 @@ fn read_again<R: Read>(reader: &mut R, buf: &mut [u8]) -> io::Result<usize>
     Err(io::Error::from(ErrorKind::TimedOut))
 }
 
-/// Reads again where a read is interrupted, as the standard library's own readers do.
+/// Reads again after an interruption, as the standard library's own readers do.
 #[derive(Drop)]
 pub(crate) struct Retrying<R> {
     inner: R,
 }
 
 impl<R> Retrying<R> {
-    /// Over another reader.
+    /// A retrying reader over another reader.
     pub(crate) fn new(inner: R) -> Retrying<R>
         ensures { inner_of result ≡ inner }
     {

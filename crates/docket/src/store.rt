@@ -1,4 +1,4 @@
-//! What is kept of a docket's records: each different text once, and rows and names by the numbers of their texts.
+//! What is kept of a docket's records: each different text once; rows and names are numbers of texts.
 
 pub(crate) mod declarations;
 pub(crate) mod flat_rows;

@@ -1,4 +1,4 @@
--- Facts on lists of names.
+-- Facts about lists of names.
 use Rattle.std.proofs.Common.{◌≡◌, ◌<◌, ◌≤◌, ◌+◌, ℕ, zero, suc, List, [], ◌∷◌, Bool, true, false, length, get_or, map, arith, sym, ◌∙◌, refl, ap, Some, None, Option, is_some, position, rules, cond}
 use Rattle.std.specs.Prelude.{bytes_eq, slice_get, IsUtf8, ◌&&◌, ◌||◌, nat_le, nat_lt, ◌==◌}
 use Rattle.std.specs.List.{list_all, list_any, position_from, AllByRecursion, IsDistinct}
@@ -14,7 +14,7 @@ use Rattle.docket_names.specs.Texts.{number_in, is_declared}
 use Rattle.docket_names.specs.declared.name_key.TheConstants.{MAX_NAME}
 use Rattle.docket_names.proofs.WordFacts.{list_all_true_at}
 
--- bytes that are equal, and that aren't
+-- bytes that are equal, and bytes that are not
 pub same_bytes : (xs ys : List ℕ) → bytes_eq xs ys ≡ true → xs ≡ ys
 same_bytes xs ys e = (bytes_eq-Decides xs ys).0 e
 
@@ -35,7 +35,7 @@ position_from-map p f n (x ∷ xs) = ap (λ o. cond (p (f x)) (Some n) o) (posit
 pub position-map : {A B : Type 0} (p : B → Bool) (f : A → B) (xs : List A) → position p (map f xs) ≡ position (λ x. p (f x)) xs
 position-map p f xs = position_from-zero p (map f xs) ∙ position_from-map p f 0 xs ∙ sym (position_from-zero (λ x. p (f x)) xs)
 
--- there is a position exactly where the test passes somewhere
+-- there is a position exactly if the test passes somewhere
 is_some-position_from : {A : Type 0} (p : A → Bool) (n : ℕ) (xs : List A) → is_some (position_from p n xs) ≡ list_any p xs
 is_some-position_from p n [] = refl
 is_some-position_from p n (x ∷ xs) = by (p x) (is_some-position_from p (n + 1) xs)
@@ -53,12 +53,12 @@ pub list_any-map : {A B : Type 0} (p : B → Bool) (f : A → B) (xs : List A) �
 list_any-map p f [] = refl
 list_any-map p f (x ∷ xs) = ap (λ b. p (f x) || b) (list_any-map p f xs)
 
--- a name is declared exactly where it is equal to some name
+-- a name is declared exactly if it equals some name of the list
 pub is_declared-any : (names : List (List ℕ)) (name : List ℕ) → is_declared names name ≡ list_any (bytes_eq name) names
 unfolding number_in
 is_declared-any names name = is_some-position (bytes_eq name) names
 
--- the number of a text, by the keys that hold the texts
+-- the number of a text, from the keys of the texts
 pub number_in-map : {K : Type 0} (f : K → List ℕ) (keys : List K) (text : List ℕ) → number_in (map f keys) text ≡ position (λ k. bytes_eq text (f k)) keys
 unfolding number_in
 number_in-map f keys text = position-map (bytes_eq text) f keys
@@ -98,13 +98,13 @@ IsUtf8-is_name name h = IsUtf8-from_ascii name (λ i. at i (nat_lt i (length nam
     at i true e = ascii_byte (get_or name i 0) (list_all_true_at is_name_byte name i 0 (search (rules, e)) bytes)
     at i false e = rw (get_or_past name i 0 (search (rules, e))) (omega arith)
 
--- a name among names is a name
+-- a name in a list of names is a name
 pub name_at : (names : List (List ℕ)) (i : ℕ) (name : List ℕ) → list_all is_name names ≡ true → slice_get names i ≡ Some name → is_name name ≡ true
 name_at [] i name all at = absurd (cc at)
 name_at (x ∷ xs) zero name all at = let same : x ≡ name = cc at in rw (← same) (and_parts (is_name x) (list_all is_name xs) all).0
 name_at (x ∷ xs) (suc i) name all at = name_at xs i name (and_parts (is_name x) (list_all is_name xs) all).1 at
 
--- a digit is a byte of a name
+-- a name may have each digit
 digit_named : (l u d m w p : Bool) → d ≡ true → (l || u || d || m || w || p) ≡ true
 digit_named true u d m w p e = refl
 digit_named false true d m w p e = refl
@@ -135,7 +135,7 @@ pub letter_is_name : (c : ℕ) → is_name_byte c ≡ true → is_name (c ∷ []
 unfolding is_name
 letter_is_name c h = and_both (is_name_byte c) true h refl
 
--- a name isn't longer than a name may be
+-- a name is no longer than 32 bytes
 pub name_length : (name : List ℕ) → is_name name ≡ true → length name ≤ 32
 unfolding is_name
 name_length name h =
@@ -157,11 +157,11 @@ longer_unnumbered texts text all h = by (position (bytes_eq text) texts) refl
         let size = ap length is in
         absurd (omega arith)
 
--- whether a name is declared, by the keys that hold the names
+-- whether a name is declared, from the keys of the names
 pub is_declared-map : {K : Type 0} (f : K → List ℕ) (keys : List K) (name : List ℕ) → is_declared (map f keys) name ≡ list_any (λ k. bytes_eq name (f k)) keys
 is_declared-map f keys name = is_declared-any (map f keys) name ∙ list_any-map (bytes_eq name) f keys
 
--- a name that is equal to one of a list, none of which is equal to one after it, has the number of that one
+-- the number of a name that equals a name of the list, if no later name equals that one
 apart : (x name : List ℕ) (names : List (List ℕ)) (i : ℕ) → AllByRecursion (λ y. bytes_eq x y ≡ false) names → slice_get names i ≡ Some name → bytes_eq x name ≡ false
 apart x name [] i all at = absurd (cc at)
 apart x name (y ∷ ys) zero all at = let same : y ≡ name = cc at in rw (← same) all.0

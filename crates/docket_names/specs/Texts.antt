@@ -1,49 +1,49 @@
--- The different texts of a docket by their numbers, and names that are kept by such a number.
+-- The different texts of a docket, each with a number, and names that are kept by such a number.
 use Rattle.std.specs.Prelude.{◌≡◌, ◌⊎◌, ◌<◌, ◌∷◌, ◌++◌, ℕ, Bool, true, false, Option, None, is_some, List, [], length, take, map, nat_eq, position, bytes_eq, slice_index_or}
 use Rattle.std.specs.List.{All, list_all}
 use Rattle.docket_names.specs.Words.{is_name}
 
--- the number of a name, if it is among the names
+-- the number of a name, if it stands in the list of names
 unfoldable pub number_in : List (List ℕ) → List ℕ → Option ℕ
 number_in names name = position (bytes_eq name) names
 
--- whether the name is among the names
+-- whether the name stands in the list of names
 abbrev pub is_declared : List (List ℕ) → List ℕ → Bool
 is_declared names name = is_some (number_in names name)
 
--- the texts of these numbers
+-- the texts with these numbers
 unfoldable pub texts_at : List (List ℕ) → List ℕ → List (List ℕ)
 texts_at texts numbers = map (λ n. slice_index_or texts n []) numbers
 
--- each number is that of a text
+-- each number belongs to a text
 abbrev pub AreNumbersOf : List (List ℕ) → List ℕ → Type 0
 AreNumbersOf texts numbers = All (λ n. n < length texts) numbers
 
--- the first texts are these
+-- the list of texts begins with these
 abbrev pub StartsWith : List (List ℕ) → List (List ℕ) → Type 0
 StartsWith first texts = take (length first) texts ≡ first
 
--- the texts after one more was looked for: it was known, or it joined
+-- the texts after this one was looked up: it was known, or it was added
 abbrev pub IsJoined : List (List ℕ) → List (List ℕ) → List ℕ → Type 0
 IsJoined texts more text = (more ≡ texts) ⊎ (more ≡ texts ++ text ∷ [])
 
--- the numbers are those of these texts, which are names
+-- the numbers belong to these texts, and each text is a name
 pub record AreNames (texts : List (List ℕ)) (numbers : List ℕ) (names : List (List ℕ)) : Type 0 where
   pub within : AreNumbersOf texts numbers
   pub texts_are : texts_at texts numbers ≡ names
   pub named : list_all is_name names ≡ true
 
--- by text its place among these, if it has one
+-- for each text its place in this list, if it has one
 pub record AreFoundBy (by_text : List (Option ℕ)) (texts : List ℕ) : Type 0 where
   pub found : (text : ℕ) → slice_index_or by_text text None ≡ position (nat_eq text) texts
 
--- by text whether it is one of these names
+-- for each text whether it is one of these names
 pub record AreNoted (texts : List (List ℕ)) (noted : List Bool) (names : List (List ℕ)) : Type 0 where
   pub numbers : List ℕ
   pub names_are : AreNames texts numbers names
   pub noted_are : (text : ℕ) → slice_index_or noted text false ≡ is_some (position (nat_eq text) numbers)
 
--- the names of the members of both sides
+-- the names of the programmes and of the residents
 pub record NamesBySide : Type 0 where
   pub programmes : List (List ℕ)
   pub residents : List (List ℕ)

@@ -1,8 +1,8 @@
--- Names and numbers, as a docket writes them.
+-- Names and numbers, as they are written in a docket.
 use Rattle.std.specs.Prelude.{ℕ, ◌+◌, ◌-◌, ◌*◌, nat_le, ◌&&◌, ◌||◌, ◌==◌, Bool, if◌then◌else◌, Option, Some, None, List, length, fold}
 use Rattle.std.specs.List.{list_all}
 
--- whether c stands in the range of codes from low to high
+-- whether the code c is from low to high
 abbrev pub is_between : ℕ → ℕ → ℕ → Bool
 is_between low high c = nat_le low c && nat_le c high
 
@@ -14,11 +14,11 @@ is_digit c = is_between 48 57 c
 abbrev pub is_name_byte : ℕ → Bool
 is_name_byte c = is_between 97 122 c || is_between 65 90 c || is_digit c || (c == 45) || (c == 95) || (c == 46)
 
--- whether the text is 1 to 32 bytes of a name
+-- whether the text is a name: 1 to 32 bytes that a name may have
 unfoldable pub is_name : List ℕ → Bool
 is_name text = nat_le 1 (length text) && nat_le (length text) 32 && list_all is_name_byte text
 
--- what the digits are worth in base ten
+-- the number that the digits stand for, in base ten
 abbrev pub digits_worth : List ℕ → ℕ
 digits_worth digits = fold (λ worth c. worth * 10 + (c - 48)) 0 digits
 
@@ -26,6 +26,6 @@ digits_worth digits = fold (λ worth c. worth * 10 + (c - 48)) 0 digits
 unfoldable pub is_number : List ℕ → Bool
 is_number text = nat_le 1 (length text) && nat_le (length text) 9 && list_all is_digit text
 
--- the number that 1 to 9 ASCII digits write
+-- the number that 1 to 9 ASCII digits stand for
 unfoldable pub number_of : List ℕ → Option ℕ
 number_of text = if is_number text then Some (digits_worth text) else None

@@ -1,7 +1,7 @@
-//! Names and numbers as a docket writes them, and its different texts, each kept once and found by a number.
+//! Names and numbers, as they are written in a docket; and its different texts, each kept once with a number.
 //!
-//! What only tests refuse: a body that only answers that memory is wanting. What nothing refuses: a guess that is never
-//! right, with which a text is found by its hash.
+//! Only tests refuse a body that always answers out of memory. Nothing refuses a guess that is never right: then each
+//! text is found by its hash.
 #![tactic(auto)]
 
 mod members;

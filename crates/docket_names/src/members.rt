@@ -1,16 +1,16 @@
-//! Texts that have a place of their own among a docket's, as the members of one side.
+//! Texts of a docket that are the members of one side.
 ghost use Rattle.std.specs.Prelude.{◌≡◌, ◌<◌, ◌++◌, ◌∷◌, [], not, if◌then◌else◌, is_some, nat_eq, length, position, slice_index_or, List, ℕ, IfOk, OnOk};
 ghost use Rattle.docket_names.specs.Texts.{AreFoundBy};
 
 use std::alloc::{AllocError, Global};
 use std::marker::Model;
 
-/// Some of the texts of a docket, each once and by its number, in the order in which they were added: a member has its place
-/// there as its own number.
+/// Some of the texts of a docket, each once, in the order in which they were added. A text is kept as its number. A
+/// member's own number is its place in this order.
 #[derive(Drop)]
 pub struct Members {
     texts: Vec<usize>,
-    // By text which member it is, if it is one. No text past the end is one.
+    // For each text its member, if it is one. Texts past the end are no members.
     by_text: Vec<Option<u32>>,
 }
 
@@ -25,7 +25,7 @@ impl Model for Members {
     ghost invariant = { λ m. AreFoundBy m.by_text.items m.texts.items };
 }
 
-// Makes room as far as a text, which no text gets a place by.
+// Makes room up to a text. This makes no text a member.
 fn reach(by_text: &mut Vec<Option<u32>>, text: usize) -> Result<(), AllocError>
     ensures kept { (texts : List ℕ) → AreFoundBy by_text.old.items texts → AreFoundBy by_text.new.items texts }
     ensures within { OnOk result (text < length by_text.new.items) }
@@ -41,7 +41,7 @@ fn reach(by_text: &mut Vec<Option<u32>>, text: usize) -> Result<(), AllocError>
 }
 
 impl Members {
-    /// Nobody yet.
+    /// No members yet.
     pub fn new(alloc: Global) -> Members
         ensures { result ≡ [] }
     {
@@ -51,7 +51,7 @@ impl Members {
         }
     }
 
-    /// How many there are.
+    /// How many members there are.
     pub fn len(&self) -> usize
         ensures { result ≡ length self.now }
     {
@@ -66,7 +66,7 @@ impl Members {
         self.texts[member]
     }
 
-    /// Which member a text is, if it is one.
+    /// The member with this text, if there is one.
     #[inline(always)]
     pub fn member(&self, text: usize) -> Option<u32>
         ensures { result ≡ position (nat_eq text) self.now }
@@ -89,7 +89,7 @@ impl Members {
         Ok(true)
     }
 
-    // Adds a text that isn't among them.
+    // Adds a text that is not a member yet.
     fn give_place(&mut self, text: usize) -> Result<(), AllocError>
         requires { position (nat_eq text) self.old ≡ None }
         ensures { OnOk result (self.new ≡ self.old ++ text ∷ []) }

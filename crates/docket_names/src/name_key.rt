@@ -1,4 +1,4 @@
-//! What a name is found by.
+//! The key by which a name is found.
 ghost use Rattle.std.specs.Prelude.{◌≡◌, ◌≤◌, ◌+◌, ◌∷◌, [], true, length, take, drop, bytes_eq};
 ghost use Rattle.std.specs.Int.{w64, to_le_bytes, from_le_bytes};
 ghost use Rattle.std.specs.Cmp.{partial_equiv_from_equiv};
@@ -10,14 +10,14 @@ ghost use Rattle.docket_names.specs.NameKeys.{filled, hashed, width_hashed};
 use std::hash::{Hash, Hasher};
 use std::marker::Model;
 
-/// The most bytes of a name.
+/// The greatest length of a name, in bytes.
 pub(crate) const MAX_NAME: usize = 32;
 
 /// How many places a table of guesses has.
 pub(crate) const PLACES: usize = 65_536;
 
-/// A text of at most as many bytes as a name, with zeros after it: it is hashed by whole words, which is one for most
-/// names, and so compared.
+/// A text, not longer than a name may be, followed by zeros. It is hashed and compared by whole words, and most names
+/// are one word.
 #[derive(Drop)]
 pub(crate) struct NameKey {
     bytes: [u8; MAX_NAME],
@@ -36,7 +36,7 @@ impl Model for NameKey {
 }
 
 impl NameKey {
-    /// What a text is found by.
+    /// The key of a text.
     pub(crate) fn new(text: &[u8]) -> NameKey
         requires { length text.now ≤ MAX_NAME }
         ensures { result ≡ text.now }
@@ -56,7 +56,7 @@ impl NameKey {
         &self.bytes[..self.len as usize]
     }
 
-    /// Whether it is this text of at most eight bytes, which has this word.
+    /// Whether the key is that of this text, which has at most eight bytes and this word.
     #[inline(always)]
     pub(crate) fn is_short(&self, text: &[u8], word: u64) -> bool
         requires short { length text.now ≤ 8 }
@@ -66,7 +66,7 @@ impl NameKey {
         self.len as usize == text.len() && first_word(&self.bytes) == word
     }
 
-    /// The place of the text in a table of guesses. Texts that share a place cost a guess that fails, and no more.
+    /// The place of the text in a table of guesses. If texts share a place, a guess may fail; nothing else happens.
     #[inline(always)]
     pub(crate) fn place(&self) -> usize {
         let first = first_word(&self.bytes);
@@ -77,7 +77,7 @@ impl NameKey {
     }
 }
 
-// Eight bytes as one number.
+// Eight bytes as a single number.
 #[inline(always)]
 fn word_of(bytes: &[u8; 8]) -> u64
     ensures { to_le_bytes w64 result ≡ bytes.now }
@@ -87,7 +87,7 @@ fn word_of(bytes: &[u8; 8]) -> u64
     ])
 }
 
-/// The bytes of a text of at most eight as one number, with zeros after them.
+/// The bytes of a text of at most eight bytes, followed by zeros, as a single number.
 #[inline(always)]
 pub(crate) fn short_word(text: &[u8]) -> u64
     requires { length text.now ≤ 8 }
@@ -110,13 +110,14 @@ pub(crate) fn short_word(text: &[u8]) -> u64
     }
 }
 
-/// The place in a table of guesses of a text of at most eight bytes, by its word. A longer one has all its words in one.
+/// The place of a text in a table of guesses, from its word. A text of more than eight bytes has all its words mixed
+/// into one.
 #[inline(always)]
 pub(crate) fn place_of(word: u64) -> usize {
     (word.wrapping_mul(0x9E37_79B9_7F4A_7C15) >> 48) as usize
 }
 
-// The first eight bytes as one number.
+// The first eight bytes as a single number.
 fn first_word(bytes: &[u8; MAX_NAME]) -> u64
     ensures value { result ≡ from_le_bytes w64 (take 8 bytes.now) }
     ensures bytes { to_le_bytes w64 result ≡ take 8 bytes.now }
@@ -126,7 +127,7 @@ fn first_word(bytes: &[u8; MAX_NAME]) -> u64
     ])
 }
 
-// The eight bytes from place `i` on as one number.
+// The eight bytes from place `i` on, as a single number.
 #[inline(always)]
 fn word_at(bytes: &[u8; MAX_NAME], i: usize) -> u64
     requires { i + 8 ≤ MAX_NAME }
@@ -156,7 +157,7 @@ fn same_words(a: &[u8; MAX_NAME], b: &[u8; MAX_NAME]) -> bool
     first & second & third & fourth
 }
 
-// How many bytes are hashed of a text of this length: one word, two, or all four.
+// How many bytes are hashed for a text of this length: one word, two words, or all four.
 fn hashed_width(len: u8) -> usize
     requires { len ≤ MAX_NAME }
     ensures width { result ≡ width_hashed len }
@@ -171,7 +172,7 @@ fn hashed_width(len: u8) -> usize
     }
 }
 
-// Two texts have one key exactly where they are equal.
+// Two texts have the same key exactly if they are equal.
 impl PartialEq for NameKey {
     ghost eq = { bytes_eq };
 

@@ -1,4 +1,4 @@
-//! Names that a docket has in rows of one kind, each once.
+//! The names in a docket's rows of one kind, each once.
 ghost use Rattle.std.specs.Prelude.{◌≡◌, ◌<◌, ◌||◌, [], ℕ, false, not, nat_eq, length, slice_index_or, IfOk, OnOk};
 
 use std::alloc::{AllocError, Global};
@@ -7,7 +7,7 @@ use std::marker::Model;
 /// Some of a docket's names, by the numbers of their texts.
 #[derive(Drop)]
 pub struct NameSet {
-    // By text whether it is one of them. No text past the end is.
+    // For each text whether it is in the set. Texts past the end are not.
     by_text: Vec<bool>,
 }
 
@@ -19,7 +19,7 @@ impl Model for NameSet {
     ghost view = { λ s. s.by_text.items };
 }
 
-// Makes room as far as a text, which is not in the set by that.
+// Makes room up to a text. This adds no text to the set.
 fn reach(by_text: &mut Vec<bool>, text: usize) -> Result<(), AllocError>
     ensures kept { (n : ℕ) → slice_index_or by_text.new.items n false ≡ slice_index_or by_text.old.items n false }
     ensures within { OnOk result (text < length by_text.new.items) }

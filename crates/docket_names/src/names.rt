@@ -1,4 +1,4 @@
-//! The names of a docket's members by their numbers.
+//! The names of a docket's members, found by number.
 ghost use Rattle.std.specs.Prelude.{◌≡◌, ◌<◌, Some, length, slice_get};
 ghost use Rattle.docket_names.specs.Texts.{texts_at, AreNames};
 
@@ -7,7 +7,8 @@ use crate::texts::Texts;
 use std::marker::Model;
 use std::str;
 
-/// The names of the members of both sides by their numbers: where each stands among the different texts of the docket.
+/// The names of the members of both sides. A name is kept as the number of its text among the docket's different
+/// texts.
 pub struct Names {
     texts: Texts,
     programmes: Members,
@@ -25,7 +26,7 @@ impl Model for Names {
     ghost invariant = { λ a. AreNames a.texts a.programmes (texts_at a.texts a.programmes) × AreNames a.texts a.residents (texts_at a.texts a.residents) };
 }
 
-// As one call, so that whoever lets names go proves nothing of their parts.
+// A single call. So a caller that drops names need not prove anything about their parts.
 impl Drop for Names {
     fn drop(self) {
         let Names {
@@ -49,7 +50,7 @@ fn name_of<'a>(texts: &'a Texts, members: &Members, number: usize) -> &'a str
 }
 
 impl Names {
-    /// The names of these members, by their texts.
+    /// The names of these members, from their texts.
     pub fn new(texts: Texts, programmes: Members, residents: Members) -> Names
         requires programmes { AreNames texts programmes (texts_at texts programmes) }
         requires residents { AreNames texts residents (texts_at texts residents) }
@@ -63,7 +64,7 @@ impl Names {
         }
     }
 
-    /// The name of the programme of this number.
+    /// The name of the programme with this number.
     pub fn programme_name(&self, number: usize) -> &str
         requires { number < length self.now.programmes }
         ensures { slice_get self.now.programmes number ≡ Some result.now }
@@ -71,7 +72,7 @@ impl Names {
         name_of(&self.texts, &self.programmes, number)
     }
 
-    /// The name of the resident of this number.
+    /// The name of the resident with this number.
     pub fn resident_name(&self, number: usize) -> &str
         requires { number < length self.now.residents }
         ensures { slice_get self.now.residents number ≡ Some result.now }

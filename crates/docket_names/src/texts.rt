@@ -13,17 +13,17 @@ use std::alloc::{AllocError, Global};
 use std::hash::RandomState;
 use std::marker::Model;
 
-// From how many different texts on numbers are guessed: a small docket needs no table.
+// From how many different texts on numbers are guessed. A small docket needs no table.
 const FEW: usize = 64;
 
-/// The different texts, numbered from 0 in the order in which they were first seen. Each of them is a name.
+/// The different texts, numbered from 0, in the order in which they were first seen. Each text is a name.
 ///
-/// Where texts come in the order of their numbers the next number is tried, else those of the text's two places in the table
-/// of guesses. A guess is compared and never taken on trust. A text is looked up by its hash where no guess is right.
+/// If texts come in the order of their numbers, the next number is tried. Otherwise the two guesses of the text in
+/// the table are tried. A guess is always compared. If no guess is right, the text is looked up by its hash.
 pub struct Texts {
     alloc: Global,
     seen: IndexSet<NameKey, RandomState>,
-    // The number after the last one found, and whether that one came in order.
+    // The number after the last one found, and whether the last one came in order.
     next: usize,
     in_order: bool,
     guesses: Vec<u32>,
@@ -41,7 +41,7 @@ impl Model for Texts {
     ghost invariant = { λ a. list_all is_name a.seen.keys ≡ true };
 }
 
-// As one call, so that whoever lets texts go proves nothing of their parts.
+// A single call. So a caller that drops texts need not prove anything about their parts.
 impl Drop for Texts {
     fn drop(self) {
         let Texts {
@@ -55,7 +55,7 @@ impl Drop for Texts {
 }
 
 impl Texts {
-    /// No texts yet. They are hashed by these keys.
+    /// No texts yet. They will be hashed with these keys.
     pub fn new(alloc: Global, keys: RandomState) -> Texts
         ensures { result ≡ [] }
     {
@@ -68,7 +68,7 @@ impl Texts {
         }
     }
 
-    /// How many there are. No text has two numbers.
+    /// How many texts there are. No text has two numbers.
     pub fn len(&self) -> usize
         ensures count { result ≡ length self.now }
         ensures distinct { IsDistinct bytes_eq self.now }
@@ -76,7 +76,7 @@ impl Texts {
         self.seen.len()
     }
 
-    /// The text of this number.
+    /// The text with this number.
     pub fn text(&self, number: usize) -> &[u8]
         requires { number < length self.now }
         ensures { slice_get self.now number ≡ Some result.now }
@@ -98,7 +98,7 @@ impl Texts {
         seen.get_index_of(&NameKey::new(text))
     }
 
-    // Whether this text of at most eight bytes, which has this word, is the one of this number.
+    // Whether this text, which has at most eight bytes and this word, has this number.
     #[inline(always)]
     fn is_short(&self, number: usize, text: &[u8], word: u64) -> bool
         requires short { length text.now ≤ 8 }
@@ -111,7 +111,7 @@ impl Texts {
         }
     }
 
-    // Whether this is the text of this number, if there is one.
+    // Whether this text has this number.
     #[inline(always)]
     fn is_text(&self, number: usize, text: &NameKey) -> bool
         ensures { result ≡ true → slice_get self.now number ≡ Some text.now }
@@ -122,7 +122,7 @@ impl Texts {
         }
     }
 
-    // The guess in a place. Where there is no table it is no text's number.
+    // The guess in a place. Without a table the guess is no text's number.
     #[inline(always)]
     fn guess(&self, place: usize) -> usize {
         match self.guesses.get(place) {
@@ -131,7 +131,7 @@ impl Texts {
         }
     }
 
-    // The number of a text of at most eight bytes, which has this word, where a guess finds it.
+    // The number of a text that has at most eight bytes and this word, if a guess finds it.
     #[inline(always)]
     fn guess_short(&self, text: &[u8], word: u64) -> Option<usize>
         requires short { length text.now ≤ 8 }
@@ -154,7 +154,7 @@ impl Texts {
         None
     }
 
-    // The number of a text, where a guess finds it.
+    // The number of a text, if a guess finds it.
     #[inline(always)]
     fn guess_text(&self, text: &NameKey) -> Option<usize>
         ensures { IfSome result (λ n. slice_get self.now n ≡ Some text.now) }
@@ -175,7 +175,7 @@ impl Texts {
         None
     }
 
-    // The number of a text of any length, where a guess finds it. A short text is compared by one word.
+    // The number of a text of any length, if a guess finds it. A short text is compared by one word.
     #[inline(always)]
     fn guessed(&self, text: &[u8]) -> Option<usize>
         ensures { IfSome result (λ n. slice_get self.now n ≡ Some text.now) }
@@ -199,21 +199,21 @@ impl Texts {
         self.next = number.saturating_add(1);
     }
 
-    /// The number of a text that is known already, where a guess finds it. So it is a name.
+    /// The number of a known text, if a guess finds it. So the text is a name.
     #[inline(always)]
     pub fn known(&mut self, text: &[u8]) -> Option<usize>
         ensures kept { self.new ≡ self.old }
         ensures number { IfSome result (λ n. slice_get self.new n ≡ Some text.now) }
         ensures named { is_some result ≡ true → words.is_name text.now ≡ true }
     {
-        // For the proof alone: each text is a name.
+        // Only for the proof: each text is a name.
         let _seen = &self.seen;
         let number = self.guessed(text)?;
         self.note(number);
         Some(number)
     }
 
-    /// The number of a name, which joins where it is new. No text leaves.
+    /// The number of a name. A new name is added. No text is removed.
     #[inline(always)]
     pub fn number(&mut self, name: &[u8]) -> Result<usize, AllocError>
         requires { words.is_name name.now ≡ true }
@@ -227,7 +227,7 @@ impl Texts {
         }
     }
 
-    /// The number of a text, which joins where it is new; none where it is no name. A known text needs no test.
+    /// The number of a text; none if it is not a name. A new name is added. A known text needs no test.
     #[inline(always)]
     pub fn name(&mut self, text: &[u8]) -> Result<Option<usize>, AllocError>
         ensures named { IfOk result (λ n. is_some n ≡ words.is_name text.now) }
@@ -245,7 +245,7 @@ impl Texts {
         Ok(Some(number))
     }
 
-    // The number of a name, which joins where it is new, by its hash. It is the next guess for its place.
+    // The number of a name, found by its hash. A new name is added. It becomes the next guess for its place.
     #[inline(never)]
     fn join(&mut self, name: &[u8]) -> Result<usize, AllocError>
         requires { words.is_name name.now ≡ true }
@@ -265,7 +265,7 @@ impl Texts {
     }
 }
 
-// The number of a text among those that were seen, which it joins where it is new.
+// The number of a text in this set. A new text is added.
 fn insert(seen: &mut IndexSet<NameKey, RandomState>, name: NameKey) -> Result<usize, AllocError>
     requires names { list_all words.is_name seen.old.keys ≡ true }
     requires name { words.is_name name ≡ true }
@@ -294,7 +294,7 @@ fn guess_at(guesses: &Vec<u32>, place: usize) -> u32 {
     }
 }
 
-// The next guess for a place, or for the other of its pair where that one is free.
+// Sets the next guess for a place, or for the other place of its pair if that is free.
 fn set_guess(guesses: &mut Vec<u32>, place: usize, number: usize) {
     let other = place ^ 1;
     let is_taken = guess_at(guesses, place) != 0;

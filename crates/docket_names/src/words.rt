@@ -1,9 +1,9 @@
-//! Names and numbers, as a docket writes them.
+//! Names and numbers, as they are written in a docket.
 ghost use Rattle.std.specs.Prelude.{◌≡◌, ◌≤◌, ◌+◌, length, take, drop, true};
 ghost use Rattle.std.specs.List.{list_all};
 ghost use Rattle.docket_names.specs.Words as words;
 
-// Each byte of a name stands at its own place, and a comma at every other place.
+// Each byte that a name may have stands at its own place. A comma stands at every other place.
 static NAME_BYTES: [u8; 256] = *b"\
     ,,,,,,,,,,,,,,,,,,,,,,,,,,,,,,,,\
     ,,,,,,,,,,,,,-.,0123456789,,,,,,\
@@ -21,7 +21,7 @@ fn is_name_byte(c: u8) -> bool
     NAME_BYTES[c as usize] != b','
 }
 
-// Whether the four bytes from place `i` on are of a name.
+// Whether a name may have the four bytes from place `i` on.
 #[inline(always)]
 fn has_four_at(text: &[u8], i: usize) -> bool
     requires { i + 4 ≤ length text.now }
@@ -34,14 +34,14 @@ fn has_four_at(text: &[u8], i: usize) -> bool
     first & second & third & fourth
 }
 
-// Whether each byte is of a name, one after another.
+// Whether a name may have each of the bytes, tested one by one.
 fn has_name_bytes_by_one(text: &[u8]) -> bool
     ensures { result ≡ list_all words.is_name_byte text.now }
 {
     text.iter().all(|c| is_name_byte(*c))
 }
 
-// Whether each byte is of a name. They are tested four at a time.
+// Whether a name may have each of the bytes. They are tested four at a time.
 fn has_name_bytes(text: &[u8]) -> bool
     ensures { result ≡ list_all words.is_name_byte text.now }
 {
@@ -77,7 +77,7 @@ pub fn is_number(text: &[u8]) -> bool
     1 <= text.len() && text.len() <= 9 && has_digits(text)
 }
 
-/// What at most 9 ASCII digits are worth.
+/// The number that at most 9 ASCII digits stand for.
 pub fn digits_worth(digits: &[u8]) -> u32
     requires { words.is_number digits.now ≡ true }
     ensures { result ≡ words.digits_worth digits.now }
@@ -89,7 +89,7 @@ pub fn digits_worth(digits: &[u8]) -> u32
     worth
 }
 
-/// The number that 1 to 9 ASCII digits write.
+/// The number that 1 to 9 ASCII digits stand for.
 #[tactic(auto, unfolding(crate::specs::Words::number_of))]
 pub fn number_of(text: &[u8]) -> Option<u32>
     ensures { result ≡ words.number_of text.now }

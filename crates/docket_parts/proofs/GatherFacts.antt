@@ -11,7 +11,7 @@ use Rattle.docket_parts.specs.declared.fault.PartFault.{PartFault}
 use Rattle.docket_parts.proofs.LineFacts.{grows_none, grows_both}
 use Rattle.docket_parts.proofs.RoundFacts.{or_none, all_have_parts, both_have_parts, lines_round, lines-append}
 
--- at the start all records are left
+-- at the start all records remain
 pub split_start : (all : Option (List Fields)) → IsSplit all [] all
 split_start None = tt
 split_start (Some rows) = (rows, refl, refl)
@@ -25,12 +25,12 @@ split_more (Some rows) done (Some l) after row s g =
     let same : l ≡ s.0 = cc s.1 in
     (g.0, g.1, s.2 ∙ ap (λ (r : List Fields). done ++ r) (sym same ∙ g.2) ∙ sym (append_assoc done (row ∷ []) g.0))
 
--- no record has a fault before the first
+-- no record before the first has a fault
 pub own_none : (file : Part) → fault_from file 0 [] ≡ None
 unfolding fault_from
 own_none file = refl
 
--- the fault of some records and of others after them
+-- the fault of some records followed by others
 own_after : (file : Part) (n : ℕ) (done rest : List Fields) → fault_from file n done ≡ None → fault_from file n (done ++ rest) ≡ fault_from file (n + length done) rest
 unfolding fault_from
 own_after file n [] rest h = let e : n ≡ n + 0 = omega arith in ap (λ k. fault_from file k rest) e
@@ -39,7 +39,7 @@ own_after file n (row ∷ more) rest h =
     let e : n + 1 + length more ≡ n + length (row ∷ more) = omega arith in
     rw both.0 (own_after file (n + 1) more rest both.1 ∙ ap (λ k. fault_from file k rest) e)
 
--- the record after so many
+-- the record after this many
 own_next : (file : Part) (done rest : List Fields) (row : Fields) (count : ℕ) → fault_from file 0 done ≡ None → length done ≡ count
     → fault_from file 0 (done ++ row ∷ rest) ≡ option_or (record_fault file (count + 1) row) (fault_from file (count + 1) rest)
 unfolding fault_from
@@ -47,13 +47,13 @@ own_next file done rest row count h e =
     let there : 0 + length done ≡ count = omega (arith, e) in
     own_after file 0 done (row ∷ rest) h ∙ ap (λ k. fault_from file k (row ∷ rest)) there
 
--- a record of the file's part more
+-- one more record of the file's part
 pub own_more : (file : Part) (done : List Fields) (row : Fields) (count : ℕ) → fault_from file 0 done ≡ None → length done ≡ count
     → record_fault file (count + 1) row ≡ None → fault_from file 0 (done ++ row ∷ []) ≡ None
 unfolding fault_from
 own_more file done row count h e none = own_next file done [] row count h e ∙ rw none refl
 
--- the next record has the first fault
+-- the case that the next record has the first fault
 pub refused : (file : Part) (all : Option (List Fields)) (done : List Fields) (left after : Option (List Fields)) (row : Fields) (count : ℕ) (e : PartFault)
     → IsSplit all done left → GivesRow left after true row → fault_from file 0 done ≡ None → length done ≡ count
     → record_fault file (count + 1) row ≡ Some e → Refuses file all e
@@ -85,7 +85,7 @@ pub lines_more : (a b c : Vec ℕ) (done : List Fields) (row : Fields) → Grows
 unfolding lines
 lines_more a b c done row h k = rw (lines-append done (row ∷ []), append-nil (line row)) (grows_both a b c (lines done) (line row) h k)
 
--- the records of three files, put one after another, read back
+-- the records of three files, one file after another, read back
 pub joined_rows : (t0 t1 t2 t3 : Vec ℕ) (d s j : List Fields) (cd cs cj : ℕ) → t0.items ≡ [] → GathersAll Docket d cd t0 t1 → GathersAll Sheet s cs t1 t2
     → GathersAll Journal j cj t2 t3 → rows_of t3.items ≡ d ++ s ++ j
 joined_rows t0 t1 t2 t3 d s j cd cs cj none a b c =

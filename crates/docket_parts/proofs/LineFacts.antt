@@ -1,4 +1,4 @@
--- How a text grows by a record, field after field.
+-- How a text grows by a record, field by field.
 use Rattle.std.proofs.Common.{◌≡◌, ◌≢◌, ◌<◌, zero, suc, ◌+◌, ◌∷◌, [], ℕ, List, length, take, get_or, ◌++◌, refl, sym, ap, ◌∙◌, subst, append_assoc, append-nil}
 use Rattle.std.proofs.lemmas.Bool.{ne_eqb}
 use Rattle.std.specs.Global.{Vec}
@@ -24,14 +24,14 @@ pub escaped_other : (b : ℕ) → b ≢ quote_mark → escaped default_writer (b
 unfolding escaped
 escaped_other b n = let e = ne_eqb b quote_mark n in rw e refl
 
--- one byte more of a field between quotes
+-- one more byte of a quoted field
 pub quoted_next : (a b c : Vec ℕ) (field : List ℕ) (i : ℕ) → i < length field
     → Grows a b (quote_mark ∷ escaped default_writer (take i field)) → Grows b c (escaped default_writer (get_or field i 0 ∷ []))
     → Grows a c (quote_mark ∷ escaped default_writer (take (i + 1) field))
 quoted_next a b c field i lt h k =
     subst (Grows a c) (quoted-step default_writer quote_mark field i lt) (grows_both a b c _ _ h k)
 
--- one field more of a record
+-- one more field of a record
 pub fields_next : (a b c d : Vec ℕ) (fields : List (List ℕ)) (field : List ℕ) (i : ℕ) →
     i < length fields → Grows a b (row_body default_writer (take i fields)) → Grows b c (next_sep default_writer i)
     → Grows c d (field_text default_writer field) → field ≡ get_or fields i [] → Grows a d (row_body default_writer (take (i + 1) fields))

@@ -1,4 +1,4 @@
--- What is written line by line reads back as the records that were written.
+-- Records that are written line by line read back as the same records.
 use Rattle.std.proofs.Common.{◌≡◌, ◌==◌, ◌+◌, ◌∷◌, [], ℕ, List, false, length, ◌++◌, refl, sym, ap, ◌∙◌, append_assoc, Option, Some, None, inl, inr, arith}
 use Rattle.std.specs.Option.{option_or}
 use Rattle.std.specs.Prelude.{⊤}
@@ -16,7 +16,7 @@ use Rattle.docket_parts.specs.declared.part.Part.{Part}
 use Rattle.docket_parts.specs.declared.fault.PartFault.{PartFault}
 use Rattle.docket_parts.proofs.ReadFacts.{rows_from-next, rows_from-none, no_bytes}
 
--- the record is of a kind that some part has
+-- the record has a kind of some part
 abbrev pub HasPart : Fields → Type 0
 HasPart row = (part : Part) × (part_of (letter_of row) ≡ Some part)
 
@@ -46,7 +46,7 @@ unfolding AllHaveParts
 both_have_parts [] b h k = k
 both_have_parts (row ∷ rest) b h k = (h.0, both_have_parts rest b h.1 k)
 
--- no part has the kind of a mark of order of bytes
+-- a byte order mark is no part's kind
 not_mark : (c : ℕ) (part : Part) → part_of c ≡ Some part → (c == 239) ≡ false
 unfolding part_of
 not_mark c part h = elim (cases_Bool (c == 239)) [
@@ -54,7 +54,7 @@ not_mark c part h = elim (cases_Bool (c == 239)) [
   | inr not ↦ not
 ]
 
--- the first field of a record that has a part is one byte
+-- the first field of a record with a part is one byte long
 record Lettered (row : Fields) : Type 0 where
   letter : ℕ
   rest : Fields
@@ -65,7 +65,7 @@ no_letter : part_of 0 ≡ None
 unfolding part_of
 no_letter = refl
 
--- no part has a kind without a letter
+-- a kind without a letter belongs to no part
 letterless : (row : Fields) → letter_of row ≡ 0 → HasPart row → ⊥
 letterless row none h = let has = h.1 in cc (rw (none, no_letter) at has)
 
@@ -120,13 +120,13 @@ strip_line c rest tail n = elim (cases_Bool (needs_quotes default_writer (c ∷ 
   | inr plain ↦ rw plain (strip_plain c _ n)
 ]
 
--- lines begin with no mark of order of bytes
+-- no line begins with a byte order mark
 strip_lines : (rows : List Fields) → AllHaveParts rows → strip_bom (lines rows) ≡ lines rows
 unfolding lines AllHaveParts strip_bom
 strip_lines [] h = refl
 strip_lines (row ∷ rest) h = let l = lettered row h.0 in rw l.is (strip_line l.letter l.rest (lines rest) l.no_mark)
 
--- the records that are written line by line are those that are read
+-- the records that are written line by line are the records that are read
 pub lines_round : (rows : List Fields) → AllHaveParts rows → rows_of (lines rows) ≡ rows
 unfolding rows_of
 lines_round rows h = rw (strip_lines rows h) (lines_read rows h)

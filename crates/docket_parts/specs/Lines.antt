@@ -1,18 +1,18 @@
--- Records as they are written one after another.
+-- Records that are written one after another.
 use Rattle.std.specs.Prelude.{◌≡◌, ℕ, List, [], ◌∷◌, ◌++◌}
 use Rattle.std.specs.Global.{Vec}
 use Rattle.csv.specs.Writing.{row_body, default_writer}
 use Rattle.docket_parts.specs.Parts.{Fields}
 
--- the text has grown by just these bytes
+-- the text grew by exactly these bytes
 abbrev pub Grows : Vec ℕ → Vec ℕ → List ℕ → Type 0
 Grows old new bytes = new.items ≡ old.items ++ bytes
 
--- a record as csv writes its fields, with a line feed
+-- a record as csv writes it, with a line feed
 unfoldable pub line : Fields → List ℕ
 line row = row_body default_writer row ++ 10 ∷ []
 
--- records, a line each
+-- the records, one line each
 unfoldable pub lines : List Fields → List ℕ
 lines [] = []
 lines (row ∷ rest) = line row ++ lines rest

@@ -1,4 +1,4 @@
--- In which file a fault of the joined records is, and at which of its records.
+-- Where a fault of the joined records is: in which file, and at which of that file's records.
 use Rattle.std.specs.Prelude.{ℕ, ◌-◌, nat_le, Bool, true, false, if◌then◌else◌, Option, Some, None, option_map}
 use Rattle.docket.specs.declared.fault.DocketFault.{DocketFault}
 use Rattle.docket.specs.declared.fault.DocketFault.TheVariants.{Read, TooManyRecords, UnknownKind, FieldCount, BadName, BadQuota, DeclaredTwice, UnknownName, Model, BadEvent, BadSheet, Memory, Write, BadVersion, BadWithdrawal}
@@ -7,7 +7,7 @@ use Rattle.docket_parts.specs.declared.part.Part.TheVariants as part
 use Rattle.docket_parts.specs.declared.place.FileFault.{FileFault}
 use Rattle.docket_parts.specs.Parts.{is_part}
 
--- the record at fault, if there is one
+-- the number of the record at fault, if the fault has one
 abbrev pub place_of : DocketFault → Option ℕ
 place_of (Read place) = Some place
 place_of (TooManyRecords place) = Some place
@@ -25,7 +25,7 @@ place_of Write = None
 place_of (BadVersion place) = Some place
 place_of (BadWithdrawal place) = Some place
 
--- the fault, at another record
+-- the same fault, at another record
 abbrev pub at_place : DocketFault → ℕ → DocketFault
 at_place (Read other) place = Read place
 at_place (TooManyRecords other) place = TooManyRecords place
@@ -43,14 +43,14 @@ at_place Write place = Write
 at_place (BadVersion other) place = BadVersion place
 at_place (BadWithdrawal other) place = BadWithdrawal place
 
--- the last file in which such a fault can be: of a list the docket's, of a sheet the sheet's
+-- the last file that can have such a fault: the docket for a fault of a list, the sheet for a fault of the sheet
 abbrev pub last_file : DocketFault → Part
 last_file (Model place fault) = part.Docket
 last_file (BadSheet place) = part.Sheet
 last_file fault = part.Journal
 
--- the file of the record at this place of all, and its place there, where a docket and a sheet have so many records; a
--- place past the last file in which it can be is that file's last
+-- The file of a record, and its number in that file, from its number among all records. The docket and the sheet have
+-- these numbers of records. A number past the last file that can have the fault means the last record of that file.
 abbrev pub in_file : ℕ → ℕ → Part → ℕ → Part × ℕ
 in_file docket sheet last place =
     if nat_le place docket then (part.Docket, place)
@@ -59,11 +59,11 @@ in_file docket sheet last place =
     else if is_part last part.Sheet then (part.Sheet, sheet)
     else (part.Journal, place - docket - sheet)
 
--- the fault, at that record of that file
+-- the same fault, at that record of that file
 abbrev pub fault_there : DocketFault → Part × ℕ → FileFault
 fault_there fault there = record { file = there.0; fault = at_place fault there.1 }
 
--- a fault of the joined records in its file and at its place there, where it has a place, and where a docket and a sheet have so
--- many records
+-- A fault of the joined records, with its file and its number there, if the fault has a record. The docket and the
+-- sheet have these numbers of records.
 abbrev pub file_fault : ℕ → ℕ → DocketFault → Option FileFault
 file_fault docket sheet fault = option_map (λ place. fault_there fault (in_file docket sheet (last_file fault) place)) (place_of fault)

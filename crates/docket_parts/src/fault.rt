@@ -1,4 +1,4 @@
-//! Why files are not the parts that they are read as.
+//! Why a file is not the part that it should be.
 ghost use Rattle.std.specs.Prelude.{◌≡◌};
 ghost use Rattle.docket_parts.specs.declared.fault.PartFault.TheVariants.{Memory};
 
@@ -6,16 +6,16 @@ use crate::part::Part;
 use std::alloc::AllocError;
 use thiserror::Error;
 
-/// Why files are not the parts that they are read as. `place` is the number of a record in its own file, from 1.
+/// Why a file is not the part that it should be. `place` is the number of a record in its own file, from 1.
 #[derive(Clone, Copy, Debug, PartialEq, Eq, Error)]
 pub enum PartFault {
-    /// A record of this file is of a kind that another part has.
+    /// A record of this file has a kind of another part.
     #[error("record {place}: belongs to another part")]
     AnotherPart { file: Part, place: u64 },
-    /// A record of this file is of no kind that a part has.
+    /// A record of this file has an unknown kind.
     #[error("record {place}: unknown kind of row")]
     UnknownKind { file: Part, place: u64 },
-    /// A growth was refused.
+    /// The memory could not grow.
     #[error("out of memory")]
     Memory,
 }

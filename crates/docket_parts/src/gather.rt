@@ -1,4 +1,4 @@
-//! The records of one file, each of which must be of the file's part.
+//! The records of one file. Each has to belong to the file's part.
 ghost use Rattle.std.specs.Prelude.{◌≡◌, ◌+◌, ◌<◌, ◌^◌, None, true, Some, option_map, IfOk, IfErr, OnOk, length};
 ghost use Rattle.csv.specs.Records.{fields_of};
 ghost use Rattle.docket_parts.specs.Reading.{IsReading, GivesRow, Gathers, rows_left};
@@ -13,7 +13,8 @@ use csv::{ByteRecord, Reader, ReaderBuilder};
 use std::alloc::Global;
 use std::io::Read;
 
-// Reads the next record, and says whether there was one. A reader of bytes in memory fails for want of memory alone.
+// Reads the next record, and says whether there was one. A reader of bytes in memory can only fail if memory runs
+// out.
 fn next_row<R: Read>(reader: &mut Reader<R>, row: &mut ByteRecord) -> Result<bool, PartFault>
     requires reading { IsReading reader.old }
     ensures reading { IfOk result (λ found. found ≡ true → IsReading reader.new) }
@@ -27,7 +28,7 @@ fn next_row<R: Read>(reader: &mut Reader<R>, row: &mut ByteRecord) -> Result<boo
     }
 }
 
-// Checks that a record is of the file's part.
+// Tests that a record belongs to the file's part.
 fn check_row(file: Part, place: u64, row: &ByteRecord) -> Result<(), PartFault>
     ensures own { OnOk result (record_fault file place (fields_of row.now) ≡ None) }
     ensures fault { IfErr result (λ fault. record_fault file place (fields_of row.now) ≡ Some fault) }
@@ -39,7 +40,7 @@ fn check_row(file: Part, place: u64, row: &ByteRecord) -> Result<(), PartFault>
     }
 }
 
-// Adds the records that a reader has left, and says how many they are.
+// Adds the remaining records of a reader, and returns their number.
 fn gather_rows<R: Read>(
     alloc: Global,
     file: Part,
@@ -61,7 +62,8 @@ fn gather_rows<R: Read>(
     Err(PartFault::Memory)
 }
 
-/// Adds the records of a file to a text, one a line, and says how many they are. Each must be of the file's part.
+/// Adds the records of a file to a text, one on each line, and returns their number. Each has to belong to the file's
+/// part.
 pub(crate) fn gather(
     alloc: Global,
     file: Part,

@@ -1,4 +1,4 @@
-//! The records of all files, put one after another.
+//! The records of all files, one after another.
 ghost use Rattle.std.specs.Prelude.{◌≡◌, ◌++◌, None, length, IfOk, IfErr};
 ghost use Rattle.docket_parts.specs.Parts.{rows_of, rows_of_all, fault_of_all, IsFaultOrMemory};
 ghost use Rattle.docket_parts.specs.Joined.{IsJoined};
@@ -11,21 +11,21 @@ use std::alloc::Global;
 /// The records of a docket's file, then those of a sheet's, then those of a journal's.
 #[derive(Drop)]
 pub struct Joined {
-    /// The records as they are written one after another, a line each.
+    /// The text of all records, one on each line.
     pub text: Vec<u8>,
-    /// How many records are the docket's.
+    /// How many records belong to the docket.
     pub docket: u64,
-    /// How many records are the sheet's.
+    /// How many records belong to the sheet.
     pub sheet: u64,
-    /// How many records are the journal's.
+    /// How many records belong to the journal.
     pub journal: u64,
 }
 
-/// The records of three files, each read by itself, or the first record that belongs to another part or to none. A file
-/// that isn't there is an empty one.
+/// The records of three files, each read by itself. The fault is the first record that belongs to another part or to
+/// none. A missing file counts as empty.
 ///
-/// The text reads as the records of the three files, one file after another. An open quote, a byte order mark or a last
-/// line without its end changes no record of another file.
+/// The text reads as the records of the three files, one file after another. An open quote, a byte order mark or an
+/// unfinished last line changes no record of another file.
 pub fn join(alloc: Global, docket: &[u8], sheet: &[u8], journal: &[u8]) -> Result<Joined, PartFault>
     ensures joined { IfOk result (IsJoined docket.now sheet.now journal.now) }
     ensures own { IfOk result (λ _. fault_of_all docket.now sheet.now journal.now ≡ None) }

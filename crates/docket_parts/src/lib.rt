@@ -1,9 +1,9 @@
 //! The files of a market, each read as its own part: the docket, the sheet and the journal.
 //!
-//! What joins files before they are read lets a row of one file change what another says. Here every file is read by
-//! itself, each of its records must be of its own part, and only then are the records put one after another.
+//! If files are joined before they are read, a row of one file can change what another says. Here every file is read
+//! by itself, and each record has to belong to the file's part. Only then are the records put one after another.
 //!
-//! What only tests refuse: a body that only answers that memory is wanting.
+//! Only tests refuse a body that always answers out of memory.
 #![tactic(auto)]
 
 mod fault;

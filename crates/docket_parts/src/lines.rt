@@ -1,4 +1,4 @@
-//! Records as they are written one after another.
+//! Records that are written one after another.
 ghost use Rattle.std.specs.Prelude.{◌≡◌, ◌<◌, ◌∷◌, [], OnOk, get_or, length};
 ghost use Rattle.csv.specs.Records.{fields_of};
 ghost use Rattle.csv.specs.Writing.{needs_byte, needs_quotes, escaped, quoted, field_text, next_sep, default_writer};
@@ -7,14 +7,14 @@ ghost use Rattle.docket_parts.specs.Lines.{Grows, line};
 use csv::ByteRecord;
 use std::alloc::AllocError;
 
-// Whether a byte of a field calls for quotes round the field.
+// Whether a field with this byte needs quotes.
 fn is_marked(b: u8) -> bool
     ensures { result ≡ needs_byte default_writer b }
 {
     b == b',' || b == b'"' || b == b'\r' || b == b'\n'
 }
 
-// Whether a field calls for quotes.
+// Whether a field needs quotes.
 fn is_quoted(field: &[u8]) -> bool
     ensures { result ≡ needs_quotes default_writer field.now }
 {
@@ -29,7 +29,7 @@ fn put(text: &mut Vec<u8>, bytes: &[u8]) -> Result<(), AllocError>
     text.extend_from_slice(bytes)
 }
 
-// Adds a byte of a field that stands between quotes: a quote twice.
+// Adds a byte of a quoted field. A quote is written twice.
 fn put_escaped(text: &mut Vec<u8>, byte: u8) -> Result<(), AllocError>
     ensures { OnOk result (Grows text.old text.new (escaped default_writer (byte ∷ []))) }
 {
@@ -65,7 +65,7 @@ fn put_field(text: &mut Vec<u8>, field: &[u8]) -> Result<(), AllocError>
     }
 }
 
-// Adds what stands before the field at this place: a comma, if it isn't the first.
+// Adds a comma before the field at this place, unless it is the first.
 #[inline]
 fn put_comma(text: &mut Vec<u8>, place: usize) -> Result<(), AllocError>
     ensures { OnOk result (Grows text.old text.new (next_sep default_writer place)) }
@@ -87,7 +87,7 @@ fn field(row: &ByteRecord, i: usize) -> &[u8]
     }
 }
 
-/// Adds a record, with quotes where they are called for, and a line feed.
+/// Adds a record, with quotes where they are needed, and a line feed.
 pub fn put_line(text: &mut Vec<u8>, row: &ByteRecord) -> Result<(), AllocError>
     ensures { OnOk result (Grows text.old text.new (line (fields_of row.now))) }
 {

@@ -16,14 +16,14 @@ pub enum Part {
     Journal,
 }
 
-// The byte of a text of one byte, or 0.
+// The byte, if the text is one byte long; else 0.
 fn lone_byte(text: &[u8]) -> u8
     ensures { result ≡ parts.lone_byte text.now }
 {
     if text.len() == 1 { text[0] } else { 0 }
 }
 
-// The first field of a record, which is empty where there is none.
+// The first field of a record, or an empty field if it has none.
 fn first_field(row: &ByteRecord) -> &[u8]
     ensures { result.now ≡ parts.first_field (fields_of row.now) }
 {
@@ -33,14 +33,14 @@ fn first_field(row: &ByteRecord) -> &[u8]
     }
 }
 
-// Whether a letter is one of these.
+// Whether a letter is in this list.
 fn is_of(letters: &[u8], letter: u8) -> bool
     ensures { result ≡ parts.is_of letters.now letter }
 {
     letters.iter().any(|c| letter == *c)
 }
 
-/// The part of a record's kind, or none where no part has that kind.
+/// The part to which a record's kind belongs, or none for an unknown kind.
 #[tactic(auto, unfolding(crate::specs::Parts::part_of, crate::specs::Parts::letter_of))]
 pub(crate) fn part_of(row: &ByteRecord) -> Option<Part>
     ensures { result ≡ parts.part_of (parts.letter_of (fields_of row.now)) }

@@ -1,4 +1,4 @@
-//! In which file a fault of the joined records is, and at which of its records.
+//! Where a fault of the joined records is: in which file, and at which of that file's records.
 ghost use Rattle.std.specs.Prelude.{◌≡◌};
 ghost use Rattle.docket_parts.specs.Place as spec;
 
@@ -6,16 +6,16 @@ use crate::joining::Joined;
 use crate::part::Part;
 use docket::DocketFault;
 
-/// A fault of the joined records, in its file and at its place there.
+/// A fault of the joined records, with its file and its record there.
 #[derive(Clone, Copy, Debug, PartialEq, Eq)]
 pub struct FileFault {
     /// The file.
     pub file: Part,
-    /// The fault, at its place in the file.
+    /// The fault, with the record's number in the file.
     pub fault: DocketFault,
 }
 
-// The record at fault, if there is one.
+// The number of the record at fault, if the fault has one.
 fn place_of(fault: DocketFault) -> Option<u32>
     ensures { result ≡ spec.place_of fault }
 {
@@ -37,7 +37,7 @@ fn place_of(fault: DocketFault) -> Option<u32>
     }
 }
 
-// The fault, at another record.
+// The same fault, at another record.
 fn at_place(fault: DocketFault, place: u32) -> DocketFault
     ensures { result ≡ spec.at_place fault place }
 {
@@ -60,7 +60,8 @@ fn at_place(fault: DocketFault, place: u32) -> DocketFault
     }
 }
 
-// The last file in which such a fault can be. What is wanting in a list, or in a sheet, is told at the last record of all.
+// The last file that can have such a fault. If something is missing in a list or in a sheet, the fault names the last
+// record of all.
 fn last_file(fault: DocketFault) -> Part
     ensures { result ≡ spec.last_file fault }
 {
@@ -71,7 +72,8 @@ fn last_file(fault: DocketFault) -> Part
     }
 }
 
-// The file of the record at this place of all, and its place there, where files have so many records.
+// The file of a record, and its number there, from its number among all records. The files have these numbers of
+// records.
 fn in_file(docket: u64, sheet: u64, last: Part, place: u32) -> (Part, u32)
     ensures { result ≡ spec.in_file docket sheet last place }
 {
@@ -92,7 +94,7 @@ fn in_file(docket: u64, sheet: u64, last: Part, place: u32) -> (Part, u32)
     (Part::Journal, (left - sheet) as u32)
 }
 
-/// A fault that a docket of the joined records has, in its file and at its place there; none where it is of no record.
+/// A fault of the joined records, with its file and its record there; none for a fault without a record.
 pub fn file_fault(joined: &Joined, fault: DocketFault) -> Option<FileFault>
     ensures { result ≡ spec.file_fault joined.now.docket joined.now.sheet fault }
 {

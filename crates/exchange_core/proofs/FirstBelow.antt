@@ -1,4 +1,4 @@
--- The first answer at the numbers below a bound.
+-- The first answer among the numbers below a bound.
 use Rattle.std.specs.Prelude.{is_some, true}
 use Rattle.std.proofs.Common.{◌≡◌, ℕ, suc, zero, ◌+◌, ◌<◌, ◌≤◌, Option, Some, None, [], ◌∷◌, refl, sym, subst, arith, add-one, ◌⊎◌, ⊎_elim}
 use Rattle.std.proofs.lemmas.Bool.{cases_lt}
@@ -19,7 +19,7 @@ first_of_none None None e h = refl
 first_of_none None (Some y) e h = cc
 first_of_none (Some z) b e h = cc
 
--- where nothing is found below i, and x at i, x is the first
+-- if nothing is found below i, and x is found at i, then x is the first
 pub first_below_found : {X : Type 0} (f : ℕ → Option X) (n i : ℕ) (x : X) → i < n → first_below f i ≡ None → f i ≡ Some x → first_below f n ≡ Some x
 first_below_found f zero i x h none here = absurd (omega arith)
 first_below_found {X} f (suc n) i x h none here = split (cases_lt i n) (λ l. first_below_found f n i x l none here)
@@ -29,16 +29,16 @@ first_below_found {X} f (suc n) i x h none here = split (cases_lt i n) (λ l. fi
         (λ (l : n ≤ i). let e : i ≡ n = omega arith in
         first_of_second (first_below f n) (f n) x (subst (λ (k : ℕ). first_below f k ≡ None) e none) (subst (λ (k : ℕ). f k ≡ Some x) e here)) c
 
--- so what is found at i is the answer
+-- what is found at i is the answer
 pub first_below_is : {X : Type 0} (f : ℕ → Option X) (n i : ℕ) (o : Option X) → i < n → first_below f i ≡ None → o ≡ f i → is_some o ≡ true → o ≡ first_below f n
 first_below_is f n i None h none here some = cc
 first_below_is f n i (Some x) h none here some = sym (first_below_found f n i x h none (sym here))
 
--- one number more
+-- one more number
 pub first_below_more : {X : Type 0} (f : ℕ → Option X) (n : ℕ) → first_below f n ≡ None → f n ≡ None → first_below f (n + 1) ≡ None
 first_below_more f n none here = subst (λ (k : ℕ). first_below f k ≡ None) (sym (add-one n)) (first_of_none (first_below f n) (f n) none here)
 
--- nothing is found where nothing is at any number
+-- nothing is found if no number has an answer
 pub none_below : {X : Type 0} (f : ℕ → Option X) (n : ℕ) → ((k : ℕ) → k < n → f k ≡ None) → first_below f n ≡ None
 none_below f zero none = refl
 none_below f (suc n) none = first_of_none (first_below f n) (f n) (none_below f n (λ k h. none k (omega arith))) (none n (omega arith))

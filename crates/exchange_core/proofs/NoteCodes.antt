@@ -1,4 +1,4 @@
--- An answer's note gives the answer back.
+-- The note of an answer gives the answer back.
 use Rattle.std.proofs.Common.{◌≡◌, ℕ, ◌+◌, ◌*◌, arith}
 use Rattle.std.specs.Prelude.{◌/◌, ◌%◌}
 use Rattle.exchange_core.specs.declared.event.AnswerKind.{AnswerKind}

@@ -1,4 +1,4 @@
--- What a row of notes shows after one note is put into a part, or taken out of it.
+-- What a row of notes shows after one note is added to a part, or removed from it.
 use Rattle.std.proofs.Common.{◌≡◌, ◌≢◌, ℕ, zero, suc, ◌+◌, ◌-◌, ◌<◌, ◌≤◌, Bool, ◌⊎◌, inl, inr, List, [], ◌∷◌, ◌++◌, Some, None, length, drop, map, get_or, slice_get, refl, sym, ap, ◌∙◌, subst, arith, zero-add, ⊎_elim}
 use Rattle.std.specs.Prelude.{slice_set, if◌then◌else◌}
 use Rattle.std.specs.List.{range_with_len}
@@ -23,7 +23,7 @@ place_within part k ring h =
     (λ (l : part.room ≤ part.front + k). let e = wrapped_high part.room (part.front + k) l in (omega (arith, e, l), omega (arith, e, l, ring.front_within, h)))
     (cases_lt (part.front + k) part.room)
 
--- two notes of a part stand at two places
+-- two different notes of a part stand at different places
 pub places_apart : (part : Part) (k m : ℕ) → IsRing part → k < m → m < part.room → place_in part k ≢ place_in part m
 places_apart part k m ring h l e = go (cases_lt (part.front + k) part.room) (cases_lt (part.front + m) part.room)
   where
@@ -146,7 +146,7 @@ span_popped part = ⊎_elim (λ (e : popped part ≡ part). ap span e) (λ (e : 
 
 -- ---- all parts of a row
 
--- a note that stands in one part stands in no other
+-- a note of one part stands in no other part
 pub outside : (spans : List (ℕ × ℕ)) (total i k at : ℕ) → AreLaid spans total → i < length spans → k < length spans → k ≢ i →
     (get_or spans i (0, 0)).0 ≤ at → at < (get_or spans i (0, 0)).0 + (get_or spans i (0, 0)).1 →
     (at < (get_or spans k (0, 0)).0) ⊎ ((get_or spans k (0, 0)).0 + (get_or spans k (0, 0)).1 ≤ at)
@@ -155,7 +155,7 @@ outside spans total i k at laid hi hk ne from to =
     (λ (l : k ≤ i). inr (let a = laid.apart k i (omega (arith, l, ne)) hi in omega (arith, a, from)))
     (cases_lt i k)
 
--- a part more, after all others
+-- one more part, after all others
 pub laid_more : (spans : List (ℕ × ℕ)) (total room : ℕ) → AreLaid spans total → AreLaid (spans ++ (total, room) ∷ []) (total + room)
 laid_more spans total room laid = record {
   within = λ k h. ⊎_elim (λ (l : k < length spans). let a = laid.within k l in omega (arith, a, ap (λ (s : ℕ × ℕ). s.0 + s.1) (before k l)))
@@ -178,7 +178,7 @@ laid_more spans total room laid = record {
 pub laid_none : (total : ℕ) → AreLaid [] total
 laid_none total = record { within = λ k h. absurd (omega (arith, h)); apart = λ i k l h. absurd (omega (arith, h)) }
 
--- ---- a list of seats, each shown over the row, with one seat and the row changed
+-- ---- a list of seats over the row, after one seat and the row change
 
 pub shown_set : {X Y : Type 0} (f g : X → Y) (xs : List X) (i : ℕ) (x d : X) (y : Y) → i < length xs → g x ≡ y → ((k : ℕ) → k < length xs → k ≢ i → g (get_or xs k d) ≡ f (get_or xs k d)) →
     map g (slice_set xs i x) ≡ slice_set (map f xs) i y

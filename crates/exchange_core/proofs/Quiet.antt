@@ -1,4 +1,4 @@
--- What isn't pending where nothing waits and nothing is due.
+-- If nothing waits and nothing is due, nothing is pending.
 use Rattle.std.specs.Prelude.{IfSome}
 use Rattle.std.proofs.Common.{◌≡◌, ◌≢◌, ◌+◌, ℕ, ◌<◌, suc, zero, Option, Some, None, List, [], ◌∷◌, ◌++◌, false, not, refl, sym, ap, ◌∙◌, subst, arith, length, map, cond, zero-add, Bool, slice_get}
 use Rattle.std.specs.List.{All, count_by, range_with_len}
@@ -14,12 +14,12 @@ use Rattle.std.proofs.lemmas.List.Sums.{sum_by-cons, sum_by_push}
 use Rattle.exchange_core.proofs.Enabled.{take_none, answer_none}
 use Rattle.exchange_core.proofs.FirstBelow.{none_below, first_of_none}
 
--- where each fails the test none is counted
+-- if each item fails the test, none is counted
 pub none_made : {X : Type 0} (p : X → Bool) (f : ℕ → X) → ((k : ℕ) → p (f k) ≡ false) → (a n : ℕ) → 0 ≡ count_by p (map f (range_with_len a n))
 none_made p f fails a zero = refl
 none_made p f fails a (suc n) = sym (sum_by-cons (λ x. cond (p x) 1 0) (f a) (map f (range_with_len (a + 1) n)) ∙ ap (λ (b : Bool). cond b 1 0 + count_by p (map f (range_with_len (a + 1) n))) (fails a) ∙ zero-add (count_by p (map f (range_with_len (a + 1) n))) ∙ sym (none_made p f fails (a + 1) n))
 
--- one item more is counted where it passes the test
+-- one more item is counted if it passes the test
 pub counted_more : {X : Type 0} (p : X → Bool) (xs : List X) (x : X) (n m : ℕ) → n ≡ count_by p xs → m ≡ n + cond (p x) 1 0 → m ≡ count_by p (xs ++ x ∷ [])
 counted_more p xs x n m counted more = more ∙ ap (λ (k : ℕ). k + cond (p x) 1 0) counted ∙ sym (sum_by_push (λ y. cond (p y) 1 0) xs x)
 

@@ -1,4 +1,4 @@
--- Lemmas on the best of what is listed.
+-- Lemmas about the best of the listed items.
 use Rattle.std.proofs.Common.{◌≡◌, ℕ, ◌+◌, ◌<◌, ◌≤◌, Bool, true, false, cond, ltb, ◌⊎◌, inl, inr, List, [], ◌∷◌, ◌++◌, Option, Some, None, refl, ap, sym, ◌∙◌, subst, arith, le_of_eq}
 use Rattle.std.specs.List.{list_all}
 use Rattle.std.proofs.lemmas.Bool.{eq-eqb, ltb-true, ltb-false, lt-ltb, and_parts, and_cases, and_from}
@@ -65,7 +65,7 @@ beats_all-true a l p e =
 pub beats_all_from : (a l : List ℕ) (p : ℕ) → IsListed a p → ((q : ℕ) → IsListed l q → place a p < place a q) → beats_all a l p ≡ true
 beats_all_from a l p h least = and_from _ _ (is_listed_from a p h) (list_all_from_listed (λ v. ltb (place a p) (place a v)) l (λ q k. lt-ltb _ _ (least q k)))
 
--- an item that isn't before every earlier one: it isn't ranked, or an earlier one is no later
+-- an item that isn't before every earlier item: it isn't ranked, or some earlier item is at least as good
 pub beats_all-false : (a l : List ℕ) (p : ℕ) → beats_all a l p ≡ false → (IsListed a p → ⊥) ⊎ ((q : ℕ) × IsListed l q × (place a q ≤ place a p))
 beats_all-false a l p e = step (and_cases _ _ e)
   where

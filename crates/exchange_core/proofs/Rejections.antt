@@ -1,4 +1,4 @@
--- How often a programme is rejected, by calls and by answers.
+-- How often a programme is rejected, counted by answers due and by answers given.
 use mathlib.Core.List.{IsPrefix}
 use Rattle.std.proofs.Common.{◌≡◌, ℕ, zero, suc, ◌+◌, ◌≤◌, Bool, true, false, cond, eqb, ◌&&◌, ◌⊎◌, inl, inr, List, [], ◌∷◌, ◌++◌, length, slice_get, Option, Some, None, refl, ap, sym, ◌∙◌, subst, arith, sum_by, count_by}
 use Rattle.std.proofs.lemmas.Bool.{cases_eq, cases_Bool, eq-eqb, ne_eqb, false_from_ne_true}
@@ -31,11 +31,11 @@ use Rattle.exchange_core.proofs.Members.{offers_of_members, HasMembers, members_
 use Rattle.exchange_core.proofs.InOrder.{offers_match, next_call, takes_in_order, answers_in_order, hears_in_order, listed_offer_of, offers_of_no_repeats, takes_no_repeats}
 use Rattle.exchange_core.proofs.Refusal.{number_from, number_to}
 
--- whether the answer gives the place of x back
+-- whether the answer frees the place of x
 abbrev pub is_rejection_of : ℕ → Answered → Bool
 is_rejection_of x a = is_rejection a && eqb a.0 x
 
--- how many of the answers give the place of x back
+-- how many of the answers free the place of x
 abbrev pub rejections_of : ℕ → List Answered → ℕ
 rejections_of x answers = count_by (is_rejection_of x) answers
 
@@ -83,7 +83,7 @@ rejections_of-other a l x p e = rw (called_by_other a l x e) (step (eqb x p) ref
 abbrev pub holds_one : Option ℕ → ℕ → ℕ
 holds_one o p = cond (is_number o p) 1 0
 
--- an offer is held or rejected, once: the rejections called for, and the one that is held, are as many as the offers
+-- Each offer is held or rejected once. So the rejections due and the held offer are as many as the offers.
 pub held_or_rejected : (a l : List ℕ) (p : ℕ) → rejections_of p (calls a l) + holds_one (best_of a l) p ≡ count_of p l
 held_or_rejected a l p = push_induction Settles nothing (λ l x ih. step l x (beats_all a l x) refl ih) l
   where
@@ -104,7 +104,8 @@ held_or_rejected a l p = push_induction Settles nothing (λ l x ih. step l x (be
         let held : holds_one (best_of a (l ++ x ∷ [])) p ≡ holds_one (best_of a l) p = ap (λ o. holds_one o p) (best_of_push_same a l x e) in
         omega (arith, more l x, rejections_of-other a l x p e, held, ih, count_of_push p l x)
 
--- in a list without repeats the best is never rejected, every other item once, and nobody who isn't listed
+-- In a list without repeats, the best is never rejected and every other item once. A programme outside the list is
+-- never rejected.
 pub rejections_of-calls : (a l : List ℕ) → HasNoRepeats l → (p : ℕ) → rejections_of p (calls a l) ≡ cond (is_listed l p) (cond (is_number (best_of a l) p) 0 1) 0
 rejections_of-calls a l h p = step (is_listed l p) (is_number (best_of a l) p) refl refl (held_or_rejected a l p)
   where
@@ -119,14 +120,14 @@ held_not_rejected a l p h e =
     let held : holds_one (best_of a l) p ≡ 1 = ap (λ b. cond b 1 0) (number_to (best_of a l) p e) in
     omega (arith, held_or_rejected a l p, held, count_from_no_repeats l h p)
 
--- every other one is, once
+-- every other item is rejected once
 pub others_rejected : (a l : List ℕ) (p : ℕ) → HasNoRepeats l → IsListed l p → (best_of a l ≡ Some p → ⊥) → rejections_of p (calls a l) ≡ 1
 others_rejected a l p h k n =
     let other = false_from_ne_true (is_number (best_of a l) p) (λ e. n (number_from (best_of a l) p e)) in
     let held : holds_one (best_of a l) p ≡ 0 = ap (λ b. cond b 1 0) other in
     omega (arith, held_or_rejected a l p, held, count_from_no_repeats l h p, count_of_listed l p k)
 
--- and nobody who isn't in the list
+-- a programme outside the list is never rejected
 pub strangers_not_rejected : (a l : List ℕ) (p : ℕ) → is_listed l p ≡ false → rejections_of p (calls a l) ≡ 0
 strangers_not_rejected a l p u = omega (arith, held_or_rejected a l p, count_of_unlisted l p u)
 
@@ -146,7 +147,7 @@ not_rejected_is_best a l p h k none = step (cases_Bool (is_number (best_of a l) 
         let held : holds_one (best_of a l) p ≡ 0 = ap (λ b. cond b 1 0) e in
         absurd (omega (arith, held_or_rejected a l p, held, none, count_of_listed l p k))
 
--- only an item of the list is called for
+-- an answer is only due for an item of the list
 pub calls_item_listed : (a l : List ℕ) (i : ℕ) (c : Answered) → slice_get (calls a l) i ≡ Some c → IsListed l c.0
 calls_item_listed a = push_induction Only nothing (λ l x ih i c h. step l x i c ih (slice_get-append_parts (calls a l) (called_by a l x) i c (rw calls_push at h)))
   where
@@ -199,22 +200,22 @@ rejections-flat_map f (x ∷ xs) =
     ∙ ap (λ t. rejections (f x) + t) (rejections-flat_map f xs)
     ∙ sym (sum_by-cons (λ y. rejections (f y)) x xs)
 
--- all that r was called for
+-- all answers that r owed
 abbrev pub called_of : Instance → ℕ → List Event → List Answered
 called_of inst r j = calls (list_of_resident inst r) (takes r j)
 
 module _ (inst : Instance) (cap : Capacity) where
-  -- r's answers reject p no more often than r was called to
+  -- r rejects p no more often than r's answers due did
   pub answers_reject_within : (j : List Event) → IsLegal inst cap j → (r p : ℕ) → rejections_of p (answers_of r j) ≤ rejections_of p (called_of inst r j)
   answers_reject_within j legal r p = prefix_rejections_of p (answers_of r j) (called_of inst r j) (answers_in_order inst cap j legal r)
 
-  -- an answer is to a programme that offered
+  -- an answer goes to a programme that offered
   pub answer_offered : (j : List Event) → IsLegal inst cap j → (r p : ℕ) (k : AnswerKind) → slice_get (due inst r j) 0 ≡ Some (p, k) → IsListed (offers_of p j) r
   answer_offered j legal r p k h =
       let taken = calls_item_listed (list_of_resident inst r) (takes r j) (length (answers_of r j)) (p, k) (next_call inst j r (p, k) h) in
       listed_offer_of p r j (prefix_listed (takes r j) (offers_to r j) p (takes_in_order inst cap j legal r) taken)
 
-  -- nobody rejects p more often than p offered
+  -- no resident rejects p more often than p offered
   pub rejects_within_offers : (j : List Event) → IsLegal inst cap j → (p r : ℕ) → rejections_of p (answers_of r j) ≤ count_of r (offers_of p j)
   rejects_within_offers j legal p r =
       let answered = answers_reject_within j legal r p in
@@ -222,7 +223,7 @@ module _ (inst : Instance) (cap : Capacity) where
       let taken = prefix_count (takes r j) (offers_to r j) p (takes_in_order inst cap j legal r) in
       omega (arith, answered, called, taken, offers_match p r j)
 
-  -- the rejections told to p are those by each resident
+  -- the rejections sent to p are those by each resident
   pub rejections_total : (j : List Event) → IsLegal inst cap j → (p : ℕ) → rejections (answers_to p j) ≡ over_residents inst (λ r. rejections_of p (answers_of r j))
   unfolding answers_to answers_of
   rejections_total j legal p =
@@ -256,7 +257,7 @@ module _ (inst : Instance) (cap : Capacity) where
       omega (arith, heard, rejections_total j legal p, each, sum_below_counts (offers_of p j) (length inst.resident_lists))
 
 module _ (inst : Instance) (cap : Capacity) (is_instance : IsInstance inst) where
-  -- the rejections told to p are those by each resident that p offered
+  -- the rejections sent to p are those by each resident to whom p offered
   pub rejections_match : (j : List Event) → IsLegal inst cap j → (p : ℕ) → rejections (answers_to p j) ≡ sum_by (λ r. rejections_of p (answers_of r j)) (offers_of p j)
   rejections_match j legal p =
       rejections_total inst cap j legal p
@@ -271,7 +272,7 @@ module _ (inst : Instance) (cap : Capacity) (is_instance : IsInstance inst) wher
       others : (r : ℕ) → is_listed (offers_of p j) r ≡ false → by_each r ≡ 0
       others r u = let l = rejects_within_offers inst cap j legal p r in omega (arith, l, count_of_unlisted (offers_of p j) r u)
 
-  -- what p heard of rejections is at most the number of its offers whose resident was called to reject it
+  -- p heard at most as many rejections as offers whose resident owed a rejection
   pub heard_rejections_within : (j : List Event) → IsLegal inst cap j → (p : ℕ) → rejections (hears p j) ≤ sum_by (λ r. rejections_of p (called_of inst r j)) (offers_of p j)
   heard_rejections_within j legal p =
       let heard = prefix_rejections (hears p j) (answers_to p j) (hears_in_order inst cap j legal p) in
@@ -291,7 +292,7 @@ module _ (inst : Instance) (cap : Capacity) (is_instance : IsInstance inst) wher
   unfolding out
   out_and_rejections j legal p = let l = heard_rejections_offered inst cap j legal p in omega (arith, l)
 
--- the offers out are within the quota
+-- the number of offers out is within the quota
 pub out_within_quota : (inst : Instance) (cap : Capacity) (j : List Event) → IsLegal inst cap j → (p : ℕ) → out p j ≤ quota inst p
 out_within_quota inst cap = legal_induction inst cap (λ j. (p : ℕ) → out p j ≤ quota inst p) (λ p. rw (out_nil p) (omega arith)) (λ j e legal may ih. step j e may ih)
   where

@@ -1,4 +1,4 @@
--- Sums over all desks: what every desk sent or took, added up, is what the events add up to.
+-- Sums over all desks: what every desk sent or took adds up to the events.
 use Rattle.std.proofs.Common.{◌≡◌, ℕ, ◌+◌, ◌<◌, ◌≤◌, Bool, true, false, cond, eqb, ◌⊎◌, inl, inr, List, [], ◌∷◌, ◌++◌, length, refl, ap, sym, ◌∙◌, arith, length-append, sum_by, count_by, ◌||◌, zero-add}
 use Rattle.std.specs.List.{flat_map}
 use Rattle.std.proofs.lemmas.Bool.{cases_eq, eq-eqb, ne_eqb}
@@ -14,7 +14,7 @@ use Rattle.exchange_core.proofs.Mail.{is_closed_nil, is_closed_push}
 use Rattle.match_model.proofs.Counts.{sum_below, sum_below_zero, sum_below_same, sum_below-add, sum_below_one, sum_by_same}
 use Rattle.exchange_core.proofs.Members.{HasMembers, members_at}
 
--- a sum over desks of what each gets from a list is a sum over the list of what the desks get
+-- a sum over desks and then over the list is a sum over the list and then over the desks
 pub sum_below-flat_map : {X A : Type 0} (w : List A → ℕ) → w [] ≡ 0 → ((xs ys : List A) → w (xs ++ ys) ≡ w xs + w ys) → (f : ℕ → X → List A) (n : ℕ) (xs : List X) → sum_below (λ k. w (flat_map (f k) xs)) n ≡ sum_by (λ x. sum_below (λ k. w (f k x)) n) xs
 sum_below-flat_map w z a f n [] = sum_below_same (λ k. w []) (λ k. 0) n (λ k l. z) ∙ sum_below_zero n
 sum_below-flat_map w z a f n (x ∷ xs) =
@@ -73,7 +73,7 @@ one_hear (Answer r p k) = 0
 one_hear (Hear p r k) = 1
 one_hear Close = 0
 
--- each event is of one kind
+-- each event is of exactly one kind
 pub length_by_kind : (j : List Event) → length j ≡ sum_by one_offer j + sum_by one_take j + sum_by one_answer j + sum_by one_hear j + count_by is_close j
 length_by_kind [] = refl
 length_by_kind (e ∷ es) =

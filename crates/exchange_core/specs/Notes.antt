@@ -1,21 +1,21 @@
--- The notes of all mailboxes of one side, in one row: each desk has a part of it.
+-- The notes of all mailboxes of one side, in one row. Each desk has a part of this row.
 use Rattle.std.specs.Prelude.{ℕ, ◌+◌, ◌-◌, ◌≤◌, ◌<◌, nat_lt, nat_eq, if◌then◌else◌, List, length, map, slice_index_or}
 use Rattle.std.specs.List.{range_with_len}
 use Rattle.exchange_core.specs.declared.part.Part.{Part}
 
--- the place after the last of so many is the first
+-- the place, counted round: after the last place comes the first again
 abbrev pub wrapped : ℕ → ℕ → ℕ
 wrapped room k = if nat_lt k room then k else k - room
 
--- where the k-th note of the part stands, counted from the one in front
+-- the place in the row of the part's k-th note, counted from the front
 abbrev pub place_in : Part → ℕ → ℕ
 place_in part k = part.start + wrapped part.room (part.front + k)
 
--- the notes that wait in the part, in order
+-- the notes that wait in the part, oldest first
 abbrev pub waiting_in : List ℕ → Part → List ℕ
 waiting_in notes part = map (λ k. slice_index_or notes (place_in part k) 0) (range_with_len 0 part.len)
 
--- the one in front stands in the part, and no more wait than it has places
+-- the front stands within the part, and the part has a place for each note that waits
 pub record IsRing (part : Part) : Type 0 where
   pub front_within : part.front ≤ part.room
   pub len_within : part.len ≤ part.room
@@ -24,11 +24,11 @@ pub record IsRing (part : Part) : Type 0 where
 abbrev pub opened : ℕ → ℕ → Part
 opened start room = record { start = start; room = room; front = 0; len = 0 }
 
--- the part with one more note
+-- the part after one more note was added
 abbrev pub pushed : Part → Part
 pushed part = record part { len = part.len + 1 }
 
--- the part without the note in front, if one waits
+-- the part after the front note was taken, if a note waits
 abbrev pub popped : Part → Part
 popped part = if nat_eq part.len 0 then part else record part { front = wrapped part.room (part.front + 1); len = part.len - 1 }
 
@@ -36,7 +36,7 @@ popped part = if nat_eq part.len 0 then part else record part { front = wrapped 
 abbrev pub span : Part → ℕ × ℕ
 span part = (part.start, part.room)
 
--- each part ends within the row, and before the next ones start
+-- each part ends within the row, and ends before the next parts start
 pub record AreLaid (spans : List (ℕ × ℕ)) (total : ℕ) : Type 0 where
   pub within : (k : ℕ) → k < length spans → (slice_index_or spans k (0, 0)).0 + (slice_index_or spans k (0, 0)).1 ≤ total
   pub apart : (i k : ℕ) → i < k → k < length spans → (slice_index_or spans i (0, 0)).0 + (slice_index_or spans i (0, 0)).1 ≤ (slice_index_or spans k (0, 0)).0

@@ -1,4 +1,4 @@
--- What is pending at a desk, as the core counts it.
+-- What is still to be done at a desk, as the core counts it.
 use Rattle.std.specs.Prelude.{◌≡◌, ◌&&◌, nat_lt, not, Bool, false, []}
 use Rattle.exchange_core.specs.Left.{ResidentLeft, ProgrammeLeft}
 use Rattle.exchange_core.specs.Refusal.{is_nil}
@@ -19,10 +19,10 @@ has_answers seat = not (is_nil seat.waiting)
 abbrev pub IsQuiet : ResidentLeft → Type 0
 IsQuiet seat = (seat.waiting ≡ []) × (seat.due ≡ [])
 
--- whether the desk has a free place and somebody left to offer it to
+-- whether the desk has a free place and a next resident to offer it to
 abbrev pub has_wish : ProgrammeLeft → Bool
 has_wish seat = nat_lt seat.out seat.places && nat_lt seat.offered seat.listed
 
--- no answer waits at the desk, and it has no wish
+-- no answer waits at the desk, and it has no offer to make
 abbrev pub IsContent : ProgrammeLeft → Type 0
 IsContent seat = (seat.waiting ≡ []) × (has_wish seat ≡ false)

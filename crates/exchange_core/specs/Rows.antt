@@ -1,4 +1,4 @@
--- What the seats of one side show over the row of notes.
+-- What the seats of one side show, with the row of notes.
 use Rattle.std.specs.Prelude.{ℕ, ◌+◌, ◌*◌, ◌/◌, ◌%◌, nat_eq, if◌then◌else◌, List, map}
 use Rattle.exchange_core.specs.declared.event.AnswerKind.{AnswerKind}
 use Rattle.exchange_core.specs.declared.event.AnswerKind.TheVariants.{Hold, Decline, Release}
@@ -10,51 +10,51 @@ use Rattle.exchange_core.specs.Left.{ResidentLeft, ProgrammeLeft}
 use Rattle.exchange_core.specs.Notes.{waiting_in, span, IsRing}
 use Rattle.exchange_core.specs.Seats.{due_of}
 
--- the programme of an offer's note, which has its rank below
+-- the programme of an offer's note; the note's lower part has the rank
 abbrev pub programme_of : ℕ → ℕ
 programme_of note = note / RANKS
 
--- the rank of an offer's note
+-- the rank in an offer's note
 abbrev pub rank_of : ℕ → ℕ
 rank_of note = note % RANKS
 
--- the rank of the offer held, after one more answer to the offer taken
+-- the rank of the held offer, after one more answer to the offer that was taken
 abbrev pub rank_after : ℕ → ℕ → AnswerKind → ℕ
 rank_after held taken Hold = taken
 rank_after held taken Decline = held
 rank_after held taken Release = held
 
--- a resident's seat
+-- what a resident's seat shows
 abbrev pub shown_resident : List ℕ → ResidentSeat → ResidentLeft
 shown_resident notes seat = record { waiting = map programme_of (waiting_in notes seat.part); due = due_of seat.first_due seat.second_due; held = seat.held; room = seat.part.room }
 
--- where its part starts, and how many places it has
+-- where the seat's part starts, and how many places it has
 abbrev pub resident_span : ResidentSeat → ℕ × ℕ
 resident_span seat = span seat.part
 
--- its part is a ring
+-- the seat's part is a ring
 abbrev pub IsResidentRing : ResidentSeat → Type 0
 IsResidentRing seat = IsRing seat.part
 
--- the number of a kind of answer
+-- the number for a kind of answer
 abbrev pub code_of : AnswerKind → ℕ
 code_of Hold = 0
 code_of Decline = 1
 code_of Release = 2
 
--- the kind of this number
+-- the kind of answer for a number
 abbrev pub kind_of : ℕ → AnswerKind
 kind_of code = if nat_eq code 0 then Hold else (if nat_eq code 1 then Decline else Release)
 
--- an answer's note: four times its resident's number, and the number of its kind
+-- the note of an answer: four times the resident's number, plus the number of the kind
 abbrev pub note_of : Answered → ℕ
 note_of answer = answer.0 * 4 + code_of answer.1
 
--- the answer of a note
+-- the answer that a note stands for
 abbrev pub answer_of : ℕ → Answered
 answer_of note = (note / 4, kind_of (note % 4))
 
--- a programme's seat
+-- what a programme's seat shows
 abbrev pub shown_programme : List ℕ → ProgrammeSeat → ProgrammeLeft
 shown_programme notes seat = record {
   offered = seat.offered;
@@ -65,10 +65,10 @@ shown_programme notes seat = record {
   listed = seat.listed;
 }
 
--- where its part starts, and how many places it has
+-- where the seat's part starts, and how many places it has
 abbrev pub programme_span : ProgrammeSeat → ℕ × ℕ
 programme_span seat = span seat.part
 
--- its part is a ring
+-- the seat's part is a ring
 abbrev pub IsProgrammeRing : ProgrammeSeat → Type 0
 IsProgrammeRing seat = IsRing seat.part

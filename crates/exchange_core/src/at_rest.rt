@@ -8,7 +8,7 @@ use crate::exchange::Core;
 use match_model::{Instance, ProgrammeNo, ResidentNo};
 
 impl Core {
-    /// What keeps the exchange from rest first.
+    /// The first thing that keeps the exchange from rest.
     #[tactic(auto, using(crate::proofs::FirstBelow::first_of_second, crate::proofs::FirstBelow::first_of_first), unfolding(crate::specs::Steps::pending_left))]
     #[inline(never)]
     pub(crate) fn pending(&self, inst: &Instance) -> Option<Pending>
@@ -31,7 +31,8 @@ impl Core {
         self.residents.are_quiet() && self.programmes.are_content()
     }
 
-    /// The first resident's desk that isn't at rest. It looks at none where no offer waits and no answer is due.
+    /// The first resident's desk that is not at rest. If no offer waits and no answer is due anywhere, no desk is
+    /// looked at.
     #[tactic(auto, using(crate::proofs::FirstBelow::first_below_found, crate::proofs::FirstBelow::first_below_more, crate::proofs::Quiet::quiet_residents))]
     fn pending_at_residents(&self, inst: &Instance) -> Option<Pending>
         requires { IsCoreOf inst.now self.now }
@@ -49,8 +50,8 @@ impl Core {
         None
     }
 
-    /// The first programme's desk that isn't at rest. It looks at none where no answer waits and no programme has a
-    /// wish.
+    /// The first programme's desk that is not at rest. If no answer waits and no programme has a wish, no desk is
+    /// looked at.
     #[tactic(auto, using(crate::proofs::FirstBelow::first_below_found, crate::proofs::FirstBelow::first_below_more, crate::proofs::Quiet::content_programmes))]
     fn pending_at_programmes(&self, inst: &Instance) -> Option<Pending>
         requires { IsCoreOf inst.now self.now }

@@ -1,6 +1,6 @@
 //! The pure core of the exchange of offers: which event may follow, and what a list of events leaves.
 //!
-//! Contracts say nothing of the text of a `CoreFault`: a test compares it.
+//! Contracts say nothing about the text of a `CoreFault`. A test compares this text.
 #![tactic(auto)]
 
 mod at_rest;

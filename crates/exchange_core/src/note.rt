@@ -1,14 +1,14 @@
-//! What stands in the mailboxes.
+//! The notes that stand in mailboxes.
 ghost use Rattle.std.specs.Prelude.{ℕ};
 
 use crate::event::AnswerKind;
 use match_model::{ProgrammeNo, ResidentNo};
 use std::marker::Model;
 
-/// An offer in a resident's mailbox. Contracts see it as the programme's number.
+/// An offer in a resident's mailbox. Contracts see only the programme's number.
 #[derive(Clone, Copy, Debug, PartialEq, Eq)]
 pub struct OfferNote {
-    /// Who offers a place.
+    /// The programme that offers a place.
     pub programme: ProgrammeNo,
 }
 
@@ -20,12 +20,12 @@ impl Model for OfferNote {
     ghost inverse = { λ n. record { programme = n } };
 }
 
-/// An answer in a programme's mailbox. Contracts see it as the resident's number and the kind.
+/// An answer in a programme's mailbox. Contracts see the resident's number and the kind.
 #[derive(Clone, Copy, Debug, PartialEq, Eq)]
 pub struct AnswerNote {
-    /// Who answers.
+    /// The resident who answers.
     pub resident: ResidentNo,
-    /// What the answer is.
+    /// The kind of answer.
     pub kind: AnswerKind,
 }
 
@@ -40,11 +40,11 @@ impl Model for AnswerNote {
     ghost inverse = { λ n. record { resident = n.0; kind = n.1 } };
 }
 
-/// What an event leaves in the two mailboxes at its ends.
+/// What an event leaves in the mailboxes of its two desks.
 #[derive(Clone, Copy, Debug, PartialEq, Eq)]
 pub struct MailLeft {
-    /// Whether the message that was sent waits alone, so that its mailbox was empty before.
+    /// Whether the message that was sent waits alone, so its mailbox was empty before.
     pub receiver_was_empty: bool,
-    /// Whether messages wait in the mailbox of the desk whose event it is.
+    /// Whether messages wait in the mailbox of the event's own desk.
     pub sender_has_more: bool,
 }

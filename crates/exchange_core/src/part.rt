@@ -1,4 +1,4 @@
-//! One desk's part of a row of notes, and what waits there.
+//! One desk's part of a row of notes, and the notes that wait there.
 ghost use Rattle.std.specs.Prelude.{◌≡◌, ◌+◌, ◌*◌, ◌^◌, ◌<◌, ◌≤◌, length, slice_get, slice_set};
 ghost use Rattle.exchange_core.specs.Left.{room_within};
 ghost use Rattle.exchange_core.specs.Notes.{IsRing, place_in, opened, pushed, popped, waiting_in};
@@ -6,8 +6,8 @@ ghost use Rattle.exchange_core.specs.Notes.{IsRing, place_in, opened, pushed, po
 use crate::event::Capacity;
 use match_model::MAX_PAIRS;
 
-/// Where a desk's notes stand in the row: a ring of `room` places from `start` on. The note in front is counted from
-/// there, and so many notes wait.
+/// Where a desk's notes stand in the row: a ring of `room` places from `start`. It has the place of the front note
+/// and the number of notes that wait.
 #[derive(Clone, Copy)]
 pub(crate) struct Part {
     pub(crate) start: usize,
@@ -17,7 +17,7 @@ pub(crate) struct Part {
 }
 
 impl Part {
-    /// An empty part of so many places.
+    /// An empty part with this many places.
     pub(crate) fn open(start: usize, room: u32) -> Part
         ensures { result ≡ opened start room }
     {
@@ -29,7 +29,7 @@ impl Part {
         }
     }
 
-    /// The place of this note, counted from the one in front.
+    /// The place of a note by its number, counted from the front.
     #[inline(always)]
     fn place(self, number: u32) -> usize
         requires ring { IsRing self }
@@ -45,7 +45,7 @@ impl Part {
         self.start + (from_start - room)
     }
 
-    /// The note in front.
+    /// The front note.
     #[inline(always)]
     pub(crate) fn first(self, notes: &Vec<u32>) -> Option<u32>
         requires ring { IsRing self }
@@ -58,7 +58,7 @@ impl Part {
         Some(notes[self.place(0)])
     }
 
-    /// Appends a note to those that wait.
+    /// Appends a note after those that wait.
     #[inline(always)]
     pub(crate) fn push(&mut self, notes: &mut Vec<u32>, note: u32)
         requires ring { IsRing self.old }
@@ -72,7 +72,7 @@ impl Part {
         self.len += 1;
     }
 
-    /// Drops the note in front, if one waits.
+    /// Drops the front note, if a note waits.
     #[inline(always)]
     pub(crate) fn pop(&mut self)
         requires { IsRing self.old }
@@ -91,7 +91,7 @@ impl Part {
     }
 }
 
-/// How many messages can ever wait in a mailbox, by the most that can ever be sent there.
+/// How many messages can wait in a mailbox at once, from the most that can ever be sent there.
 pub(crate) fn room(cap: Capacity, most: usize) -> u32
     requires { most ≤ 2 * MAX_PAIRS }
     ensures { result ≡ room_within cap most }

@@ -13,8 +13,8 @@ use match_model::{Instance, ProgrammeNo, ResidentNo};
 use std::alloc::{AllocError, Global};
 use std::marker::Model;
 
-/// A programme's desk: its part of the row, where its answers wait, its offers made and out, its quota, and its list's
-/// length.
+/// A programme's desk: its part of the row, with the answers that wait; its offers made and out; its quota; and its
+/// list's length.
 #[derive(Clone, Copy)]
 pub(crate) struct ProgrammeSeat {
     part: Part,
@@ -25,7 +25,7 @@ pub(crate) struct ProgrammeSeat {
 }
 
 impl ProgrammeSeat {
-    /// Whether a place is free and somebody is left to offer it to.
+    /// Whether the programme has a free place and a next resident.
     #[inline(always)]
     fn has_wish(self) -> bool
         ensures { result ≡ (nat_lt self.out self.places && nat_lt self.offered self.listed) }
@@ -34,8 +34,8 @@ impl ProgrammeSeat {
     }
 }
 
-/// A seat for each programme, the residents and kinds of all answers that wait, and how many programmes have answers
-/// waiting and how many have a wish.
+/// A seat for each programme, the notes of all answers that wait, and two counts: the programmes with answers
+/// waiting, and those with a wish.
 #[derive(Drop)]
 pub(crate) struct ProgrammeRow {
     seats: Vec<ProgrammeSeat>,
@@ -66,7 +66,7 @@ impl Model for ProgrammeRow {
 }
 
 impl ProgrammeRow {
-    /// A desk for each programme, to which nothing was sent.
+    /// A desk for each programme, before any event.
     pub(crate) fn open(
         alloc: Global,
         inst: &Instance,
@@ -107,7 +107,7 @@ impl ProgrammeRow {
         self.with_answers == 0 && self.with_wish == 0
     }
 
-    /// Whether as many answers wait as ever can.
+    /// Whether the programme's mailbox is full.
     #[inline(always)]
     pub(crate) fn is_full(&self, programme: ProgrammeNo) -> bool
         requires { programme < length self.now }
@@ -125,7 +125,7 @@ impl ProgrammeRow {
         self.seats[programme.0 as usize].part.len > 0
     }
 
-    /// The answer in front, with its resident.
+    /// The front answer, with its resident.
     #[inline(always)]
     pub(crate) fn first_waiting(&self, programme: ProgrammeNo) -> Option<(ResidentNo, AnswerKind)>
         requires { programme < length self.now }
@@ -155,7 +155,7 @@ impl ProgrammeRow {
         seat.out < seat.places
     }
 
-    /// Whether a programme has a free place and somebody left to offer it to.
+    /// Whether a programme has a free place and a next resident.
     #[inline(always)]
     pub(crate) fn has_wish(&self, programme: ProgrammeNo) -> bool
         requires { programme < length self.now }
@@ -164,7 +164,7 @@ impl ProgrammeRow {
         self.seats[programme.0 as usize].has_wish()
     }
 
-    /// Makes one more offer, which is out.
+    /// Makes one more offer; it is then out.
     #[inline(always)]
     pub(crate) fn offer(&mut self, programme: ProgrammeNo)
         requires member { programme < length self.old }
@@ -193,7 +193,7 @@ impl ProgrammeRow {
         self.with_answers = recounted(self.with_answers, waited, true);
     }
 
-    /// Hears the answer in front, which is this one. A rejection frees its place.
+    /// Hears the front answer, which is this one. A rejection frees its place.
     #[inline(always)]
     pub(crate) fn hear(&mut self, programme: ProgrammeNo, resident: ResidentNo, kind: AnswerKind)
         requires { programme < length self.old }
@@ -209,7 +209,7 @@ impl ProgrammeRow {
     }
 }
 
-/// How many offers are out after one more, as long as a place is free.
+/// How many offers are out after one more, if a place was free.
 #[inline(always)]
 fn one_more(out: u32, places: u32) -> u32
     requires { out < places }
@@ -218,7 +218,7 @@ fn one_more(out: u32, places: u32) -> u32
     out + 1
 }
 
-/// How many offers are out after this answer: a rejection frees its place.
+/// How many offers are out after this answer. A rejection frees its place.
 #[inline(always)]
 fn out_after(out: u32, _resident: ResidentNo, kind: AnswerKind) -> u32
     ensures { result ≡ out - (if is_rejection (_resident, kind) then 1 else 0) }

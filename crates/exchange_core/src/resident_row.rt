@@ -14,8 +14,8 @@ use match_model::{Instance, MAX_PROGRAMMES, ProgrammeNo, ResidentNo};
 use std::alloc::{AllocError, Global};
 use std::marker::Model;
 
-/// A resident's desk: its part of the row, where its offers wait, the answers due, and the programme held. The guessed
-/// ranks of the offer taken and of the one held stand beside. An offer calls for two answers at most.
+/// A resident's desk: its part of the row, with the offers that wait; the answers due, at most two; and the programme
+/// held. It also has the guessed ranks of the taken and of the held offer.
 #[derive(Clone, Copy)]
 pub(crate) struct ResidentSeat {
     part: Part,
@@ -26,8 +26,8 @@ pub(crate) struct ResidentSeat {
     held_rank: u32,
 }
 
-/// A seat for each resident, the programmes and ranks of all offers that wait, and how many residents have offers waiting
-/// and how many owe an answer.
+/// A seat for each resident, the notes of all offers that wait, and two counts: the residents with offers waiting,
+/// and those that owe an answer.
 #[derive(Drop)]
 pub(crate) struct ResidentRow {
     seats: Vec<ResidentSeat>,
@@ -58,7 +58,7 @@ impl Model for ResidentRow {
 }
 
 impl ResidentRow {
-    /// A desk for each resident, to whom nothing was sent.
+    /// A desk for each resident, before any event.
     pub(crate) fn open(
         alloc: Global,
         inst: &Instance,
@@ -96,7 +96,7 @@ impl ResidentRow {
         self.with_offers == 0 && self.with_due == 0
     }
 
-    /// Whether as many offers wait as ever can.
+    /// Whether the resident's mailbox is full.
     #[inline(always)]
     pub(crate) fn is_full(&self, resident: ResidentNo) -> bool
         requires { resident < length self.now }
@@ -114,7 +114,7 @@ impl ResidentRow {
         self.seats[resident.0 as usize].part.len > 0
     }
 
-    /// The programme of the offer in front.
+    /// The programme of the front offer.
     #[inline(always)]
     pub(crate) fn first_waiting(&self, resident: ResidentNo) -> Option<ProgrammeNo>
         requires { resident < length self.now }
@@ -135,7 +135,7 @@ impl ResidentRow {
         self.seats[resident.0 as usize].first_due
     }
 
-    /// The programme of the last hold that was given.
+    /// The programme of the last hold that the resident gave.
     #[inline(always)]
     pub(crate) fn held(&self, resident: ResidentNo) -> Option<ProgrammeNo>
         requires { resident < length self.now }
@@ -144,7 +144,7 @@ impl ResidentRow {
         self.seats[resident.0 as usize].held
     }
 
-    /// The guessed ranks that came with the offer in front and with the one held.
+    /// The guessed ranks of the front offer and of the held offer.
     #[inline(always)]
     pub(crate) fn ranks(&self, resident: ResidentNo) -> (u32, u32)
         requires { resident < length self.now }
@@ -171,7 +171,7 @@ impl ResidentRow {
         self.with_offers = recounted(self.with_offers, waited, true);
     }
 
-    /// Takes the offer in front, which is this programme's and came with this rank, and makes due what it calls for.
+    /// Takes the front offer, which is this programme's and has this rank. Then its answers are due.
     #[inline(always)]
     pub(crate) fn take(
         &mut self,
@@ -239,7 +239,7 @@ fn rank_of(note: u32) -> u32
     note % RANKS
 }
 
-/// The rank of the offer that is held after one more answer.
+/// The rank of the held offer after one more answer.
 #[inline(always)]
 fn rank_after(held: u32, taken: u32, kind: AnswerKind) -> u32
     ensures { result ≡ rank_after held taken kind }
@@ -250,7 +250,7 @@ fn rank_after(held: u32, taken: u32, kind: AnswerKind) -> u32
     }
 }
 
-/// What an offer calls for: a hold and then a release of the one held where it is better, else a decline.
+/// The answers to an offer: for a better offer a hold and then a release of the held one, else a decline.
 #[inline(always)]
 fn called_for(
     better: bool,
@@ -268,7 +268,7 @@ fn called_for(
     (Some((programme, AnswerKind::Decline)), None)
 }
 
-/// The programme that is held after one more answer.
+/// The programme held after one more answer.
 #[inline(always)]
 fn held_after(
     held: Option<ProgrammeNo>,
@@ -283,7 +283,7 @@ fn held_after(
     }
 }
 
-/// What is due once the first of these was given.
+/// The answers due once the first of these was given.
 #[tactic(auto, using(crate::proofs::Seats::due_after_first))]
 #[inline(always)]
 fn due_next(
@@ -298,7 +298,7 @@ fn due_next(
     }
 }
 
-/// The release of a programme, if there is one.
+/// The release of a programme, if there is a programme.
 #[inline(always)]
 fn release_of(held: Option<ProgrammeNo>) -> Option<(ProgrammeNo, AnswerKind)>
     ensures { option_to_list result ≡ released held }

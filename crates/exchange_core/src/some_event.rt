@@ -1,4 +1,4 @@
-//! Some event that may follow.
+//! How to find an event that may follow.
 ghost use Rattle.std.specs.Prelude.{◌≡◌, ℕ, true, IfSome, IfNone, ◌≢◌, None};
 ghost use Rattle.match_model.specs.Instance.{IsInstance, IsProgramme, IsResident};
 ghost use Rattle.exchange_core.specs.Shown.{EnabledExactly};
@@ -11,7 +11,7 @@ use crate::exchange::{Core, is_strange};
 use match_model::{Instance, ProgrammeNo, ResidentNo};
 
 impl Core {
-    /// Some event that may follow. None only where a close was accepted. The instance is that of `new`.
+    /// Some event that may follow. None only if a close was accepted. The instance is that of `new`.
     pub fn some_enabled(&self, inst: &Instance) -> Option<Event>
         requires { IsCoreOf inst.now self.now }
         ensures { EnabledExactly inst.now self.now result }
@@ -19,7 +19,7 @@ impl Core {
         if self.closed {
             return None;
         }
-        // For the proof alone: an instance keeps its limits.
+        // Only for the proof: an instance keeps its limits.
         let _members = inst.programmes();
         if self.is_at_rest(inst) {
             return Some(Event::Close);
@@ -37,7 +37,7 @@ impl Core {
         Some(Event::Close)
     }
 
-    /// The programme and the resident of the last event: work is most often left at their desks.
+    /// The programme and the resident of the last event. Most work is left at their desks.
     fn recent_desks(&self, inst: &Instance) -> Option<(u32, u32)>
         ensures { IfSome result (AreMembers inst.now) }
     {
@@ -48,7 +48,7 @@ impl Core {
         Some((programme.0, resident.0))
     }
 
-    /// An event of these two desks that may follow, if one may.
+    /// An event of these two desks that may follow, if there is one.
     fn event_at(&self, inst: &Instance, desks: Option<(u32, u32)>) -> Option<Event>
         requires core { IsCoreOf inst.now self.now }
         requires members { IfSome desks (AreMembers inst.now) }
@@ -62,7 +62,7 @@ impl Core {
         self.event_of_programme(inst, ProgrammeNo(programme))
     }
 
-    /// An event of some resident's desk that may follow, where the two desks that were looked at have none.
+    /// An event of some resident's desk that may follow, if the two desks already looked at have none.
     #[tactic(auto, using(crate::proofs::Quiet::quiet_events))]
     fn event_of_residents(&self, inst: &Instance, looked_at: Option<(u32, u32)>) -> Option<Event>
         requires core { IsCoreOf inst.now self.now }
@@ -84,7 +84,7 @@ impl Core {
         None
     }
 
-    /// An event of some programme's desk that may follow, where the two desks that were looked at have none.
+    /// An event of some programme's desk that may follow, if the two desks already looked at have none.
     fn event_of_programmes(&self, inst: &Instance, looked_at: Option<(u32, u32)>) -> Option<Event>
         requires core { IsCoreOf inst.now self.now }
         requires none { IfSome looked_at (HaveNoEvent inst.now self.now) }
@@ -103,7 +103,7 @@ impl Core {
         None
     }
 
-    /// An event of a resident's desk that may follow, if one may.
+    /// An event of a resident's desk that may follow, if there is one.
     fn event_of_resident(&self, inst: &Instance, resident: ResidentNo) -> Option<Event>
         requires core { IsCoreOf inst.now self.now }
         requires member { IsResident inst.now resident }
@@ -155,7 +155,7 @@ impl Core {
         }
     }
 
-    /// An event of a programme's desk that may follow, if one may.
+    /// An event of a programme's desk that may follow, if there is one.
     fn event_of_programme(&self, inst: &Instance, programme: ProgrammeNo) -> Option<Event>
         requires core { IsCoreOf inst.now self.now }
         requires member { IsProgramme inst.now programme }

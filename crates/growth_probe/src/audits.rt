@@ -1,4 +1,4 @@
-//! The calls of the audit and of the replay, and what is written of both.
+//! The calls of the audit and of the replay, and how their answers are written.
 ghost use Rattle.std.specs.Prelude.{◌≡◌, length, IfOk, IfSome};
 ghost use Rattle.docket.specs.Whole.{IsByWorker};
 ghost use Rattle.audit_text.specs.Report.{IsReportOf};
@@ -13,20 +13,20 @@ use std::alloc::{AllocError, Global};
 use std::io::Write;
 use test_support::events::{A, B, X, Y};
 
-// The small docket's other stable sheet, which is not its result.
+// The other stable sheet of the small docket, which is not its result.
 const OTHER_SHEET: &str = "M,x,b\nM,y,a\nF,a,1,1\nF,b,1,1\n";
 
 // The small docket's journal of nine events.
 const JOURNAL: &str =
     "C,full\nE,offer,a,x\nE,offer,b,y\nE,take,x,a\nE,take,y,b\nE,answer,x,a,hold\nE,answer,y,b,hold\nE,hear,a,x,hold\nE,hear,b,y,hold\nE,close\n";
 
-// What is written of the report of that sheet.
+// The rows of the report about that sheet.
 const UNSTABLE: &str = "S,unstable\nB,y,a\n";
 
 // A docket whose sheet has a blocking pair.
 const BLOCKED: &str = "Q,a,2\nP,a,x,y\nR,x,a\nR,y,a\nM,x,a\nU,y\nF,a,1,2\n";
 
-// Whether the second resident and the only programme block, and nothing else is wrong.
+// Whether the second resident and the only programme block, and the report has nothing else.
 fn is_blocked(report: &AuditReport) -> bool {
     report.unacceptable.is_empty()
         && report.over.is_empty()
@@ -34,7 +34,7 @@ fn is_blocked(report: &AuditReport) -> bool {
         && !report.is_stable()
 }
 
-/// A sheet with a blocking pair is audited.
+/// Audits a sheet with a blocking pair.
 pub(super) fn audited<W: Write>(alloc: Global, out: &mut W) -> Seen {
     let Some(docket) = docket_of(alloc, &[BLOCKED]) else {
         return Seen::Wrong;
@@ -55,7 +55,7 @@ pub(super) fn audited<W: Write>(alloc: Global, out: &mut W) -> Seen {
     }
 }
 
-// The report of that sheet: the second resident and the only programme block.
+// The report about that sheet: the second resident and the only programme block.
 fn blocked_report(alloc: Global, docket: &Docket) -> Result<AuditReport, AllocError>
     requires residents { length docket.now.instance.resident_lists ≡ 2 }
     requires programmes { length docket.now.instance.quotas ≡ 1 }
@@ -70,7 +70,7 @@ fn blocked_report(alloc: Global, docket: &Docket) -> Result<AuditReport, AllocEr
     })
 }
 
-/// The report of a sheet with a blocking pair is written.
+/// Writes the report about a sheet with a blocking pair.
 pub(super) fn report<W: Write>(alloc: Global, out: &mut W) -> Seen {
     let (Some(docket), Ok(mut room)) = (docket_of(alloc, &[BLOCKED]), room(alloc)) else {
         return Seen::Wrong;
@@ -94,7 +94,7 @@ pub(super) fn report<W: Write>(alloc: Global, out: &mut W) -> Seen {
     Seen::at_once(answer == Ok(()) && room.as_slice() == UNSTABLE.as_bytes())
 }
 
-// Whether nine events were good, and gave the small docket's result.
+// Whether nine events were good, and gave the result of the small docket.
 fn is_good(answer: &Result<Replayed, ReplayFault>) -> bool {
     match answer {
         Ok(replayed) => {
@@ -107,7 +107,7 @@ fn is_good(answer: &Result<Replayed, ReplayFault>) -> bool {
     }
 }
 
-// What a replay of the docket's journal answers; `NotClosed` where there is no journal.
+// The answer of a replay of the docket's journal; `NotClosed` without a journal.
 fn replay_of(alloc: Global, docket: &Docket) -> Result<Replayed, ReplayFault> {
     let Some(journal) = docket.journal() else {
         return Err(ReplayFault::NotClosed);
@@ -130,7 +130,7 @@ pub(super) fn replayed<W: Write>(alloc: Global, out: &mut W) -> Seen {
     Seen::at_once(is_good(&answer))
 }
 
-/// A replay's answer is written.
+/// Writes the answer of a replay.
 pub(super) fn answer<W: Write>(alloc: Global, out: &mut W) -> Seen {
     let (Some(docket), Ok(mut room)) = (docket_of(alloc, &[SMALL, JOURNAL]), room(alloc)) else {
         return Seen::Wrong;
@@ -151,7 +151,7 @@ pub(super) fn answer<W: Write>(alloc: Global, out: &mut W) -> Seen {
     Seen::at_once(answer == Ok(()) && room.as_slice() == b"G,9\n".as_slice())
 }
 
-// What a check of the docket's journal and sheet answers; `NotClosed` where one of them is missing.
+// The answer of a check of the docket's journal and sheet; `NotClosed` if one of them is missing.
 fn check_of(alloc: Global, docket: &Docket) -> Result<Replayed, ReplayFault> {
     let (Some(journal), Some(sheet)) = (docket.journal(), docket.sheet()) else {
         return Err(ReplayFault::NotClosed);
@@ -160,12 +160,12 @@ fn check_of(alloc: Global, docket: &Docket) -> Result<Replayed, ReplayFault> {
     check(alloc, docket.instance(), journal.capacity, events, sheet)
 }
 
-// Whether the sheet differs at the first resident.
+// Whether the sheet differs for the first resident.
 fn differs(answer: &Result<Replayed, ReplayFault>) -> bool {
     matches!(answer, Err(ReplayFault::SheetDiffers(X)))
 }
 
-/// A journal is checked with another sheet than its own, and with its own.
+/// Checks a journal with another sheet, and with its own.
 pub(super) fn checked<W: Write>(alloc: Global, out: &mut W) -> Seen {
     let (Some(other), Some(own)) = (
         docket_of(alloc, &[SMALL, JOURNAL, OTHER_SHEET]),
@@ -183,11 +183,11 @@ pub(super) fn checked<W: Write>(alloc: Global, out: &mut W) -> Seen {
     Seen::at_once(is_own_good && differs(&answer))
 }
 
-// The same journal with the worker of each event, of two.
+// The same journal, with the worker of each event; there are two workers.
 const WORKED: &str =
     "C,full,2\nE,offer,a,x,0\nE,offer,b,y,1\nE,take,x,a,0\nE,take,y,b,1\nE,answer,x,a,hold,0\nE,answer,y,b,hold,1\nE,hear,a,x,hold,0\nE,hear,b,y,hold,1\nE,close,0\n";
 
-// How many events each worker made, where the journal is by worker.
+// How many events each worker made, if the journal is by worker.
 fn counts_of(alloc: Global, journal: &Journal) -> Result<Vec<u64>, AuditFault>
     requires { IfSome journal.now.by (IsByWorker journal.now.events) }
 {
@@ -197,7 +197,7 @@ fn counts_of(alloc: Global, journal: &Journal) -> Result<Vec<u64>, AuditFault>
     }
 }
 
-/// The events of two workers are counted.
+/// Counts the events of two workers.
 pub(super) fn counted<W: Write>(alloc: Global, out: &mut W) -> Seen {
     let Some(docket) = docket_of(alloc, &[SMALL, WORKED]) else {
         return Seen::Wrong;

@@ -5,7 +5,7 @@ use std::alloc::Global;
 use std::io::Write;
 use test_support::events::{A, X};
 
-// Whether what is finished has these members, and so many pairs.
+// Whether the finished instance has these numbers of members, and this many pairs.
 fn has(builder: InstanceBuilder, programmes: u32, residents: u32, pairs: u32) -> bool {
     match builder.finish() {
         Ok(instance) => {
@@ -51,12 +51,12 @@ pub(super) fn add_resident<W: Write>(alloc: Global, out: &mut W) -> Seen {
     Seen::at_once(answer == Ok(X) && has(builder, 0, 1, 0))
 }
 
-// Whether the resident's list may be given, and the two are then a pair.
+// Whether the resident's list may be given, so that the two are a pair.
 fn pairs_with_resident(mut builder: InstanceBuilder) -> bool {
     builder.resident_list(X, &[A]) == Ok(()) && has(builder, 1, 1, 1)
 }
 
-/// A programme's list is given.
+/// Gives a programme's list.
 pub(super) fn programme_list<W: Write>(alloc: Global, out: &mut W) -> Seen {
     let Ok(mut builder) = one_of_each(alloc) else {
         return Seen::Wrong;
@@ -71,12 +71,12 @@ pub(super) fn programme_list<W: Write>(alloc: Global, out: &mut W) -> Seen {
     Seen::at_once(answer == Ok(()) && pairs_with_resident(builder))
 }
 
-// Whether the programme's list may be given, and the two are then a pair.
+// Whether the programme's list may be given, so that the two are a pair.
 fn pairs_with_programme(mut builder: InstanceBuilder) -> bool {
     builder.programme_list(A, &[X]) == Ok(()) && has(builder, 1, 1, 1)
 }
 
-/// A resident's list is given.
+/// Gives a resident's list.
 pub(super) fn resident_list<W: Write>(alloc: Global, out: &mut W) -> Seen {
     let Ok(mut builder) = one_of_each(alloc) else {
         return Seen::Wrong;
@@ -91,7 +91,7 @@ pub(super) fn resident_list<W: Write>(alloc: Global, out: &mut W) -> Seen {
     Seen::at_once(answer == Ok(()) && pairs_with_programme(builder))
 }
 
-// The two of them, who rank one another.
+// A programme and a resident who rank each other.
 fn one_pair(alloc: Global) -> Result<InstanceBuilder, ModelFault> {
     let mut builder = one_of_each(alloc)?;
     builder.programme_list(A, &[X])?;
@@ -119,7 +119,7 @@ pub(super) fn finish<W: Write>(alloc: Global, out: &mut W) -> Seen {
     }
 }
 
-/// A builder is finished with its lists.
+/// Finishes a builder with its lists.
 pub(super) fn finish_with_lists<W: Write>(alloc: Global, out: &mut W) -> Seen {
     let Ok(builder) = one_pair(alloc) else {
         return Seen::Wrong;
@@ -141,14 +141,14 @@ pub(super) fn finish_with_lists<W: Write>(alloc: Global, out: &mut W) -> Seen {
     }
 }
 
-// Whether nobody of two is matched.
+// Whether neither of two residents is matched.
 fn is_empty(assignment: &Assignment) -> bool {
     assignment.len() == 2
         && assignment.get(ResidentNo(0)).is_none()
         && assignment.get(ResidentNo(1)).is_none()
 }
 
-/// An assignment of two is made.
+/// Makes an assignment of two residents.
 pub(super) fn assignment<W: Write>(alloc: Global, out: &mut W) -> Seen {
     begin(out);
     let answer = Assignment::new(alloc, 2);

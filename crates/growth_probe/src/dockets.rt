@@ -9,13 +9,14 @@ use std::io::Write;
 use test_support::events::{B, Y};
 use test_support::randomness::OneByte;
 
-/// Two programmes of one place and two residents, who rank them the other way round.
+/// Two programmes with one place each, and two residents. The residents' rankings are the opposite of the
+/// programmes'.
 pub(super) const SMALL: &str = "Q,a,1\nQ,b,1\nP,a,x,y\nP,b,y,x\nR,x,b,a\nR,y,a,b\n";
 
-/// The sheet that a match of it gives.
+/// The sheet of a match of this docket.
 pub(super) const SHEET: &str = "M,x,a\nM,y,b\nF,a,1,1\nF,b,1,1\n";
 
-/// Room for what is written. It is there before the first mark.
+/// Room for the output, made before the first mark.
 pub(super) fn room(alloc: Global) -> Result<Vec<u8>, AllocError> {
     Vec::with_capacity(alloc, 4_096)
 }
@@ -65,7 +66,7 @@ fn is_small_with_lists(docket: &Docket, lists: &WrittenLists) -> bool {
     is_small(docket) && lists.choice(Y, 1) == Some(B) && lists.rank_of_resident(B, Y) == Some(0)
 }
 
-/// A docket is read with its lists.
+/// Reads a docket with its lists.
 pub(super) fn read_with_lists<W: Write>(alloc: Global, out: &mut W) -> Seen {
     begin(out);
     let answer = read_docket_with_lists(&OneByte(7), alloc, SMALL.as_bytes());

@@ -18,7 +18,7 @@ use std::sync::Wait;
 use std::thread::Threads;
 use test_support::events::{A, B, HOLD, RELEASE, X, Y, Z, take};
 
-// Whether the core refuses a take by a resident who is none.
+// Whether the core refuses a take by a resident who does not exist.
 fn refuses_a_stranger(mut core: Core, inst: &Instance) -> bool
     requires { IsCoreOf inst.now core }
 {
@@ -44,7 +44,7 @@ pub(super) fn core<W: Write>(alloc: Global, out: &mut W) -> Seen {
     }
 }
 
-// Whether a mailbox of two places takes two messages and gives the first.
+// Whether a mailbox with two places takes two messages and gives the first.
 fn has_two_places<R: Wait + Copy>(mut put: RuledPut<u32, R>, mut take: RuledTake<u32, R>) -> bool {
     put.put(5) == PutReply::Done
         && put.put(6) == PutReply::Done
@@ -54,7 +54,7 @@ fn has_two_places<R: Wait + Copy>(mut put: RuledPut<u32, R>, mut take: RuledTake
         && take.take() == TakeReply::Nothing
 }
 
-/// A mailbox of two places is opened.
+/// Opens a mailbox with two places.
 pub(super) fn mailbox_of_two<R: Wait + Copy + Drop, W: Write>(
     rt: R,
     alloc: Global,
@@ -78,7 +78,7 @@ fn has_one_place(mut list: ListPut<u32>) -> bool {
     list.put(5) == PutReply::Done && list.put(6) == PutReply::Full(6)
 }
 
-/// A list with room for one message is opened.
+/// Opens a list with room for one message.
 pub(super) fn list_put<W: Write>(alloc: Global, out: &mut W) -> Seen {
     begin(out);
     let answer = ListPut::with_room(alloc, 1);
@@ -93,7 +93,7 @@ pub(super) fn list_put<W: Write>(alloc: Global, out: &mut W) -> Seen {
     }
 }
 
-// Two programmes, the first of two places, and three residents.
+// Two programmes, the first with two places, and three residents.
 const QUOTAS: &str = "Q,a,2\nQ,b,1\nP,a,x,y,z\nP,b,x\nR,x,b,a\nR,y,a\nR,z,a\n";
 
 // The answers that wait for the first programme.
@@ -115,7 +115,7 @@ fn answers(alloc: Global) -> Result<ListTake<AnswerNote>, AllocError>
     )?))
 }
 
-// Whether the programme hears its two answers and no third.
+// Whether the programme hears its two answers and no third answer.
 fn hears_two<T: TakeEnd<AnswerNote>>(agent: &mut ProgrammeAgent<T>) -> bool {
     agent.heard_log().is_empty()
         && matches!(agent.hear(), Heard::Got(_))
@@ -123,7 +123,7 @@ fn hears_two<T: TakeEnd<AnswerNote>>(agent: &mut ProgrammeAgent<T>) -> bool {
         && agent.hear() == Heard::Nothing
 }
 
-/// A programme's agent is opened over an end with two answers.
+/// Opens a programme's agent over an end with two answers.
 pub(super) fn programme_agent<W: Write>(alloc: Global, out: &mut W) -> Seen {
     let (Some(docket), Ok(waiting)) = (docket_of(alloc, &[QUOTAS]), answers(alloc)) else {
         return Seen::Wrong;
@@ -159,7 +159,7 @@ fn takes_one<T: TakeEnd<OfferNote>>(agent: &mut ResidentAgent<T>) -> bool {
         && agent.take() == Heard::Got(OfferNote { programme: A })
 }
 
-/// A resident's agent is opened over an end with two offers.
+/// Opens a resident's agent over an end with two offers.
 pub(super) fn resident_agent<W: Write>(alloc: Global, out: &mut W) -> Seen {
     let (Some(docket), Ok(waiting)) = (docket_of(alloc, &[QUOTAS]), offers(alloc)) else {
         return Seen::Wrong;
@@ -180,7 +180,7 @@ pub(super) fn resident_agent<W: Write>(alloc: Global, out: &mut W) -> Seen {
     }
 }
 
-// How a run of the three residents ends: whether it is closed with each in its place, or its fault.
+// How a run of the three residents ends: whether it is closed with each resident matched as expected, or its fault.
 fn closes<R: Threads + Wait + Sync + Send + Copy>(
     rt: R,
     alloc: Global,
@@ -200,7 +200,7 @@ fn closes<R: Threads + Wait + Sync + Send + Copy>(
     }
 }
 
-/// An exchange is run by two workers.
+/// Runs an exchange with two workers.
 pub(super) fn whole_run<R: Threads + Wait + Sync + Send + Copy, W: Write>(
     rt: R,
     alloc: Global,

@@ -15,7 +15,7 @@ use std::marker::Brand;
 use std::sync::ledger::Blank;
 use test_support::events::{A, X};
 
-// Two ends in memory, which have no room.
+// Two ends in memory, without room.
 #[tactic(auto, using(match_model::proofs::Prefixes::slice_get_push_parts))]
 fn lists<M: Drop>(alloc: Global) -> Result<Vec<ListPut<M>>, MailFault>
     ensures { IfOk result (λ ends. (i : ℕ) (end : PutList M) → slice_get ends.items i ≡ Some end → end.puts ≡ []) }
@@ -31,7 +31,7 @@ fn lists<M: Drop>(alloc: Global) -> Result<Vec<ListPut<M>>, MailFault>
 
 type Ends = (Vec<ListPut<OfferNote>>, Vec<ListPut<AnswerNote>>);
 
-// Whether nothing is entered, since the ends have no room.
+// Whether no event is entered, since the ends have no room.
 fn enters_nothing<J: ExchangeIdentity, P: PutEnd<OfferNote>, Q: PutEnd<AnswerNote>>(
     ledger: &mut Ledger<J, P, Q>,
     inst: &Instance,
@@ -43,7 +43,7 @@ fn enters_nothing<J: ExchangeIdentity, P: PutEnd<OfferNote>, Q: PutEnd<AnswerNot
     ledger.enter_offer(inst, tally, A, X) == full && ledger.journal().is_empty()
 }
 
-// Opens a ledger over these ends. Whether it is empty and takes nothing, or its fault with the ends.
+// Opens a ledger over these ends. Returns whether it is empty and accepts nothing, or its fault with the ends.
 fn opened_as<J: ExchangeIdentity>(
     alloc: Global,
     blank: Blank,
@@ -69,7 +69,7 @@ fn opened_as<J: ExchangeIdentity>(
     }
 }
 
-// The same of an exchange of its own.
+// The same, for an exchange with its own name.
 fn opened_anew(alloc: Global, inst: &Instance, ends: Ends) -> Result<bool, (LedgerFault, Ends)>
     requires offer_ends { (i : ℕ) (end : PutList ℕ) → slice_get ends.0.items i ≡ Some end → end.puts ≡ [] }
     requires answer_ends { (i : ℕ) (end : PutList Answered) → slice_get ends.1.items i ≡ Some end → end.puts ≡ [] }
@@ -78,7 +78,7 @@ fn opened_anew(alloc: Global, inst: &Instance, ends: Ends) -> Result<bool, (Ledg
     opened_as::<Brand>(alloc, Blank::new(8), inst, Capacity::Full, ends)
 }
 
-/// A ledger of the small docket is opened, over ends without room.
+/// Opens a ledger of the small docket, over ends without room.
 pub(super) fn opened<W: Write>(alloc: Global, out: &mut W) -> Seen {
     let (Some(docket), Ok(offer_ends), Ok(answer_ends)) = (
         docket_of(alloc, &[SMALL]),

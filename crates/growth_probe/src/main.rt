@@ -1,6 +1,6 @@
-//! Makes one call of the libraries, or each in turn if no word names one, and tells what it did. If a growth is refused
-//! meanwhile, the call has to answer Memory and leave what it was lent as it was. Made again, it has to give its right
-//! answer.
+//! Makes one call of the libraries, and prints what it did. Without a name it makes each call in turn. If a growth of
+//! memory is refused meanwhile, the call has to answer Memory and leave borrowed values unchanged. When it is made
+//! again, it has to give its right answer.
 #![tactic(auto)]
 
 mod audits;
@@ -52,7 +52,7 @@ const CALLS: [&str; 28] = [
     "read_line",
 ];
 
-// Makes the call of this name, with marks on `out` before and after it.
+// Makes the call with this name, with marks on `out` before and after it.
 fn made<H: Threads + Wait + RandomSource + Sync + Send + Copy + Drop, W: Write>(
     rt: H,
     alloc: Global,
@@ -93,7 +93,7 @@ fn words(rt: &HostRuntime) -> io::Result<Vec<String>> {
     Ok(env::args(rt)?.skip(1).collect(rt.alloc())?)
 }
 
-// Makes the call of this name, and tells what it did. Whether that was right.
+// Makes the call with this name, and prints what it did. Returns whether this was right.
 fn told<H: Threads + Wait + RandomSource + Sync + Send + Copy + Drop, W: Write>(
     rt: H,
     alloc: Global,

@@ -1,21 +1,21 @@
-//! What a call was seen to do, and the marks round it.
+//! What was seen of a call, and the marks around the call.
 use std::io::Write;
 
-/// What a call was seen to do.
+/// What was seen of a call.
 #[derive(Clone, Copy, Debug, PartialEq, Eq)]
 pub(super) enum Seen {
-    /// It gave its right answer.
+    /// The call gave its right answer.
     Answered,
-    /// It answered Memory and changed nothing, and gave its right answer when it was made again.
+    /// The call answered Memory and changed nothing. When it was made again, it gave its right answer.
     WantedMemory,
-    /// It answered that a worker could not be started, and gave its right answer when it was made again.
+    /// The call answered that a worker could not be started. When it was made again, it gave its right answer.
     WantedThread,
     /// It did anything else.
     Wrong,
 }
 
 impl Seen {
-    /// The first answer was right, or wasn't.
+    /// The call answered at once, rightly or wrongly.
     pub(super) fn at_once(is_right: bool) -> Seen {
         if is_right {
             Seen::Answered
@@ -24,7 +24,7 @@ impl Seen {
         }
     }
 
-    /// The first answer was Memory, and the second was right, or wasn't.
+    /// The first answer was Memory, and the second was right or wrong.
     pub(super) fn after_memory(is_right: bool) -> Seen {
         if is_right {
             Seen::WantedMemory
@@ -33,7 +33,7 @@ impl Seen {
         }
     }
 
-    /// The first answer was that a worker could not be started, and the second was right, or wasn't.
+    /// The first answer was that a worker could not be started, and the second was right or wrong.
     pub(super) fn after_thread(is_right: bool) -> Seen {
         if is_right {
             Seen::WantedThread
@@ -53,7 +53,7 @@ impl Seen {
     }
 }
 
-/// From here on growths are counted.
+/// From here on growths of memory are counted.
 pub(super) fn begin<W: Write>(out: &mut W) {
     let _ = out.write_all(b"call\n");
 }

@@ -23,7 +23,7 @@ const NINETEEN: [&str; 3] = [
     "E,hear,a,x,hold\nE,hear,b,x,hold\nE,hear,a,x,release\nE,offer,a,z\nE,take,z,a\nE,answer,z,a,hold\nE,hear,a,z,hold\nE,close\n",
 ];
 
-// Whether this is want of memory.
+// Whether this is out of memory.
 fn is_memory(answer: &Result<Status, ServeFault>) -> bool {
     matches!(
         answer,
@@ -35,7 +35,7 @@ fn is_memory(answer: &Result<Status, ServeFault>) -> bool {
     )
 }
 
-// What is served, with its status and what it writes.
+// One trial: an order with its input, the status, and the output.
 #[derive(Drop)]
 struct Trial<'a> {
     order: Order,
@@ -92,7 +92,7 @@ impl Trial<'_> {
     }
 }
 
-// A command line with a wrong number of workers is read.
+// Reads a command line with a wrong number of workers.
 fn line<W: Write>(alloc: Global, out: &mut W) -> Seen {
     let words = ["match", "--workers", "9"];
     begin(out);
@@ -138,7 +138,7 @@ fn audited<H: Threads + Wait + RandomSource + Sync + Send + Copy, W: Write>(
     trial.seen(rt, alloc, out)
 }
 
-// A replay of nineteen events, which are these bytes.
+// A replay of nineteen events, in these bytes.
 fn replayed<H: Threads + Wait + RandomSource + Sync + Send + Copy, W: Write>(
     rt: H,
     alloc: Global,
@@ -154,7 +154,7 @@ fn replayed<H: Threads + Wait + RandomSource + Sync + Send + Copy, W: Write>(
     trial.seen(rt, alloc, out)
 }
 
-/// Makes the call of this name; without one, nothing is right.
+/// Makes the call with this name; without such a call, the result is never right.
 pub(super) fn made<H: Threads + Wait + RandomSource + Sync + Send + Copy, W: Write>(
     rt: H,
     alloc: Global,

@@ -1,12 +1,12 @@
--- What clauses see of the ends in memory.
+-- What clauses see of the ends of a mailbox in memory.
 use Rattle.std.specs.Prelude.{ℕ, List}
 
--- how many messages the end takes in, and what it has put
+-- how many messages the sending end accepts, and the messages that it has put
 pub record PutList (M : Type 0) : Type 0 where
   pub room : ℕ
   pub puts : List M
 
--- what the end has given, and what it has left to give
+-- the messages that the receiving end has given, and those that it still has to give
 pub record TakeList (M : Type 0) : Type 0 where
   pub taken : List M
   pub left : List M

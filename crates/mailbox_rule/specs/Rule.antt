@@ -1,4 +1,4 @@
--- The rule of a mailbox, over its queue, oldest first, and over what each pass knows.
+-- The rule of a mailbox. It speaks of the mailbox's queue, oldest first, and of what each pass knows.
 use Rattle.std.specs.Prelude.{◌≡◌, ℕ, ◌≤◌, Bool, true, List, ◌++◌, length}
 use mathlib.Core.Option.{some}
 use lib.ListN.{get_elem?}
@@ -8,13 +8,13 @@ module _ {M : Type 0} where
   abbrev pub known : Bool → Bool → ℕ → List M → List M → Known M
   known may_put may_take room puts taken = record { may_put = may_put; may_take = may_take; room = room; puts = puts; taken = taken }
 
-  -- Only the pass `putter` may put, and it knows the capacity and what was put. Only the pass `taker` may take, and it
-  -- knows what was taken.
+  -- Only the pass `putter` may put. This pass knows the capacity and the messages put. Only the pass `taker` may
+  -- take. This pass knows the messages taken.
   abbrev pub Fits : ℕ → ℕ → ℕ → List M → List M → ℕ → Known M → Type 0
   Fits putter taker room puts taken pass h =
       (h.may_put ≡ true → (pass ≡ putter) × (h.room ≡ room) × (h.puts ≡ puts)) × (h.may_take ≡ true → (pass ≡ taker) × (h.taken ≡ taken))
 
-  -- what was put is what was taken, followed by the queue, which is no longer than the capacity
+  -- the messages put are the messages taken, followed by the queue; the queue is no longer than the capacity
   abbrev pub IsInOrder : List M → List (Known M) → Type 0
   IsInOrder items views = (putter : ℕ) × (taker : ℕ) × (room : ℕ) × (puts : List M) × (taken : List M) × (puts ≡ taken ++ items) × (length items ≤ room)
       × ((pass : ℕ) (h : Known M) → get_elem? views pass ≡ some h → Fits putter taker room puts taken pass h)

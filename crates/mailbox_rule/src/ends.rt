@@ -1,22 +1,22 @@
-//! The two ends of a mailbox, as the crates above know them.
+//! The two ends of a mailbox, as the higher crates know them.
 ghost use Rattle.std.specs.Prelude.{◌≡◌, List, [], ◌∷◌, ◌++◌};
 ghost use Rattle.mailbox_rule.specs.Replies.{MatchPut, MatchTake};
 
-/// What a put answers. `Full` and `Gone` hand the message back.
+/// The answer of a put. `Full` and `Gone` hand the message back.
 #[derive(Clone, Copy, PartialEq, Eq, Debug, Drop)]
 pub enum PutReply<M> {
     /// The message is in the mailbox.
     Done,
     /// There is no room.
     Full(M),
-    /// Nobody can take any more.
+    /// The message came back: nobody can take any more.
     Gone(M),
 }
 
-/// What a take answers.
+/// The answer of a take.
 #[derive(Clone, Copy, PartialEq, Eq, Debug, Drop)]
 pub enum TakeReply<M> {
-    /// The oldest message, which is out of the mailbox now.
+    /// The oldest message, which has now left the mailbox.
     Got(M),
     /// No message waits.
     Nothing,
@@ -26,10 +26,10 @@ pub enum TakeReply<M> {
 
 /// The end of a mailbox that messages are put into.
 pub trait PutEnd<M> {
-    // What the end has put, first to last.
+    // The messages that the end has put, first to last.
     ghost puts: { Self → List M };
 
-    // Where a put may find no room.
+    // When a put may find no room.
     ghost may_fill: { Self → Type 0 };
 
     // When a put may find that nobody can take any more.
@@ -45,10 +45,10 @@ pub trait PutEnd<M> {
 
 /// The end of a mailbox that messages are taken from.
 pub trait TakeEnd<M> {
-    // What the end has taken, first to last.
+    // The messages that the end has taken, first to last.
     ghost taken: { Self → List M };
 
-    // Where a take may find no message.
+    // When a take may find no message.
     ghost may_lack: { Self → Type 0 };
 
     // When a take may find that nobody can put any more.

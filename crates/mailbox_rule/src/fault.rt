@@ -5,13 +5,13 @@ ghost use Rattle.mailbox_rule.specs.declared.fault.MailFault.TheVariants.{Memory
 use std::alloc::AllocError;
 use thiserror::Error;
 
-/// Why no mailbox, or no list that stands for one, was made.
+/// Why no mailbox was made, or no list in place of one.
 #[derive(Clone, Copy, PartialEq, Eq, Debug, Drop, Error)]
 pub enum MailFault {
-    /// There would be room for no message.
+    /// The mailbox would have room for no message.
     #[error("a mailbox needs a capacity above 0")]
     NoCapacity,
-    /// A growth was refused.
+    /// The memory could not grow.
     #[error("out of memory")]
     Memory,
 }

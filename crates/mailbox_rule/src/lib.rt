@@ -1,4 +1,4 @@
-//! Bounded mailboxes under a rule: what was taken is a prefix of what was put.
+//! Bounded mailboxes under a rule: the messages taken are a prefix of the messages put.
 #![tactic(auto)]
 
 mod ends;

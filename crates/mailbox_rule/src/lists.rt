@@ -1,4 +1,4 @@
-//! Ends in memory that stand for those of a mailbox in tests.
+//! Ends in memory that replace the ends of a mailbox in tests.
 ghost use Rattle.std.specs.Prelude.{◌≡◌, ◌<◌, List, [], ◌∷◌, ◌++◌, length, IfOk, IfErr};
 ghost use Rattle.mailbox_rule.specs.Replies.{MatchPut, MatchTake};
 
@@ -7,7 +7,7 @@ use crate::fault::MailFault;
 use std::alloc::Global;
 use std::marker::Model;
 
-/// A sending end that takes in as many messages as it has room for, and then answers `Full`. It never answers `Gone`.
+/// A sending end that accepts as many messages as it has room for, and then answers `Full`. It never answers `Gone`.
 #[derive(Drop)]
 pub struct ListPut<M> {
     messages: Vec<M>,
@@ -26,7 +26,7 @@ impl<M> Model for ListPut<M> {
 }
 
 impl<M> ListPut<M> {
-    /// An end with room for `n` messages, which may be 0. The one fault is `Memory`.
+    /// An end with room for `n` messages; `n` may be 0. The only fault is `Memory`.
     pub fn with_room(alloc: Global, n: u32) -> Result<ListPut<M>, MailFault>
         ensures made { IfOk result (λ end. (end.room ≡ n) × (end.puts ≡ [])) }
         ensures memory { IfErr result (λ fault. fault ≡ MailFault.Memory) }

@@ -1,5 +1,5 @@
-//! The rule of a mailbox: what was put is what was taken, followed by the queue, and the queue is no longer than the
-//! capacity. No value of these types is ever made: they say what a proof knows.
+//! The rule of a mailbox. The messages put are the messages taken, followed by the queue, and the queue is no longer
+//! than the capacity. No value of these types is ever made. They describe what a proof knows.
 ghost use Rattle.std.specs.Prelude.{◌≡◌, ◌≤◌, true, false, [], ◌∷◌, ◌++◌, length};
 ghost use Rattle.mailbox_rule.specs.Rule.{known, IsInOrder};
 
@@ -7,7 +7,7 @@ use crossbeam_channel::protocol::{Join, Lesson, Outcome, Protocol, Split};
 use std::collections::LinkedList;
 use std::marker::Brand;
 
-/// What a pass knows: whether it may put and take, the capacity, and what it has put and taken.
+/// What a pass knows: whether it may put, whether it may take, the capacity, and the messages that it put and took.
 pub struct Known<M> {
     pub may_put: bool,
     pub may_take: bool,
@@ -16,7 +16,7 @@ pub struct Known<M> {
     pub taken: LinkedList<M>,
 }
 
-// The rule.
+// The rule of order.
 pub struct InOrder;
 
 impl<M> Protocol<M, Known<M>> for InOrder {
@@ -28,7 +28,7 @@ impl<M> Protocol<M, Known<M>> for InOrder {
     ghost first = { known true true 0 [] [] };
 }
 
-// How the receiving pass is cut off the first time. The call picks the capacity.
+// How the receiving pass is split off the first time. The call chooses the capacity.
 impl<M> Split<Known<M>> for Brand {
     ghost use Rattle.std.specs.Prelude.{true, false, []};
     ghost use Rattle.mailbox_rule.specs.Rule.{known};
@@ -38,7 +38,7 @@ impl<M> Split<Known<M>> for Brand {
     ghost right = { λ h. known false true 0 [] h.taken };
 }
 
-// How the receiving pass comes back, and is cut off again.
+// How the receiving pass comes back, and is split off again.
 pub struct Sides;
 
 impl<M> Split<Known<M>> for Sides {
@@ -81,7 +81,7 @@ impl<M> Lesson<M, Known<M>> for Takes {
     ghost fact = { λ h items. Unit {0} };
 }
 
-// What the pass that knows both lists learns of the queue.
+// What the pass that knows both lists learns about the queue.
 pub struct Whole;
 
 impl<M> Lesson<M, Known<M>> for Whole {

@@ -1,8 +1,9 @@
--- What clauses see of an agent: its desk.
+-- What clauses see of an agent's desk.
 use Rattle.std.specs.Prelude.{ℕ, Bool, Option, List}
 use Rattle.exchange_core.specs.Mail.{Answered}
 
--- a programme's desk: whose it is, its end, the answers heard, how many there is room for, and how many offers it made
+-- A programme's desk: its programme, its end, the answers that it heard, its room for answers, and the number of its
+-- offers.
 pub record ProgrammeDesk (T : Type 0) : Type 0 where
   pub programme : ℕ
   pub end : T
@@ -10,8 +11,9 @@ pub record ProgrammeDesk (T : Type 0) : Type 0 where
   pub room : ℕ
   pub offered : ℕ
 
--- A resident's desk: whose it is, its end, the offers taken, and how many there is room for. `undecided` says that the
--- last of them waits for its decision. `due` has the answers due, and `best` the best offer decided, with its rank.
+-- A resident's desk: its resident, its end, the offers that it took, and its room for offers. `undecided` says that
+-- the last offer still waits for a decision. `due` has the answers due. `best` has the best decided offer with its
+-- rank.
 pub record ResidentDesk (T : Type 0) : Type 0 where
   pub resident : ℕ
   pub end : T

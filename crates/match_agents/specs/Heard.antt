@@ -1,10 +1,9 @@
--- What a clause says of each answer of a desk that looked into its mailbox.
+-- What a clause says for each reply of a desk that looked into its mailbox.
 use Rattle.match_agents.specs.declared.heard.Heard.{Heard}
 use Rattle.match_agents.specs.declared.heard.Heard.TheVariants as heard
 
 module _ {M : Type 0} where
-  -- a fact for each answer: of the message that was taken, where there is none, where nobody can put, and where the log
-  -- is full
+  -- one fact for each reply: a message was taken, no message waits, no sender is left, or the log is full
   abbrev pub MatchHeard : Heard M → (M → Type 0) → Type 0 → Type 0 → Type 0 → Type 0
   MatchHeard (heard.Got m) got nothing gone full = got m
   MatchHeard heard.Nothing got nothing gone full = nothing

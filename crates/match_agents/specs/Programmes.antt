@@ -1,4 +1,4 @@
--- What a programme's desk keeps, and whom it would offer to next.
+-- What a programme's desk keeps, and to which resident it would offer next.
 use Rattle.std.specs.Prelude.{◌≡◌, ℕ, ◌-◌, ◌*◌, ◌≤◌, nat_lt, if◌then◌else◌, false, Option, None, List, [], ◌∷◌, ◌++◌, length, slice_get}
 use Rattle.match_model.specs.Instance.{Instance, IsProgramme, quota, list_of_programme}
 use Rattle.exchange_core.specs.declared.event.Event.{Event}
@@ -9,28 +9,28 @@ use Rattle.exchange_core.specs.Shown.{next_offer}
 use Rattle.match_agents.specs.Desks.{ProgrammeDesk}
 
 module _ {T : Type 0} where
-  -- p's desk with this end, which has heard nothing and made no offer
+  -- p's desk with this end, before any answer or offer
   abbrev pub opened_programme : Instance → ℕ → T → ProgrammeDesk T
   opened_programme inst p end = record { programme = p; end = end; heard = []; room = 2 * length (list_of_programme inst p); offered = 0 }
 
-  -- the desk that has heard one more answer, from an end that is now this one
+  -- the desk after it heard one more answer, with its end after that
   abbrev pub heard_answer : ProgrammeDesk T → T → Answered → ProgrammeDesk T
   heard_answer desk end answer = record desk { end = end; heard = desk.heard ++ answer ∷ [] }
 
-  -- the next resident of the list, where fewer offers are out than the quota
+  -- the next resident of the list, if fewer offers are out than the quota
   abbrev pub wish_of : Instance → ProgrammeDesk T → Option ℕ
   wish_of inst desk =
       if nat_lt (desk.offered - rejections desk.heard) (quota inst desk.programme) then slice_get (list_of_programme inst desk.programme) desk.offered
       else None
 
-  -- the wish is the next offer after every list that isn't closed and has the desk's hears and as many offers as the
-  -- desk made
+  -- The wish is the next offer after any list that fits the desk: an open list with the desk's hears and as many
+  -- offers as the desk made.
   abbrev pub IsNextOffer : Instance → ProgrammeDesk T → Option ℕ → Type 0
   IsNextOffer inst desk wish = (j : List Event) → is_closed j ≡ false → desk.heard ≡ hears desk.programme j
       → desk.offered ≡ length (offers_of desk.programme j) → wish ≡ next_offer inst j desk.programme
 
-  -- the desk is a programme's of the instance, has room for all answers that can ever come, and has offered down its
-  -- list alone
+  -- The desk is that of a programme of the instance. It has room for all answers that can ever come. It offered down
+  -- its list in order.
   pub record IsProgrammeAgentOf (inst : Instance) (desk : ProgrammeDesk T) : Type 0 where
     pub member : IsProgramme inst desk.programme
     pub room_for_all : desk.room ≡ 2 * length (list_of_programme inst desk.programme)

@@ -1,4 +1,4 @@
--- What a resident's desk keeps, and what it owes.
+-- What a resident's desk keeps, and which answers it owes.
 use Rattle.std.specs.Prelude.{◌≡◌, ℕ, ◌-◌, ◌≤◌, Bool, true, false, not, nat_lt, ◌&&◌, if◌then◌else◌, Option, Some, None, List, [], ◌∷◌, ◌++◌, length, take, drop}
 use Rattle.match_model.specs.Ranking.{place}
 use Rattle.match_model.specs.Instance.{Instance, IsResident, list_of_resident}
@@ -8,7 +8,7 @@ use Rattle.exchange_core.specs.Calls.{calls, best_of, release_of}
 use Rattle.exchange_core.specs.Refusal.{is_nil}
 use Rattle.match_agents.specs.Desks.{ResidentDesk}
 
--- the items are the last of the list
+-- the items are the end of the list
 abbrev pub IsSuffix : {X : Type 0} → List X → List X → Type 0
 IsSuffix xs ys = drop (length ys - length xs) ys ≡ xs
 
@@ -16,7 +16,7 @@ IsSuffix xs ys = drop (length ys - length xs) ys ≡ xs
 abbrev pub without_last : {X : Type 0} → List X → List X
 without_last xs = take (length xs - 1) xs
 
--- the answers due are what all offers call for, beyond what all but the last of them call for
+-- the answers due are those that the last of these offers adds
 abbrev pub IsCalledByLast : List ℕ → List ℕ → List Answered → Type 0
 IsCalledByLast ranking offers due = calls ranking offers ≡ calls ranking (without_last offers) ++ due
 
@@ -25,7 +25,7 @@ abbrev pub due_list : Option Answered → Option ℕ → List Answered
 due_list None release = []
 due_list (Some answer) release = answer ∷ release_of release
 
--- the programme with its place in the ranking, if there is one
+-- the programme with its place in the ranking, if there is a programme
 abbrev pub with_place : List ℕ → Option ℕ → Option (ℕ × ℕ)
 with_place ranking None = None
 with_place ranking (Some p) = Some (p, place ranking p)
@@ -35,24 +35,25 @@ abbrev pub programme_in : Option (ℕ × ℕ) → Option ℕ
 programme_in None = None
 programme_in (Some (p, place)) = Some p
 
--- the place of an offer, if it is before the best so far
+-- the place of an offer, if it is better than the best place so far
 abbrev pub better_place : Option ℕ → Option (ℕ × ℕ) → Option ℕ
 better_place None best = None
 better_place (Some place) None = Some place
 better_place (Some place) (Some (p, best)) = if nat_lt place best then Some place else None
 
--- what an offer by p calls for: a hold and then a release of the best so far, where p is better; else a decline
+-- The answers to an offer by p. If p is better, they are a hold and then a release of the best so far; else a
+-- decline.
 abbrev pub called_for : ℕ → Option ℕ → Option (ℕ × ℕ) → List Answered
 called_for p None best = (p, Decline) ∷ []
 called_for p (Some place) best = (p, Hold) ∷ release_of (programme_in best)
 
--- the best offer after p's, which is p's where it has a better place
+-- the best offer once p's is decided: p's, if it has the better place
 abbrev pub best_with : ℕ → Option ℕ → Option (ℕ × ℕ) → Option (ℕ × ℕ)
 best_with p None best = best
 best_with p (Some place) best = Some (p, place)
 
 module _ {T : Type 0} where
-  -- r's desk with this end, which has taken nothing and owes nothing
+  -- r's desk with this end, before it took or owed anything
   abbrev pub opened_resident : Instance → ℕ → T → ResidentDesk T
   opened_resident inst r end = record {
     resident = r;
@@ -64,28 +65,28 @@ module _ {T : Type 0} where
     best = None;
   }
 
-  -- whether every offer taken was decided and no answer is due
+  -- whether every taken offer is decided and no answer is due
   abbrev pub is_ready : ResidentDesk T → Bool
   is_ready desk = not desk.undecided && is_nil desk.due
 
-  -- the desk that has taken one more offer, not decided yet, from an end that is now this one
+  -- the desk after it took one more offer, still undecided, with its end after that
   abbrev pub took_offer : ResidentDesk T → T → ℕ → ResidentDesk T
   took_offer desk end p = record desk { end = end; taken = desk.taken ++ p ∷ []; undecided = true }
 
-  -- the offer taken last, by p, is decided
+  -- the desk after its last taken offer, by p, was decided
   abbrev pub decided_offer : ResidentDesk T → ℕ → Option ℕ → ResidentDesk T
   decided_offer desk p place = record desk { undecided = false; due = called_for p place desk.best; best = best_with p place desk.best }
 
-  -- the first answer due is given
+  -- the desk after it gave the first answer due
   abbrev pub gave_answer : ResidentDesk T → ResidentDesk T
   gave_answer desk = record desk { due = drop 1 desk.due }
 
-  -- the offers taken, without the last one if it isn't decided
+  -- the taken offers, without the last if that is undecided
   abbrev pub decided : ResidentDesk T → List ℕ
   decided desk = if desk.undecided then without_last desk.taken else desk.taken
 
-  -- The desk is a resident's of the instance, and has room for all offers that can ever come. Its best offer is that of
-  -- those decided. It owes the last answers that these call for, two at most.
+  -- The desk is that of a resident of the instance. It has room for all offers that can ever come. Its best offer is
+  -- the best of the decided ones. It owes the last answers that the decided offers call for, at most two.
   pub record IsResidentAgentOf (inst : Instance) (desk : ResidentDesk T) : Type 0 where
     pub member : IsResident inst desk.resident
     pub room_for_all : desk.room ≡ length (list_of_resident inst desk.resident)

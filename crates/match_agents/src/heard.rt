@@ -1,4 +1,4 @@
-//! What a desk finds in its mailbox, and the refusal of an agent.
+//! What a desk finds in its mailbox, and why an agent could not be made.
 
 /// What a desk finds in its mailbox.
 #[derive(Clone, Copy, Debug, PartialEq, Eq, Drop)]
@@ -13,9 +13,9 @@ pub enum Heard<M> {
     LogFull,
 }
 
-/// An agent was refused memory for its log. The end comes back as it was.
+/// There was no memory for an agent's log. The end comes back unchanged.
 #[derive(Debug, Drop)]
 pub struct AgentRefused<T> {
-    /// The end that the agent was to have.
+    /// The end that was given for the agent.
     pub end: T,
 }

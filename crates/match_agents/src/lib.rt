@@ -1,4 +1,5 @@
-//! The agents of residents and programmes: a log of what a desk took out of its mailbox, and what it owes or wishes.
+//! The agents of residents and programmes: a log of what a desk took out of its mailbox, and the answers or offers
+//! that it still has to send.
 #![tactic(auto)]
 
 mod heard;

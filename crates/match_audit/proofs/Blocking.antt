@@ -1,4 +1,4 @@
--- Blocking pairs, as a walk over a resident's list finds them.
+-- The walk over a resident's list finds exactly the blocking pairs.
 use Rattle.std.proofs.Common.{◌≡◌, ℕ, List, arith, subst}
 use Rattle.std.specs.Prelude.{Option, Some, ◌↔◌}
 use Rattle.match_model.specs.Ranking.{IsListed, IsBefore}
@@ -7,7 +7,7 @@ use Rattle.match_model.specs.Placement.{programme_of}
 use Rattle.match_model.proofs.Instances.{acceptable_programme}
 use Rattle.settle_law.specs.Stable.{Blocks, Prefers, HasRoomFor}
 
--- whom a resident lists is a programme
+-- a number on a resident's list is a programme
 pub listed_by_resident : (inst : Instance) → IsInstance inst → (r p : ℕ) → IsListed (list_of_resident inst r) p → IsProgramme inst p
 listed_by_resident inst is r p l = acceptable_programme inst is r p ((is.both_rank p r).1 l)
 
@@ -15,7 +15,7 @@ not_preferred_itself : (ranking : List ℕ) (p : ℕ) (held : Option ℕ) → he
 not_preferred_itself ranking p held e h =
     let same : IsBefore ranking p p = subst (Prefers ranking p) e h in omega arith
 
--- a pair blocks where the resident lists and prefers the programme and this has room for it
+-- a pair blocks if the resident lists and prefers the programme, and the programme has room for the resident
 pub blocks_where : (inst : Instance) → IsInstance inst → (m : List (Option ℕ)) (r p : ℕ) →
     ((IsListed (list_of_resident inst r) p × Prefers (list_of_resident inst r) p (programme_of m r)) × HasRoomFor inst m p r) ↔ Blocks inst m r p
 blocks_where inst is m r p = (

@@ -1,4 +1,4 @@
--- What one place more in a placement does to the loads.
+-- How one more place of a placement changes the loads.
 use Rattle.std.proofs.Common.{◌≡◌, ℕ, ◌+◌, ◌<◌, ◌≤◌, ◌⊎◌, inl, inr, Bool, true, false, cond, max, List, [], ◌∷◌, ◌++◌, length, slice_get, get_or, set, replicate, take, arith, refl, sym, ap, ◌∙◌, subst}
 use Rattle.std.specs.Prelude.{Option, Some, None, ◌↔◌}
 use Rattle.std.proofs.lemmas.Bool.{cases_lt, cases_eq, ne_eqb}
@@ -13,7 +13,7 @@ use Rattle.settle_law.proofs.Placements.{member_within, holds_true}
 use Rattle.match_audit.specs.declared.load.Load.{Load}
 use Rattle.match_audit.specs.Loads.{IsLoadOf, AreLoads}
 
--- who is a member of p with one place more
+-- which members p has after one more place
 pub member_push : (m : List (Option ℕ)) (x : Option ℕ) (s p : ℕ) → IsMemberOf (m ++ x ∷ []) s p →
     IsMemberOf m s p ⊎ ((s ≡ length m) × (x ≡ Some p))
 member_push m x s p h = elim (cases_lt s (length m)) [
@@ -45,7 +45,7 @@ IsLoadOf-none inst p = record {
   worst = λ k. (λ l. absurd (omega arith), λ (s, h, l). absurd (omega (arith, member_within [] s p h)));
 }
 
--- the place more isn't p's
+-- the new place isn't p's
 IsLoadOf-other : (inst : Instance) (m : List (Option ℕ)) (x : Option ℕ) (p : ℕ) (load : Load) → IsLoadOf inst m p load →
     (x ≡ Some p → ⊥) → IsLoadOf inst (m ++ x ∷ []) p load
 IsLoadOf-other inst m x p load h n = record {
@@ -62,11 +62,11 @@ IsLoadOf-other inst m x p load h n = record {
     still : (b : Bool) → b ≡ false → member_count m p + cond b 1 0 ≡ member_count m p
     still b e = rw e (omega arith)
 
--- the load with one member more, in this place of the list
+-- the load after one more member, at this place of the list
 abbrev pub loaded : Load → ℕ → Load
 loaded load at = record { members = load.members + 1; worst = max load.worst at }
 
--- the place more is p's
+-- the new place is p's
 IsLoadOf-more : (inst : Instance) (m : List (Option ℕ)) (p : ℕ) (load : Load) → IsLoadOf inst m p load →
     IsLoadOf inst (m ++ Some p ∷ []) p (loaded load (place (list_of_programme inst p) (length m)))
 IsLoadOf-more inst m p load h = record {
@@ -129,7 +129,7 @@ AreLoads-more inst m p loads load h at = record {
     within : p < length loads
     within = slice_get_within loads p load at
 
--- what the load tells of p's room
+-- what the load says about p's room
 pub room_from_load : (inst : Instance) (m : List (Option ℕ)) (p r : ℕ) (load : Load) → IsLoadOf inst m p load →
     ((load.members < quota inst p) ⊎ (place (list_of_programme inst p) r < load.worst)) ↔ HasRoomFor inst m p r
 room_from_load inst m p r load h = (
@@ -143,13 +143,13 @@ room_from_load inst m p r load h = (
   ],
 )
 
--- and so the load that stands in p's place
+-- the load at p's place says whether p has room
 pub room_at : (inst : Instance) (m : List (Option ℕ)) (p r i : ℕ) (loads : List Load) (load : Load) → AreLoads inst m loads → IsProgramme inst p → i ≡ p →
     (((get_or loads i load).members < quota inst p) ⊎ (place (list_of_programme inst p) r < (get_or loads i load).worst)) ↔ HasRoomFor inst m p r
 room_at inst m p r i loads load h member e =
     let within : i < length loads = (let l = h.one_each in omega arith) in
     room_from_load inst m p r (get_or loads i load) (h.each p (get_or loads i load) (ap (slice_get loads) (sym e) ∙ slice_get-get_or loads i load within))
 
--- a count of the front of a placement stays small
+-- a count over the first places of a placement stays small
 pub member_count-take : (m : List (Option ℕ)) (n p : ℕ) → n ≤ length m → member_count (take n m) p ≤ n
 member_count-take m n p l = omega (arith, count_by-le-length (holds p) (take n m), length-take-le n m l)

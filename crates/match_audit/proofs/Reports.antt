@@ -1,4 +1,4 @@
--- A placement is stable exactly where its report has nothing.
+-- A placement is stable exactly if its report is empty.
 use Rattle.std.proofs.Common.{◌≡◌, ℕ, suc, ◌+◌, ◌<◌, inl, inr, Bool, true, false, cond, List, [], ◌∷◌, length, arith, refl, subst}
 use Rattle.std.specs.Prelude.{Option, ◌↔◌, IsTrue}
 use Rattle.std.specs.List.{Contains}
@@ -21,7 +21,7 @@ none_from_nil : {X : Type 0} (xs : List X) → xs ≡ [] → (x : X) → Contain
 none_from_nil [] e x c = omega (arith, c.1)
 none_from_nil (y ∷ ys) e x c = cc
 
--- a programme that has a count of members has a member
+-- a programme whose members are counted above 0 has a member
 pub member_from_count : (m : List (Option ℕ)) (p : ℕ) → 0 < member_count m p → (r : ℕ) × IsMemberOf m r p
 member_from_count [] p h = absurd (omega arith)
 member_from_count (o ∷ ms) p h = go (holds p o) refl (sum_by-cons (λ z. cond (holds p z) 1 0) o ms) (member_from_count ms p)

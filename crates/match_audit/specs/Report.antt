@@ -1,4 +1,4 @@
--- What a report on a placement says.
+-- What a report about a placement says.
 use Rattle.std.specs.Prelude.{◌≡◌, ℕ, ◌<◌, ◌↔◌, Bool, IsTrue, Option, List, length}
 use Rattle.match_model.specs.Instance.{Instance, IsInstance, IsProgramme, Acceptable, quota}
 use Rattle.match_model.specs.Placement.{IsMemberOf, member_count}
@@ -6,7 +6,7 @@ use Rattle.settle_law.specs.Stable.{Blocks, IsStable}
 use Rattle.match_audit.specs.Listing.{Lists}
 use Rattle.match_audit.specs.declared.report.AuditReport.{AuditReport}
 
--- the placement gives p to r, and they don't rank one another
+-- the placement gives p to r, and r and p don't rank each other
 abbrev pub IsUnacceptable : Instance → List (Option ℕ) → ℕ → ℕ → Type 0
 IsUnacceptable inst m r p = IsMemberOf m r p × ¬ Acceptable inst r p
 
@@ -14,7 +14,7 @@ IsUnacceptable inst m r p = IsMemberOf m r p × ¬ Acceptable inst r p
 abbrev pub IsOver : Instance → List (Option ℕ) → ℕ → ℕ → Type 0
 IsOver inst m p n = IsProgramme inst p × (member_count m p ≡ n) × (quota inst p < n)
 
--- the report has everything that keeps the placement from being stable, and nothing else
+-- the report has exactly what keeps the placement from being stable
 pub record Reports (inst : Instance) (m : List (Option ℕ)) (report : AuditReport) : Type 0 where
   pub is_instance : IsInstance inst
   pub one_place_each : length m ≡ length inst.resident_lists
@@ -22,6 +22,6 @@ pub record Reports (inst : Instance) (m : List (Option ℕ)) (report : AuditRepo
   pub over : Lists (IsOver inst m) report.over.items
   pub blocking : Lists (Blocks inst m) report.blocking.items
 
--- the answer is whether the placement is stable, for every placement that the report is on
+-- the answer is whether the placement is stable, for every placement with this report
 abbrev pub TellsStability : AuditReport → Bool → Type 0
 TellsStability report answer = (inst : Instance) (m : List (Option ℕ)) → Reports inst m report → IsTrue answer ↔ IsStable inst m

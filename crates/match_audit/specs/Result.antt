@@ -1,4 +1,4 @@
--- What tells a sheet from the match's result.
+-- How a sheet is compared with the match's result.
 use Rattle.std.specs.Prelude.{ℕ, Option, List}
 use Rattle.match_model.specs.Instance.{Instance}
 use Rattle.exchange_core.specs.declared.event.Event.{Event}
@@ -8,10 +8,10 @@ use Rattle.exchange_core.specs.Shown.{Shows}
 use Rattle.settle_law.specs.Stable.{IsSettled}
 use Rattle.match_audit.specs.Replay.{IsFirstDifference}
 
--- some legal list through full mailboxes leaves this
+-- some legal list leaves this, in an exchange with the capacity `full`
 abbrev pub IsReached : Instance → Left → Type 0
 IsReached inst left = (j : List Event) × Shows inst Full j left
 
--- r is the first number at which the sheet differs from the settled assignment
+-- r is the first resident for whom the sheet differs from the settled assignment
 abbrev pub IsUnlikeResult : Instance → List (Option ℕ) → ℕ → Type 0
 IsUnlikeResult inst sheet r = (settled : List (Option ℕ)) × IsSettled inst settled × IsFirstDifference sheet settled r

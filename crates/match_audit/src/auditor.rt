@@ -11,12 +11,12 @@ use std::alloc::{AllocError, Global};
 use std::error::Error;
 use std::fmt;
 
-/// Why a placement wasn't audited.
+/// Why a placement was not audited.
 #[derive(Clone, Copy, Debug, PartialEq, Eq)]
 pub enum AuditFault {
-    /// The placement has more or fewer places than there are residents.
+    /// The placement has a different number of places than there are residents.
     WrongSize,
-    /// A growth was refused.
+    /// The memory could not grow.
     Memory,
 }
 
@@ -39,8 +39,8 @@ impl From<AllocError> for AuditFault {
     }
 }
 
-/// Finds the pairs that aren't acceptable, the programmes over their quota and the blocking pairs. A member that isn't
-/// listed ranks below every listed one. The placement may have any number for a programme.
+/// Finds the unacceptable pairs, the programmes over their quota and the blocking pairs. A member who isn't listed
+/// ranks below every listed one. The placement may have any number as a programme.
 pub fn audit(
     alloc: Global,
     inst: &Instance,

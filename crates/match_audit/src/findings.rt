@@ -11,7 +11,7 @@ use crate::load::{Load, place_at};
 use match_model::{Assignment, Instance, ProgrammeNo, ResidentNo};
 use std::alloc::{AllocError, Global};
 
-/// The pairs of a placement that aren't acceptable, by resident.
+/// The unacceptable pairs of a placement, by resident.
 pub(crate) fn unacceptable_pairs(
     alloc: Global,
     inst: &Instance,
@@ -33,17 +33,17 @@ pub(crate) fn unacceptable_pairs(
     Ok(pairs)
 }
 
-/// Whether the two rank one another. The resident's table is looked into, since it is mostly the shorter one.
+/// Whether the two rank each other. The resident's table is used, since it is mostly the shorter one.
 fn is_acceptable(inst: &Instance, resident: ResidentNo, programme: ProgrammeNo) -> bool
     requires { IsResident inst.now resident }
     ensures { IsTrue result ↔ Acceptable inst.now resident programme }
 {
-    // For the proof alone: rankings are mutual.
+    // Only for the proof: rankings are mutual.
     let _residents = inst.residents();
     inst.rank_at_resident(resident, programme).is_some()
 }
 
-/// The programmes that have more members than their quota, by number, each with how many it has.
+/// The programmes with more members than their quota, by number, each with its number of members.
 pub(crate) fn over_quota(
     alloc: Global,
     inst: &Instance,
@@ -83,7 +83,7 @@ pub(crate) fn blocking_pairs(
     Ok(pairs)
 }
 
-/// Appends the pairs of a resident with these programmes.
+/// Appends the pairs of a resident and each of these programmes.
 fn append_pairs(
     pairs: &mut Vec<(ResidentNo, ProgrammeNo)>,
     resident: ResidentNo,
@@ -97,7 +97,7 @@ fn append_pairs(
     Ok(())
 }
 
-/// The programmes with which a resident blocks, by number.
+/// The programmes that block with a resident, by number.
 fn blocking_programmes(
     alloc: Global,
     inst: &Instance,
@@ -121,8 +121,8 @@ fn blocking_programmes(
     Ok(programmes)
 }
 
-/// The front of a resident's list that it would rather have than the programme held; the whole list where that isn't
-/// listed.
+/// The programmes that a resident prefers to the programme held: the beginning of the list, or the whole list if that
+/// programme isn't listed.
 fn preferred(inst: &Instance, resident: ResidentNo, held: Option<ProgrammeNo>) -> &[ProgrammeNo]
     requires instance { IsInstance inst.now }
     requires member { IsResident inst.now resident }
@@ -139,7 +139,7 @@ fn preferred(inst: &Instance, resident: ResidentNo, held: Option<ProgrammeNo>) -
     }
 }
 
-/// Whether a programme has a free place, or a member after this resident in its list.
+/// Whether a programme has a free place, or a member who stands after this resident in its list.
 fn has_room_for(
     inst: &Instance,
     loads: &[Load],

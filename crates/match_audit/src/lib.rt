@@ -1,8 +1,8 @@
-//! The auditor, which finds what keeps a placement from being stable, and the replay, which tells whether a list of
-//! events is a good exchange.
+//! The auditor and the replay. The auditor finds what keeps a placement from being stable. The replay says whether a
+//! list of events is a good exchange.
 //!
-//! Neither asks who made the placement or the list: both find everything again from the instance. Contracts say nothing
-//! of the texts of faults: tests compare them.
+//! Neither asks who made the placement or the list: both work out everything again from the instance. Contracts say
+//! nothing about the texts of faults. Tests compare these texts.
 #![tactic(auto)]
 
 mod auditor;

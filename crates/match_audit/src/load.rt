@@ -1,4 +1,4 @@
-//! What one walk over a placement notes of each programme.
+//! What one walk over a placement notes for each programme.
 ghost use Rattle.std.specs.Prelude.{◌≡◌, ◌+◌, ◌^◌, ◌<◌, ◌⊎◌, ◌↔◌, max, IfOk, IsTrue};
 ghost use Rattle.match_model.specs.Ranking.{place as place_in};
 ghost use Rattle.match_model.specs.Instance.{IsProgramme, list_of_programme as ranking_of_programme};
@@ -7,7 +7,7 @@ ghost use Rattle.match_audit.specs.Loads.{AreLoads};
 use match_model::{Assignment, Instance, ProgrammeNo, ResidentNo};
 use std::alloc::{AllocError, Global};
 
-/// How many members a programme has, and the last place that one of them has in its list.
+/// How many members a programme has, and the last place of a member in its list.
 #[derive(Clone, Copy, Debug, Default)]
 pub(crate) struct Load {
     pub(crate) members: u32,
@@ -15,7 +15,7 @@ pub(crate) struct Load {
 }
 
 impl Load {
-    /// Counts a member that has this place in the list.
+    /// Counts a member with this place in the list.
     pub(crate) fn add(&mut self, place: u32)
         requires { self.old.members + 1 < 2 ^ 32 }
         ensures { self.new ≡ record { members = self.old.members + 1; worst = max self.old.worst place } }
@@ -24,7 +24,7 @@ impl Load {
         self.worst = self.worst.max(place);
     }
 
-    /// Whether there are fewer members than the quota.
+    /// Whether the programme has fewer members than the quota.
     pub(crate) fn has_fewer_than(&self, quota: u32) -> bool
         ensures { IsTrue result ↔ (self.now.members < quota) }
     {
@@ -39,7 +39,7 @@ impl Load {
     }
 }
 
-/// The place of a resident in a programme's list, or the list's length where it isn't listed.
+/// The place of a resident in a programme's list, or the list's length for a resident who isn't listed.
 pub(crate) fn place_at(inst: &Instance, programme: ProgrammeNo, resident: ResidentNo) -> u32
     requires { IsProgramme inst.now programme }
     ensures { result ≡ place_in (ranking_of_programme inst.now programme) resident }

@@ -5,9 +5,9 @@ use match_model::{ProgrammeNo, ResidentNo};
 /// Everything that keeps a placement from being stable, and nothing else.
 #[derive(Debug, Drop)]
 pub struct AuditReport {
-    /// The pairs that don't rank one another, by resident.
+    /// The unacceptable pairs, by resident.
     pub unacceptable: Vec<(ResidentNo, ProgrammeNo)>,
-    /// The programmes over their quota, by number, each with how many residents it has.
+    /// The programmes over their quota, by number, each with its number of residents.
     pub over: Vec<(ProgrammeNo, u32)>,
     /// The blocking pairs, by resident and then by programme.
     pub blocking: Vec<(ResidentNo, ProgrammeNo)>,

@@ -1,4 +1,4 @@
--- Lemmas on the owners of the lists in which a number stands.
+-- Lemmas about the owners of the lists that have a number.
 use Rattle.std.proofs.Common.{◌≡◌, ℕ, ◌+◌, ◌-◌, ◌^◌, ◌<◌, ◌≤◌, Bool, true, false, cond, eqb, ltb, List, [], ◌∷◌, ◌++◌, length, get_or, set, take, replicate, map, Option, refl, sym, ap, ◌∙◌, subst, arith, not, ◌&&◌, ◌||◌, suc, zero, zero-add, ⊎_elim}
 use Rattle.std.specs.Global.{Vec}
 use Rattle.std.specs.Vec.{with_items}
@@ -18,12 +18,12 @@ use Rattle.match_model.specs.Owners.{owners_below, AreOwners, stepped, AreSteppe
 use Rattle.match_model.proofs.Mutual.{length-lists_left, length-mutual_lists, get_or-mutual_lists}
 use Rattle.match_model.proofs.Rankings.{is_listed-cons, is_listed-append, is_listed_alone, is_listed-filter, is_listed_at, is_listed_nowhere, has_no_repeats-filter, HasNoRepeats-from_test}
 
--- one number more at the end
+-- one more number at the end
 range_more : (a n : ℕ) → range_with_len a (suc n) ≡ range_with_len a n ++ (a + n) ∷ []
 range_more a zero = ap (λ (k : ℕ). k ∷ []) (omega arith)
 range_more a (suc n) = ap (λ (ks : List ℕ). a ∷ ks) (range_more (a + 1) n) ∙ ap (λ (k : ℕ). a ∷ (range_with_len (a + 1) n ++ k ∷ [])) (omega arith)
 
--- a row, with the owner at its end where its number is listed
+-- a row, with the owner added if its number is listed
 abbrev with_owner : ℕ → Bool → List ℕ → List ℕ
 with_owner owner true row = row ++ owner ∷ []
 with_owner owner false row = row
@@ -41,12 +41,12 @@ owners_more n lists x =
     step true row = refl
     step false row = append-nil row
 
--- how many owners that is
+-- how many owners these are
 length-with_owner : (owner : ℕ) (b : Bool) (row : List ℕ) → length (with_owner owner b row) ≡ stepped (λ n. n + 1) b (length row)
 length-with_owner owner true row = length_push row owner
 length-with_owner owner false row = refl
 
--- no more than there are
+-- there are no more owners than the count
 pub owners_few : (n : ℕ) (lists : List (List ℕ)) (x : ℕ) → length (owners_below n lists x) ≤ n
 owners_few n lists x =
     let q : ℕ → Bool = λ owner. is_listed (list_at lists owner) x in
@@ -66,7 +66,7 @@ owners_le n (suc k) lists x =
     grown owner true row = omega (arith, length_push row owner)
     grown owner false row = omega arith
 
--- before an owner is entered its row has room
+-- before an owner is entered, its row has room
 pub owners_room : (n all : ℕ) (lists : List (List ℕ)) (x : ℕ) → n < all → is_listed (list_at lists n) x ≡ true → length (owners_below n lists x) < length (owners_below all lists x)
 owners_room n all lists x h e =
     let on : n + 1 + (all - (n + 1)) ≡ all = omega arith in
@@ -81,7 +81,7 @@ module _ {T : Type 0} (none : T) (step : ℕ → T → T) where
   pub AreStepped-none : (before : List T) → AreStepped none step [] before before
   AreStepped-none before = record { one_each = refl; item = λ x h. refl }
 
-  -- what isn't listed is as it was
+  -- a number that isn't listed keeps its row
   pub AreStepped-unlisted : (list : List ℕ) (before after : List T) (x : ℕ) → AreStepped none step list before after → x < length before → is_listed list x ≡ false → get_or after x none ≡ get_or before x none
   AreStepped-unlisted list before after x a h e = a.item x h ∙ ap (λ b. stepped (step x) b (get_or before x none)) e
 
@@ -125,7 +125,7 @@ AreCounts-none count lists = record {
   number = λ x h. get_or-replicate count x 0 0 h;
 }
 
--- one owner more is counted
+-- one more owner is counted
 pub AreCounts-more : (count n : ℕ) (lists : List (List ℕ)) (before after : List ℕ) → AreCounts count n lists before → AreStepped 0 (λ _ k. k + 1) (list_at lists n) before after → AreCounts count (n + 1) lists after
 AreCounts-more count n lists before after a e = record {
   one_each = e.one_each ∙ a.one_each;
@@ -133,14 +133,14 @@ AreCounts-more count n lists before after a e = record {
       ∙ sym (ap (λ (row : List ℕ). length row) (owners_more n lists x) ∙ length-with_owner n (is_listed (list_at lists n) x) (owners_below n lists x));
 }
 
--- where there are few lists, a number has few owners
+-- if there are few lists, a number has few owners
 pub counts_few : (count n : ℕ) (lists : List (List ℕ)) (counts before : List ℕ) → before ≡ counts → AreCounts count n lists counts → n < 2 ^ 32 → (x : ℕ) → x < length before → get_or before x 0 < 2 ^ 32
 counts_few count n lists counts before e a few x h =
     let number = a.number x (omega (arith, h, ap (λ (ns : List ℕ). length ns) e, a.one_each)) in
     let here = ap (λ (ns : List ℕ). get_or ns x 0) e in
     omega (arith, number, here, owners_few n lists x, few)
 
--- one list more, counted in a vector
+-- one more list is counted in a vector
 pub counts_more : (count n : ℕ) (lists : List (List ℕ)) (list : List ℕ) (counts : Vec ℕ) (before after : List ℕ) → list ≡ list_at lists n → before ≡ counts.items → length before ≡ counts.len
     → AreStepped 0 (λ _ k. k + 1) list before after → AreCounts count n lists counts.items → AreCounts count (n + 1) lists (with_items counts after).items
 counts_more count n lists list counts before after same e len stepped a =
@@ -148,7 +148,7 @@ counts_more count n lists list counts before after same e len stepped a =
     let counted = subst (λ (ns : List ℕ). AreStepped 0 step (list_at lists n) ns after) e (subst (λ (items : List ℕ). AreStepped 0 step items before after) same stepped) in
     subst (AreCounts count (n + 1) lists) (sym (with_items_is counts after (stepped.one_each ∙ len))) (AreCounts-more count n lists counts.items after a counted)
 
--- rows of these lengths in which nobody is entered yet
+-- rows with these lengths, before any owner is entered
 pub AreBegun-none : (count all : ℕ) (lists rows : List (List ℕ)) (lengths counts : List ℕ) → AreCounts count all lists lengths → rows ≡ map (λ n. replicate n 0) lengths → counts ≡ replicate count 0 → AreBegun count all 0 lists rows counts
 AreBegun-none count all lists rows lengths counts a e z = record {
   one_each = ap (λ (rs : List (List ℕ)). length rs) e ∙ length-map lengths (λ n. replicate n 0) ∙ a.one_each;
@@ -159,7 +159,7 @@ AreBegun-none count all lists rows lengths counts a e z = record {
   first = λ x h. refl;
 }
 
--- one owner more is entered
+-- one more owner is entered
 pub AreBegun-more : (count all n : ℕ) (lists before after : List (List ℕ)) (counts more : List ℕ) → n < all → AreBegun count all n lists before counts →
     AreStepped [] (λ x row. set row (get_or counts x 0) n) (list_at lists n) before after → AreStepped 0 (λ _ k. k + 1) (list_at lists n) counts more → AreBegun count all (n + 1) lists after more
 AreBegun-more count all n lists before after counts more l a e d = record {
@@ -192,14 +192,14 @@ AreOwners-begun count all lists rows counts a = record {
   row = λ x h. sym (take_all (length (owners_below all lists x)) (list_at rows x) (let many = a.room x h in omega arith)) ∙ a.first x h;
 }
 
--- in a list without repeats no item stands before itself
+-- in a list without repeats no item also stands earlier
 pub new_item : (list : List ℕ) (i : ℕ) → has_no_repeats list ≡ true → i < length list → is_listed (take i list) (get_or list i 0) ≡ false
 new_item list i distinct h =
     is_listed_nowhere (take i list) (get_or list i 0) (λ k l e.
     let n = length-take i list in
     HasNoRepeats-from_test list distinct k i 0 (omega arith) h (sym (get_or-take i list k 0 (omega arith)) ∙ e))
 
--- whoever is listed is below what all are below
+-- a listed number is below a bound of all listed numbers
 pub is_listed_below : (n : ℕ) (xs : List ℕ) (x : ℕ) → list_all (λ y. ltb y n) xs ≡ true → is_listed xs x ≡ true → x < n
 is_listed_below n [] x a e = cc
 is_listed_below n (y ∷ ys) x a e =
@@ -235,7 +235,7 @@ range_rises n = λ i j d l h.
     let high = get_or-range_with_len 0 n j d (omega arith) in
     omega arith
 
--- what holds of each item holds of those that a filter keeps
+-- a property of each item also holds for what a filter keeps
 list_all-filter : (p q : ℕ → Bool) (xs : List ℕ) → list_all p xs ≡ true → list_all p (filter q xs) ≡ true
 list_all-filter p q [] h = refl
 list_all-filter p q (x ∷ xs) h = let part = and_parts (p x) (list_all p xs) h in step (q x) part.0 (list_all-filter p q xs part.1)
@@ -259,7 +259,7 @@ owners_listed lists o x =
     absorb true = refl
     absorb false = refl
 
--- so the rows of owners are rows
+-- the rows of owners are sorted rows
 pub AreRows-owners : (count n : ℕ) (lists rows : List (List ℕ)) → AreOwners count n lists rows → AreRows count n rows
 AreRows-owners count n lists rows a = record {
   one_each = a.one_each;
@@ -271,7 +271,7 @@ AreRows-owners count n lists rows a = record {
       (IsNonDecreasingBy-filter (λ x. x) (λ owner. is_listed (list_at lists owner) i) (range_with_len 0 n) (range_rises n));
 }
 
--- what is kept by the rows of owners are the mutual lists
+-- the rows of owners keep exactly the mutual lists
 kept_from : (n k : ℕ) (mine theirs rows : List (List ℕ)) → AreOwners n (length theirs) theirs rows → k + length mine ≤ n →
     map (λ (owned : ℕ × List ℕ). filter (λ x. is_listed (list_at rows owned.0) x) owned.1) (enumerate_from k mine)
     ≡ map (λ (owned : ℕ × List ℕ). filter (λ x. is_listed (list_at theirs x) owned.0) owned.1) (enumerate_from k mine)
@@ -285,7 +285,7 @@ pub kept_are_mutual : (mine theirs rows : List (List ℕ)) → AreOwners (length
 unfolding mutual_lists kept_lists
 kept_are_mutual mine theirs rows h = kept_from (length mine) 0 mine theirs rows h (omega arith)
 
--- so it is with lists as they were given
+-- the rows of owners keep the mutual lists, also of lists as they were given
 pub made_is : (mine theirs : List (Option (List ℕ))) (my_flags their_flags : List Bool) (rows : List (List ℕ)) → AreOwners (length mine) (length theirs) (lists_left theirs their_flags) rows →
     kept_lists (lists_left mine my_flags) rows ≡ mutual_lists (lists_left mine my_flags) (lists_left theirs their_flags)
 made_is mine theirs my_flags their_flags rows h =
@@ -293,7 +293,7 @@ made_is mine theirs my_flags their_flags rows h =
     (subst (λ n. AreOwners n (length (lists_left theirs their_flags)) (lists_left theirs their_flags) rows) (sym (length-lists_left mine my_flags))
     (subst (λ n. AreOwners (length mine) n (lists_left theirs their_flags) rows) (sym (length-lists_left theirs their_flags)) h))
 
--- one more of the lists that are kept by the rows
+-- one more list is kept by the rows
 pub length-kept_lists : (lists rows : List (List ℕ)) → length (kept_lists lists rows) ≡ length lists
 unfolding kept_lists
 length-kept_lists lists rows = length-map (enumerate_from 0 lists) (λ (owned : ℕ × List ℕ). filter (λ x. is_listed (list_at rows owned.0) x) owned.1) ∙ length-enumerate_from 0 lists
@@ -308,7 +308,7 @@ get_or-kept_lists lists rows i h =
     get_or-map (kept_of rows) (enumerate_from 0 lists) i (0, []) [] (omega (arith, length-enumerate_from 0 lists))
     ∙ ap (kept_of rows) (get_or-enumerate_from 0 lists i (0, []) h) ∙ ap (λ n. kept_of rows (n, get_or lists i [])) (zero-add i)
 
--- the lists that are kept have the items that they had, each once, and the rows have them
+-- each kept list has the items that the rows also have, each once
 pub kept_below : (lists rows : List (List ℕ)) (n : ℕ) → All (λ list. list_all (λ x. ltb x n) list ≡ true) lists → All (λ list. list_all (λ x. ltb x n) list ≡ true) (kept_lists lists rows)
 kept_below lists rows n a = λ i d h.
     let within : i < length lists = omega (arith, length-kept_lists lists rows) in
@@ -321,7 +321,7 @@ kept_distinct lists rows a = λ i d h.
     subst (λ (list : List ℕ). has_no_repeats list ≡ true) (sym (get_or-kept_lists lists rows i within) ∙ get_or_default (kept_lists lists rows) i [] d h)
     (has_no_repeats-filter (λ x. is_listed (list_at rows i) x) (list_at lists i) (a i [] within))
 
--- so it is with mutual lists
+-- the rows of owners keep the mutual lists, also of mutual lists
 pub mutual_below : (mine theirs : List (List ℕ)) (n : ℕ) → All (λ list. list_all (λ x. ltb x n) list ≡ true) mine → All (λ list. list_all (λ x. ltb x n) list ≡ true) (mutual_lists mine theirs)
 mutual_below mine theirs n a = λ i d h.
     let within : i < length mine = omega (arith, length-mutual_lists mine theirs) in

@@ -1,4 +1,4 @@
--- Lemmas on the lists that are gathered, one after another, until they are more than there may be.
+-- Lemmas about lists that are gathered one after another, up to a limit.
 use Rattle.std.proofs.Common.{◌≡◌, ◌∙◌, ℕ, ◌+◌, ◌<◌, ◌≤◌, ◌⊎◌, inl, inr, true, false, List, [], ◌∷◌, ◌++◌, length, take, Option, Some, None, refl, sym, ap, subst, arith}
 use Rattle.std.specs.List.{filter, sum_by}
 use Rattle.std.specs.Result.{IsErrAnd}
@@ -16,7 +16,7 @@ use Rattle.match_model.specs.Owners.{kept_lists}
 use Rattle.match_model.specs.Rows.{RowLists}
 use Rattle.match_model.proofs.Entered.{length-kept_lists, get_or-kept_lists}
 
--- none are never too many, and more than too many are
+-- zero items are never too many; if some items are too many, more items are too
 pub over_none : (most : Option ℕ) → are_over most 0 ≡ false
 over_none None = refl
 over_none (Some n) = grind (arith, nat_tests)
@@ -25,7 +25,7 @@ pub over_more : (most : Option ℕ) (n m : ℕ) → n ≤ m → are_over most n 
 over_more None n m l e = absurd (cc)
 over_more (Some k) n m l e = let h : k < n = ltb-true k n e in lt-ltb k m (omega arith)
 
--- after so many lists of those made: their rows, nothing begun, and their items
+-- after this many finished lists: their rows, an empty open row, and their items
 pub record AreGathered (made : List (List ℕ)) (k : ℕ) (kept : RowLists ℕ) (items : ℕ) : Type 0 where
   pub ended : kept.rows ≡ take k made
   pub none_begun : kept.begun ≡ []
@@ -61,17 +61,17 @@ module _ (all rows : List (List ℕ)) (i : ℕ) (within : i < length all) (list 
 pub over_in_all : (most : Option ℕ) (made : List (List ℕ)) (n k : ℕ) → n ≡ sum_by length (take k made) → are_over most n ≡ true → are_over most (sum_by length made) ≡ true
 over_in_all most made n k counted e = over_more most n (sum_by length made) (let l = sum_by-take-le (length {A = ℕ}) made k in omega arith) e
 
--- an error that is handed on
+-- an error is passed on
 pub same_err : {T E : Type 0} (r : Result T E) (e : E) (P : E → Type 0) → IsErrAnd r (λ x. x ≡ e) → P e → IfErr r P
 same_err (Ok v) e P h p = tt
 same_err (Err x) e P h p = subst P (sym h) p
 
--- what a fault of gathering says where there is a most
+-- what a fault of gathering means if there is a limit
 pub fault_of_most : (most n : ℕ) (e : ModelFault) → IsGatherFault (Some most) n e → (e ≡ Memory) ⊎ ((e ≡ TooManyPairs) × (most < n))
 fault_of_most most n e (inl m) = inl m
 fault_of_most most n e (inr t) = inr (t.0, ltb-true most n t.1)
 
--- where there is no most, a fault of gathering is want of memory
+-- without a limit, a fault of gathering is out of memory
 pub memory_alone : {T : Type 0} (n : ℕ) (r : Result T ModelFault) → IfErr r (IsGatherFault None n) → IfErr r (λ fault. fault ≡ Memory)
 memory_alone n (Ok v) h = tt
 memory_alone n (Err e) (inl m) = m

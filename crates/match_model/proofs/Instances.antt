@@ -1,11 +1,11 @@
--- Who stands on an instance's lists is a member.
+-- Every number on an instance's lists is a member's.
 use Rattle.std.proofs.Common.{ℕ, ◌≤◌, inl, inr, List, [], length, arith, subst}
 use Rattle.std.proofs.lemmas.Bool.{cases_lt}
 use Rattle.std.proofs.lemmas.List.{get_or_past}
 use Rattle.match_model.specs.Ranking.{IsListed}
 use Rattle.match_model.specs.Instance.{Instance, IsInstance, IsProgramme, IsResident, Acceptable, list_of_resident}
 
--- whoever ranks somebody is a resident
+-- the owner of a list with an item is a resident
 pub ranking_resident : (inst : Instance) (r p : ℕ) → IsListed (list_of_resident inst r) p → IsResident inst r
 ranking_resident inst r p l = elim (cases_lt r (length inst.resident_lists)) [
   | inl c ↦ c
@@ -14,7 +14,7 @@ ranking_resident inst r p l = elim (cases_lt r (length inst.resident_lists)) [
       absurd (omega arith)
 ]
 
--- the two of an acceptable pair are members
+-- both numbers of an acceptable pair are members
 pub acceptable_resident : (inst : Instance) → IsInstance inst → (r p : ℕ) → Acceptable inst r p → IsResident inst r
 acceptable_resident inst is r p a = ranking_resident inst r p ((is.both_rank p r).0 a)
 

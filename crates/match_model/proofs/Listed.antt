@@ -1,4 +1,4 @@
--- Lemmas on what is listed: the place of an item, counts and repeats, fronts, and sums over the listed.
+-- Lemmas about listed items: the place of an item, counts and repeats, beginnings of lists, and sums over lists.
 use mathlib.Core.List.{IsPrefix}
 use Rattle.std.proofs.Common.{◌≡◌, ℕ, zero, suc, ◌+◌, ◌<◌, ◌≤◌, Bool, true, false, cond, eqb, ◌||◌, ◌⊎◌, inl, inr, List, [], ◌∷◌, ◌++◌, length, slice_get, Some, refl, ap, sym, ◌∙◌, subst, arith, one-add, get_or, ap₂, zero-add, add-zero, add_comm}
 use Rattle.std.specs.List.{list_all, sum_by}
@@ -22,7 +22,7 @@ place-append (z ∷ zs) ys x h = step (cases_eq z x) (place-append zs ys x)
     step (inl e) ih = rw (eq-eqb z x e) refl
     step (inr n) ih = let k : IsListed zs x = (let l = rw (ne_eqb z x n) at h in omega (arith, l)) in rw (ne_eqb z x n) (ap (λ (t : ℕ). 1 + t) (ih k))
 
--- items at one place are one item
+-- two items at the same place are the same
 pub same_from_place : (xs : List ℕ) (x y : ℕ) → IsListed xs x → place xs x ≡ place xs y → x ≡ y
 same_from_place [] x y h e = absurd (omega arith)
 same_from_place (z ∷ zs) x y h e = grind (arith, nat_tests, same_from_place zs x y)
@@ -41,7 +41,7 @@ slice_get_place (z ∷ zs) x h = step (cases_eq z x) (slice_get_place zs x)
     step (inl e) ih = rw (eq-eqb z x e) (ap Some e)
     step (inr n) ih = let k : IsListed zs x = (let l = rw (ne_eqb z x n) at h in omega (arith, l)) in rw (ne_eqb z x n, one-add) (ih k)
 
--- an item of the list is listed, at that place or before it
+-- a list's item is listed, at its place or earlier
 pub listed_at : (xs : List ℕ) (i x : ℕ) → slice_get xs i ≡ Some x → (place xs x ≤ i) × (i < length xs)
 listed_at [] i x e = absurd (cc)
 listed_at (z ∷ zs) zero x e = let q : z ≡ x = cc in (rw (eq-eqb z x q) (omega arith), omega arith)
@@ -94,7 +94,7 @@ count_at_two (z ∷ zs) (suc i) (suc j) d l m e = omega (arith, count_at_two zs 
 pub no_repeats_from_count : (xs : List ℕ) → ((x : ℕ) → count_of x xs ≤ 1) → HasNoRepeats xs
 no_repeats_from_count xs h = λ i j d l m e. let two = count_at_two xs i j d l m e in let one = h (get_or xs j d) in absurd (omega (arith, two, one))
 
--- where nothing is listed twice, an item stands at its place
+-- without repeats, an item's place is where it stands
 pub place_at : (xs : List ℕ) (i x : ℕ) → HasNoRepeats xs → slice_get xs i ≡ Some x → place xs x ≡ i
 place_at xs i x h e =
     let at = listed_at xs i x e in
@@ -180,7 +180,7 @@ place-append_past (z ∷ zs) ys x h = step (cases_eq z x) (place-append_past zs 
         let u : is_listed zs x ≡ false = is_listed_not zs x (λ l. is_listed-false (z ∷ zs) x h (let p = place-tail z zs x n in omega (arith, p))) in
         place-tail z (zs ++ ys) x n ∙ (let e = ih u in omega (arith, e))
 
--- who stands before an item of the front stands in the front
+-- what stands before an item of the beginning is part of the beginning
 pub prefix_before : (xs ys : List ℕ) (w x : ℕ) → IsPrefix xs ys → IsListed xs x → IsBefore ys w x → IsListed xs w
 prefix_before xs ys w x h l b = step (cases_Bool (is_listed xs w))
   where
@@ -191,7 +191,7 @@ prefix_before xs ys w x h l b = step (cases_Bool (is_listed xs w))
         let q = prefix_place xs ys x h l in
         absurd (omega (arith, p, q, l, b))
 
--- a sum over the numbers below n is one over a list of them without repeats, where the others have nothing
+-- a sum over the numbers below n is a sum over a list of them without repeats, if all other terms are 0
 pub sum_by_listed : (f : ℕ → ℕ) (xs : List ℕ) (n : ℕ) → HasNoRepeats xs
     → ((i x : ℕ) → slice_get xs i ≡ Some x → x < n)
     → ((x : ℕ) → is_listed xs x ≡ false → f x ≡ 0)

@@ -1,4 +1,4 @@
--- Lemmas on lists that begin other lists, and induction on the last item.
+-- Lemmas about lists that begin other lists, and induction on the last item.
 use mathlib.Core.List.{IsPrefix}
 use Rattle.std.proofs.Common.{◌≡◌, ℕ, zero, suc, ◌<◌, ◌≤◌, ◌⊎◌, inl, inr, List, [], ◌∷◌, ◌++◌, length, take, drop, slice_get, Some, refl, ap, ap₂, sym, ◌∙◌, subst, append_assoc, append-nil, arith, length-append}
 use Rattle.std.proofs.lemmas.List.{take_at, take_all, take-append-drop}
@@ -26,7 +26,7 @@ slice_get-append_some [] ys i x e = absurd (cc)
 slice_get-append_some (z ∷ zs) ys zero x e = e
 slice_get-append_some (z ∷ zs) ys (suc i) x e = slice_get-append_some zs ys i x e
 
--- an item of a list with one more at its end stands before that one, or is it
+-- in a list with one more item at its end, an item stands earlier, or is this one
 pub slice_get_push_parts : {X : Type 0} (xs : List X) (y : X) (i : ℕ) (x : X) → slice_get (xs ++ y ∷ []) i ≡ Some x → (slice_get xs i ≡ Some x) ⊎ ((i ≡ length xs) × (y ≡ x))
 slice_get_push_parts [] y zero x e = inr (refl, cc)
 slice_get_push_parts [] y (suc i) x e = absurd (cc)
@@ -82,7 +82,7 @@ prefix_whole xs ys h l = sym (prefix_take xs ys h) ∙ take_all (length xs) ys l
 pub prefix_item : {X : Type 0} (xs ys : List X) (i : ℕ) (x : X) → IsPrefix xs ys → slice_get xs i ≡ Some x → slice_get ys i ≡ Some x
 prefix_item xs ys i x h e = subst (λ t. slice_get t i ≡ Some x) h.1 (slice_get-append_some xs h.0 i x e)
 
--- what is left of a list after a shorter one that begins it has a first item
+-- if a shorter list begins a longer one, the remainder has a first item
 pub item_at : {X : Type 0} (xs : List X) (i : ℕ) → i < length xs → (x : X) × (slice_get xs i ≡ Some x)
 item_at [] i l = absurd (omega arith)
 item_at (x ∷ xs) zero l = (x, refl)

@@ -1,4 +1,4 @@
--- Lemmas on the lists of whoever is not withdrawn.
+-- Lemmas about the lists that remain after withdrawals.
 use Rattle.std.proofs.Common.{◌≡◌, ℕ, ◌<◌, Bool, true, false, List, [], ◌∷◌, length, refl, sym, ap, ◌∙◌, subst, suc, zero}
 use Rattle.std.specs.Prelude.{if◌then◌else◌}
 use Rattle.std.specs.List.{All}
@@ -6,7 +6,7 @@ use Rattle.std.proofs.lemmas.List.{get_or_default}
 use Rattle.match_model.specs.Instance.{list_at, is_withdrawn}
 use Rattle.match_model.specs.Draft.{remaining_lists}
 
--- as many lists as before
+-- there are as many lists as before
 pub length-remaining_lists : (lists : List (List ℕ)) (flags : List Bool) → length (remaining_lists lists flags) ≡ length lists
 length-remaining_lists [] flags = refl
 length-remaining_lists (l ∷ ls) [] = refl
@@ -30,7 +30,7 @@ remaining_withdrawn lists flags i e = remaining_at lists flags i ∙ ap (λ b. i
 pub remaining_here : (lists : List (List ℕ)) (flags : List Bool) (i : ℕ) → is_withdrawn flags i ≡ false → list_at (remaining_lists lists flags) i ≡ list_at lists i
 remaining_here lists flags i e = remaining_at lists flags i ∙ ap (λ b. if b then [] else list_at lists i) e
 
--- a fact of each list, and of the empty one
+-- a property of each list, which the empty list has too
 pub remaining_all : (P : List ℕ → Type 0) (lists : List (List ℕ)) (flags : List Bool) → P [] → All P lists → All P (remaining_lists lists flags)
 remaining_all P lists flags none all = λ i d h.
     let within : i < length lists = subst (λ n. i < n) (length-remaining_lists lists flags) h in

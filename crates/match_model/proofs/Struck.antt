@@ -1,4 +1,4 @@
--- The instance of a draft with withdrawals, and that of the draft without the withdrawn members' names.
+-- The instance of a draft with withdrawals is that of the draft without the withdrawn members' names.
 use Rattle.std.proofs.Common.{◌≡◌, ℕ, Bool, true, false, cond, List, [], ◌∷◌, map, Option, Some, refl, sym, ap, ◌∙◌, suc, zero, not, ◌&&◌}
 use Rattle.std.specs.Prelude.{◌↔◌, if◌then◌else◌}
 use Rattle.std.specs.List.{filter}
@@ -13,7 +13,7 @@ use Rattle.match_model.proofs.Remaining.{remaining_at, remaining_withdrawn}
 use Rattle.match_model.proofs.Mutual.{length-mutual_lists}
 use Rattle.match_model.proofs.Kept.{mutual_list_at, listed_both}
 
--- whoever stands on a list that is left stood there as given, and its owner is here
+-- a member on a remaining list also stood on the given list, and the owner is not withdrawn
 left_from : (lists : List (List ℕ)) (flags : List Bool) (i x : ℕ) → is_listed (list_at (remaining_lists lists flags) i) x ≡ true → (is_listed (list_at lists i) x ≡ true) × (is_withdrawn flags i ≡ false)
 left_from lists flags i x h = split (is_withdrawn flags i) (sym (ap (λ (xs : List ℕ). is_listed xs x) (remaining_at lists flags i)) ∙ h)
   where
@@ -24,7 +24,7 @@ left_from lists flags i x h = split (is_withdrawn flags i) (sym (ap (λ (xs : Li
 left_stays : (lists : List (List ℕ)) (flags : List Bool) (i x : ℕ) → is_listed (list_at lists i) x ≡ true → is_withdrawn flags i ≡ false → is_listed (list_at (remaining_lists lists flags) i) x ≡ true
 left_stays lists flags i x h e = ap (λ (xs : List ℕ). is_listed xs x) (remaining_at lists flags i ∙ ap (λ b. if b then [] else list_at lists i) e) ∙ h
 
--- a pair is acceptable exactly where each listed the other and neither is withdrawn
+-- a pair is acceptable exactly if each listed the other and neither is withdrawn
 pub acceptable_where : (d : Draft) (r p : ℕ) → Acceptable (instance_of d) r p ↔ ListOneAnother d r p
 acceptable_where d r p = (there, back)
   where
@@ -47,7 +47,7 @@ acceptable_where d r p = (there, back)
         (left_stays (given_lists d.programme_lists) d.programmes_withdrawn p r (is_listed_from _ r l.programme_lists_resident) l.programme_stays)
         (left_stays (given_lists d.resident_lists) d.residents_withdrawn r p (is_listed_from _ p l.resident_lists_programme) l.resident_stays))
 
--- where nobody is withdrawn the lists are those that were given
+-- if nobody is withdrawn, the lists are the given ones
 pub remaining_nobody : (lists : List (List ℕ)) (flags : List Bool) → AreAllHere flags → remaining_lists lists flags ≡ lists
 remaining_nobody [] flags h = refl
 remaining_nobody (l ∷ ls) [] h = refl
@@ -74,7 +74,7 @@ struck_at flags [] i = refl
 struck_at flags (l ∷ ls) zero = refl
 struck_at flags (l ∷ ls) (suc i) = struck_at flags ls i
 
--- a test may be parted in two
+-- a test of two conditions can be split in two
 filter_parted : (p q s : ℕ → Bool) → ((x : ℕ) → p x ≡ q x && s x) → (xs : List ℕ) → filter p xs ≡ filter s (filter q xs)
 filter_parted p q s h [] = refl
 filter_parted p q s h (x ∷ xs) =
@@ -84,7 +84,7 @@ filter_parted p q s h (x ∷ xs) =
     step true = refl
     step false = refl
 
--- the mutual lists, where the withdrawn are struck first
+-- the mutual lists after withdrawn members were struck
 module _ (mine theirs : List (List ℕ)) (my_flags their_flags : List Bool) where
   abbrev my_left : List (List ℕ)
   my_left = remaining_lists mine my_flags
@@ -123,7 +123,7 @@ module _ (mine theirs : List (List ℕ)) (my_flags their_flags : List Bool) wher
       (length-mutual_lists my_left their_left ∙ sym (length-mutual_lists (map (strike their_flags) my_left) (map (strike my_flags) their_left) ∙ length-map my_left (strike their_flags)))
       (λ o h. mutual_list_at my_left their_left o ∙ mutual_struck_at o ∙ sym (mutual_list_at (map (strike their_flags) my_left) (map (strike my_flags) their_left) o))
 
--- the lists that are left of a struck draft
+-- the remaining lists of a struck draft
 struck_left : (lists : List (Option (List ℕ))) (owners others : List Bool) → remaining_lists (given_lists (struck_lists lists owners others)) (none_withdrawn owners) ≡ map (strike others) (remaining_lists (given_lists lists) owners)
 struck_left lists owners others = remaining_none (given_lists (struck_lists lists owners others)) owners ∙ given_struck others (remaining_lists (given_lists lists) owners)
 

@@ -1,4 +1,4 @@
--- What a builder was handed, the instance that it makes, and the first fault of each call.
+-- The input of a builder, the instance that the builder makes, and the first fault of each call.
 use Rattle.std.specs.Prelude.{◌≡◌, ℕ, ◌<◌, ◌≤◌, nat_lt, nat_le, not, ◌&&◌, ◌⊎◌, if◌then◌else◌, Bool, true, false, Option, Some, None, Result, Ok, Err, List, [], ◌∷◌, ◌++◌, length, map, unwrap_or, slice_index_or, slice_set, is_some}
 use Rattle.std.specs.List.{filter, list_all, All, enumerate_from, slice_range}
 use Rattle.std.specs.Option.{option_or}
@@ -21,30 +21,29 @@ pub record Draft : Type 0 where
   pub programmes_withdrawn : List Bool
   pub residents_withdrawn : List Bool
 
--- the list that was given, or an empty one
+-- each list that was given, or an empty list
 abbrev pub given_lists : List (Option (List ℕ)) → List (List ℕ)
 given_lists lists = map (λ list. unwrap_or list []) lists
 
--- each list, emptied where its owner is withdrawn
+-- the given lists, with an empty list for each withdrawn owner
 abbrev pub remaining_lists : List (List ℕ) → List Bool → List (List ℕ)
 remaining_lists [] flags = []
 remaining_lists (list ∷ lists) [] = list ∷ lists
 remaining_lists (list ∷ lists) (flag ∷ flags) = (if flag then [] else list) ∷ remaining_lists lists flags
 
--- the lists of programmes and of residents as they were given, emptied where the owner is withdrawn
+-- the lists of programmes and of residents as given, with an empty list for each withdrawn owner
 abbrev pub programme_lists_left : Draft → List (List ℕ)
 programme_lists_left d = remaining_lists (given_lists d.programme_lists) d.programmes_withdrawn
 
 abbrev pub resident_lists_left : Draft → List (List ℕ)
 resident_lists_left d = remaining_lists (given_lists d.resident_lists) d.residents_withdrawn
 
--- each member's list in its order, with only those who list that member
+-- each member's list in its own order, with only those members who list the owner too
 unfoldable pub mutual_lists : List (List ℕ) → List (List ℕ) → List (List ℕ)
 mutual_lists mine theirs =
     map (λ (owned : ℕ × List ℕ). filter (λ x. is_listed (list_at theirs x) owned.0) owned.1) (enumerate_from 0 mine)
 
--- the instance of what was handed in: each list keeps whoever lists its owner in turn, and a withdrawn member lists
--- nobody
+-- the instance of a builder's input: a list keeps those who list its owner too, and a withdrawn member lists nobody
 abbrev pub instance_of : Draft → Instance
 instance_of d = record {
   quotas = d.quotas;
@@ -62,33 +61,33 @@ with_programme d q = record d { quotas = d.quotas ++ q ∷ []; programme_lists =
 abbrev pub with_resident : Draft → Draft
 with_resident d = record d { resident_lists = d.resident_lists ++ None ∷ []; residents_withdrawn = d.residents_withdrawn ++ false ∷ [] }
 
--- the draft in which p's list was given
+-- the draft after p's list was given
 abbrev pub with_programme_list : Draft → ℕ → List ℕ → Draft
 with_programme_list d p items = record d { programme_lists = slice_set d.programme_lists p (Some items) }
 
--- the draft in which r's list was given
+-- the draft after r's list was given
 abbrev pub with_resident_list : Draft → ℕ → List ℕ → Draft
 with_resident_list d r items = record d { resident_lists = slice_set d.resident_lists r (Some items) }
 
--- the draft in which p is withdrawn
+-- the draft after p was withdrawn
 abbrev pub with_programme_withdrawn : Draft → ℕ → Draft
 with_programme_withdrawn d p = record d { programmes_withdrawn = slice_set d.programmes_withdrawn p true }
 
--- the draft in which r is withdrawn
+-- the draft after r was withdrawn
 abbrev pub with_resident_withdrawn : Draft → ℕ → Draft
 with_resident_withdrawn d r = record d { residents_withdrawn = slice_set d.residents_withdrawn r true }
 
--- the items from the span's start up to its end, if there is a span
+-- the items from the span's start to its end, if there is a span
 abbrev pub list_in : List ℕ → Option (ℕ × ℕ) → Option (List ℕ)
 list_in items None = None
 list_in items (Some span) = Some (slice_range items span.0 span.1)
 
--- the span, if there is one, ends neither before it starts nor past n
+-- if there is a span, it ends at or after its start, and at n at the latest
 abbrev pub IsSpan : ℕ → Option (ℕ × ℕ) → Type 0
 IsSpan n None = Unit {0}
 IsSpan n (Some span) = (span.0 ≤ span.1) × (span.1 ≤ n)
 
--- the draft of these parts
+-- the draft with these quotas, lists and flags
 abbrev pub draft_with : Limits → List ℕ → List (Option (List ℕ)) → List (Option (List ℕ)) → List Bool → List Bool → Draft
 draft_with limits quotas programmes residents programmes_gone residents_gone = record {
   limits = limits;
@@ -99,68 +98,68 @@ draft_with limits quotas programmes residents programmes_gone residents_gone = r
   residents_withdrawn = residents_gone;
 }
 
--- the lists that were given, emptied where the owner is withdrawn
+-- the lists as given, with an empty list for each withdrawn owner
 abbrev pub lists_left : List (Option (List ℕ)) → List Bool → List (List ℕ)
 lists_left lists flags = remaining_lists (given_lists lists) flags
 
--- the mutual parts of my lists with theirs, on both sides without the lists of withdrawn owners
+-- my lists, each with only the members who list its owner too; lists of withdrawn owners are empty on both sides
 abbrev pub mutual_left : List (Option (List ℕ)) → List Bool → List (Option (List ℕ)) → List Bool → List (List ℕ)
 mutual_left mine my_flags theirs their_flags = mutual_lists (lists_left mine my_flags) (lists_left theirs their_flags)
 
--- whether no item stands in the list twice
+-- whether every item stands in the list only once
 abbrev pub has_no_repeats : List ℕ → Bool
 has_no_repeats [] = true
 has_no_repeats (x ∷ xs) = not (is_listed xs x) && has_no_repeats xs
 
--- the first fault of an added programme
+-- the first fault of a call that adds a programme
 abbrev pub programme_fault : Draft → ℕ → Option ModelFault
 programme_fault d q =
     if nat_le (most_programmes d.limits) (length d.quotas) then Some TooManyProgrammes
     else (if nat_lt MAX_QUOTA q then Some QuotaTooLarge else None)
 
--- the first fault of an added resident
+-- the first fault of a call that adds a resident
 abbrev pub resident_fault : Draft → Option ModelFault
 resident_fault d = if nat_le (most_residents d.limits) (length d.resident_lists) then Some TooManyResidents else None
 
--- the fault of a list's owner: not added, or the list was given before
+-- the fault of a list's owner: the owner was not added, or already has a list
 abbrev pub owner_fault : List (Option (List ℕ)) → ℕ → Option ModelFault
 owner_fault lists owner =
     if nat_le (length lists) owner then Some NoSuchMember
     else (if is_some (slice_index_or lists owner None) then Some ListGivenTwice else None)
 
--- the first fault of a list's items: an item isn't below `others`, or is listed twice
+-- the first fault of a list's items: an item is `others` or more, or is listed twice
 abbrev pub items_fault : ℕ → List ℕ → Option ModelFault
 items_fault others items =
     if not (list_all (λ x. nat_lt x others) items) then Some NoSuchMember
     else (if not (has_no_repeats items) then Some ListedTwice else None)
 
--- the first fault of a list: the owner's, and then that of its items, numbers below `others`
+-- the first fault of a list: the owner's fault, and then that of the items, which have to be below `others`
 abbrev pub list_fault : List (Option (List ℕ)) → ℕ → ℕ → List ℕ → Option ModelFault
 list_fault lists owner others items = option_or (owner_fault lists owner) (items_fault others items)
 
--- the first fault of a withdrawal, by the flags of its side: nobody of this number, or withdrawn before
+-- the first fault of a withdrawal: no member has this number, or the member is already withdrawn
 abbrev pub withdrawal_fault : List Bool → ℕ → Option ModelFault
 withdrawal_fault flags member =
     if nat_le (length flags) member then Some NoSuchMember
     else (if is_withdrawn flags member then Some WithdrawnTwice else None)
 
--- a fault is the answer; without one the answer is Ok or want of memory
+-- if there is a fault, the answer is the fault; if there is none, the answer is Ok or out of memory
 abbrev pub AnswersFirst : {T : Type 0} → Option ModelFault → Result T ModelFault → Type 0
 AnswersFirst (Some fault) r = r ≡ Err fault
 AnswersFirst None (Ok v) = Unit {0}
 AnswersFirst None (Err e) = e ≡ Memory
 
--- Ok comes only where there is no fault, and an error is that fault, or want of memory
+-- the answer is Ok only if there is no fault; an error is that fault, or out of memory
 abbrev pub AnswersOrWantsMemory : {T : Type 0} → Option ModelFault → Result T ModelFault → Type 0
 AnswersOrWantsMemory fault r = Answers Memory fault r
 
--- every item of every list that was given is below n, and stands there once
+-- in every list that was given, each item is below n and stands once
 pub record AreLists (lists : List (Option (List ℕ))) (n : ℕ) : Type 0 where
   pub items_below : All (λ list. list_all (λ x. nat_lt x n) list ≡ true) (given_lists lists)
   pub no_repeats : All (λ list. has_no_repeats list ≡ true) (given_lists lists)
 
 -- what a builder keeps: for each member a flag, and a list of other members without repeats, or none; all within its
--- limits
+-- repeats; all within the limits
 pub record IsDraft (d : Draft) : Type 0 where
   pub one_list_each : length d.programme_lists ≡ length d.quotas
   pub programmes_within : length d.quotas ≤ most_programmes d.limits
@@ -171,15 +170,15 @@ pub record IsDraft (d : Draft) : Type 0 where
   pub one_flag_each_programme : length d.programmes_withdrawn ≡ length d.quotas
   pub one_flag_each_resident : length d.residents_withdrawn ≡ length d.resident_lists
 
--- why the draft is not finished: want of memory, or more acceptable pairs than there may be
+-- why a draft is not finished: out of memory, or too many acceptable pairs
 abbrev pub IsFinishFault : Draft → ModelFault → Type 0
 IsFinishFault d fault = (fault ≡ Memory) ⊎ ((fault ≡ TooManyPairs) × (most_pairs d.limits < pair_count (instance_of d)))
 
--- whether so many items are more than the most, if there is a most
+-- whether this count of items is above the limit, if there is a limit
 abbrev pub are_over : Option ℕ → ℕ → Bool
 are_over None n = false
 are_over (Some most) n = nat_lt most n
 
--- why so many items are not gathered: want of memory, or more items than the most
+-- why this count of items is not gathered: out of memory, or above the limit
 abbrev pub IsGatherFault : Option ℕ → ℕ → ModelFault → Type 0
 IsGatherFault most n fault = (fault ≡ Memory) ⊎ ((fault ≡ TooManyPairs) × (are_over most n ≡ true))

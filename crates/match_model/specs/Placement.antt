@@ -1,9 +1,9 @@
--- A placement gives each resident one programme or none: a list by resident.
+-- A placement gives each resident one programme or none. It is a list with one place for each resident.
 use Rattle.std.specs.Prelude.{◌≡◌, ℕ, ◌≤◌, ◌==◌, Bool, false, Option, Some, None, List, length, slice_index_or}
 use Rattle.std.specs.List.{count_by}
 use Rattle.match_model.specs.Instance.{Instance, Acceptable, quota}
 
--- the programme that the placement gives to r, or none
+-- the programme that r has in the placement, or none
 abbrev pub programme_of : List (Option ℕ) → ℕ → Option ℕ
 programme_of m r = slice_index_or m r None
 
@@ -11,12 +11,12 @@ programme_of m r = slice_index_or m r None
 abbrev pub IsMemberOf : List (Option ℕ) → ℕ → ℕ → Type 0
 IsMemberOf m r p = programme_of m r ≡ Some p
 
--- whether this place is one of p's
+-- whether this place of the placement has p
 abbrev pub holds : ℕ → Option ℕ → Bool
 holds p None = false
 holds p (Some q) = q == p
 
--- how many members p has: the places of the list that hold p
+-- how many members p has: the number of places that have p
 abbrev pub member_count : List (Option ℕ) → ℕ → ℕ
 member_count m p = count_by (holds p) m
 

@@ -5,17 +5,17 @@ use Rattle.std.specs.List.Sorted.{IsNonDecreasingBy}
 use Rattle.match_model.specs.Ranking.{place, is_listed}
 use Rattle.match_model.specs.Instance.{rank, list_at}
 
--- the numbers of a row that stand in the list, with their places there
+-- the numbers of a row that stand in the list, each with its place there
 abbrev pub ranked : List ℕ → List ℕ → List (ℕ × ℕ)
 ranked list row = map (λ x. (x, place list x)) (filter (λ x. is_listed list x) row)
 
--- each entry has a number and its rank in the list, each number of the list has an entry, and the numbers rise
+-- each entry is a number of the list with its rank; each number of the list has an entry; the numbers rise
 pub record IsRankTable (list : List ℕ) (table : List (ℕ × ℕ)) : Type 0 where
   pub ranks : All (λ (entry : ℕ × ℕ). rank list entry.0 ≡ Some entry.1) table
   pub whole : (x : ℕ) → is_listed list x ≡ true → list_any (λ (entry : ℕ × ℕ). entry.0 == x) table ≡ true
   pub rising : IsNonDecreasingBy (λ (entry : ℕ × ℕ). entry.0) table
 
--- each table is that of the list in its place
+-- each table is the rank table of the list at the same place
 pub record AreRankTables (lists : List (List ℕ)) (tables : List (List (ℕ × ℕ))) : Type 0 where
   pub each : AllZip IsRankTable lists tables
 
@@ -23,11 +23,11 @@ pub record AreRankTables (lists : List (List ℕ)) (tables : List (List (ℕ × 
 abbrev pub ranks_of : List (List ℕ) → ℕ → List ℕ → List ℕ
 ranks_of theirs p list = map (λ r. place (list_at theirs r) p) list
 
--- whoever p lists has p in its own list
+-- each member that p lists has p in its own list
 pub record AreListedBack (theirs : List (List ℕ)) (p : ℕ) (list : List ℕ) : Type 0 where
   pub back : (r : ℕ) → is_listed list r ≡ true → is_listed (list_at theirs r) p ≡ true
 
--- a row for each programme p: for each place of its list, p's place in the list of whoever stands there
+-- a row for each programme p; for each member of p's list, the row has p's place in that member's list
 pub record AreOfferRanks (lists theirs ranks : List (List ℕ)) : Type 0 where
   pub one_row_each : length ranks ≡ length lists
   pub row : (p : ℕ) → p < length lists → list_at ranks p ≡ ranks_of theirs p (list_at lists p)

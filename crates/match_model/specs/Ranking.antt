@@ -1,8 +1,8 @@
--- A ranking: a list of numbers of members, best first, without repeats.
+-- A ranking: a list of members' numbers, best first, without repeats.
 use Rattle.std.specs.Prelude.{◌≢◌, ℕ, ◌+◌, ◌<◌, ◌==◌, nat_lt, Bool, if◌then◌else◌, List, [], ◌∷◌, length}
 use Rattle.std.specs.List.{AllPairs}
 
--- the place of x in the list, from 0; the list's length where x isn't listed
+-- the place of x in the list, from 0; the list's length if x isn't listed
 abbrev pub place : List ℕ → ℕ → ℕ
 place [] x = 0
 place (y ∷ ys) x = if y == x then 0 else (1 + place ys x)
@@ -15,7 +15,7 @@ IsListed xs x = place xs x < length xs
 abbrev pub is_listed : List ℕ → ℕ → Bool
 is_listed xs x = nat_lt (place xs x) (length xs)
 
--- x stands before y in the list; whoever isn't listed comes after all who are
+-- x stands before y in the list; who isn't listed comes last
 abbrev pub IsBefore : List ℕ → ℕ → ℕ → Type 0
 IsBefore xs x y = place xs x < place xs y
 

@@ -1,4 +1,4 @@
-//! Who is matched where.
+//! Which resident is matched with which programme.
 ghost use Rattle.std.specs.Prelude.{◌≡◌, ℕ, ◌<◌, ◌^◌, Option, None, List, length, replicate, vec_len, IfOk, IsOkUnless, slice_set};
 ghost use Rattle.match_model.specs.Placement.{programme_of};
 
@@ -7,7 +7,7 @@ use crate::member::{ProgrammeNo, ResidentNo};
 use std::alloc::Global;
 use std::marker::Model;
 
-/// For each resident one programme or none.
+/// One programme or none for each resident.
 #[derive(Debug, Drop)]
 pub struct Assignment {
     places: Vec<Option<ProgrammeNo>>,
@@ -22,7 +22,7 @@ impl Model for Assignment {
 }
 
 impl Assignment {
-    /// An assignment that matches nobody. The one error is `Memory`.
+    /// An assignment that matches nobody. The only error is `Memory`.
     pub fn new(alloc: Global, residents: u32) -> Result<Assignment, ModelFault>
         ensures nobody { IfOk result (λ a. a ≡ replicate residents None) }
         ensures err { IsOkUnless result ModelFault.Memory }

@@ -1,4 +1,4 @@
-//! The builder of an instance: quotas, lists and withdrawals as they are handed in.
+//! The builder of an instance, from quotas, lists and withdrawals.
 ghost use Rattle.std.specs.Prelude.{◌≡◌, ℕ, ◌⊎◌, ◌<◌, ◌≤◌, Option, List, [], length, IfOk, IfErr, OnOk, OnErr, IfSome, Err};
 ghost use Rattle.match_model.specs.Instance.{IsInstance};
 
@@ -13,7 +13,7 @@ use crate::{mutual_parts, ranking};
 use std::alloc::Global;
 use std::marker::Model;
 
-/// Takes quotas, lists and withdrawals as they are handed in, one at a time.
+/// Takes quotas, lists and withdrawals, one at a time.
 #[derive(Debug, Drop)]
 pub struct InstanceBuilder {
     alloc: Global,
@@ -37,10 +37,10 @@ impl Model for InstanceBuilder {
         (draft_with b.limits b.quotas.items b.programme_lists b.resident_lists b.programmes_withdrawn.items b.residents_withdrawn.items) };
 }
 
-/// Why `finish` refused, with the builder as it was.
+/// Why `finish` refused, with the unchanged builder.
 #[derive(Debug, Drop)]
 pub struct FinishRefused {
-    /// The builder that was finished.
+    /// The unchanged builder.
     pub builder: InstanceBuilder,
     /// `TooManyPairs` or `Memory`.
     pub fault: ModelFault,
@@ -83,7 +83,7 @@ impl InstanceBuilder {
         self.limits
     }
 
-    /// Adds a programme with a quota, and gives its number. Refused as `TooManyProgrammes`, `QuotaTooLarge` or
+    /// Adds a programme with a quota, and returns its number. May fail with `TooManyProgrammes`, `QuotaTooLarge` or
     /// `Memory`.
     pub fn add_programme(&mut self, quota: u32) -> Result<ProgrammeNo, ModelFault>
         ensures number { IfOk result (λ p. p ≡ length self.old.quotas) }
@@ -111,7 +111,7 @@ impl InstanceBuilder {
         Ok(ProgrammeNo(number as u32))
     }
 
-    /// Adds a resident, and gives its number. Refused as `TooManyResidents` or `Memory`.
+    /// Adds a resident, and returns its number. May fail with `TooManyResidents` or `Memory`.
     pub fn add_resident(&mut self) -> Result<ResidentNo, ModelFault>
         ensures number { IfOk result (λ r. r ≡ length self.old.resident_lists) }
         ensures added { OnOk result (self.new ≡ with_resident self.old) }
@@ -130,7 +130,7 @@ impl InstanceBuilder {
         Ok(ResidentNo(number as u32))
     }
 
-    /// Gives a programme its list, best first. Refused as `NoSuchMember` for the owner, `ListGivenTwice`,
+    /// Gives a programme its list, best first. May fail with `NoSuchMember` for the owner, `ListGivenTwice`,
     /// `NoSuchMember` for an item, `ListedTwice` or `Memory`. An empty list counts as given.
     pub fn programme_list(
         &mut self,
@@ -150,7 +150,7 @@ impl InstanceBuilder {
         Ok(())
     }
 
-    /// Gives a resident its list, best first, as `programme_list` does for a programme.
+    /// Gives a resident its list, best first, with the same faults as `programme_list`.
     pub fn resident_list(
         &mut self,
         resident: ResidentNo,
@@ -169,8 +169,8 @@ impl InstanceBuilder {
         Ok(())
     }
 
-    /// Withdraws a programme. It keeps its number and quota, and is in no acceptable pair. Its list may be given before
-    /// or after. Refused as `NoSuchMember` or `WithdrawnTwice`. Takes no memory.
+    /// Withdraws a programme. The programme keeps its number and quota, and is in no acceptable pair. Its list may be
+    /// given before or after. May fail with `NoSuchMember` or `WithdrawnTwice`. Takes no memory.
     pub fn withdraw_programme(&mut self, programme: ProgrammeNo) -> Result<(), ModelFault>
         ensures withdrawn { OnOk result (self.new ≡ with_programme_withdrawn self.old programme) }
         ensures fault { AnswersExactly (withdrawal_fault self.old.programmes_withdrawn programme) result }
@@ -182,7 +182,7 @@ impl InstanceBuilder {
         Ok(())
     }
 
-    /// Withdraws a resident, as `withdraw_programme` does a programme.
+    /// Withdraws a resident, in the same way as `withdraw_programme`.
     pub fn withdraw_resident(&mut self, resident: ResidentNo) -> Result<(), ModelFault>
         ensures withdrawn { OnOk result (self.new ≡ with_resident_withdrawn self.old resident) }
         ensures fault { AnswersExactly (withdrawal_fault self.old.residents_withdrawn resident) result }
@@ -194,8 +194,8 @@ impl InstanceBuilder {
         Ok(())
     }
 
-    /// Makes the instance. Each list keeps whoever lists its owner in turn, and a withdrawn member lists nobody.
-    /// Refused as `TooManyPairs` or `Memory`, and the builder comes back as it was.
+    /// Makes the instance. Each list keeps the members who list its owner too, and a withdrawn member lists nobody.
+    /// May fail with `TooManyPairs` or `Memory`; then the builder comes back unchanged.
     pub fn finish(self) -> Result<Instance, FinishRefused>
         ensures made { IfOk result (λ inst. inst ≡ instance_of self) }
         ensures within { OnOk result (IsWithin self.limits (instance_of self)) }
@@ -208,7 +208,7 @@ impl InstanceBuilder {
         }
     }
 
-    /// Makes the instance as `finish` does, and gives the lists beside it as they were handed in. They are moved out of the
+    /// Makes the instance as `finish` does, and also returns the lists as they were given. They are moved out of the
     /// builder.
     pub fn finish_with_lists(self) -> Result<(Instance, WrittenLists), FinishRefused>
         ensures made { IfOk result (λ made. made.0 ≡ instance_of self) }
@@ -226,7 +226,7 @@ impl InstanceBuilder {
         }
     }
 
-    // The lists as they were handed in.
+    // The lists as they were given.
     fn into_lists(self) -> WrittenLists
         ensures { result ≡ written_of self }
     {

@@ -7,7 +7,7 @@ use std::alloc::{AllocError, AllocFailed};
 use std::error::Error;
 use std::fmt;
 
-/// Why a builder or an assignment refused. Each call tries its causes in the order of its own documentation.
+/// Why a builder or an assignment refused. Each call tests the causes in the order that its own comment gives.
 #[derive(Clone, Copy, Debug, PartialEq, Eq, Hash)]
 pub enum ModelFault {
     /// There are as many programmes already as the builder's limits allow.
@@ -16,15 +16,15 @@ pub enum ModelFault {
     TooManyResidents,
     /// The quota is over `MAX_QUOTA`.
     QuotaTooLarge,
-    /// The owner of a list, or somebody on it, was not added.
+    /// The owner of a list, or a member on the list, was not added.
     NoSuchMember,
-    /// The owner's list was given before.
+    /// The owner already has a list.
     ListGivenTwice,
-    /// Somebody stands on the list twice.
+    /// A member stands on the list twice.
     ListedTwice,
     /// There are more acceptable pairs than the builder's limits allow.
     TooManyPairs,
-    /// A growth was refused.
+    /// The memory could not grow.
     Memory,
     /// The member is withdrawn already.
     WithdrawnTwice,

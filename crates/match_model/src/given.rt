@@ -1,4 +1,4 @@
-//! The lists of one side as they are handed in, one after another in one vector.
+//! The lists of one side as they are given, one after another in one vector.
 ghost use Rattle.std.specs.Prelude.{◌≡◌, ◌+◌, ◌<◌, ◌≤◌, ◌∷◌, ◌++◌, [], length, None, Some, OnOk, OnErr, slice_index_or, slice_set, unwrap_or, vec_len, vec_capacity};
 ghost use Rattle.match_model.specs.Draft.{owner_fault, items_fault, given_lists, AnswersFirst, AnswersOrWantsMemory};
 ghost use Rattle.match_model.specs.Instance.{list_at};
@@ -9,7 +9,7 @@ use crate::ranking::test_items;
 use std::alloc::{AllocError, Global};
 use std::marker::Model;
 
-/// The items of all lists, and the span of each member's list among them, if it has one.
+/// The items of all lists. For each member with a list, also where its list stands among them.
 #[derive(Debug, Drop)]
 pub(crate) struct GivenLists {
     items: Vec<u32>,
@@ -45,7 +45,7 @@ impl GivenLists {
         self.spans.len()
     }
 
-    /// Adds a member, which has no list yet.
+    /// Adds a member without a list.
     pub(crate) fn add_member(&mut self) -> Result<(), AllocError>
         ensures added { OnOk result (self.new ≡ self.old ++ None ∷ []) }
         ensures err { OnErr result (self.new ≡ self.old) }
@@ -54,7 +54,7 @@ impl GivenLists {
         Ok(())
     }
 
-    /// Whether this owner was added and has no list yet.
+    /// Whether this owner was added and still has no list.
     pub(crate) fn test_owner(&self, owner: usize) -> Result<(), ModelFault>
         ensures { AnswersFirst (owner_fault self.now owner) result }
     {
@@ -65,7 +65,7 @@ impl GivenLists {
         }
     }
 
-    /// The items of a member's list; none where it has no list.
+    /// The items of a member's list; empty without a list.
     pub(crate) fn items(&self, owner: usize) -> &[u32]
         requires { owner < length self.now }
         ensures { result.now ≡ unwrap_or (slice_index_or self.now owner None) [] }
@@ -76,7 +76,7 @@ impl GivenLists {
         }
     }
 
-    /// The items of the list of whoever has this number, none where there is no list.
+    /// The items of the list for this number; empty if there is no such list.
     pub(crate) fn written(&self, owner: u32) -> &[u32]
         ensures { result.now ≡ list_at (given_lists self.now) owner }
     {
@@ -86,7 +86,7 @@ impl GivenLists {
         self.items(owner as usize)
     }
 
-    /// Gives a member its list of residents. Each resident is below `others` and stands in the list once.
+    /// Gives a member its list of residents. Each resident has to be below `others`, and stand in the list once.
     pub(crate) fn give_residents(
         &mut self,
         owner: usize,
@@ -113,7 +113,7 @@ impl GivenLists {
         }
     }
 
-    /// Gives a member its list of programmes, as `give_residents` does with residents.
+    /// Gives a member its list of programmes, as `give_residents` does for residents.
     pub(crate) fn give_programmes(
         &mut self,
         owner: usize,

@@ -1,4 +1,4 @@
-//! An instance: quotas, mutual rankings and ranks, and who is withdrawn.
+//! An instance: quotas, mutual rankings with ranks, and the withdrawn members.
 ghost use Rattle.std.specs.Prelude.{◌≡◌, ◌<◌, ◌≤◌, length, slice_get, Some, IfSome};
 ghost use Rattle.match_model.specs.Instance.{IsInstance, IsProgramme, IsResident, pair_count, is_withdrawn, quota as quota_of, list_of_programme as ranking_of_programme, list_of_resident as ranking_of_resident, offer_at as offer_of, rank};
 
@@ -38,7 +38,7 @@ impl Model for Instance {
     } };
 }
 
-// One call, so that a caller that drops an instance proves nothing of its parts.
+// A single call. So a caller that drops an instance need not prove anything about its parts.
 impl Drop for Instance {
     fn drop(self) {
         let Instance {
@@ -91,7 +91,7 @@ impl Instance {
         self.quotas[programme.0 as usize]
     }
 
-    /// Whether a programme is withdrawn, so that it ranks nobody. The programme is a member.
+    /// Whether a programme is withdrawn and so ranks nobody. The programme is a member.
     pub fn programme_withdrawn(&self, programme: ProgrammeNo) -> bool
         requires { IsProgramme self.now programme }
         ensures { result ≡ is_withdrawn self.now.programmes_withdrawn programme }
@@ -99,7 +99,7 @@ impl Instance {
         self.programmes_withdrawn[programme.0 as usize]
     }
 
-    /// Whether a resident is withdrawn, so that it ranks nobody. The resident is a member.
+    /// Whether a resident is withdrawn and so ranks nobody. The resident is a member.
     pub fn resident_withdrawn(&self, resident: ResidentNo) -> bool
         requires { IsResident self.now resident }
         ensures { result ≡ is_withdrawn self.now.residents_withdrawn resident }
@@ -107,7 +107,7 @@ impl Instance {
         self.residents_withdrawn[resident.0 as usize]
     }
 
-    /// Whom a programme ranks, best first, of those who rank it. The programme is a member.
+    /// The residents whom a programme ranks and who rank it, best first. The programme is a member.
     #[inline(always)]
     pub fn list_of_programme(&self, programme: ProgrammeNo) -> &[ResidentNo]
         requires { IsProgramme self.now programme }
@@ -117,8 +117,8 @@ impl Instance {
         self.programme_lists.row(programme.0 as usize)
     }
 
-    /// The resident at this place of a programme's list, counted from 0. None past the list's end. The programme is a
-    /// member.
+    /// The resident at this place of a programme's list, counted from 0, or none past the list's end. The programme
+    /// is a member.
     #[inline(always)]
     pub fn listed_at(&self, programme: ProgrammeNo, place: u32) -> Option<ResidentNo>
         requires { IsProgramme self.now programme }
@@ -128,8 +128,8 @@ impl Instance {
         list.get(place as usize).copied()
     }
 
-    /// The resident at this place of a programme's list, counted from 0, and the programme's place in that resident's
-    /// list. None past the list's end. The programme is a member.
+    /// The resident at this place of a programme's list, with the programme's place in that resident's list. Both
+    /// places are counted from 0. None past the list's end. The programme is a member.
     #[inline]
     pub fn offer_at(&self, programme: ProgrammeNo, place: u32) -> Option<(ResidentNo, u32)>
         requires { IsProgramme self.now programme }
@@ -144,7 +144,7 @@ impl Instance {
         }
     }
 
-    /// Whom a resident ranks, best first, of those that rank it. The resident is a member.
+    /// The programmes that a resident ranks and that rank the resident, best first. The resident is a member.
     #[inline(always)]
     pub fn list_of_resident(&self, resident: ResidentNo) -> &[ProgrammeNo]
         requires { IsResident self.now resident }
@@ -154,7 +154,8 @@ impl Instance {
         self.resident_lists.row(resident.0 as usize)
     }
 
-    /// The place from 0 of a resident in a programme's list, if the pair is acceptable. The programme is a member.
+    /// The place of a resident in a programme's list, counted from 0, if the pair is acceptable. The programme is a
+    /// member.
     #[inline(always)]
     pub fn rank_at_programme(&self, programme: ProgrammeNo, resident: ResidentNo) -> Option<u32>
         requires { IsProgramme self.now programme }
@@ -164,7 +165,8 @@ impl Instance {
         rank_in(table, resident.0)
     }
 
-    /// The place from 0 of a programme in a resident's list, if the pair is acceptable. The resident is a member.
+    /// The place of a programme in a resident's list, counted from 0, if the pair is acceptable. The resident is a
+    /// member.
     #[inline(always)]
     pub fn rank_at_resident(&self, resident: ResidentNo, programme: ProgrammeNo) -> Option<u32>
         requires { IsResident self.now resident }
@@ -174,7 +176,7 @@ impl Instance {
         rank_in(table, programme.0)
     }
 
-    /// Answers as `rank_at_resident` does, and looks at the guessed place of the list first. The resident is a member.
+    /// Gives the same answer as `rank_at_resident`, but first looks at the guessed place. The resident is a member.
     #[inline]
     pub fn rank_by_guess(
         &self,

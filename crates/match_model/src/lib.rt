@@ -1,10 +1,9 @@
 //! The model of a residency match: quotas, rankings, ranks and assignments.
 //!
-//! A builder takes quotas, lists and withdrawals as they were handed in, and `finish` makes an instance of them. Each
-//! list of the instance keeps, in order, whoever lists its owner in turn. It has no repeats, and nobody who is
-//! withdrawn.
+//! A builder takes quotas, lists and withdrawals, and `finish` makes an instance from them. Each list of the instance
+//! keeps, in order, the members who list its owner too. The list has no repeats and no withdrawn member.
 //!
-//! Contracts say nothing of the text of a `ModelFault`: a test compares it.
+//! Contracts say nothing about the text of a `ModelFault`. A test compares this text.
 #![tactic(auto)]
 
 mod assignment;

@@ -2,13 +2,13 @@
 ghost use Rattle.std.specs.Prelude.{◌≡◌, ◌≤◌};
 ghost use Rattle.match_model.specs.Limits.{most_programmes, most_residents, most_pairs};
 
-/// The largest number of programmes of any instance, by the widths of the numbers.
+/// The largest number of programmes of any instance.
 pub const MAX_PROGRAMMES: usize = 65_536;
 
-/// The largest number of residents of any instance, by the widths of the numbers.
+/// The largest number of residents of any instance.
 pub const MAX_RESIDENTS: usize = 1_000_000;
 
-/// The largest number of acceptable pairs of any instance, by the widths of the numbers.
+/// The largest number of acceptable pairs of any instance.
 pub const MAX_PAIRS: usize = 20_000_000;
 
 /// The largest quota of a programme.
@@ -64,7 +64,7 @@ impl Limits {
     }
 }
 
-/// Each constant of this module is the number that definitions say in its place.
+/// Each constant of this module has the value that the definitions use.
 pub fn law_limits()
     ensures programmes { MAX_PROGRAMMES ≡ 65536 }
     ensures residents { MAX_RESIDENTS ≡ 1000000 }

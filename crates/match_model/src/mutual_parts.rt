@@ -1,4 +1,4 @@
-//! The mutual parts of lists, by rows that say who lists each owner.
+//! The mutual parts of lists, found with rows that say who lists each owner.
 ghost use Rattle.std.specs.Prelude.{◌≡◌, ℕ, ◌<◌, ◌≤◌, ◌^◌, nat_lt, List, [], length, map, true, false, ◌++◌, Some, OnOk, IfOk, IfErr};
 ghost use Rattle.std.specs.List.{All, list_all, filter, sum_by};
 ghost use Rattle.match_model.specs.Ranking.{is_listed};
@@ -17,8 +17,8 @@ use crate::ranking::remaining;
 use crate::rows::Rows;
 use std::alloc::{AllocError, Global};
 
-/// Appends to the begun row of `kept`, in their order, the items of a list that stand in another row. `places` has that
-/// row's places.
+/// Appends those items of a list to the open row of `kept` that also stand in another row, in the list's order.
+/// `places` has the places of that row.
 fn keep(
     kept: &mut Rows<u32>,
     items: &[u32],
@@ -37,7 +37,7 @@ fn keep(
     Ok(())
 }
 
-/// Whether so many items are more than the most, if there is a most.
+/// Whether this count of items is above the limit, if there is a limit.
 fn is_over(most: Option<usize>, count: usize) -> bool
     ensures { result ≡ are_over most count }
 {
@@ -57,7 +57,7 @@ fn room_for(most: Option<usize>, count: usize) -> usize
     }
 }
 
-/// The items that each list keeps by these rows. Refused as soon as they are more than the most.
+/// The items of each list that stand in its owner's row. Fails as soon as they are above the limit.
 fn all_kept(
     alloc: Global,
     most: Option<usize>,
@@ -88,7 +88,7 @@ fn all_kept(
     Ok(kept)
 }
 
-/// The items that each list keeps by its owner's row, and the table of their ranks. The rows name members below a
+/// The items of each list that stand in its owner's row, with the table of their ranks. The rows have members below a
 /// count.
 fn kept_with_ranks(
     alloc: Global,
@@ -113,7 +113,7 @@ fn kept_with_ranks(
     Ok((kept, ranks))
 }
 
-/// Each member's list in its order, with only those who list that member, and the table of their ranks. Refused where
+/// Each member's list in order, with only those who list this member too, and the table of their ranks. Fails if
 /// they have more items than these.
 pub(crate) fn mutual(
     alloc: Global,
@@ -137,8 +137,8 @@ pub(crate) fn mutual(
     kept_with_ranks(alloc, Some(most), mine, mine_withdrawn, theirs.len(), &rows)
 }
 
-/// As `mutual`, by the mutual lists of the other side in place of all that were given. They are short, and have whoever
-/// a member lists in turn.
+/// The same as `mutual`, from the mutual lists of the other side instead of the lists as given. These are short, and
+/// have exactly the members who are listed back.
 pub(crate) fn mutual_in_turn(
     alloc: Global,
     mine: &GivenLists,

@@ -1,4 +1,4 @@
-//! Tests on lists as they are handed in, and the lists that withdrawals leave.
+//! Tests on lists as they are given, and the lists that remain after withdrawals.
 ghost use Rattle.std.specs.Prelude.{◌≡◌, ◌<◌, ◌≤◌, nat_lt, length, false, Some, vec_len, OnOk, IfOk};
 ghost use Rattle.std.specs.List.{list_all};
 ghost use Rattle.match_model.specs.Draft.{lists_left, items_fault, withdrawal_fault, has_no_repeats, AnswersOrWantsMemory};
@@ -11,7 +11,7 @@ use crate::member::{ProgrammeNo, ResidentNo};
 use crate::places::stands_in;
 use std::alloc::{AllocError, Global};
 
-/// Whether this member was added and isn't withdrawn yet.
+/// Whether this member was added and is not withdrawn yet.
 pub(crate) fn test_withdrawal(withdrawn: &[bool], member: usize) -> Result<(), ModelFault>
     ensures { AnswersExactly (withdrawal_fault withdrawn.now member) result }
 {
@@ -22,7 +22,7 @@ pub(crate) fn test_withdrawal(withdrawn: &[bool], member: usize) -> Result<(), M
     }
 }
 
-/// Whether each item is below `others` and stands in the list once. The table of places may have anything.
+/// Whether each item is below `others` and stands in the list once. The table of places may have any content.
 pub(crate) fn test_items(
     places: &mut Vec<usize>,
     others: usize,
@@ -37,7 +37,7 @@ pub(crate) fn test_items(
     }
 }
 
-/// The first fault of a list's items, found in one pass. Notes places as it goes.
+/// The first fault of a list's items, found in one pass. The pass also notes places.
 fn first_fault(places: &mut [usize], others: usize, items: &[u32]) -> Option<ModelFault>
     requires { others ≤ length places.old }
     ensures { result ≡ items_fault others items.now }
@@ -54,7 +54,7 @@ fn first_fault(places: &mut [usize], others: usize, items: &[u32]) -> Option<Mod
     None
 }
 
-/// The first fault of a list in which an item stands twice.
+/// The first fault of a list that has an item twice.
 fn fault_of_repeat(others: usize, items: &[u32]) -> ModelFault
     requires { has_no_repeats items.now ≡ false }
     ensures { Some result ≡ items_fault others items.now }
@@ -65,7 +65,7 @@ fn fault_of_repeat(others: usize, items: &[u32]) -> ModelFault
     ModelFault::NoSuchMember
 }
 
-/// Makes a table of places at least so long.
+/// Makes a table of places at least this long.
 fn make_room(places: &mut Vec<usize>, others: usize) -> Result<(), AllocError>
     ensures { OnOk result (others ≤ vec_len places.new) }
 {
@@ -82,7 +82,7 @@ fn are_below(items: &[u32], others: usize) -> bool
     items.iter().all(|x| (*x as usize) < others)
 }
 
-/// A member's list, which is empty where the member is withdrawn.
+/// A member's list, or an empty list if the member is withdrawn.
 pub(crate) fn remaining<'a>(lists: &'a GivenLists, withdrawn: &[bool], owner: usize) -> &'a [u32]
     requires one_flag_each { length withdrawn.now ≡ length lists.now }
     requires member { owner < length lists.now }
@@ -94,7 +94,7 @@ pub(crate) fn remaining<'a>(lists: &'a GivenLists, withdrawn: &[bool], owner: us
     lists.items(owner)
 }
 
-/// The residents of these numbers.
+/// The residents with these numbers.
 pub(crate) fn resident_numbers(
     alloc: Global,
     numbers: &[u32],
@@ -108,7 +108,7 @@ pub(crate) fn resident_numbers(
     Ok(named)
 }
 
-/// The programmes of these numbers.
+/// The programmes with these numbers.
 pub(crate) fn programme_numbers(
     alloc: Global,
     numbers: &[u32],

@@ -7,7 +7,7 @@ use crate::ranking::{programme_numbers, resident_numbers};
 use std::alloc::{AllocError, Global};
 use std::marker::Model;
 
-/// Rows of items, and where each ends. Items are pushed to the row that is begun, until it is ended.
+/// Rows of items, with the place where each row ends. An item goes to the open row until this row is ended.
 #[derive(Debug)]
 pub(crate) struct Rows<T> {
     items: Vec<T>,
@@ -25,7 +25,7 @@ impl<T> Model for Rows<T> {
     ghost invariant = { λ r. AreEnds 0 r.ends.items (length r.items.items) };
 }
 
-// One call, so that a caller that drops rows proves nothing of their parts.
+// A single call. So a caller that drops rows need not prove anything about their parts.
 impl<T: Drop> Drop for Rows<T> {
     fn drop(self) {
         let Rows { items: _, ends: _ } = self;
@@ -33,7 +33,7 @@ impl<T: Drop> Drop for Rows<T> {
 }
 
 impl<T: Copy> Rows<T> {
-    /// No rows, with room for so many rows and so many items in all.
+    /// No rows yet, with room for this many rows and this many items.
     pub(crate) fn with_capacity(
         alloc: Global,
         rows: usize,
@@ -46,7 +46,7 @@ impl<T: Copy> Rows<T> {
         Ok(Rows { items, ends })
     }
 
-    /// Appends an item to the row that is begun.
+    /// Appends an item to the open row.
     #[inline]
     pub(crate) fn push(&mut self, item: T) -> Result<(), AllocError>
         ensures { OnOk result (self.new ≡ record self.old { begun = self.old.begun ++ item ∷ [] }) }
@@ -55,7 +55,7 @@ impl<T: Copy> Rows<T> {
         Ok(())
     }
 
-    /// Ends the row that is begun.
+    /// Ends the open row.
     #[inline]
     pub(crate) fn end_row(&mut self) -> Result<(), AllocError>
         ensures { OnOk result (self.new ≡ record { rows = self.old.rows ++ self.old.begun ∷ []; begun = [] }) }
@@ -64,7 +64,7 @@ impl<T: Copy> Rows<T> {
         Ok(())
     }
 
-    /// Writes an item of a row that is ended.
+    /// Overwrites an item of a finished row.
     pub(crate) fn set(&mut self, row: usize, place: usize, item: T)
         requires { place < length (slice_index_or self.old.rows row []) }
         ensures { self.new ≡ record self.old { rows = slice_set self.old.rows row (slice_set (slice_index_or self.old.rows row []) place item) } }
@@ -73,21 +73,21 @@ impl<T: Copy> Rows<T> {
         self.items[at] = item;
     }
 
-    /// How many rows are ended.
+    /// How many rows are finished.
     pub(crate) fn len(&self) -> usize
         ensures { result ≡ length self.now.rows }
     {
         self.ends.len()
     }
 
-    /// How many items there are in all, with those of the row that is begun.
+    /// How many items there are, including those of the open row.
     pub(crate) fn item_count(&self) -> usize
         ensures { result ≡ sum_by length self.now.rows + length self.now.begun }
     {
         self.items.len()
     }
 
-    /// A row that is ended.
+    /// A finished row.
     #[inline(always)]
     pub(crate) fn row(&self, place: usize) -> &[T]
         requires { place < length self.now.rows }
@@ -98,7 +98,7 @@ impl<T: Copy> Rows<T> {
     }
 }
 
-/// Where a row starts, from the ends of the rows.
+/// The start of a row, from the ends of the rows.
 #[inline(always)]
 fn start_of(ends: &[usize], place: usize) -> usize
     requires { place < length ends.now }
@@ -110,7 +110,7 @@ fn start_of(ends: &[usize], place: usize) -> usize
     ends[place - 1]
 }
 
-/// The items from `start` up to `end`.
+/// The items from `start` to `end`, without the one at `end`.
 #[inline(always)]
 fn part<T>(items: &[T], start: usize, end: usize) -> &[T]
     requires order { start ≤ end }
@@ -120,7 +120,7 @@ fn part<T>(items: &[T], start: usize, end: usize) -> &[T]
     &items[start..end]
 }
 
-/// How many items these are in all. It is a hint for the room alone, so no contract speaks of it.
+/// The sum of these lengths. It is only a hint for reserving room, so no contract speaks of it.
 fn total(lengths: &[usize]) -> usize {
     let mut total: usize = 0;
     for length in lengths {
@@ -130,7 +130,7 @@ fn total(lengths: &[usize]) -> usize {
 }
 
 impl Rows<u32> {
-    /// Rows of zeros, of these lengths.
+    /// Rows of zeros, with these lengths.
     pub(crate) fn of_lengths(alloc: Global, lengths: &[usize]) -> Result<Rows<u32>, AllocError>
         ensures { IfOk result (λ made. made.rows ≡ map (λ n. replicate n 0) lengths.now) }
     {
@@ -142,7 +142,7 @@ impl Rows<u32> {
         Ok(rows)
     }
 
-    /// Appends zeros to the row that is begun.
+    /// Appends zeros to the open row.
     fn push_zeros(&mut self, count: usize) -> Result<(), AllocError>
         ensures { OnOk result (self.new ≡ record self.old { begun = self.old.begun ++ replicate count 0 }) }
     {
@@ -152,7 +152,7 @@ impl Rows<u32> {
         Ok(())
     }
 
-    /// The rows of these numbers, as residents.
+    /// The same rows, with their numbers as residents.
     pub(crate) fn into_residents(self, alloc: Global) -> Result<Rows<ResidentNo>, AllocError>
         ensures { IfOk result (λ made. made ≡ self) }
     {
@@ -161,7 +161,7 @@ impl Rows<u32> {
         Ok(Rows { items, ends })
     }
 
-    /// The rows of these numbers, as programmes.
+    /// The same rows, with their numbers as programmes.
     pub(crate) fn into_programmes(self, alloc: Global) -> Result<Rows<ProgrammeNo>, AllocError>
         ensures { IfOk result (λ made. made ≡ self) }
     {

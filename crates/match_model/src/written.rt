@@ -7,8 +7,8 @@ use crate::given::GivenLists;
 use crate::member::{ProgrammeNo, ResidentNo};
 use std::marker::Model;
 
-/// The members' lists as they were written, each best first. The list of a member is empty where none was given, and so is
-/// that of a number that is nobody's.
+/// The members' lists as they were written, best first. A member without a list has an empty one, and so has a number
+/// without a member.
 #[derive(Debug, Drop)]
 pub struct WrittenLists {
     programme_lists: GivenLists,
@@ -35,14 +35,16 @@ impl WrittenLists {
         }
     }
 
-    /// The rank of a resident in a programme's list, from 0, if it is listed: a walk along that list.
+    /// The rank of a resident in a programme's list, from 0, if the resident is listed. It is found by a walk along
+    /// the list.
     pub fn rank_of_resident(&self, programme: ProgrammeNo, resident: ResidentNo) -> Option<usize>
         ensures { result ≡ rank (list_at self.now.programme_lists programme) resident }
     {
         rank_along(self.programme_lists.written(programme.0), resident.0)
     }
 
-    /// The rank of a programme in a resident's list, from 0, if it is listed: a walk along that list.
+    /// The rank of a programme in a resident's list, from 0, if the programme is listed. It is found by a walk along
+    /// the list.
     pub fn rank_of_programme(&self, resident: ResidentNo, programme: ProgrammeNo) -> Option<usize>
         ensures { result ≡ rank (list_at self.now.resident_lists resident) programme }
     {
@@ -63,7 +65,7 @@ impl WrittenLists {
         self.resident_lists.written(resident.0).len()
     }
 
-    /// A resident's choice, from 0, if its list is so long.
+    /// A resident's choice at this place, counted from 0, if the list is long enough.
     pub fn choice(&self, resident: ResidentNo, place: usize) -> Option<ProgrammeNo>
         ensures { result ≡ slice_get (list_at self.now.resident_lists resident) place }
     {

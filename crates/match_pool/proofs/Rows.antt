@@ -1,4 +1,4 @@
--- Rows that have one item for each number below a count.
+-- Rows with one item for each number below a count.
 use Rattle.std.proofs.Common.{◌≡◌, ℕ, ◌+◌, ◌<◌, ◌≤◌, ◌⊎◌, inl, inr, Some, List, [], ◌∷◌, ◌++◌, length, refl, sym, ap, ◌∙◌, subst, arith, length-append}
 use Rattle.std.proofs.lemmas.Bool.{cases_eq}
 use Rattle.std.proofs.lemmas.Option.{slice_get_within, slice_get_read}
@@ -6,7 +6,7 @@ use Rattle.std.specs.Prelude.{slice_get, slice_index_or}
 use Rattle.match_model.proofs.Prefixes.{slice_get_push_parts}
 use Rattle.match_pool.specs.Done.{Each}
 
--- one item more has the property of its number
+-- one more item has the property for its number
 pub each_push : {X : Type 0} (xs : List X) (n : ℕ) (x : X) (property : ℕ → X → Type 0) → Each xs n property → property n x → Each (xs ++ x ∷ []) (n + 1) property
 each_push {X = X} xs n x property each has = record { one_each = omega (arith, length-append xs (x ∷ []), each.one_each); has = λ i y at. one i y (slice_get_push_parts xs x i y at) }
   where
@@ -18,7 +18,7 @@ each_push {X = X} xs n x property each has = record { one_each = omega (arith, l
 pub each_none : {X : Type 0} (xs : List X) (property : ℕ → X → Type 0) → xs ≡ [] → Each xs 0 property
 each_none {X = X} xs property none = record { one_each = ap length none; has = λ i x at. absurd (cc (subst (λ (ys : List X). slice_get ys i ≡ Some x) none at)) }
 
--- the items below a number have the property of theirs
+-- each item below a number has the property for its own number
 pub record AllBelow {X : Type 0} (xs : List X) (n : ℕ) (property : ℕ → X → Type 0) : Type 0 where
   pub has : (i : ℕ) (x : X) → i < n → slice_get xs i ≡ Some x → property i x
 
@@ -36,7 +36,7 @@ below_next {X = X} xs n x property below within item has = record { has = λ i y
         subst (λ (m : ℕ). property m y) (sym e) (subst (λ (z : X). property n z) same has)
     one i y under at (inr other) = below.has i y (omega (arith, under, other)) at
 
--- at the end all have it
+-- at the end all items have the property
 pub below_all : {X : Type 0} (xs : List X) (n : ℕ) (property : ℕ → X → Type 0) → AllBelow xs n property → length xs ≤ n
     → (i : ℕ) (x : X) → slice_get xs i ≡ Some x → property i x
 below_all xs n property below end = λ i x at. below.has i x (omega (arith, slice_get_within xs i x at, end)) at

@@ -1,4 +1,4 @@
--- What a run gives.
+-- What a run gives at its end.
 use Rattle.exchange_core.specs.Shown.{is_capacity}
 use Rattle.std.specs.List.{All}
 use Rattle.std.specs.Prelude.{◌≡◌, ◌⊎◌, ◌<◌, ◌≤◌, ◌==◌, ℕ, sum, count_by, Bool, true, false, ◌↔◌, List, ◌∷◌, [], ◌++◌, length, slice_get, Some, Option}
@@ -16,34 +16,37 @@ use Rattle.match_pool.specs.declared.done.Ending.TheVariants.{Closed, Stopped}
 use Rattle.match_pool.specs.declared.fault.RunFault.{RunFault}
 use Rattle.match_pool.specs.declared.fault.RunFault.TheVariants.{BadWorkers, BadCapacity, Memory, Thread, OutOfStep, Torn, MailGone}
 
--- one for each number below the count, with this property
+-- there is one item for each number below the count, and each has this property
 pub record Each {X : Type 0} (xs : List X) (count : ℕ) (property : ℕ → X → Type 0) : Type 0 where
   pub one_each : length xs ≡ count
   pub has : (i : ℕ) (x : X) → slice_get xs i ≡ Some x → property i x
 
--- all is at rest before the close, which is last
+-- before the close everything is at rest, and the close is the last event
 pub record ClosesAtRest (inst : Instance) (journal : List Event) : Type 0 where
   pub before : List Event
   pub close_is_last : journal ≡ before ++ Close ∷ []
   pub at_rest : IsAtRest inst before
 
--- every desk's list begins the one that it follows, all is at rest before the close, and what is given is stable and settled
+-- What each desk took begins what was sent to it. Before the close everything is at rest. The assignment is stable
+-- and settled.
 pub record IsSettledRun (inst : Instance) (journal : List Event) (assignment : List (Option ℕ)) : Type 0 where
   pub orderly : IsOrderly inst journal
   pub closes_at_rest : ClosesAtRest inst journal
   pub stable : IsStable inst assignment
   pub settled : IsSettled inst assignment
 
--- each event has the number of its worker, one of so many. Each worker has the number of its events, which are all events together
+-- Each event has the number of its worker, from this many workers. Each worker has a count of its events, and the
+-- counts add up to all events.
 pub record AreCounted (workers : ℕ) (journal : List Event) (who entered : List ℕ) : Type 0 where
   pub one_worker_each : length who ≡ length journal
   pub among_the_workers : All (λ w. w < workers) who
   pub counted : Each entered workers (λ w n. n ≡ count_by (λ v. v == w) who)
   pub all_counted : sum entered ≡ length journal
 
--- what a run by so many workers gives, with a gate that may stop it or may not. Its journal is legal, and closed exactly where
--- the run ended so. It is what the ends of every desk have put, and what the log of each agent has. Beside it stand the
--- assignment that it gives, settled where the run closed, and each event's worker
+-- The result of a run with this many workers, with a gate that may or may not be allowed to stop it. The journal is
+-- legal, and closed exactly if the run closed. Each desk's ends have put the journal's messages, and each agent's log
+-- has the journal's receipts. The assignment is the journal's, and settled if the run closed. Each event has its
+-- worker.
 pub record IsRunOf {M P T Q U : Type 0} (done : Done M P T Q U) (offers_put : P → List ℕ) (offers_taken : T → List ℕ)
     (answers_put : Q → List Answered) (answers_taken : U → List Answered) (inst : Instance) (cap : Capacity) (workers : ℕ) (may_stop : Bool) : Type 0 where
   pub legal : IsLegal inst cap done.journal.items
@@ -59,14 +62,14 @@ pub record IsRunOf {M P T Q U : Type 0} (done : Done M P T Q U) (offers_put : P 
   pub settled : done.ending ≡ Closed → IsSettledRun inst done.journal.items done.assignment
   pub counts : AreCounted workers done.journal.items done.who.items done.entered.items
 
--- a receipt: an offer is taken, or an answer heard
+-- the event is a receipt: a take of an offer, or a hear of an answer
 abbrev pub IsReceipt : Event → Type 0
 IsReceipt (Take r p) = Unit {0}
 IsReceipt (Hear p r k) = Unit {0}
 IsReceipt e = ⊥
 
--- no fault of the number of workers or of the capacity. Out of step is a receipt that may not follow a legal journal. Of the
--- others nothing is said
+-- The fault is not one of the number of workers or of the capacity. A fault `OutOfStep` has a receipt that may not
+-- follow a legal journal. About other faults nothing is said.
 abbrev pub IsFault : Instance → Capacity → RunFault → Type 0
 IsFault inst cap BadWorkers = ⊥
 IsFault inst cap BadCapacity = ⊥
@@ -76,7 +79,8 @@ IsFault inst cap (OutOfStep journal event) = IsLegal inst cap journal.items × I
 IsFault inst cap (Torn desk) = Unit {0}
 IsFault inst cap (MailGone desk) = Unit {0}
 
--- a number of workers that isn't 1 to 8 comes first, then a capacity that isn't admitted; else it is a fault of the run
+-- A wrong number of workers, which has to be 1 to 8, is told first; then a wrong capacity. Any other fault is a fault
+-- of the run.
 abbrev pub IsRunFault : Instance → Capacity → ℕ → RunFault → Type 0
 IsRunFault inst cap workers BadWorkers = (workers ≡ 0) ⊎ (8 < workers)
 IsRunFault inst cap workers BadCapacity = (1 ≤ workers) × (workers ≤ 8) × (is_capacity cap ≡ false)

@@ -1,4 +1,4 @@
--- What stands under the ledger's lock.
+-- What the ledger's lock protects.
 use Rattle.std.specs.Option.{ForSome}
 use Rattle.std.specs.Prelude.{◌≡◌, ℕ, ◌+◌, Bool, true, Option, Some, None, length, min}
 use Rattle.match_model.specs.Instance.{Instance}
@@ -67,12 +67,12 @@ pub record HasEvent {P Q : Type 0} (inst : Instance) (cap : Capacity) (ledger : 
   pub of_desk : number_of_desk inst event ≡ Some desk
 
 module _ {P Q : Type 0} where
-  -- a ledger that takes no more, and a receipt that may not follow its journal
+  -- the ledger takes no more events, and the receipt may not follow its journal
   pub record IsOutOfStep (inst : Instance) (cap : Capacity) (ledger : Entries P Q) (receipt : Event) : Type 0 where
     pub spoiled : ledger.spoiled ≡ true
     pub is_receipt : IsReceipt receipt
     pub may_not_follow : MayFollow inst cap ledger.journal receipt → ⊥
 
-  -- a receipt that was refused is out of step
+  -- if a receipt was refused, the receipt is out of step
   abbrev pub IsRefusedForGood : Instance → Capacity → Entries P Q → Option Event → Type 0
   IsRefusedForGood inst cap ledger out_of_step = ForSome out_of_step (λ receipt. IsOutOfStep inst cap ledger receipt)

@@ -1,20 +1,20 @@
--- What room the mailboxes of a run have.
+-- How much room the mailboxes of a run have.
 use Rattle.std.specs.Prelude.{ℕ, List, [], ◌≡◌, ◌*◌, length, max, min}
 use Rattle.match_model.specs.Instance.{Instance, list_of_resident, list_of_programme}
 use Rattle.exchange_core.specs.declared.event.Capacity.{Capacity}
 use Rattle.exchange_core.specs.declared.event.Capacity.TheVariants.{Full, Each}
 
--- the room of a mailbox into which at most so many messages are put. It is as many at full capacity, else no more than the
--- capacity, and one at least
+-- The room of a mailbox that gets at most this many messages. At full capacity it is this many. Else it is at most
+-- the capacity, and at least one.
 abbrev pub room_of : Capacity → ℕ → ℕ
 room_of Full most = max most 1
 room_of (Each n) most = min n (max most 1)
 
--- a resident's mailbox: an offer from each programme on its list
+-- the room of a resident's mailbox, for one offer from each programme on the resident's list
 abbrev pub offer_room_of : Instance → Capacity → ℕ → ℕ
 offer_room_of inst cap r = room_of cap (length (list_of_resident inst r))
 
--- a programme's mailbox: two answers from each resident on its list
+-- the room of a programme's mailbox, for two answers from each resident on the programme's list
 abbrev pub answer_room_of : Instance → Capacity → ℕ → ℕ
 answer_room_of inst cap p = room_of cap (2 * length (list_of_programme inst p))
 

@@ -5,7 +5,7 @@ use Rattle.match_pool.specs.declared.fault.RunFault.TheVariants as fault
 use Rattle.match_pool.specs.declared.fault.Trouble.{Trouble}
 use Rattle.match_pool.specs.declared.fault.Trouble.TheVariants.{Torn, MailGone, Thread, OutOfStep}
 
--- the close is entered, the gate stopped the run, or a trouble is noted
+-- whether the run ends: the close is entered, the gate stopped the run, or a fault is noted
 abbrev pub is_told : {X : Type 0} → Bool → Bool → Option X → Bool
 is_told closed stopped (Some trouble) = true
 is_told closed stopped None = closed || stopped

@@ -1,4 +1,4 @@
-//! What a run gives.
+//! The result of a run.
 use crate::mailboxes::Mailboxes;
 use exchange_core::Event;
 use match_agents::{ProgrammeAgent, ResidentAgent};
@@ -9,35 +9,35 @@ use match_model::Assignment;
 pub enum Ending {
     /// The exchange was closed.
     Closed,
-    /// The gate stopped it.
+    /// The gate stopped the run.
     Stopped,
 }
 
-/// The ends and agents of a run: sending ends by receiver, agents by desk.
+/// The ends and agents of a run. Sending ends are ordered by receiver, agents by desk.
 #[derive(Drop)]
 pub struct Ends<M: Mailboxes> {
-    /// By resident, the end that offers were put into.
+    /// For each resident, the end that offers were put into.
     pub offer_puts: Vec<M::OfferPut>,
-    /// By resident, its agent.
+    /// For each resident, the agent.
     pub residents: Vec<ResidentAgent<M::OfferTake>>,
-    /// By programme, the end that answers were put into.
+    /// For each programme, the end that answers were put into.
     pub answer_puts: Vec<M::AnswerPut>,
-    /// By programme, its agent.
+    /// For each programme, the agent.
     pub programmes: Vec<ProgrammeAgent<M::AnswerTake>>,
 }
 
-/// What a run gives.
+/// The result of a run.
 #[derive(Drop)]
 pub struct Done<M: Mailboxes> {
-    /// How it ended.
+    /// How the run ended.
     pub ending: Ending,
-    /// Every event, in the order of the ledger's lock.
+    /// Every event, in the order in which the ledger's lock was taken.
     pub journal: Vec<Event>,
     /// For each event, the number of the worker that entered it.
     pub who: Vec<u8>,
-    /// What each resident holds after the journal.
+    /// The programme that each resident holds after the journal.
     pub assignment: Assignment,
-    /// By worker, how many events it entered.
+    /// For each worker, how many events it entered.
     pub entered: Vec<u64>,
     /// The ends of the mailboxes, and the agents.
     pub ends: Ends<M>,

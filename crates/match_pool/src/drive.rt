@@ -16,14 +16,14 @@ use std::sync::Wait;
 use std::thread;
 use std::thread::{Builder, JoinHandle, Scope, Threads};
 
-/// How much stack a worker's thread has, in bytes. A worker uses some 5,000 of them.
+/// The size of a worker's stack, in bytes. A worker uses some 5,000 of them.
 const STACK_BYTES: usize = 256 * 1024;
 
-/// The threads of the workers, each of which gives its tally back.
+/// The threads of the workers. Each gives its tally back.
 type Handles<J> = Vec<JoinHandle<Tally<J>>>;
 
-/// Starts a worker for each tally, and joins them all. The tallies come back by worker. Where the system refuses to
-/// start one, those that were started are ended and joined.
+/// Starts a worker for each tally, and joins them all. The tallies come back in the order of workers. If the system
+/// refuses to start a worker, the others are ended and joined.
 pub(crate) fn drive<J, M, G, R>(
     rt: &R,
     alloc: Global,
@@ -65,7 +65,7 @@ where
     Ok(back)
 }
 
-// Starts a worker for each tally. None where the system refuses to start one, and then the run is ended.
+// Starts a worker for each tally. None if the system refuses to start a worker; then the run is ended.
 fn start_all<'s, 'f, E, J, M, G, R>(
     scope: &Scope<'s, E>,
     rt: &'s R,

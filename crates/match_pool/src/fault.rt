@@ -1,4 +1,4 @@
-//! Why a run gave no result.
+//! Why a run had no result.
 ghost use Rattle.std.specs.Prelude.{◌≡◌};
 ghost use Rattle.match_pool.specs.declared.fault.RunFault.TheVariants.{Memory};
 
@@ -6,31 +6,32 @@ use exchange_core::{Desk, Event};
 use std::alloc::{AllocError, AllocFailed};
 use thiserror::Error;
 
-/// Why a run gave no result. A fault ends all workers, and all are joined before it is answered.
+/// Why a run had no result. A fault ends all workers, and is returned once all have joined.
 #[derive(Debug, Drop, PartialEq, Eq, Error)]
 pub enum RunFault {
-    /// A number of workers that isn't admitted.
+    /// The number of workers is not from 1 to 8.
     #[error("bad number of workers")]
     BadWorkers,
     /// The capacity is neither full nor from 1 to 1,024.
     #[error("bad capacity")]
     BadCapacity,
-    /// A growth was refused.
+    /// The memory could not grow.
     #[error("out of memory")]
     Memory,
     /// The system refused to start a worker.
     #[error("a worker could not be started")]
     Thread,
-    /// A receipt that may not follow the journal.
+    /// A receipt may not follow the journal.
     #[error("a receipt was out of step")]
     OutOfStep {
-        /// The events entered before.
+        /// The events entered before the receipt.
         journal: Vec<Event>,
-        /// The take or hear.
+        /// The receipt: a take or a hear.
         event: Event,
     },
-    /// The desk's log differs from the journal, or the desk was left pending. Then its mailbox had nothing where the journal
-    /// has a message, or no room where the journal has room. It had so more often than its run has patience.
+    /// The desk's log differs from the journal, or the desk was left pending. A desk is left pending if its mailbox
+    /// too often disagreed with the journal: it had no message where the journal has one, or no room where the
+    /// journal has room.
     #[error("a desk's log differs from the journal")]
     Torn(Desk),
     /// Nobody holds the other end of this desk's mailbox.
@@ -38,14 +39,14 @@ pub enum RunFault {
     MailGone(Desk),
 }
 
-/// What ended the workers early.
+/// The fault that ended the workers early.
 #[derive(Clone, Copy, Debug)]
 pub(crate) enum Trouble {
     /// The core refused a receipt.
     OutOfStep,
-    /// A desk whose log is full, whose event the core refused, or whose mailbox was at odds with the journal for too long.
+    /// The desk's log is full, or the core refused its event, or its mailbox disagreed with the journal for too long.
     Torn(Desk),
-    /// A desk whose mailbox has lost its other end.
+    /// The mailbox of this desk has lost its other end.
     MailGone(Desk),
     /// The system refused to start a worker.
     Thread,

@@ -1,5 +1,5 @@
-//! The pool: several threads drive the agents of an exchange. Each desk is under a lock of its own, and the ledger under
-//! one. The desks in hands and those that may have work are under a third.
+//! The pool. Several threads drive the agents of an exchange. Each desk has its own lock, and the ledger has one. A
+//! third lock protects which desks workers hold and which may have work.
 #![tactic(auto)]
 
 mod after_joins;

@@ -1,4 +1,5 @@
-//! The locks of a run, and in which order a worker takes them: a desk's first, and then the ledger's or the scheduler's.
+//! The locks of a run, and the order in which a worker takes them: a desk's first, then the ledger's or the
+//! scheduler's.
 ghost use Rattle.std.specs.Prelude.{◌≡◌, true, false};
 
 use crate::naps::{NapRoom, Naps};
@@ -6,25 +7,27 @@ use std::hint::spin_loop;
 use std::snapshot::Snapshot;
 use std::sync::{Mutex, MutexGuard, Wait};
 
-/// What a thread has that holds no desk's lock. It takes no bytes. Such a lock takes it, and gives it back when it is let go.
+/// The token of a thread that holds no desk's lock. It has no bytes. A desk's lock takes the token, and gives it back
+/// when the lock is released.
 #[derive(Drop)]
 pub(crate) struct DeskRank(());
 
-/// Whether a thread is free to take the ledger's lock or the scheduler's, of which it holds one at most. It takes no bytes.
+/// Whether a thread may take the ledger's lock or the scheduler's. It may hold only one of them. The token has no
+/// bytes.
 #[derive(Drop)]
 pub(crate) struct InnerRank {
     free: Snapshot<bool>,
 }
 
 impl DeskRank {
-    /// What a thread has at its start.
+    /// The token of a thread at its start.
     pub(crate) fn of_thread() -> DeskRank {
         DeskRank(())
     }
 }
 
 impl InnerRank {
-    /// What a thread has at its start.
+    /// The token of a thread at its start.
     pub(crate) fn of_thread() -> InnerRank
         ensures { result.free.value ≡ true }
     {
@@ -33,7 +36,7 @@ impl InnerRank {
         }
     }
 
-    /// A lock of this rank is taken.
+    /// The thread took a lock of this rank.
     #[inline(always)]
     pub(crate) fn taken(&mut self)
         requires { self.old.free.value ≡ true }
@@ -42,7 +45,7 @@ impl InnerRank {
         self.free = Snapshot::of(&false);
     }
 
-    /// The lock is let go.
+    /// The thread released the lock.
     #[inline(always)]
     pub(crate) fn give_back<T>(&mut self, guard: MutexGuard<'_, T>)
         requires { self.old.free.value ≡ false }
@@ -57,14 +60,14 @@ impl InnerRank {
 #[derive(Drop)]
 pub(crate) struct DeskLock<T>(Mutex<T>);
 
-/// A value out of a desk's lock, which is held.
+/// A value under a desk's lock, while the lock is held.
 #[derive(Drop)]
 pub(crate) struct DeskGuard<'a, T> {
     pub(crate) value: MutexGuard<'a, T>,
 }
 
 impl<T> DeskLock<T> {
-    /// Nobody has it.
+    /// A lock that no thread holds.
     pub(crate) fn new(value: T) -> DeskLock<T> {
         DeskLock(Mutex::new(value))
     }
@@ -92,7 +95,7 @@ impl<T> DeskLock<T> {
 }
 
 impl<'a, T> DeskGuard<'a, T> {
-    /// The lock is let go.
+    /// Releases the lock.
     #[inline(always)]
     pub(crate) fn give_back(self) -> DeskRank {
         let DeskGuard { value } = self;
@@ -101,7 +104,7 @@ impl<'a, T> DeskGuard<'a, T> {
     }
 }
 
-/// How often a lock is tried before a worker naps, and how long it pauses after each time.
+/// How often a lock is tried before a worker naps, and how long the worker pauses after each try.
 const TRIES: u32 = 2;
 
 const PAUSES: u32 = 4;
@@ -123,8 +126,9 @@ fn try_soon<T>(lock: &Mutex<T>) -> Option<MutexGuard<'_, T>> {
     None
 }
 
-/// The value under a lock that each worker wants for each event. Where another has it a worker steps back for a while, so
-/// that the other works on alone. A lock that changes hands for each event makes both slower than one.
+/// The value under a lock that each worker needs for each event. If another worker holds the lock, this one steps
+/// back for a while, so that the other works on alone. A lock that changes hands for each event makes both slower
+/// than one worker.
 #[inline(always)]
 pub(crate) fn lock_soon<'a, T, R: Wait>(
     rt: &R,
@@ -137,7 +141,8 @@ pub(crate) fn lock_soon<'a, T, R: Wait>(
     }
 }
 
-// The value under a lock that another worker has: tried after each of some naps, and then waited for.
+// The value under a lock that another worker holds. The lock is tried after each of some naps. After the last nap the
+// worker waits for it.
 #[cold]
 fn lock_later<'a, T, R: Wait>(rt: &R, lock: &'a Mutex<T>, room: &NapRoom) -> MutexGuard<'a, T> {
     let mut naps = Naps::FOR_LOCK;

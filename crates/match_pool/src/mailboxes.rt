@@ -1,4 +1,4 @@
-//! The mailboxes of a run: which ends they have, and how one is opened.
+//! The mailboxes of a run: their ends, and how a mailbox is opened.
 ghost use Rattle.std.specs.Prelude.{◌≡◌, ◌≢◌, ℕ, [], IfOk, IfErr};
 
 use exchange_core::{AnswerNote, OfferNote};
@@ -7,19 +7,19 @@ use match_model::{ProgrammeNo, ResidentNo};
 use std::alloc::Global;
 use std::sync::Wait;
 
-/// The mailboxes of a run: the two ends of one for offers and of one for answers, and how each is opened. A fresh
-/// mailbox has the room that it was opened with, and nothing was put into it or taken from it.
+/// The mailboxes of a run: the two ends of a mailbox for offers, the two ends of one for answers, and how each is
+/// opened. A new mailbox has the room that was asked for. Nothing was put into it or taken from it.
 pub trait Mailboxes {
-    /// Where a resident's offers are put.
+    /// The end into which a resident's offers are put.
     type OfferPut: PutEnd<OfferNote> + Drop + Send;
 
-    /// Where a resident takes its offers.
+    /// The end from which a resident takes offers.
     type OfferTake: TakeEnd<OfferNote> + Drop + Send;
 
-    /// Where a programme's answers are put.
+    /// The end into which a programme's answers are put.
     type AnswerPut: PutEnd<AnswerNote> + Drop + Send;
 
-    /// Where a programme takes its answers.
+    /// The end from which a programme takes answers.
     type AnswerTake: TakeEnd<AnswerNote> + Drop + Send;
 
     // How many offers a mailbox has room for.
@@ -28,11 +28,11 @@ pub trait Mailboxes {
     // How many answers a mailbox has room for.
     ghost answer_room: { Self.AnswerPut → ℕ };
 
-    /// How often in a row a worker goes on after a mailbox that gives nothing or takes nothing, against the journal. After
-    /// so many times its run ends as torn.
+    /// How many misses in a row a worker accepts. In a miss a mailbox gives or accepts nothing, although by the
+    /// journal it should. After this many the run ends as torn.
     const PATIENCE: u32;
 
-    /// Opens this resident's mailbox, with room for so many offers, at least one. The one fault is `Memory`.
+    /// Opens this resident's mailbox, with room for this many offers, at least one. The only fault is `Memory`.
     fn open_offers(
         &self,
         alloc: Global,
@@ -44,7 +44,7 @@ pub trait Mailboxes {
         ensures room { IfOk result (λ ends. offer_room ends.0 ≡ room) }
         ensures memory { IfErr result (λ fault. fault ≡ MailFault.Memory) };
 
-    /// Opens this programme's mailbox, with room for so many answers, at least one. The one fault is `Memory`.
+    /// Opens this programme's mailbox, with room for this many answers, at least one. The only fault is `Memory`.
     fn open_answers(
         &self,
         alloc: Global,
@@ -57,7 +57,7 @@ pub trait Mailboxes {
         ensures memory { IfErr result (λ fault. fault ≡ MailFault.Memory) };
 }
 
-/// Mailboxes under a rule: what was taken is a prefix of what was put.
+/// Mailboxes under a rule: the messages taken are a prefix of the messages put.
 #[derive(Clone, Copy, Debug)]
 pub struct RuledMailboxes<R: Wait + Copy>(pub R);
 

@@ -1,4 +1,4 @@
-//! What a run has before its workers start: mailboxes, agents and the ledger.
+//! What a run makes before its workers start: mailboxes, agents and the ledger.
 ghost use Rattle.std.specs.Prelude.{◌≡◌, ◌≢◌, ◌≤◌, ◌*◌, length, true, IfOk, IfErr};
 ghost use Rattle.exchange_core.specs.Shown.{is_capacity};
 ghost use Rattle.match_model.specs.Instance.{IsResident, IsProgramme};
@@ -23,10 +23,11 @@ use std::alloc::Global;
 use std::marker::PhantomData;
 use std::sync::ledger::Blank;
 
-/// One side's desks: by receiver, the sending ends of their mailboxes, and what lies under their locks.
+/// The desks of one side, in the order of receivers: the sending ends of their mailboxes, and the locks with their
+/// agents.
 type Side<P, D> = (Vec<P>, Vec<DeskLock<D>>);
 
-/// What a run opens its exchange from, which the type names.
+/// The parts from which a run opens the exchange in the type's name.
 #[derive(Drop)]
 pub(crate) struct RunStart<'a, J: ExchangeIdentity + WorkersIdentity, M: Mailboxes> {
     pub(crate) alloc: Global,
@@ -40,7 +41,7 @@ pub(crate) struct RunStart<'a, J: ExchangeIdentity + WorkersIdentity, M: Mailbox
 }
 
 impl<'a, J: ExchangeIdentity + WorkersIdentity, M: Mailboxes> RunStart<'a, J, M> {
-    /// Everything that the workers share, before any event, and their tallies.
+    /// All that the workers share, before any event, and the workers' tallies.
     pub(crate) fn shared<'g, G: Gate>(
         &self,
         blank: Blank,
@@ -133,7 +134,7 @@ impl<'a, J: ExchangeIdentity + WorkersIdentity, M: Mailboxes> RunStart<'a, J, M>
         }
     }
 
-    // The ledger over these ends, which have put nothing, with nobody waiting for room; and each worker's tally.
+    // The ledger over these new ends, while no desk waits for room, and each worker's tally.
     fn exchange(
         &self,
         blank: Blank,
@@ -166,7 +167,7 @@ impl<'a, J: ExchangeIdentity + WorkersIdentity, M: Mailboxes> RunStart<'a, J, M>
     }
 }
 
-// The room of a mailbox into which at most this many messages are ever put: no more than that is used.
+// The room of a mailbox that gets at most this many messages: never more than will be used.
 fn room(cap: Capacity, most: usize) -> u32
     requires within { most ≤ 2 * MAX_PAIRS }
     requires admitted { is_capacity cap ≡ true }

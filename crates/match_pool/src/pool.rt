@@ -1,4 +1,4 @@
-//! A run: mailboxes, agents, ledger and workers, from an instance to what the ends put and took.
+//! A run: from an instance, through mailboxes, agents, ledger and workers, to what the ends put and took.
 ghost use Rattle.std.specs.Prelude.{◌≡◌, ◌≤◌, true, IfOk, IfErr, OnOk};
 ghost use Rattle.exchange_core.specs.Shown.{is_capacity};
 ghost use Rattle.match_pool.specs.Done.{IsRunOf, IsFault, IsRunFault};
@@ -20,16 +20,17 @@ use std::sync::Wait;
 use std::sync::ledger::Blank;
 use std::thread::Threads;
 
-/// How many workers a run has at most.
+/// The greatest number of workers of a run.
 const MOST_WORKERS: usize = 8;
 
-/// What a run over ruled mailboxes gives.
+/// The result of a run with ruled mailboxes.
 pub type RuledDone<R> = Done<RuledMailboxes<R>>;
 
-/// Runs the exchange of an instance by this many workers, from 1 to 8, until it is closed or the gate stops it.
+/// Runs the exchange of an instance with this many workers, from 1 to 8, until it is closed or the gate stops it.
 ///
-/// After a stop each worker enters the event that it has begun, and no other. A stop at the run's last receipt may come too
-/// late. A worker that has seen none yet may close the run once that receipt is entered, and then it ends as `Closed`.
+/// After a stop each worker enters the event that it has begun, and no other. A stop at the run's last receipt may
+/// come too late. Once this receipt is entered, a worker that has not seen the stop may close the run. Then the run
+/// ends as `Closed`.
 pub fn run<G: Gate + Sync, R: Threads + Wait + Sync + Send + Copy>(
     rt: R,
     alloc: Global,
@@ -75,14 +76,14 @@ pub fn run_over<M: Mailboxes + Send + Sync, G: Gate + Sync, R: Threads + Wait + 
     run_named::<Brand, M, G, R>(&rt, alloc, blanks, mailboxes, inst, cap, workers, gate)
 }
 
-/// The ledgers of a run's counts, which have no name yet: of its entries, and of its workers.
+/// The ledgers for the counts of a run, before they get their names: one for entries, the others for workers.
 #[derive(Drop)]
 struct Blanks {
     entries: Blank,
     workers: WorkerBlanks,
 }
 
-// The run of the exchange that the type names.
+// The run of the exchange in the type's name.
 fn run_named<
     J: ExchangeIdentity + WorkersIdentity + Send + Sync,
     M: Mailboxes + Send + Sync,

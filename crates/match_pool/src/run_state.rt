@@ -1,4 +1,4 @@
-//! What lies under the third lock: who has which desk and which may have work, and who told the end of the run.
+//! What the third lock protects: which worker holds which desk, which desks may have work, and what ended the run.
 ghost use Rattle.std.specs.Prelude.{◌≡◌, Some, true, false, MatchOption};
 ghost use Rattle.match_pool.specs.RunState.{is_told};
 
@@ -8,7 +8,7 @@ use desk_scheduler::{Shift, WorkersIdentity};
 use offer_ledger::{CloseToken, ExchangeIdentity};
 use std::marker::PhantomData;
 
-/// The workers and the desks among them, and what ended the run: the close, the gate's word, or a trouble.
+/// The workers and their desks, and what ended the run: the close, the gate's stop, or a fault.
 #[derive(Drop)]
 pub(crate) struct RunState<'a, J: ExchangeIdentity + WorkersIdentity, G: Gate> {
     pub(crate) shift: Shift<J>,
@@ -21,7 +21,7 @@ pub(crate) struct RunState<'a, J: ExchangeIdentity + WorkersIdentity, G: Gate> {
 }
 
 impl<'a, J: ExchangeIdentity + WorkersIdentity, G: Gate> RunState<'a, J, G> {
-    /// Nothing ended the run yet.
+    /// The state while nothing has ended the run.
     pub(crate) fn new(shift: Shift<J>) -> RunState<'a, J, G>
         requires { shift.schedule.ended ≡ false }
     {
@@ -34,13 +34,13 @@ impl<'a, J: ExchangeIdentity + WorkersIdentity, G: Gate> RunState<'a, J, G> {
         }
     }
 
-    /// The close is entered, and the run ends.
+    /// The close is entered, so the run ends.
     pub(crate) fn close(&mut self, _close: CloseToken<J>) {
         self.closed = true;
         self.end();
     }
 
-    /// The gate stopped the run, which ends.
+    /// The gate stopped the run, so the run ends.
     pub(crate) fn stop(&mut self)
         requires { G.MAY_STOP ≡ true }
     {
@@ -48,7 +48,7 @@ impl<'a, J: ExchangeIdentity + WorkersIdentity, G: Gate> RunState<'a, J, G> {
         self.end();
     }
 
-    /// The run ends for a trouble, of which the first one is kept.
+    /// A fault ends the run. If there are several, the first is kept.
     pub(crate) fn fail(&mut self, trouble: Trouble)
         ensures { MatchOption self.old.trouble (self.new.trouble ≡ Some trouble)
             (λ first. self.new.trouble ≡ Some first) }
@@ -58,7 +58,7 @@ impl<'a, J: ExchangeIdentity + WorkersIdentity, G: Gate> RunState<'a, J, G> {
         self.end();
     }
 
-    // No desk comes into a hand any more. Only whoever closed, stopped or failed tells so.
+    // No worker gets a desk any more. Only the worker that closed, stopped or failed calls this.
     fn end(&mut self)
         requires { is_told self.old.closed self.old.stopped self.old.trouble ≡ true }
         ensures { self.new.trouble ≡ self.old.trouble }
@@ -66,7 +66,7 @@ impl<'a, J: ExchangeIdentity + WorkersIdentity, G: Gate> RunState<'a, J, G> {
         self.shift.end();
     }
 
-    /// The trouble that ended the run, if one did.
+    /// The fault that ended the run, if there is one.
     pub(crate) fn trouble(&self) -> Option<Trouble>
         ensures { result ≡ self.now.trouble }
     {

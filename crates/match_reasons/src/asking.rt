@@ -95,7 +95,8 @@ fn residents_reason(
         (Asks listed.now.instance (list_at listed.now.written.resident_lists resident)
         (list_at listed.now.written.programme_lists programme) sheet.now resident programme)
         (λ answer. IsFirst listed.now.instance (list_at listed.now.written.resident_lists resident)
-        (list_at listed.now.written.programme_lists programme) sheet.now resident programme answer) }
+        (list_at listed.now.written.programme_lists programme) sheet.now resident programme
+        answer) }
     ensures own { IfSome result (NamesOwn sheet.now resident) }
 {
     let inst = listed.instance();

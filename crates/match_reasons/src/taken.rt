@@ -63,7 +63,8 @@ fn later(last: Option<usize>, place: usize) -> usize
 
 /// How a programme's places are taken, by its list as it was written: one walk over the placement.
 pub fn places_taken(listed: &Listed, sheet: &Assignment, programme: ProgrammeNo) -> Taken
-    ensures { IsTaken (list_at listed.now.written.programme_lists programme) sheet.now programme result }
+    ensures { IsTaken (list_at listed.now.written.programme_lists programme) sheet.now
+        programme result }
 {
     let written = listed.lists();
     let mut members = 0;

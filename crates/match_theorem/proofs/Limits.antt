@@ -18,7 +18,8 @@ use Rattle.docket.specs.declared.fault.DocketFault.TheVariants.{TooManyRecords, 
 use Rattle.docket.proofs.SoundFacts.{both_none}
 use Rattle.docket.proofs.DeclarationFacts.{programmes_of-if, residents_of-if, quotas_of-if}
 
--- the letters of a row that declares a programme, of a programme's list and of a resident's, in ASCII: `Q`, `P` and `R`
+-- the letters of three kinds of row in ASCII: `Q` declares a programme, `P` is a programme's list, and `R` is a
+-- resident's
 abbrev pub quota_letter : ℕ
 quota_letter = 81
 
@@ -28,7 +29,7 @@ programme_letter = 80
 abbrev pub resident_letter : ℕ
 resident_letter = 82
 
--- what holds of no record, and goes on over each record without a fault, holds of all records
+-- a property of no records that each further record without a fault keeps holds for all records
 pub over_records : (f : List Fields → Fields → Option DocketFault) (P : List Fields → Type 0) → P []
     → ((before : List Fields) (row : Fields) → f before row ≡ None → P before → P (before ++ row ∷ []))
     → (rows : List Fields) → first_from f [] rows ≡ None → P rows
@@ -41,7 +42,7 @@ over_records f P start step rows none = over [] rows none start
         let parts = both_none (f before row) (first_from f (before ++ row ∷ []) rest) e in
         subst P (append_assoc before (row ∷ []) rest) (over (before ++ row ∷ []) rest parts.1 (step before row parts.0 h))
 
--- a record without a fault of the first pass is within the limits
+-- a record without a fault in the first pass is within the limits
 limit_none : (before : List Fields) (row : Fields) → reading_fault Standard before row ≡ None → limit_fault Standard before row ≡ None
 unfolding reading_fault
 limit_none before row none = by _ none
@@ -62,7 +63,7 @@ one_kind row j k e f = search (rules, e, f)
 abbrev quota_in : Fields → ℕ
 quota_in row = unwrap_or (number_of (field row 2)) 0
 
--- what the limits say of a record that declares a programme
+-- what the limits say about a record that declares a programme
 programme_limits : (before : List Fields) (row : Fields) → is_kind quota_letter row ≡ true → limit_fault Standard before row ≡ None
     → (nat_le (most_programmes Standard) (length (programmes_of before)) ≡ false) × (nat_lt MAX_QUOTA (quota_in row) ≡ false)
 unfolding limit_fault
@@ -79,7 +80,7 @@ programme_limits before row kind none = by (is_kind quota_letter row) kind none
     by true t e = both (nat_le (most_programmes Standard) (length (programmes_of before))) (nat_lt MAX_QUOTA (quota_in row)) e
     by false t e = absurd (cc t)
 
--- what the limits say of a record that declares a resident
+-- what the limits say about a record that declares a resident
 resident_limits : (before : List Fields) (row : Fields) → is_kind resident_letter row ≡ true → limit_fault Standard before row ≡ None
     → nat_le (most_residents Standard) (length (residents_of before)) ≡ false
 unfolding limit_fault
@@ -96,7 +97,7 @@ resident_limits before row kind none = by (is_kind quota_letter row) (is_kind re
     by false true q t e = one (nat_le (most_residents Standard) (length (residents_of before))) e
     by false false q t e = absurd (cc t)
 
--- there are no more programmes than there may be
+-- there are no more programmes than the limit
 pub programmes_within : (rows : List Fields) → first_from (reading_fault Standard) [] rows ≡ None → length (programmes_of rows) ≤ most_programmes Standard
 unfolding programmes_of
 programmes_within rows none = over_records (reading_fault Standard) (λ some. length (programmes_of some) ≤ most_programmes Standard) (omega arith) more rows none
@@ -108,7 +109,7 @@ programmes_within rows none = over_records (reading_fault Standard) (λ some. le
         by true kind = search (rules, (programme_limits before row kind (limit_none before row e)).0, length-append (programmes_of before) (field row 1 ∷ []))
         by false kind = h
 
--- there are no more residents than there may be
+-- there are no more residents than the limit
 pub residents_within : (rows : List Fields) → first_from (reading_fault Standard) [] rows ≡ None → length (residents_of rows) ≤ most_residents Standard
 unfolding residents_of
 residents_within rows none = over_records (reading_fault Standard) (λ some. length (residents_of some) ≤ most_residents Standard) (omega arith) more rows none
@@ -120,7 +121,7 @@ residents_within rows none = over_records (reading_fault Standard) (λ some. len
         by true kind = search (rules, resident_limits before row kind (limit_none before row e), length-append (residents_of before) (field row 1 ∷ []))
         by false kind = h
 
--- no quota is larger than it may be
+-- no quota is above the limit
 pub quotas_within : (rows : List Fields) → first_from (reading_fault Standard) [] rows ≡ None → All (λ q. q ≤ MAX_QUOTA) (quotas_of rows)
 unfolding quotas_of
 quotas_within rows none = over_records (reading_fault Standard) (λ some. All (λ q. q ≤ MAX_QUOTA) (quotas_of some)) (All-nil (λ q. q ≤ MAX_QUOTA)) more rows none

@@ -1,4 +1,4 @@
--- What a match has written, as laws: each is the contract of the function of its name.
+-- What a match wrote, as laws. Each law is the contract of the function of the same name.
 use Rattle.std.specs.Prelude.{◌≡◌, ℕ, Option, Some, List, []}
 use Rattle.residency.specs.declared.options.MatchOptions.{MatchOptions}
 use Rattle.residency.specs.declared.options.JournalForm.TheVariants.{Absent}
@@ -7,20 +7,20 @@ use Rattle.residency.specs.Serving.{AreDocket, WritesMatch}
 use Rattle.residency.specs.Program.{EndsServing}
 use Rattle.match_theorem.specs.Theorem.{market_of, WritesResult}
 
--- the sheet of the result was appended, and nothing after it where no journal is wanted
+-- the sheet of the result was appended; nothing follows it unless a journal is wanted
 pub record WritesSheet (bytes : List ℕ) (o : MatchOptions) (old new : Option (List ℕ)) : Type 0 where
   pub journal : List ℕ
   pub no_more : o.journal ≡ Absent → journal ≡ []
   pub writes : WritesResult (market_of bytes) journal old new
 
--- whatever a match of a docket of these bytes has written is the sheet of its result
+-- every match of the docket with these bytes writes the sheet of its result
 abbrev pub MatchLaw : Type 0
 MatchLaw =
     (bytes : List ℕ) (o : MatchOptions) (old new : Option (List ℕ)) →
     AreDocket (λ d. WritesMatch d o old new) bytes →
     WritesSheet bytes o old new
 
--- where the program has served a match over these bytes with status 0, it has written the sheet of their result
+-- if the program served a match over these bytes with status 0, it wrote the sheet of their result
 abbrev pub ProgramLaw : Type 0
 ProgramLaw =
     (bytes : List ℕ) (o : MatchOptions) (old new : Option (List ℕ)) →

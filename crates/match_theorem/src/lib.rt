@@ -1,4 +1,4 @@
-//! The theorem of a match in few words: what is written is the sheet of the one settled placement of the docket, and that
+//! The theorem of a match in few words. A match writes the sheet of the docket's only settled placement, and this
 //! placement is stable.
 #![tactic(auto)]
 

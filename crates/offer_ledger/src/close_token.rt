@@ -1,15 +1,16 @@
-//! What an entered close gives.
+//! The token that an entered close gives.
 use crate::identity::ExchangeIdentity;
 use std::marker::PhantomData;
 
-/// The close of the exchange that the type names is entered. Only a ledger's `close_and_tell` makes one. It has no bytes.
+/// The close of the exchange in the type's name is entered. Only a ledger's `close_and_tell` makes such a token. It
+/// has no bytes.
 #[derive(Drop)]
 pub struct CloseToken<J: ExchangeIdentity> {
     exchange: PhantomData<J>,
 }
 
 impl<J: ExchangeIdentity> CloseToken<J> {
-    /// The close was just entered.
+    /// The token for a close that was just entered.
     pub(crate) fn new() -> CloseToken<J> {
         CloseToken {
             exchange: PhantomData,

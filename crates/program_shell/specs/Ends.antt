@@ -1,4 +1,4 @@
--- How a program ends whose words order nothing.
+-- How a program ends if its words give no order.
 use Rattle.std.specs.Prelude.{◌≡◌, ◌⊎◌, ℕ, Option, Result, Ok, Err, IsOkAnd, List, map, string_bytes}
 use Rattle.std.specs.Prelude.{String}
 use Rattle.std.specs.Global.{Vec}
@@ -9,12 +9,12 @@ use Rattle.program_shell.specs.declared.fault.LineFault.TheVariants.{Memory}
 use Rattle.program_shell.specs.declared.fault.UsageFault.{UsageFault}
 use Rattle.program_shell.specs.declared.fault.UsageFault.TheVariants.{NoText, Line}
 
--- why words are no texts: one of them is none, or memory failed before they were read
+-- why words are not texts: one of them isn't, or memory ran out before they were read
 abbrev pub IsTextFaultOf : {A E : Type 0} → Result (Vec (String A)) E → UsageFault → Type 0
 IsTextFaultOf (Ok texts) fault = ⊥
 IsTextFaultOf (Err error) fault = (fault ≡ NoText) ⊎ (fault ≡ Line Memory)
 
--- why the words order nothing: the parser refuses them, or they are no texts
+-- why the words give no order: the parser refuses them, or they are not texts
 abbrev pub IsUsageFaultOf : {A E : Type 0} → (List Text → LineFault → Type 0) → Result (Vec (String A)) E → UsageFault → Type 0
 IsUsageFaultOf Refuses (Ok texts) NoText = ⊥
 IsUsageFaultOf Refuses (Ok texts) (Line fault) = Refuses (map string_bytes texts.items) fault
@@ -24,12 +24,12 @@ IsUsageFaultOf Refuses (Err error) fault = (fault ≡ NoText) ⊎ (fault ≡ Lin
 abbrev pub IsOrderOf : {A E O : Type 0} → (List Text → O → Type 0) → Result (Vec (String A)) E → O → Type 0
 IsOrderOf Orders words order = IsOkAnd words (λ texts. Orders (map string_bytes texts.items) order)
 
--- the status after words that order nothing: that of their fault, or 1 where the text of help or the version couldn't
--- be written
+-- the status after words without an order: the status of their fault, or 1 if the help or the version could not be
+-- written
 abbrev pub IsRefusedStatus : UsageFault → ℕ → Type 0
 IsRefusedStatus fault status = (status ≡ usage_status_of fault) ⊎ ((usage_status_of fault ≡ 0) × (status ≡ 1))
 
--- the words order nothing: nothing was written, and the status tells why
+-- the words give no order, nothing was written, and the status tells why
 pub record EndsRefused {A E : Type 0} (Refuses : List Text → LineFault → Type 0) (words : Result (Vec (String A)) E) (old new : Option (List ℕ))
     (status : ℕ) : Type 0 where
   pub fault : UsageFault

@@ -1,4 +1,4 @@
--- Which fault an error of the parser is.
+-- Which fault an error of the parser becomes.
 use Rattle.std.specs.Prelude.{◌≡◌}
 use Rattle.clap.specs.Values.{kind_of}
 use Rattle.clap.specs.declared.error.kind.ErrorKind.{ErrorKind}
@@ -6,13 +6,13 @@ use Rattle.clap.specs.declared.error.kind.ErrorKind.TheVariants.{OutOfMemory}
 use Rattle.program_shell.specs.declared.fault.LineFault.{LineFault}
 use Rattle.program_shell.specs.declared.fault.LineFault.TheVariants.{Memory, Line, BadCapacity}
 
--- want of memory and a bad capacity are told as such, and any other fault is the parser's
+-- out of memory and a bad capacity have their own faults; any other fault is the parser's
 abbrev pub IsLineFault : LineFault → Type 0
 IsLineFault Memory = Unit {0}
 IsLineFault BadCapacity = Unit {0}
 IsLineFault (Line error) = kind_of error ≡ OutOfMemory → ⊥
 
--- the fault is want of memory, or an error of a kind with this property
+-- the fault is out of memory, or an error of a kind with this property
 abbrev pub IsErrorOf : (ErrorKind → Type 0) → LineFault → Type 0
 IsErrorOf P Memory = Unit {0}
 IsErrorOf P BadCapacity = ⊥

@@ -1,4 +1,4 @@
--- With which status a program ends where a docket is at fault, and where its words order nothing.
+-- The exit status of a program if a docket is at fault, or if its words give no order.
 use Rattle.std.specs.Prelude.{ℕ}
 use Rattle.clap.specs.Values.{kind_of}
 use Rattle.clap.specs.declared.error.kind.ErrorKind.{ErrorKind}
@@ -10,7 +10,7 @@ use Rattle.program_shell.specs.declared.fault.LineFault.TheVariants as line
 use Rattle.program_shell.specs.declared.fault.UsageFault.{UsageFault}
 use Rattle.program_shell.specs.declared.fault.UsageFault.TheVariants as usage
 
--- 1 where memory, the reader or the writer failed, 3 where the docket is at fault
+-- 1 if memory, the reader or the writer failed; 3 if the docket is at fault
 abbrev pub docket_status_of : DocketFault → ℕ
 docket_status_of (docket.Read place) = 1
 docket_status_of docket.Memory = 1
@@ -28,19 +28,19 @@ docket_status_of (docket.BadSheet place) = 3
 docket_status_of (docket.BadVersion place) = 3
 docket_status_of (docket.BadWithdrawal place) = 3
 
--- 0 where help or the version was asked for, 2 for any other fault in the words
+-- 0 if help or the version was asked for; 2 for any other fault in the words
 abbrev pub words_status_of : ErrorKind → ℕ
 words_status_of DisplayHelp = 0
 words_status_of DisplayVersion = 0
 words_status_of _ = 2
 
--- the status after a command line that orders nothing
+-- the status after a command line without an order
 abbrev pub line_status_of : LineFault → ℕ
 line_status_of line.Memory = 1
 line_status_of line.BadCapacity = 2
 line_status_of (line.Line error) = words_status_of (kind_of error)
 
--- the status after words that order nothing: 2 where one of them is no text
+-- the status after words without an order; 2 if one of them is not a text
 abbrev pub usage_status_of : UsageFault → ℕ
 usage_status_of usage.NoText = 2
 usage_status_of (usage.Line fault) = line_status_of fault

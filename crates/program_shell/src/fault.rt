@@ -1,4 +1,4 @@
-//! Why words order nothing.
+//! Why words give no order.
 ghost use Rattle.std.specs.Prelude.{◌≡◌};
 ghost use Rattle.clap.specs.Values.{kind_of};
 ghost use Rattle.program_shell.specs.Faults.{IsErrorOf, IsLineFault};
@@ -8,13 +8,13 @@ use clap::error::ErrorKind;
 use std::alloc::AllocError;
 use thiserror::Error;
 
-/// Why a command line orders nothing.
+/// Why a command line gives no order.
 #[derive(Debug, Drop, Error)]
 pub enum LineFault {
-    /// A growth was refused.
+    /// The memory could not grow.
     #[error("out of memory")]
     Memory,
-    /// The words aren't those of a command, or help or the version was asked for.
+    /// The words are no command, or they ask for help or the version.
     #[error(transparent)]
     Line(clap::Error),
     /// The capacity is neither `full` nor a number from 1 to 1,024.
@@ -30,18 +30,18 @@ impl From<AllocError> for LineFault {
     }
 }
 
-/// Why the words after the program's name order nothing.
+/// Why the words after the program's name give no order.
 #[derive(Debug, Drop, Error)]
 pub enum UsageFault {
-    /// A word is no text.
+    /// A word is not a text.
     #[error("a word of the command line is no text")]
     NoText,
-    /// The words are no command line, or help or the version was asked for.
+    /// The words are no command line, or they ask for help or the version.
     #[error(transparent)]
     Line(LineFault),
 }
 
-/// The fault that an error of the parser is.
+/// The fault that an error of the parser becomes.
 pub fn line_fault(error: clap::Error) -> LineFault
     ensures fault { IsLineFault result }
     ensures kind { IsErrorOf (λ kind. kind ≡ kind_of error) result }

@@ -1,6 +1,6 @@
-//! What a program does with its words before it reads them, and after they order nothing.
+//! What a program does with its words before it reads them, and if they give no order.
 //!
-//! Contracts say which fault is told, and with which exit status. Tests compare the texts.
+//! Contracts say which fault is reported, and with which exit status. Tests compare the texts.
 #![tactic(auto)]
 
 mod fault;

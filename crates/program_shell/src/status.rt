@@ -1,4 +1,4 @@
-//! With which status a program ends.
+//! The exit status of a program.
 ghost use Rattle.std.specs.Prelude.{◌≡◌};
 ghost use Rattle.program_shell.specs.Status.{docket_status_of, line_status_of, usage_status_of};
 
@@ -6,7 +6,7 @@ use crate::fault::{LineFault, UsageFault};
 use clap::error::ErrorKind;
 use docket::DocketFault;
 
-/// The exit status after a docket at fault: 1 where memory, the reader or the writer failed, and else 3.
+/// The exit status after a docket at fault: 1 if memory, the reader or the writer failed, else 3.
 pub fn docket_status(fault: &DocketFault) -> u8
     ensures { result ≡ docket_status_of fault.now }
 {
@@ -16,7 +16,7 @@ pub fn docket_status(fault: &DocketFault) -> u8
     }
 }
 
-/// The exit status after a command line that orders nothing: 0 where help or the version was asked for.
+/// The exit status after a command line without an order. It is 0 if help or the version was asked for.
 pub fn line_status(fault: &LineFault) -> u8
     ensures { result ≡ line_status_of fault.now }
 {
@@ -30,7 +30,7 @@ pub fn line_status(fault: &LineFault) -> u8
     }
 }
 
-/// The exit status after words that order nothing: 2 where one of them is no text.
+/// The exit status after words without an order. It is 2 if a word is not a text.
 pub fn usage_status(fault: &UsageFault) -> u8
     ensures { result ≡ usage_status_of fault.now }
 {

@@ -1,4 +1,4 @@
-//! Audits of sheets, and of sheets from before a withdrawal.
+//! Audits of sheets, some of them from before a withdrawal.
 use crate::commands::{serves, serves_both};
 use crate::texts::{
     FULL, ONE_SIDED, OTHER_SHEET, QUOTAS, QUOTAS_SHEET, SMALL, SMALL_JOURNAL, SMALL_SHEET,

@@ -21,12 +21,12 @@ fn read(alloc: Global, input: &str) -> Result<Docket, DocketFault> {
     read_docket(&OneByte(7), alloc, input.as_bytes())
 }
 
-/// Reads a docket byte by byte, by a reader that fails after `cut` bytes.
+/// Reads a docket byte by byte, with a reader that fails after `cut` bytes.
 fn read_slowly(alloc: Global, input: &str, cut: usize) -> Result<Docket, DocketFault> {
     read_docket(&OneByte(7), alloc, CutReader::new(input.as_bytes(), cut))
 }
 
-/// Whether this is told of what was read: its fault, or `read`.
+/// Whether the outcome of a reading is this: the text of its fault, or `read`.
 fn is_told(
     alloc: Global,
     answer: Result<Docket, DocketFault>,
@@ -38,13 +38,14 @@ fn is_told(
     }
 }
 
-/// Whether this is told of the docket of these texts, one after another.
+/// Whether the docket of these texts, one after another, has this outcome.
 fn tells(alloc: Global, texts: &[&str], wanted: &str) -> Result<bool, AllocError> {
     let text = joined(alloc, texts)?;
     is_told(alloc, read(alloc, text.as_str()), wanted)
 }
 
-/// Whether both a reader that gives all at once and a slow one lead to this. Spaces part the records of the docket.
+/// Whether a reader that gives everything at once and a slow reader have this outcome. Spaces separate the records of
+/// the docket.
 fn tells_both(alloc: Global, records: &str, wanted: &str) -> Result<bool, AllocError> {
     let mut input = records.replace(alloc, " ", "\n")?;
     input.push_str("\n")?;
@@ -57,10 +58,10 @@ fn tells_both(alloc: Global, records: &str, wanted: &str) -> Result<bool, AllocE
     Ok(at_once && slowly)
 }
 
-/// The first line whose docket leads to something else than the line says, by a reader that gives all at once or a slow
-/// one.
+/// The first line whose docket has another outcome than the line says, with a reader that gives everything at once or
+/// a slow one.
 ///
-/// Spaces part the records in a line, and what is told of them stands after ` = `.
+/// Spaces separate the records in a line, and the outcome stands after ` = `.
 fn first_wrong<'a>(alloc: Global, lines: &'a str) -> Result<Option<&'a str>, AllocError> {
     for line in lines.lines() {
         let Some((records, wanted)) = line.split_once(" = ") else {
@@ -73,7 +74,7 @@ fn first_wrong<'a>(alloc: Global, lines: &'a str) -> Result<Option<&'a str>, All
     Ok(None)
 }
 
-/// As `first_wrong`, for dockets of version 2 with the same records, each one further.
+/// The same as `first_wrong`, for dockets of version 2 with the same records, each with a number one higher.
 fn first_wrong_of_version_2<'a>(
     alloc: Global,
     lines: &'a str,

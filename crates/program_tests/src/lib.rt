@@ -1,6 +1,6 @@
-//! Worked dockets by their bytes, and what reading them, writing and the calls of the program answer.
+//! Worked dockets as bytes, and the answers of reading, of writing and of the program's calls.
 //!
-//! This crate has only tests, as `library_tests` has.
+//! This crate has only tests, like `library_tests`.
 #![tactic(auto)]
 
 #[cfg(test)]

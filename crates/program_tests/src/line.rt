@@ -1,4 +1,4 @@
-//! Command lines, and the texts and exit statuses of what the program refuses.
+//! Command lines, and the texts and exit statuses when the program refuses something.
 use crate::commands::{MATCH, NARROW_WITH_JOURNAL};
 use docket::DocketFault;
 use exchange_core::Capacity;
@@ -62,7 +62,7 @@ fn order_of(alloc: Global, words: &[&str]) -> Result<Order, u8> {
     }
 }
 
-// Command lines, and what they order, or the status of their fault.
+// Command lines, with the order that they give, or the status of their fault.
 const LINES: [(&[&str], Result<Order, u8>); 21] = [
     (&["match"], Ok(MATCH)),
     (&["match", "--workers", "2"], Ok(MATCH)),

@@ -38,10 +38,10 @@ pub(super) fn push_lists(text: &mut String, alloc: Global) -> Result<(), AllocEr
     Ok(())
 }
 
-// A step, taken this often around so many numbers.
+// A step, how often it is taken, and the number of places in the circle.
 type Round = (u32, u32, u32);
 
-// Adds a comma, a letter and a number for each number that the round reaches from `first`, plus `base`.
+// Adds a comma, a letter and a number for each place that the steps reach from `first`, plus `base`.
 fn push_round(
     text: &mut String,
     alloc: Global,
@@ -59,7 +59,7 @@ fn push_round(
     Ok(())
 }
 
-// Steps that reach every one of forty numbers, and every one of twelve.
+// Steps that reach each of forty places, and each of twelve.
 const STEPS: [(u32, u32); 4] = [(3, 1), (7, 5), (11, 7), (13, 11)];
 
 // Adds the quota and the list of a programme of `hundreds`.
@@ -80,8 +80,8 @@ fn push_hundreds_resident(text: &mut String, alloc: Global, r: u32) -> Result<()
     text.push_str("\n")
 }
 
-/// Twelve programmes with one to four places, each of which ranks all forty residents. Each resident ranks ten
-/// programmes: 400 pairs, and thirty places.
+/// Twelve programmes with one to four places. Each ranks all forty residents, and each resident ranks ten programmes:
+/// 400 pairs, and thirty places.
 pub(super) fn hundreds(alloc: Global) -> Result<String, AllocError> {
     let mut text = String::new(alloc);
     for p in 0..12u32 {
@@ -93,7 +93,7 @@ pub(super) fn hundreds(alloc: Global) -> Result<String, AllocError> {
     Ok(text)
 }
 
-// Adds the residents who list a programme of `widest`: of each 2,000 residents ten.
+// Adds the residents who list a programme of `widest`: ten of each 2,000 residents.
 fn push_widest_list(text: &mut String, alloc: Global, p: u32) -> Result<(), AllocError> {
     push_numbered(text, alloc, "P,p", p, "")?;
     for thousands in 0..10u32 {
@@ -102,8 +102,8 @@ fn push_widest_list(text: &mut String, alloc: Global, p: u32) -> Result<(), Allo
     text.push_str("\n")
 }
 
-/// As many programmes, residents and pairs as there may be. Each of 2,000 programmes has ten places and ranks a hundred
-/// residents. Each of 20,000 residents ranks ten programmes, and all ranks are mutual.
+/// The greatest numbers of programmes, residents and pairs. Each of 2,000 programmes has ten places and ranks a
+/// hundred residents. Each of 20,000 residents ranks ten programmes, and all ranks are mutual.
 pub(super) fn widest(alloc: Global) -> Result<String, AllocError> {
     let mut text = String::new(alloc);
     push_all(&mut text, alloc, "Q,p", 2_000, ",10\n")?;
@@ -133,7 +133,7 @@ pub(super) fn in_one_order(alloc: Global) -> Result<String, AllocError> {
     Ok(text)
 }
 
-/// Its sheet: the first 2,000 residents are at the first programme, and so on.
+/// The sheet of this market: the first 2,000 residents are at the first programme, and so on.
 pub(super) fn sheet_in_one_order(alloc: Global) -> Result<String, AllocError> {
     let mut text = String::new(alloc);
     for r in 0..20_000u32 {

@@ -1,4 +1,4 @@
-//! Matches: their sheets, of all members and of those who are left, and their journals.
+//! Matches: their sheets, for all members and for those who remain after withdrawals, and their journals.
 mod journals;
 mod large;
 mod withdrawn;
@@ -17,7 +17,7 @@ use std::test::Fail;
 fn matches(rt: HostRuntime) -> Result<(), Fail> {
     let cases: [(&[&str], &str); 10] = [
         (&[SMALL], SMALL_SHEET),
-        // the same without its last byte
+        // the same docket without its last byte
         (&[THREE, "P,b,y,x\nR,x,b,a\nR,y,a,b"], SMALL_SHEET),
         (&[QUOTAS], QUOTAS_SHEET),
         (&[], ""),

@@ -1,4 +1,4 @@
-//! Replays of good, bad and forged journals, of those by worker, and of those from before a withdrawal.
+//! Replays of good, bad and forged journals, of journals by worker, and of journals from before a withdrawal.
 use crate::commands::{serves, serves_both};
 use crate::texts::{
     CLOSE, EIGHT_BY_TWO, ELEVEN, FULL, OTHER_SHEET, QUOTAS, SMALL, SMALL_JOURNAL, SMALL_SHEET,
@@ -34,7 +34,7 @@ fn replays_good_journals(rt: HostRuntime) -> Result<(), Fail> {
     Ok(())
 }
 
-// Journals that are refused, each with what is told of it.
+// Journals that are refused, each with the row of the fault.
 const REFUSED: [(&[&str], &str); 15] = [
     (&[QUOTAS, FULL, "E,take,x,a\n"], "N,1,nothing-waiting\n"),
     (
@@ -124,7 +124,7 @@ const NINE: [&str; 9] = [
     "E,close\n",
 ];
 
-// A journal of these of the nine events, counted from 0. Any other number stands for an event of no kind.
+// A journal with these of the nine events, counted from 0. Any other number stands for an event of no kind.
 fn journal_of(alloc: Global, events: &[usize]) -> Result<String, AllocError> {
     let mut journal = FULL.to_string(alloc)?;
     for event in events {
@@ -133,7 +133,7 @@ fn journal_of(alloc: Global, events: &[usize]) -> Result<String, AllocError> {
     Ok(journal)
 }
 
-// Which events a journal of the small docket has, and what is told of it.
+// Which events a journal of the small docket has, and the answer of its replay.
 const FORGED: [(&[usize], Status, &str, u8); 7] = [
     (&[0, 1, 2, 3, 4, 5, 6, 7, 8], Status::ReplayGood, "G,9\n", 0),
     (
@@ -252,7 +252,7 @@ fn refuses_wrong_workers(rt: HostRuntime) -> Result<(), Fail> {
     Ok(())
 }
 
-// Journals from before a withdrawal. The first offer by or to a withdrawn member is to nobody who is next.
+// Journals from before a withdrawal. The first offer by or to a withdrawn member is not the next of any list.
 const REPLAYS: [(&[&str], Status, &str, u8); 3] = [
     (
         &[

@@ -1,7 +1,7 @@
-//! Dockets as texts, and what several tests do with texts.
+//! Dockets as texts, and functions on texts that several tests use.
 use std::alloc::{AllocError, Global};
 
-/// Two programmes and two residents, who rank them the other way round.
+/// Two programmes and two residents. The residents' rankings are the opposite of the programmes'.
 pub(super) const SMALL: &str = "Q,a,1\nQ,b,1\nP,a,x,y\nP,b,y,x\nR,x,b,a\nR,y,a,b\n";
 
 /// Its first three records.
@@ -10,7 +10,7 @@ pub(super) const THREE: &str = "Q,a,1\nQ,b,1\nP,a,x,y\n";
 /// The sheet of an exchange of `SMALL`.
 pub(super) const SMALL_SHEET: &str = "M,x,a\nM,y,b\nF,a,1,1\nF,b,1,1\n";
 
-/// The sheet that residents who propose would get.
+/// The sheet if residents proposed.
 pub(super) const OTHER_SHEET: &str = "M,x,b\nM,y,a\nF,a,1,1\nF,b,1,1\n";
 
 /// The journal of an exchange of `SMALL`, without its capacity.
@@ -21,17 +21,17 @@ pub(super) const SMALL_JOURNAL: &str =
 pub(super) const EIGHT_BY_TWO: &str =
     "C,full,2\nE,offer,a,x,0\nE,offer,b,y,1\nE,take,x,a,0\nE,take,y,b,1\nE,answer,x,a,hold,0\nE,answer,y,b,hold,1\nE,hear,a,x,hold,0\nE,hear,b,y,hold,1\n";
 
-/// A programme of two places that all rank, and one that displaces a resident from it.
+/// A programme with two places that all rank, and a programme that displaces a resident from it.
 pub(super) const QUOTAS: &str = "Q,a,2\nQ,b,1\nP,a,x,y,z\nP,b,x\nR,x,b,a\nR,y,a\nR,z,a\n";
 
 /// Its sheet.
 pub(super) const QUOTAS_SHEET: &str = "M,x,b\nM,y,a\nM,z,a\nF,a,2,2\nF,b,1,1\n";
 
-/// One listed by one side alone.
+/// A resident whom only one side lists.
 pub(super) const ONE_SIDED: &str = "Q,a,1\nP,a,x\nR,x\n";
 
-/// Each programme offers to the one resident, who likes each later one better. The exchange has 23 events, of the 25
-/// that four pairs allow.
+/// Each programme offers to the only resident, who likes each later programme better. The exchange has 23 events, of
+/// the 25 that four pairs allow.
 pub(super) const CHAIN: &str =
     "Q,a,1\nQ,b,1\nQ,c,1\nQ,d,1\nP,a,x\nP,b,x\nP,c,x\nP,d,x\nR,x,d,c,b,a\n";
 
@@ -45,10 +45,10 @@ pub(super) const FULL: &str = "C,full\n";
 pub(super) const ELEVEN: &str =
     "E,offer,a,x\nE,offer,a,y\nE,take,y,a\nE,take,x,a\nE,answer,y,a,hold\nE,answer,x,a,hold\nE,offer,b,x\nE,take,x,b\nE,answer,x,b,hold\nE,answer,x,a,release\nE,hear,a,y,hold\n";
 
-/// Its events from the twelfth to the thirteenth.
+/// The twelfth and the thirteenth event of that exchange.
 pub(super) const TO_THIRTEEN: &str = "E,hear,a,x,hold\nE,hear,b,x,hold\n";
 
-/// Its events from the fourteenth to the eighteenth. The nineteenth is `CLOSE`.
+/// The fourteenth to the eighteenth event of that exchange. The nineteenth is `CLOSE`.
 pub(super) const TO_EIGHTEEN: &str =
     "E,hear,a,x,release\nE,offer,a,z\nE,take,z,a\nE,answer,z,a,hold\nE,hear,a,z,hold\n";
 
@@ -57,7 +57,7 @@ pub(super) const CLOSE: &str = "E,close\n";
 /// The first record of a docket that may withdraw members.
 pub(super) const VERSION_2: &str = "V,2\n";
 
-/// What is told of a record, as if one more record stood before it.
+/// The text of a fault, as if one more record stood before it.
 pub(super) fn further(alloc: Global, told: &str) -> Result<String, AllocError> {
     let Some((number, cause)) = told
         .strip_prefix("record ")
@@ -80,7 +80,7 @@ pub(super) fn joined(alloc: Global, texts: &[&str]) -> Result<String, AllocError
     Ok(all)
 }
 
-/// How many rows of a text begin so.
+/// How many rows of a text begin with this.
 pub(super) fn rows(text: &[u8], start: &str) -> usize {
     let mut count = 0_usize;
     if let Ok(text) = str::from_utf8(text) {

@@ -1,4 +1,4 @@
-//! Which worker made an event, as a journal by worker tells it.
+//! Which worker made an event, as a journal by worker says.
 ghost use Rattle.std.specs.Prelude.{true, false};
 
 use crate::markets::{hundreds, push_all, push_numbered};
@@ -31,7 +31,8 @@ fn rows_between(text: &[u8], start: &str, end: &str) -> u64 {
     count
 }
 
-// Adds the row that a replay has for each worker. Whether the journal names each worker as often as the gate was told.
+// Adds the row that a replay has for each worker. Returns whether the journal names each worker as often as the gate
+// was told.
 fn is_named(
     alloc: Global,
     journal: &[u8],
@@ -49,7 +50,8 @@ fn is_named(
     Ok(same)
 }
 
-// Whether a match names the worker of each event, if its first receipt waits until another worker has made two.
+// Whether a match names the worker of each event, if its first receipt waits until another worker has made two
+// events.
 fn names_its_workers<H: Threads + Wait + RandomSource + Sync + Send + Copy>(
     rt: H,
     alloc: Global,
@@ -93,7 +95,7 @@ fn a_journal_names_the_worker_of_each_event(rt: HostRuntime) -> Result<(), Fail>
     Ok(())
 }
 
-// A receipt that passed a gate: at which desk, by whom, and whether a journal's event was found to be it.
+// A receipt that passed a gate: its desk, its worker, and whether it was found in the journal.
 #[derive(Clone, Copy, Debug)]
 struct Receipt {
     desk: Desk,
@@ -101,7 +103,7 @@ struct Receipt {
     is_found: bool,
 }
 
-// How often the gate lets others go first, so that another worker passes too.
+// How often the gate lets other workers go first, so that another worker passes too.
 const TURNS: u32 = 1_000_000;
 
 // A gate that notes each receipt. It holds the first until another passes.
@@ -124,7 +126,7 @@ impl<R: Wait + Copy + Sync> Gate for Noting<R> {
             worker,
             is_found: false,
         };
-        // A receipt that isn't noted is missed where the journal has it.
+        // If a receipt isn't noted here, it is missed when the journal has it.
         let _is_noted = self.receipts.lock(&self.rt).push(receipt).is_ok();
         if self.passed.fetch_add(1, Ordering::SeqCst) == 0 && self.workers > 1 {
             for _ in 0..TURNS {
@@ -140,7 +142,7 @@ impl<R: Wait + Copy + Sync> Gate for Noting<R> {
     fn entered(&self, _worker: usize) {}
 }
 
-// Who passed with the next receipt of a desk, which is found by this.
+// The worker of the next receipt of a desk; this receipt then counts as found.
 fn next_at(receipts: &mut [Receipt], desk: Option<Desk>) -> Option<usize> {
     for receipt in receipts {
         if Some(receipt.desk) == desk && !receipt.is_found {
@@ -151,7 +153,7 @@ fn next_at(receipts: &mut [Receipt], desk: Option<Desk>) -> Option<usize> {
     None
 }
 
-// Who passed with the last receipt of a desk that was found.
+// The worker of the last found receipt of a desk.
 fn last_at(receipts: &[Receipt], desk: Option<Desk>) -> Option<usize> {
     let mut last = None;
     for receipt in receipts {
@@ -162,8 +164,8 @@ fn last_at(receipts: &[Receipt], desk: Option<Desk>) -> Option<usize> {
     last
 }
 
-// Whether a journal names, event by event, who passed with each receipt. Whoever takes an offer gives the answers that are due
-// before it takes the next.
+// Whether a journal names, event by event, the worker that passed with each receipt. The worker that takes an offer
+// gives the answers due before it takes the next.
 fn is_told_by(journal: &Journal, receipts: &mut [Receipt]) -> bool {
     let Some(by) = &journal.by else {
         return false;
@@ -187,7 +189,7 @@ fn docket_of(alloc: Global, text: &[u8]) -> Option<Docket> {
     read_docket(&OneByte(7), alloc, text).ok()
 }
 
-// Whether a match by so many workers tells the worker of each receipt and of each answer.
+// Whether a match with this many workers names the worker of each receipt and of each answer.
 fn tells_its_workers<H: Threads + Wait + RandomSource + Sync + Send + Copy>(
     rt: H,
     alloc: Global,

@@ -1,4 +1,4 @@
--- Faults of memory, and of a key that couldn't be read.
+-- Faults of memory, and of a key that could not be read.
 use Rattle.std.proofs.Common.{Bor, ◌≡◌, List, ℕ, Option, Some, None, inl, inr, refl}
 use Rattle.std.specs.Prelude.{◌⊎◌, IfSome, IsSomeAnd, is_some, option_map}
 use Rattle.docket.specs.Answers.{Refuses}
@@ -31,7 +31,7 @@ pub key_unread : (limits : Limits) (question : Question) (input old : Option (Li
 key_unread limits question input old fault unread =
     record { key = option_map (λ path. path.now) question.key; keyed = same_path question.key; holds = inr unread; before = λ other. refl }
 
--- a key that gives no names is one with a bad row, or memory failed
+-- if a key gives no names, it has a bad row, or memory ran out
 pub key_fault : (d : Contents) (key : Option (List ℕ)) (fault : WhyFault) → IsSomeAnd key (λ bytes. IsKeyFault d bytes fault)
     → (fault ≡ Docket docket.Memory) ⊎ IsSomeAnd key (λ bytes. HasBadRow d (unnamed d) bytes fault)
 key_fault d None fault h = absurd h

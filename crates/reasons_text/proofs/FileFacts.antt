@@ -1,4 +1,4 @@
--- What is answered over files follows from what is answered over their records put together.
+-- The answer over files is the answer over their joined records.
 use Rattle.std.proofs.Common.{◌≡◌, ◌≢◌, ◌∙◌, ℕ, List, [], length, Option, Some, None, inr, refl}
 use Rattle.std.specs.Prelude.{Bool}
 use Rattle.docket.specs.Passes.{rows_in}
@@ -12,7 +12,7 @@ use Rattle.reasons_text.specs.declared.fault.WhyFault.{WhyFault}
 use Rattle.reasons_text.specs.declared.fault.WhyFault.TheVariants.{Docket}
 use Rattle.reasons_text.specs.declared.question.Asked.{Asked}
 
--- a docket's records are read as those of files are
+-- a docket reads its records in the same way as files are read
 rows_same : (bytes : List ℕ) → rows_in bytes ≡ rows_of bytes
 unfolding rows_in rows_of
 rows_same bytes = refl
@@ -20,7 +20,7 @@ rows_same bytes = refl
 pub joins_of : (d s text : List ℕ) → fault_of_all d s [] ≡ None → rows_of text ≡ rows_of_all d s [] → Joins d s text
 joins_of d s text own rows = record { own = own; rows = rows_same text ∙ rows }
 
--- what answers over both answers over the files
+-- an answer over the joined records is an answer over the files
 pub answers_files : (limits : Limits) (d s text : List ℕ) (key : Option (List ℕ)) (question : Asked) (without_ranks : Bool) (old new : Option (List ℕ)) → Joins d s text
     → AppendsText (AnswersWithin limits (Some text) key question without_ranks) old new → AppendsText (AnswersFilesWithin limits d s key question without_ranks) old new
 answers_files limits d s text key question without_ranks old new joins told = record {
@@ -29,13 +29,13 @@ answers_files limits d s text key question without_ranks old new joins told = re
   appended = told.appended;
 }
 
--- a fault over both is told in its file
+-- a fault of the joined records is told with its file
 pub files_fault : (limits : Limits) (d s text : List ℕ) (key : Option (List ℕ)) (question : Asked) (nd ns : ℕ) (fault : WhyFault) → Joins d s text
     → nd ≡ length (rows_of d) → ns ≡ length (rows_of s) → IsServeFaultWithin limits (Some text) key question fault
     → IsFilesFaultWithin limits d s key question (in_its_file nd ns fault)
 files_fault limits d s text key question nd ns fault joins of_docket of_sheet holds =
     inr (inr (record { joined = text; joins = joins; whole = fault; holds = holds; is_told = rw (of_docket, of_sheet) refl }))
 
--- a fault that is not the writer's in its file is not the writer's
+-- a fault other than the writer's, told with its file, is still not the writer's
 pub not_written : (nd ns : ℕ) (fault : WhyFault) → in_its_file nd ns fault ≢ Docket Write → fault ≢ Docket Write
 not_written nd ns fault other is = other (rw is refl)

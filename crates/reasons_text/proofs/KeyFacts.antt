@@ -1,4 +1,4 @@
--- What the rows of a key give, one after another.
+-- The names that the rows of a key give, one row after another.
 use Rattle.std.proofs.Common.{add-one, ◌≡◌, ◌+◌, ◌∙◌, ℕ, List, [], ◌∷◌, ◌++◌, length, Option, Some, None, Bool, true, refl, sym, ap, arith}
 use Rattle.std.specs.Prelude.{◌==◌, ◌&&◌}
 use Rattle.std.specs.Option.{option_or}
@@ -13,13 +13,13 @@ or_none None b h = (refl, h)
 or_none (Some x) b h = absurd (cc h)
 
 module _ (d : Contents) where
-  -- the names of some rows and of others after them
+  -- the names of some rows followed by others
   added_after : (key : KeyNames) (done rest : List Fields) → all_added d key (done ++ rest) ≡ all_added d (all_added d key done) rest
   unfolding all_added
   added_after key [] rest = refl
   added_after key (row ∷ more) rest = added_after (added d key row) more rest
 
-  -- the first fault of some good rows and of others after them
+  -- the first fault of some good rows followed by others
   fault_after : (key : KeyNames) (n : ℕ) (done rest : List Fields) → fault_from d key n done ≡ None
       → fault_from d key n (done ++ rest) ≡ fault_from d (all_added d key done) (n + length done) rest
   unfolding fault_from all_added
@@ -44,7 +44,7 @@ module _ (d : Contents) where
   unfolding all_added
   one_added key now new done row was is = is ∙ ap (λ (k : KeyNames). added d k row) was ∙ sym (added_after key done (row ∷ []))
 
-  -- the fault of the row after some good ones
+  -- the fault of the row after some good rows
   pub next_fault : (key now : KeyNames) (done : List Fields) (row : Fields) (count : ℕ) (fault : Option WhyFault) → now ≡ all_added d key done
       → length done ≡ count → fault_from d key 0 done ≡ None → row_fault d now (count + 1) row ≡ fault → fault_from d key 0 (done ++ row ∷ []) ≡ fault
   unfolding fault_from
@@ -59,7 +59,7 @@ module _ (d : Contents) where
       or_nothing None = refl
       or_nothing (Some x) = refl
 
--- no field has a word so far, nor has the next one
+-- no field has a word so far, and the next field has none
 pub blank_none : (row : Fields) → true ≡ is_blank_below row 0
 unfolding is_blank_below
 blank_none row = refl

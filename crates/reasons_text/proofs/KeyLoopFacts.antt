@@ -1,4 +1,4 @@
--- A row of a key more, and the end of the rows.
+-- One more row of a key, and the end of the rows.
 use Rattle.std.proofs.Common.{Bor, ◌≡◌, ◌+◌, ◌∙◌, ℕ, List, [], ◌∷◌, ◌++◌, length, Option, Some, None, true, false, inl, inr, refl, ap}
 use Rattle.std.specs.Prelude.{◌⊎◌}
 use Rattle.std.proofs.lemmas.List.{length-append}
@@ -37,7 +37,7 @@ module _ (d : Contents) (bytes : List ℕ) (old : KeyNames) where
   }
 
   module _ (now : KeyNames) (reader after : Reader (Bor (List ℕ))) (count : ℕ) (was : HasAdded d bytes old now reader count) (row : Fields) where
-    -- the rows with the one that was read
+    -- the rows, with the row that was read
     reached_next : ReadRecord bytes_left reader after true row
         → (left : List ℕ) × (source_of bytes_left after ≡ Some left) × Reached (key_config bytes) st.StartRecord (strip_bom bytes) (was.done ++ row ∷ []) (reader_state after) left
     reached_next read = rows-more bytes_left reader after row (key_config bytes) st.StartRecord (strip_bom bytes) was.left was.done was.config was.source was.reached read

@@ -1,4 +1,4 @@
--- Whom a text means, of the first members of a side.
+-- Whom a text means, among the first members of a side.
 use Rattle.std.proofs.Common.{◌≡◌, ◌≤◌, ◌<◌, ◌+◌, ◌⊎◌, ℕ, Bool, true, false, inl, inr, List, [], length, Option, Some, None, refl, sym, ap, ◌∙◌, subst, arith, rules}
 use Rattle.std.specs.Prelude.{◌&&◌, ◌||◌, nat_lt, slice_get}
 use Rattle.std.specs.Str.{bytes_eq}
@@ -13,7 +13,7 @@ use Rattle.reasons_text.specs.declared.side.Side.{Side}
 pub meant_none : (test : ℕ → Bool) → IsMeantBelow test 0 Nobody
 meant_none test k h = absurd (omega (arith, h))
 
--- a number is one of the first ones, or the next
+-- a number is one of the first, or the next
 next_or : (k n : ℕ) → k < n + 1 → (k < n) ⊎ (k ≡ n)
 next_or k n h = elim (cases_lt k n) [
   | inl below ↦ inl below
@@ -23,7 +23,7 @@ next_or k n h = elim (cases_lt k n) [
 no_both : {b : Bool} → b ≡ true → b ≡ false → ⊥
 no_both one other = search rules
 
--- the next one isn't meant
+-- the text does not mean the next member
 pub meant_skip : (test : ℕ → Bool) (n : ℕ) (meant : Meant) → IsMeantBelow test n meant → test n ≡ false → IsMeantBelow test (n + 1) meant
 meant_skip test n Nobody h unmet = λ k lt. elim (next_or k n lt) [
   | inl below ↦ h k below
@@ -41,7 +41,7 @@ meant_skip test n (One r) h unmet = (
 )
 meant_skip test n Several h unmet = (h.0, (h.1.0, (h.1.1.0, (let lt = h.1.1.1.0 in omega (arith, lt), h.1.1.1.1))))
 
--- the next one is meant too
+-- the text also means the next member
 pub meant_also : (test : ℕ → Bool) (n : ℕ) (meant : Meant) → IsMeantBelow test n meant → test n ≡ true → IsMeantBelow test (n + 1) (also_of meant n)
 meant_also test n Nobody h met = (
   omega arith,
@@ -59,7 +59,7 @@ meant_also test n Several h met = (h.0, (h.1.0, (h.1.1.0, (let lt = h.1.1.1.0 in
 not_below : (k n : ℕ) → n ≤ k → nat_lt k n ≡ false
 not_below k n h = grind (arith, h)
 
--- nobody past the docket's members and the key's rows is meant
+-- past the docket's members and the key's rows, the text means nobody
 unmeant : (names : Naming) (side : Side) (text : List ℕ) (k : ℕ) → member_count names.docket side ≤ k → length (names_in names side).names ≤ k
     → means names side text k ≡ false
 unfolding means text_at is_by_key
@@ -75,7 +75,7 @@ meant_within names side text n k count rows met = elim (cases_lt k n) [
   | inr past ↦ absurd (no_both met (unmeant names side text k (omega (arith, count, past)) (omega (arith, rows, past))))
 ]
 
--- without real names it is the docket's name
+-- without real names, a text means the docket's name
 pub by_docket : (names : Naming) (side : Side) (text : List ℕ) (k : ℕ) → names_in names side ≡ no_names → means names side text k ≡ true
     → docket_name names.docket side k ≡ text
 unfolding means text_at is_by_key

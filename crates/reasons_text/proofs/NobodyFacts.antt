@@ -1,4 +1,4 @@
--- A number that is nobody's has no name.
+-- A number without a member has no name.
 use Rattle.std.proofs.Common.{◌≡◌, ℕ, ◌≤◌, [], length}
 use Rattle.std.proofs.lemmas.List.{get_or_past}
 use Rattle.docket.specs.Contents.{Contents}

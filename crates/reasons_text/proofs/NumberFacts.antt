@@ -1,4 +1,4 @@
--- The first number of a name, with one name more.
+-- The first number for a name, after one more name.
 use Rattle.std.proofs.Common.{add-one, ◌≡◌, ◌∙◌, ◌+◌, inl, inr, ℕ, Bool, true, false, List, Option, Some, None, refl, sym, ap}
 use Rattle.std.specs.Prelude.{if◌then◌else◌, is_some}
 use Rattle.std.specs.Option.{option_or}
@@ -33,7 +33,7 @@ other_both a b h = elim (cases_Bool (bytes_eq b a)) [
 ]
 
 module _ (lookup : List ℕ → Option ℕ) (name : List ℕ) (n : ℕ) where
-  -- the name has a number before
+  -- the name already has a number
   pub put_kept : is_some (lookup name) ≡ true → (text : List ℕ) → lookup text ≡ option_or (lookup text) (if bytes_eq text name then Some n else None)
   put_kept has text = elim (cases_Bool (bytes_eq text name)) [
     | inl is ↦ let same = (bytes_eq-Decides text name).0 is in rw is (sym (some_stays (lookup text) (Some n) (rw same has)))
@@ -51,7 +51,7 @@ module _ (lookup : List ℕ → Option ℕ) (name : List ℕ) (n : ℕ) where
     | inr not ↦ put text ∙ rw (not, other_both name text not) (sym (or_nothing (lookup text)))
   ]
 
--- the numbers of one member more
+-- the numbers after one more member
 pub number_more : (d : Contents) (side : Side) (n : ℕ) (own : List ℕ) (lookup now : List ℕ → Option ℕ) → own ≡ docket_name d side n
     → ((name : List ℕ) → lookup name ≡ first_named d side name n)
     → ((name : List ℕ) → now name ≡ option_or (lookup name) (if bytes_eq name own then Some n else None)) → (name : List ℕ) → now name ≡ first_named d side name (n + 1)

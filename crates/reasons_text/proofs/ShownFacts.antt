@@ -1,4 +1,4 @@
--- What is shown of a text, character by character.
+-- The shown form of a text, character by character.
 use Rattle.std.proofs.Common.{◌≡◌, ◌++◌, ℕ, IsUtf8, List, [], chars, length, encode_utf8}
 use Rattle.std.proofs.StrCases.{chars_of_empty}
 use Rattle.std.proofs.lemmas.Str.{chars_past_char, encodes-append}

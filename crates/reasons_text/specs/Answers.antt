@@ -1,4 +1,4 @@
--- What is told of each programme of a record.
+-- What a resident is told about each programme of the R record.
 use Rattle.std.specs.Prelude.{◌≡◌, ℕ, Bool, true, false, Option, Some, None, List, codes, length, map, slice_get}
 use Rattle.match_model.specs.Instance.{list_at}
 use Rattle.match_model.specs.Written.{Written}
@@ -12,7 +12,7 @@ use Rattle.docket.specs.Fields.{lone_byte}
 use Rattle.docket.specs.Texts.{programme_name, resident_name}
 use Rattle.docket.specs.WithLists.{IsReadWithin, fields_after}
 
--- a docket with its sheet and its lists as they were written, and of some of the first programmes how their places are taken
+-- a docket with its sheet and its lists as written; for some first programmes it also has how their places are taken
 pub record CaseParts : Type 0 where
   pub docket : Contents
   pub sheet : List (Option ℕ)
@@ -22,7 +22,7 @@ pub record CaseParts : Type 0 where
 abbrev pub case_of : Contents → List (Option ℕ) → Written → List Taken → CaseParts
 case_of docket sheet written takens = record { docket = docket; sheet = sheet; written = written; takens = takens }
 
--- each is how the places of the programme of its number are taken
+-- each entry says how the places of the programme with that number are taken
 abbrev pub AreTaken : Written → List (Option ℕ) → List Taken → Type 0
 AreTaken written m takens = (p : ℕ) (t : Taken) → slice_get takens p ≡ Some t → IsTaken (list_at written.programme_lists p) m p t
 
@@ -42,23 +42,23 @@ abbrev pub AreOfRecord : Contents → Written → ℕ → List ℕ → Type 0
 AreOfRecord d written r programmes = (limits : Limits) (bytes : Option (List ℕ)) (read : IsReadWithin limits bytes d written)
     → names_of d programmes ≡ fields_after (lone_byte (codes "R")) (resident_name d r) read.rows
 
--- the answer is the first that holds of r and p
+-- the answer is the first that holds for r and p
 abbrev pub IsAnswer : CaseParts → ℕ → ℕ → Why → Type 0
 IsAnswer c r p reason =
     IsFirst c.docket.instance (list_at c.written.resident_lists r) (list_at c.written.programme_lists p) c.sheet r p reason
 
--- so is each answer, of r and the programme in its place
+-- each answer is the first that holds for r and the programme at the same place
 abbrev pub AreFirst : CaseParts → ℕ → List ℕ → List Why → Type 0
 AreFirst c r programmes reasons =
     (i p : ℕ) (reason : Why) → slice_get programmes i ≡ Some p → slice_get reasons i ≡ Some reason → IsAnswer c r p reason
 
--- r is told of the programmes of its list, in order, and of no other: of each the first answer that holds
+-- r gets one answer for each programme of r's list, in order; each is the first answer that holds
 pub record AreAnswers (c : CaseParts) (r : ℕ) (programmes : List ℕ) (reasons : List Why) : Type 0 where
   pub listed : programmes ≡ list_at c.written.resident_lists r
   pub each : length reasons ≡ length programmes
   pub first : AreFirst c r programmes reasons
 
--- whether the programme ranked the resident who is told this
+-- whether the answer says that the programme ranked the resident
 abbrev pub ranked_back : Why → Bool
 ranked_back Withdrawn = false
 ranked_back NotListed = false
@@ -68,7 +68,7 @@ ranked_back (PrefersOwn own own_rank rank) = true
 ranked_back (Full rank last_rank quota) = true
 ranked_back Blocking = true
 
--- whether it tells of a withdrawal
+-- whether the answer is a withdrawal
 abbrev pub withdrew : Why → Bool
 withdrew Withdrawn = true
 withdrew NotListed = false

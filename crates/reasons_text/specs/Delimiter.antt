@@ -1,16 +1,16 @@
--- What parts the fields of a key.
+-- Which mark separates the fields of a key.
 use Rattle.std.specs.Prelude.{ℕ, ◌+◌, ◌-◌, ◌^◌, ◌==◌, ◌&&◌, ◌||◌, min, nat_lt, not, Bool, false, if◌then◌else◌, List, [], ◌∷◌}
 use Rattle.reasons_text.specs.declared.delimiter.Marks.{Marks}
 
--- no mark yet
+-- no mark counted yet
 abbrev pub no_marks : Marks
 no_marks = record { commas = 0; semicolons = 0; tabs = 0; is_quoted = false }
 
--- one more, as far as a number of 64 bits goes
+-- the number plus one, up to the greatest number of 64 bits
 abbrev pub one_more : ℕ → ℕ
 one_more n = min (n + 1) (2 ^ 64 - 1)
 
--- the marks with one byte more: a quote opens or closes, and inside quotes nothing is counted
+-- the counts after one more byte; a quote opens or closes, and nothing inside quotes is counted
 unfoldable pub counted : Marks → ℕ → Marks
 counted marks c =
     if c == 34 then record marks { is_quoted = not marks.is_quoted }
@@ -20,22 +20,23 @@ counted marks c =
     else if c == 9 then record marks { tabs = one_more marks.tabs }
     else marks
 
--- whether the byte ends a line that has a mark
+-- whether the byte ends a line in which a mark was counted
 abbrev pub ends_line : Marks → ℕ → Bool
 ends_line marks c = c == 10 && (not marks.is_quoted && (nat_lt 0 marks.commas || (nat_lt 0 marks.semicolons || nat_lt 0 marks.tabs)))
 
--- the marks of the first line that has one
+-- the counts of the first line that has a mark
 unfoldable pub marks_of : Marks → List ℕ → Marks
 marks_of marks [] = marks
 marks_of marks (c ∷ rest) = if ends_line marks c then marks else marks_of (counted marks c) rest
 
--- the mark that is there most often: a semicolon, a tab, or else a comma
+-- the mark with the highest count: a semicolon, a tab, or else a comma
 abbrev pub chosen : Marks → ℕ
 chosen marks =
     if nat_lt marks.commas marks.semicolons && nat_lt marks.tabs marks.semicolons then 59
     else if nat_lt marks.commas marks.tabs then 9
     else 44
 
--- what parts the fields: the one of comma, semicolon and tab that the first line with one has most often, outside quotes
+-- The mark that separates the fields: comma, semicolon or tab. The first line that has any of them outside quotes
+-- decides; the most frequent mark wins.
 abbrev pub delimiter_of : List ℕ → ℕ
 delimiter_of bytes = chosen (marks_of no_marks bytes)

@@ -1,4 +1,4 @@
--- Why nothing, or not all, was told.
+-- Why nothing was written, or not all of it.
 use Rattle.std.specs.Prelude.{◌≡◌, ◌≢◌, ◌⊎◌, ℕ, Option, Some, None, List, IfSome, IsSomeAnd}
 use Rattle.docket.specs.Answers.{Refuses}
 use Rattle.docket.specs.Contents.{Contents}
@@ -45,15 +45,15 @@ IsCaseFaultWithin limits bytes fault = ⊥
 abbrev pub IsCaseFault : Option (List ℕ) → WhyFault → Type 0
 IsCaseFault bytes fault = IsCaseFaultWithin Standard bytes fault
 
--- the fault is this one, or want of memory
+-- the fault is this one, or out of memory
 abbrev pub IsFaultOrMemory : Option WhyFault → WhyFault → Type 0
 IsFaultOrMemory first fault = (fault ≡ Docket docket.Memory) ⊎ (first ≡ Some fault)
 
--- why a key's bytes give no names: want of memory, or their first bad row
+-- why the bytes of a key give no names: out of memory, or their first bad row
 abbrev pub IsKeyFault : Contents → List ℕ → WhyFault → Type 0
 IsKeyFault d bytes fault = (fault ≡ Docket docket.Memory) ⊎ HasBadRow d (unnamed d) bytes fault
 
--- the fault says that nobody of the side has a name, or more than one
+-- the fault says that a name belongs to no member of the side, or to more than one
 abbrev pub IsUnknownName : Side → WhyFault → Type 0
 IsUnknownName Residents (NoResident told) = Unit {0}
 IsUnknownName Programmes (NoProgramme told) = Unit {0}
@@ -64,25 +64,26 @@ IsSharedName Residents (ManyResidents told) = Unit {0}
 IsSharedName Programmes (ManyProgrammes told) = Unit {0}
 IsSharedName side fault = ⊥
 
--- why a name means no one member: want of memory, or it means none of the docket, or two
+-- why a name does not mean exactly one member: out of memory, or it means none or two
 abbrev pub IsNameFault : Naming → Side → List ℕ → WhyFault → Type 0
 IsNameFault names side text fault = (fault ≡ Docket docket.Memory)
     ⊎ ((IsUnknownName side fault × MeansNoMember names side text) ⊎ (IsSharedName side fault × MeansTwo names side text))
 
--- why a question means nobody: a name of it means no one member
+-- why a question has no answer: one of its names does not mean exactly one member
 abbrev pub IsAskedFault : Naming → Asked → WhyFault → Type 0
 IsAskedFault names asked.All fault = ⊥
 IsAskedFault names (asked.Resident name) fault = IsNameFault names Residents name.now fault
 IsAskedFault names (asked.Pair resident programme) fault =
     IsNameFault names Residents resident.now fault ⊎ IsNameFault names Programmes programme.now fault
 
--- a name of the question means no one member, by the names of this docket and this key
+-- a name of the question does not mean exactly one member, by the names of this docket and this key
 pub record IsUnmet (c : CaseParts) (key : Option (List ℕ)) (question : Asked) (fault : WhyFault) : Type 0 where
   pub names : Naming
   pub names_are : AreNames c.docket key names
   pub fails : IsAskedFault names question fault
 
--- why a docket with a sheet was read, and nothing told: want of memory, the key's first bad row, or a name that means no one member
+-- Why nothing is answered, though a docket with a sheet was read. Either memory ran out, or the key has a bad row, or
+-- a name does not mean exactly one member.
 abbrev pub IsTextFault : CaseParts → Option (List ℕ) → Asked → WhyFault → Type 0
 IsTextFault c key question fault = (fault ≡ Docket docket.Memory)
     ⊎ (IsSomeAnd key (λ bytes. HasBadRow c.docket (unnamed c.docket) bytes fault) ⊎ IsUnmet c key question fault)
@@ -92,7 +93,7 @@ abbrev pub IsTellFault : Limits → Option (List ℕ) → Option (List ℕ) → 
 IsTellFault limits bytes key question fault = IsCaseFaultWithin limits bytes fault
     ⊎ ((c : CaseParts) × (IsReadWithin limits bytes c.docket c.written × ((c.docket.sheet ≡ Some c.sheet) × IsTextFault c key question fault)))
 
--- and the writer's fault beside
+-- why nothing is answered over the docket with these bytes, or a fault of the writer
 abbrev pub IsServeFaultWithin : Limits → Option (List ℕ) → Option (List ℕ) → Asked → WhyFault → Type 0
 IsServeFaultWithin limits bytes key question fault = (fault ≡ Docket docket.Write) ⊎ IsTellFault limits bytes key question fault
 

@@ -1,4 +1,4 @@
--- What is answered over a docket and a sheet's file, each read as its own part.
+-- What is answered over a docket's file and a sheet's file, each read as its own part.
 use Rattle.std.specs.Prelude.{◌≡◌, ◌⊎◌, ℕ, Bool, Option, Some, None, List, [], length}
 use Rattle.docket.specs.Passes.{rows_in}
 use Rattle.docket.specs.declared.fault.DocketFault.{DocketFault}
@@ -15,7 +15,8 @@ use Rattle.reasons_text.specs.declared.fault.WhyFault.{WhyFault}
 use Rattle.reasons_text.specs.declared.fault.WhyFault.TheVariants.{Docket, EmptySheet, NoSheet, Part, Records}
 use Rattle.reasons_text.specs.declared.question.Asked.{Asked}
 
--- each record of the docket and of the sheet's file is of its own part, and a text has the docket's records and then the sheet's
+-- The docket's file has only records of a docket, and the sheet's file only records of a sheet. The joined text has
+-- the docket's records, then the sheet's.
 pub record Joins (docket sheet joined : List ℕ) : Type 0 where
   pub own : fault_of_all docket sheet [] ≡ None
   pub rows : rows_in joined ≡ rows_of_all docket sheet []
@@ -31,18 +32,18 @@ pub record AnswersFilesWithin (limits : Limits) (docket sheet : List ℕ) (key :
 abbrev pub AnswersFiles : List ℕ → List ℕ → Option (List ℕ) → Asked → Bool → List ℕ → Type 0
 AnswersFiles docket sheet key question without_ranks text = AnswersFilesWithin Standard docket sheet key question without_ranks text
 
--- the fault is the first record of another part, or of none
+-- the fault is the first record that belongs to another part or to none
 pub record HasPartFault (docket sheet : List ℕ) (fault : WhyFault) : Type 0 where
   pub first : PartFault
   pub is_first : fault_of_all docket sheet [] ≡ Some first
   pub is_told : fault ≡ Part first
 
--- a docket's fault, in its file where it has a place
+-- a fault of a docket; with its file, if the fault has a record
 abbrev pub placed : DocketFault → Option FileFault → WhyFault
 placed fault None = Docket fault
 placed fault (Some there) = Records there.file there.fault
 
--- a fault over both, told in its file, where the docket and the sheet have so many records
+-- a fault of the joined records, told with its file; the docket and the sheet have these numbers of records
 abbrev pub in_its_file : ℕ → ℕ → WhyFault → WhyFault
 in_its_file docket sheet (Docket fault) = placed fault (file_fault docket sheet fault)
 in_its_file docket sheet NoSheet = EmptySheet

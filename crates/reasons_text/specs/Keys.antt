@@ -1,4 +1,4 @@
--- What the bytes of a key give to whom.
+-- Which names the bytes of a key give, and to which members.
 use Rattle.std.specs.Prelude.{◌≡◌, ◌≢◌, ℕ, zero, suc, ◌+◌, ◌<◌, ◌==◌, ◌&&◌, ◌||◌, nat_lt, not, is_none, Bool, true, false, if◌then◌else◌, Option, Some, None, unwrap_or, List, [], ◌∷◌, ◌++◌, bytes_eq, codes, length, slice_get, slice_set, replicate}
 use Rattle.std.specs.List.{list_all}
 use Rattle.std.specs.Option.{option_or}
@@ -17,22 +17,22 @@ use Rattle.reasons_text.specs.declared.fault.WhyFault.TheVariants.{BadKey, Doubl
 use Rattle.reasons_text.specs.declared.side.Side.{Side}
 use Rattle.reasons_text.specs.declared.side.Side.TheVariants.{Programmes, Residents}
 
--- the rows of a key are what `csv` reads from its bytes without a byte order mark, with this between the fields
+-- how a key's rows are read: what `csv` reads from its bytes after any byte order mark, with this mark between fields
 abbrev pub key_config : List ℕ → Config
 key_config bytes = record default_config { delimiter = delimiter_of bytes }
 
 abbrev pub AreKeyRows : List ℕ → List Fields → Type 0
 AreKeyRows bytes rows = AreRecords (key_config bytes) st.StartRecord (strip_bom bytes) rows
 
--- these are the first of them
+-- these rows are the first ones of the bytes
 abbrev pub AreFirstRows : List ℕ → List Fields → Type 0
 AreFirstRows bytes rows = (s : State) × ((rest : List ℕ) × Reached (key_config bytes) st.StartRecord (strip_bom bytes) rows s rest)
 
--- the side that a row is of, by its first field
+-- the side of a row, from its first field
 abbrev pub row_side : Fields → Option Side
 row_side row = if bytes_eq (field row 0) (codes "P") then Some Programmes else if bytes_eq (field row 0) (codes "R") then Some Residents else None
 
--- whether none of the first so many fields of a row has a word
+-- whether the first n fields of a row are all empty
 unfoldable pub is_blank_below : Fields → ℕ → Bool
 is_blank_below row zero = true
 is_blank_below row (suc n) = is_blank_below row n && length (field row n) == 0
@@ -41,34 +41,35 @@ is_blank_below row (suc n) = is_blank_below row n && length (field row n) == 0
 abbrev pub is_blank : Fields → Bool
 is_blank row = is_blank_below row (length row)
 
--- what tells the row's member apart: the ID, or the docket's name where there is none
+-- the sign of a row's member: the ID, or without an ID the docket's name
 abbrev pub sign_in : Fields → List ℕ
 sign_in row = if length (field row 3) == 0 then field row 1 else field row 3
 
--- the first of so many members of a side that has this name in the docket
+-- among the first n members of a side, the first who has this name in the docket
 unfoldable pub first_named : Contents → Side → List ℕ → ℕ → Option ℕ
 first_named d side name zero = None
 first_named d side name (suc n) = option_or (first_named d side name n) (if bytes_eq name (docket_name d side n) then Some n else None)
 
--- the member whose row it is, if the docket has it
+-- the member of a row, if the docket has this member
 abbrev pub member_of : Contents → Side → Fields → Option ℕ
 member_of d side row = first_named d side (field row 1) (member_count d side)
 
--- the names of a side, with this name and this sign in the place of a member, or after all where the member isn't in the docket
+-- The names of a side with this name and this sign added. They stand at the member's place, or after all members if
+-- the docket does not have the member.
 abbrev pub noted : SideNames → Option ℕ → List ℕ → List ℕ → SideNames
 noted side None name sign = record side { names = side.names ++ name ∷ []; signs = side.signs ++ sign ∷ [] }
 noted side (Some n) name sign = record side { names = slice_set side.names n name; signs = slice_set side.signs n sign }
 
--- whether the member has no row before
+-- whether the member has no row yet
 abbrev pub is_free : SideNames → Option ℕ → Bool
 is_free side None = true
 is_free side (Some n) = is_none (text_at side.names n)
 
--- the names of a side with the row's name and sign, as they are shown, noted for its member
+-- the names of a side with those of the row added, as they are shown
 abbrev pub with_row : Contents → Side → Fields → SideNames → SideNames
 with_row d side row names = noted names (member_of d side row) (shown_text (field row 2)) (shown_text (sign_in row))
 
--- why a row of a side gives no name, at this place: a field is empty or no text, or its member has a row before
+-- why a row of a side at this place gives no name: a field is empty or no text, or its member already has a row
 unfoldable pub side_fault : Contents → Side → SideNames → ℕ → Fields → Option WhyFault
 side_fault d side names place row =
     if length (field row 1) == 0 || length (field row 2) == 0 then Some (BadKey place)
@@ -76,7 +77,7 @@ side_fault d side names place row =
     else if not (is_utf8 (field row 2) && is_utf8 (sign_in row)) then Some (BadKey place)
     else None
 
--- the fault of a row of one side, or of neither, after the rows that gave these names
+-- the fault of a row of one side or of neither, after the rows that gave these names
 abbrev pub fault_by_side : Contents → KeyNames → ℕ → Fields → Option Side → Option WhyFault
 fault_by_side d key place row None = if is_blank row then None else Some (BadKey place)
 fault_by_side d key place row (Some Programmes) = side_fault d Programmes key.programmes place row
@@ -85,7 +86,7 @@ fault_by_side d key place row (Some Residents) = side_fault d Residents key.resi
 abbrev pub row_fault : Contents → KeyNames → ℕ → Fields → Option WhyFault
 row_fault d key place row = fault_by_side d key place row (row_side row)
 
--- the names with those of a row; a row without a word is passed over
+-- the names with those of a row added; a row without a word is skipped
 abbrev pub added_by_side : Contents → KeyNames → Fields → Option Side → KeyNames
 added_by_side d key row None = key
 added_by_side d key row (Some Programmes) = record key { programmes = with_row d Programmes row key.programmes }
@@ -94,82 +95,83 @@ added_by_side d key row (Some Residents) = record key { residents = with_row d R
 abbrev pub added : Contents → KeyNames → Fields → KeyNames
 added d key row = added_by_side d key row (row_side row)
 
--- the names with those of all these rows, one after another
+-- the names with those of all these rows added, one row after another
 unfoldable pub all_added : Contents → KeyNames → List Fields → KeyNames
 all_added d key [] = key
 all_added d key (row ∷ rest) = all_added d (added d key row) rest
 
--- the first fault of these rows, of which so many stand before
+-- the first fault of these rows, with the number of rows before them
 unfoldable pub fault_from : Contents → KeyNames → ℕ → List Fields → Option WhyFault
 fault_from d key before [] = None
 fault_from d key before (row ∷ rest) = option_or (row_fault d key (before + 1) row) (fault_from d (added d key row) (before + 1) rest)
 
--- no name of the docket's members
+-- the names of a side before any row: no member has one
 abbrev pub unnamed_side : ℕ → SideNames
 unnamed_side count = record { names = replicate count []; signs = replicate count []; labels = [] }
 
 abbrev pub unnamed : Contents → KeyNames
 unnamed d = record { residents = unnamed_side (member_count d Residents); programmes = unnamed_side (member_count d Programmes) }
 
--- whether a text is there and is this one
+-- whether there is a text and the text is this one
 abbrev pub is_this : Option (List ℕ) → List ℕ → Bool
 is_this None name = false
 is_this (Some text) name = bytes_eq text name
 
--- the docket's name of a member, if it is one of the docket's
+-- the docket's name of a member, if the member belongs to the docket
 abbrev pub own_name : Contents → Side → ℕ → Option (List ℕ)
 own_name d side n = if nat_lt n (member_count d side) then Some (docket_name d side n) else None
 
--- whether a member, or a row of one who isn't in the docket, has a name: in the docket, or by its row
+-- whether a member has this name, in the docket or by a row of the key; rows of members outside the docket count too
 unfoldable pub has_name : Contents → Side → List (List ℕ) → List ℕ → ℕ → Bool
 has_name d side names name n = is_this (own_name d side n) name || is_this (text_at names n) name
 
--- another one of the side has it too
+-- another member of the side has the name too
 abbrev pub IsShared : Contents → Side → List (List ℕ) → List ℕ → ℕ → Type 0
 IsShared d side names name n = (k : ℕ) × ((k ≢ n) × (has_name d side names name k ≡ true))
 
--- the label of a member: its name with its sign exactly where another has its name, and none where the key has none of it
+-- The label of a member: the real name with the sign if another member has this name, else nothing. A member without
+-- a name in the key has no label.
 pub record IsLabel (d : Contents) (side : Side) (read : SideNames) (n : ℕ) (label : List ℕ) : Type 0 where
   pub shared : (name : List ℕ) → text_at read.names n ≡ Some name → IsShared d side read.names name n → label ≡ label_of name (unwrap_or (text_at read.signs n) [])
   pub alone : (name : List ℕ) → text_at read.names n ≡ Some name → (IsShared d side read.names name n → ⊥) → label ≡ []
   pub nameless : text_at read.names n ≡ None → label ≡ []
 
--- so is each label of the first so many members of a side
+-- each of the first members of a side, below a count, has its label
 pub record AreLabelsBelow (d : Contents) (side : Side) (read : SideNames) (count : ℕ) (labels : List (List ℕ)) : Type 0 where
   pub each : length labels ≡ count
   pub label : (n : ℕ) (label : List ℕ) → slice_get labels n ≡ Some label → IsLabel d side read n label
 
--- and of all members, in the docket's order
+-- all members have their labels, in the docket's order
 abbrev pub AreLabels : Contents → Side → SideNames → List (List ℕ) → Type 0
 AreLabels d side read labels = AreLabelsBelow d side read (member_count d side) labels
 
--- the names and the signs that were read, with their labels
+-- the names and the signs that were read, together with their labels
 pub record IsLabelled (d : Contents) (side : Side) (read final : SideNames) : Type 0 where
   pub names : final.names ≡ read.names
   pub signs : final.signs ≡ read.signs
   pub labels : AreLabels d side read final.labels
 
--- all rows of a key's bytes were added to these names, and none of them has a fault
+-- all rows of a key's bytes were added to these names, and no row has a fault
 pub record AddsAll (d : Contents) (bytes : List ℕ) (old new : KeyNames) : Type 0 where
   pub rows : List Fields
   pub are_all : AreKeyRows bytes rows
   pub faultless : fault_from d old 0 rows ≡ None
   pub added : new ≡ all_added d old rows
 
--- the fault is that of the first bad one of these rows
+-- the fault is that of the first bad row
 pub record HasBadRow (d : Contents) (old : KeyNames) (bytes : List ℕ) (fault : WhyFault) : Type 0 where
   pub rows : List Fields
   pub are_first : AreFirstRows bytes rows
   pub is_first : fault_from d old 0 rows ≡ Some fault
 
--- the names that a key's bytes give: those of all rows, and the labels
+-- the names that a key's bytes give: the names of all rows, and the labels
 pub record IsKeyOf (d : Contents) (bytes : List ℕ) (key : KeyNames) : Type 0 where
   pub read : KeyNames
   pub all : AddsAll d bytes (unnamed d) read
   pub residents : IsLabelled d Residents read.residents key.residents
   pub programmes : IsLabelled d Programmes read.programmes key.programmes
 
--- the names are those of this docket and these bytes of a key, or without a key the docket's alone
+-- the names are those of this docket and this key; without a key they are the docket's own
 pub record AreNames (d : Contents) (key : Option (List ℕ)) (names : Naming) : Type 0 where
   pub docket : names.docket ≡ d
   pub keyless : key ≡ None → IsKeyless names

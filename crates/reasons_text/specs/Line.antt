@@ -1,4 +1,4 @@
--- What words ask, as the parser of command lines reads them.
+-- Which question the words of a command line ask.
 use Rattle.std.specs.Prelude.{◌≡◌, ◌≢◌, ◌⊎◌, true, false, codes, List, Option, Some, None, option_map}
 use Rattle.clap.specs.Words.{App, IsAmong, Row, Rule, Text, first_of, fault_of, matches_of, new_app, new_rule, with_rule}
 use Rattle.clap.specs.Simple.{on_top}
@@ -11,18 +11,18 @@ use Rattle.reasons_text.specs.declared.question.Asked.{Asked}
 use Rattle.reasons_text.specs.declared.question.Asked.TheVariants as asked
 use Rattle.reasons_text.specs.declared.question.Question.{Question}
 
--- a word in its place, and an option with a value
+-- the rule for a word at its place, and for an option with a value
 abbrev pub word_rule : Text → Rule
 word_rule id = record (new_rule id) { value_names = 1 }
 
 abbrev pub value_rule : Text → Rule
 value_rule id = record (new_rule id) { long = Some id; value_names = 1 }
 
--- the program; its own name isn't among the words
+-- the program's command line; the program's own name isn't among the words
 abbrev pub program_app : App
 program_app = on_top (λ s. record s { no_binary_name = true; has_version = true }) (new_app (codes "residency-why"))
 
--- the program with its two words, its two flags, and its two options that name a file
+-- the program's command line with its two words, its two flags, and its two options for files
 abbrev pub flagged_app : App
 flagged_app = with_rule (with_rule (with_rule (with_rule program_app (word_rule (codes "resident"))) (word_rule (codes "programme")))
     (flag_rule (codes "all"))) (flag_rule (codes "without-ranks"))
@@ -30,13 +30,13 @@ flagged_app = with_rule (with_rule (with_rule (with_rule program_app (word_rule 
 abbrev pub why_app : App
 why_app = with_rule (with_rule flagged_app (value_rule (codes "key"))) (value_rule (codes "sheet"))
 
--- about whom is asked, where not about all: the resident and maybe the programme of the words
+-- The question about these words: a resident, and perhaps a programme. Without words the question is about all.
 abbrev pub IsAskedBy : Option Text → Option Text → Asked → Type 0
 IsAskedBy resident programme asked.All = ⊥
 IsAskedBy resident programme (asked.Resident name) = (resident ≡ Some name.now) × (programme ≡ None)
 IsAskedBy resident programme (asked.Pair name other) = (resident ≡ Some name.now) × (programme ≡ Some other.now)
 
--- the values ask the question
+-- the values on the command line ask this question
 pub record GivesQuestion (rows : List Row) (question : Question) : Type 0 where
   pub all : IsFlagged (codes "all") rows → question.asked ≡ asked.All
   pub one : IsUnflagged (codes "all") rows → IsAskedBy (first_of (codes "resident") rows) (first_of (codes "programme") rows) question.asked
@@ -45,16 +45,17 @@ pub record GivesQuestion (rows : List Row) (question : Question) : Type 0 where
   pub key : option_map (λ path. path.now) question.key ≡ first_of (codes "key") rows
   pub sheet : option_map (λ path. path.now) question.sheet ≡ first_of (codes "sheet") rows
 
--- the words ask the question
+-- the words ask this question
 abbrev pub Asks : List Text → Question → Type 0
 Asks words = GivesQuestion (matches_of why_app words)
 
--- the values ask about a resident and about all, or about nobody
+-- the values ask about both a resident and all, or about nobody
 pub record AsksNone (rows : List Row) : Type 0 where
   pub both : IsFlagged (codes "all") rows → first_of (codes "resident") rows ≢ None
   pub neither : IsUnflagged (codes "all") rows → first_of (codes "resident") rows ≡ None
 
--- the words ask no question, for this fault: memory failed, the parser refuses them, or they ask about nobody or too much
+-- the words ask no question, and this is why: memory ran out, the parser refuses them, or they ask about nobody or
+-- about too much
 abbrev pub Refuses : List Text → LineFault → Type 0
 Refuses words fault = IsErrorOf (λ kind. IsAmong kind (fault_of why_app words)) fault
     ⊎ (AsksNone (matches_of why_app words) × IsErrorOf (λ kind. (kind ≡ ArgumentConflict) ⊎ (kind ≡ MissingRequiredArgument)) fault)

@@ -1,4 +1,4 @@
--- The lines on a resident: the first one, and one on each programme of its record.
+-- The lines about a resident: a first line, and one line for each programme of the R record.
 use Rattle.std.specs.Prelude.{ℕ, ◌+◌, ◌-◌, ◌^◌, ◌%◌, ◌==◌, ◌&&◌, min, nat_lt, Bool, true, false, if◌then◌else◌, Option, Some, None, List, ◌++◌, length, codes, count_by, decimal, slice_get}
 use Rattle.std.specs.List.{flat_map, position_from, zip}
 use Rattle.match_model.specs.Instance.{is_withdrawn}
@@ -7,11 +7,11 @@ use Rattle.match_reasons.specs.declared.reason.Why.TheVariants.{Withdrawn, NotLi
 use Rattle.reasons_text.specs.Answers.{ranked_back, withdrew}
 use Rattle.reasons_text.specs.Naming.{Naming, shown_programme}
 
--- a rank, which is counted from 0, as the number that is shown, as far as a number of 64 bits goes
+-- a rank as it is shown: one more than the rank counted from 0, up to the greatest number of 64 bits
 abbrev pub from_one : ℕ → ℕ
 from_one rank = min (rank + 1) (2 ^ 64 - 1)
 
--- what follows that number
+-- the letters after that number
 unfoldable pub ending : ℕ → List ℕ
 ending rank =
     if nat_lt 9 (rank % 100) && nat_lt (rank % 100) 13 then codes "th"
@@ -20,19 +20,19 @@ ending rank =
     else if rank % 10 == 2 then codes "rd"
     else codes "th"
 
--- a rank as it is said: 1st, 2nd, 3rd
+-- a rank in words: 1st, 2nd, 3rd
 unfoldable pub place_text : ℕ → List ℕ
 place_text rank = decimal (from_one rank) ++ ending rank
 
--- how many there are, in words where there are none
+-- a count as a text; zero is a word
 unfoldable pub count_text : ℕ → List ℕ
 count_text n = if n == 0 then codes "none" else decimal n
 
--- whether a resident withdrew
+-- whether the resident withdrew
 abbrev pub has_withdrawn : Naming → ℕ → Bool
 has_withdrawn names r = is_withdrawn names.docket.instance.residents_withdrawn r
 
--- what a resident is told to whom others were preferred
+-- the sentence for a resident when all places went to residents ranked higher
 unfoldable pub full_sentence : Bool → ℕ → Option ℕ → ℕ → List ℕ
 full_sentence without_ranks rank None quota = codes "it had no places."
 full_sentence true rank (Some last) quota = codes "its places went to residents it ranks above you."
@@ -42,12 +42,12 @@ full_sentence false rank (Some last) quota =
     else codes "it ranked you " ++ (place_text rank ++ (codes ". Its " ++ (decimal quota
     ++ (codes " places went to residents it ranked higher, the last of them " ++ (place_text last ++ codes ".")))))
 
--- what is told where the programme or the resident withdrew
+-- the sentence when the programme or the resident withdrew
 unfoldable pub withdrawn_sentence : Bool → List ℕ
 withdrawn_sentence true = codes "you withdrew from the match."
 withdrawn_sentence false = codes "it withdrew from the match."
 
--- what resident r is told of a programme, with this answer
+-- the sentence about a programme for resident r, from this answer
 unfoldable pub sentence : Naming → Bool → ℕ → Why → List ℕ
 sentence names without_ranks r Withdrawn = withdrawn_sentence (has_withdrawn names r)
 sentence names without_ranks r NotListed = codes "it is not on your list."
@@ -60,22 +60,22 @@ sentence names without_ranks r (Full rank last_rank quota) = full_sentence witho
 sentence names without_ranks r Blocking =
     codes "you would rather be here, and it would rather have you. This sheet is not right: please tell the office."
 
--- the line on a programme: its name, what is told of it, and a line feed
+-- the line about a programme: its name, the sentence, and a line feed
 unfoldable pub line : Naming → Bool → ℕ → ℕ → Why → List ℕ
 line names without_ranks r p reason = shown_programme names p ++ codes ": " ++ sentence names without_ranks r reason ++ codes "\n"
 
--- a line on each of these programmes, in order, with the answer in its place
+-- one line for each of these programmes, in order, from the answer at the same place
 abbrev pub lines : Naming → Bool → ℕ → List ℕ → List Why → List ℕ
 lines names without_ranks r programmes reasons =
     flat_map (λ (told : ℕ × Why). line names without_ranks r told.0 told.1) (zip programmes reasons)
 
--- a resident is with the programme of this name, which is this choice of so many
+-- the words for a resident's own programme, and for its place among the resident's choices
 unfoldable pub as_choice : List ℕ → ℕ → ℕ → List ℕ
 as_choice name choice listed =
     codes "You are matched with " ++ (name ++ (codes ", your " ++ (place_text choice ++ (codes " choice of " ++ (decimal listed ++ codes ".")))))
 
--- how the match ended for a resident that is with it, with this answer: the sheet isn't right where the programme withdrew or
--- didn't rank the resident
+-- How the match ended for a resident with a programme, from this answer. The sheet is wrong if the programme withdrew
+-- or didn't rank the resident.
 unfoldable pub given : List ℕ → ℕ → ℕ → Option Why → List ℕ
 given name choice listed None = as_choice name choice listed
 given name choice listed (Some Withdrawn) =
@@ -88,7 +88,8 @@ given name choice listed (Some (PrefersOwn own own_rank rank)) = as_choice name 
 given name choice listed (Some (Full rank last_rank quota)) = as_choice name choice listed
 given name choice listed (Some Blocking) = as_choice name choice listed
 
--- the same, of a programme that is this choice of the resident's, if it is one, where these are the answers on all choices
+-- How the match ended for a resident with this programme. Its choice number is given if the resident ranked it, and
+-- these are the answers for all choices.
 unfoldable pub matched : List ℕ → Option ℕ → List Why → List ℕ
 matched name None reasons = codes "You are matched with " ++ (name ++ codes ", which is not on your list.")
 matched name (Some choice) reasons = given name choice (length reasons) (slice_get reasons choice)
@@ -103,11 +104,11 @@ unfoldable pub ended : Naming → ℕ → Option ℕ → List ℕ → List Why �
 ended names r own programmes reasons =
     if has_withdrawn names r then codes "You withdrew from the match." else outcome names own programmes reasons
 
--- the word for so many programmes
+-- the word for this number of programmes
 unfoldable pub programmes_word : ℕ → List ℕ
 programmes_word listed = if listed == 1 then codes "programme" else codes "programmes"
 
--- how many programmes a resident ranked, and how many of these ranked it or withdrew
+-- how many programmes the resident ranked, and how many of them ranked the resident or withdrew
 unfoldable pub ranked : Bool → ℕ → ℕ → ℕ → List ℕ
 ranked withdrawn listed back gone =
     if listed == 0 then codes " You ranked no programme.\n"
@@ -115,12 +116,12 @@ ranked withdrawn listed back gone =
     else codes " You ranked " ++ (decimal listed ++ (codes " " ++ (programmes_word listed ++ (codes ": " ++ (count_text back
     ++ (codes " ranked you too, " ++ (count_text gone ++ codes " withdrew.\n")))))))
 
--- the first line on resident r, which is with its own programme, if it has one
+-- the first line about resident r, with r's own programme if there is one
 abbrev pub first_line : Naming → ℕ → Option ℕ → List ℕ → List Why → List ℕ
 first_line names r own programmes reasons =
     ended names r own programmes reasons
     ++ ranked (has_withdrawn names r) (length reasons) (count_by ranked_back reasons) (count_by withdrew reasons)
 
--- the first line on resident r, and a line on each of these programmes
+-- the first line about resident r, and a line for each of these programmes
 abbrev pub text_on : Naming → Bool → ℕ → Option ℕ → List ℕ → List Why → List ℕ
 text_on names without_ranks r own programmes reasons = first_line names r own programmes reasons ++ lines names without_ranks r programmes reasons

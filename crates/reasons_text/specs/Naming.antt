@@ -1,4 +1,4 @@
--- The names by which members are shown and asked about.
+-- The names that are shown for members, and by which questions name them.
 use Rattle.std.specs.Prelude.{◌≡◌, ◌≢◌, ℕ, ◌<◌, ◌==◌, nat_lt, ◌&&◌, ◌||◌, Bool, true, false, if◌then◌else◌, Option, Some, None, List, [], ◌++◌, codes, length, map, slice_get, unwrap_or, string_bytes}
 use Rattle.std.specs.Str.{bytes_eq}
 use Rattle.docket.specs.Contents.{Contents}
@@ -11,8 +11,8 @@ use Rattle.reasons_text.specs.declared.names.Meant.TheVariants.{Nobody, One, Sev
 use Rattle.reasons_text.specs.declared.side.Side.{Side}
 use Rattle.reasons_text.specs.declared.side.Side.TheVariants.{Programmes, Residents}
 
--- a key's names of one side, by member: the real name, what tells members of one name apart, and what is shown where another
--- has the name; each is empty where there is none
+-- The names of one side in a key, for each member: the real name, the sign, and the label. The sign separates members
+-- with the same name. The label is shown if another member has the name. Each is empty if it is missing.
 pub record SideNames : Type 0 where
   pub names : List (List ℕ)
   pub signs : List (List ℕ)
@@ -25,7 +25,7 @@ side_of key = record {
   labels = map string_bytes key.labels.items;
 }
 
--- a key's names of both sides
+-- the names of both sides in a key
 pub record KeyNames : Type 0 where
   pub residents : SideNames
   pub programmes : SideNames
@@ -33,13 +33,13 @@ pub record KeyNames : Type 0 where
 abbrev pub both_of : Key → KeyNames
 both_of key = record { residents = side_of key.residents; programmes = side_of key.programmes }
 
--- a docket, and a key's names of both sides
+-- a docket, and the names of both sides in a key
 pub record Naming : Type 0 where
   pub docket : Contents
   pub residents : SideNames
   pub programmes : SideNames
 
--- the names as the program has them
+-- the names, in the form that the program keeps
 abbrev pub naming_of : Names → Naming
 naming_of names = record {
   docket = names.docket.now;
@@ -47,11 +47,11 @@ naming_of names = record {
   programmes = side_of names.key.now.programmes;
 }
 
--- no real names
+-- no real name for anyone
 abbrev pub no_names : SideNames
 no_names = record { names = []; signs = []; labels = [] }
 
--- the docket's own names, and no others
+-- only the docket's own names
 abbrev pub own_names : Contents → Naming
 own_names d = record { docket = d; residents = no_names; programmes = no_names }
 
@@ -61,7 +61,7 @@ HasNoNames key = side_of key ≡ no_names
 abbrev pub IsKeyless : Naming → Type 0
 IsKeyless names = (names.residents ≡ no_names) × (names.programmes ≡ no_names)
 
--- the names of a side in the key, and in the docket
+-- the names of a side in the key and in the docket
 abbrev pub names_in : Naming → Side → SideNames
 names_in names Programmes = names.programmes
 names_in names Residents = names.residents
@@ -80,20 +80,21 @@ abbrev pub docket_name : Contents → Side → ℕ → List ℕ
 docket_name d Programmes n = texts.programme_name d n
 docket_name d Residents n = texts.resident_name d n
 
--- a text, unless it is empty
+-- the text, or nothing if it is empty
 abbrev pub unless_empty : Option (List ℕ) → Option (List ℕ)
 unless_empty None = None
 unless_empty (Some text) = if length text == 0 then None else Some text
 
--- the text in this place, if there is one
+-- the text at this place, if there is one
 unfoldable pub text_at : List (List ℕ) → ℕ → Option (List ℕ)
 text_at texts place = unless_empty (slice_get texts place)
 
--- a name and its sign, as the office writes them: NAME (ID)
+-- a name and its sign, as the office writes a label: NAME (ID)
 unfoldable pub label_of : List ℕ → List ℕ → List ℕ
 label_of name sign = name ++ (codes " (" ++ (sign ++ codes ")"))
 
--- the name by which a member is shown: its label where another has its name, its real one, or the docket's
+-- the name that is shown for a member: the label if another member has the name, else the real name, else the
+-- docket's name
 unfoldable pub shown : Naming → Side → ℕ → List ℕ
 shown names side n =
     unwrap_or (text_at (names_in names side).labels n) (unwrap_or (text_at (names_in names side).names n) (docket_name names.docket side n))
@@ -104,42 +105,43 @@ shown_resident names r = shown names Residents r
 abbrev pub shown_programme : Naming → ℕ → List ℕ
 shown_programme names p = shown names Programmes p
 
--- the text is the name that a member has in the key, if it has one, its sign, or its label
+-- whether the text is the member's name in the key, its sign, or its label
 unfoldable pub is_by_key : Option (List ℕ) → Option (List ℕ) → List ℕ → Bool
 is_by_key None sign text = false
 is_by_key (Some name) sign text = bytes_eq name text || (bytes_eq (unwrap_or sign []) text || bytes_eq (label_of name (unwrap_or sign [])) text)
 
--- the text means a member of a side: it is the docket's name, the real one, the ID, or the real name with the ID
+-- whether the text means this member of the side: it is the docket's name, the real name, the ID, or the real name
+-- with the ID
 unfoldable pub means : Naming → Side → List ℕ → ℕ → Bool
 means names side text n =
     (nat_lt n (member_count names.docket side) && bytes_eq (docket_name names.docket side n) text)
     || is_by_key (text_at (names_in names side).names n) (text_at (names_in names side).signs n) text
 
--- of the first n of a side the text means nobody, this one alone, or more than one
+-- among the first n members of a side, the text means nobody, this member alone, or more than one
 abbrev pub IsMeantBelow : (ℕ → Bool) → ℕ → Meant → Type 0
 IsMeantBelow test n Nobody = (k : ℕ) → k < n → test k ≡ false
 IsMeantBelow test n (One r) = (r < n) × ((test r ≡ true) × ((k : ℕ) → k < n → test k ≡ true → k ≡ r))
 IsMeantBelow test n Several = (a : ℕ) × ((b : ℕ) × ((a < b) × ((b < n) × ((test a ≡ true) × (test b ≡ true)))))
 
--- whom it means where it means this one too
+-- whom the text means if it means this member too
 abbrev pub also_of : Meant → ℕ → Meant
 also_of Nobody n = One n
 also_of (One r) n = Several
 also_of Several n = Several
 
--- this is whom the text means, of all who have names
+-- whom the text means among all who have names
 pub record IsMeant (names : Naming) (side : Side) (text : List ℕ) (meant : Meant) : Type 0 where
   pub named : ℕ
   pub all : (k : ℕ) → means names side text k ≡ true → k < named
   pub is : IsMeantBelow (means names side text) named meant
 
--- a member of the docket is meant, and nobody else
+-- the text means a member of the docket, and nobody else
 pub record MeansAlone (names : Naming) (side : Side) (text : List ℕ) (n : ℕ) : Type 0 where
   pub member : n < member_count names.docket side
   pub is_meant : means names side text n ≡ true
   pub alone : (k : ℕ) → means names side text k ≡ true → k ≡ n
 
--- two are meant
+-- the text means two members
 pub record MeansTwo (names : Naming) (side : Side) (text : List ℕ) : Type 0 where
   pub one : ℕ
   pub other : ℕ
@@ -147,6 +149,6 @@ pub record MeansTwo (names : Naming) (side : Side) (text : List ℕ) : Type 0 wh
   pub first : means names side text one ≡ true
   pub second : means names side text other ≡ true
 
--- no member of the docket is meant
+-- the text means no member of the docket
 abbrev pub MeansNoMember : Naming → Side → List ℕ → Type 0
 MeansNoMember names side text = (k : ℕ) → k < member_count names.docket side → means names side text k ≡ false

@@ -1,4 +1,4 @@
--- How the program ends, by what it was given and what it wrote.
+-- How the program ends, from its input and its output.
 use Rattle.std.specs.Prelude.{◌≡◌, ◌≢◌, ◌⊎◌, ℕ, Option, Some, None, Result, List, IfSome, IsSome, is_some}
 use Rattle.std.specs.Prelude.{String}
 use Rattle.std.specs.Global.{Vec}
@@ -21,7 +21,7 @@ pub record Beside (input : Option (List ℕ)) : Type 0 where
   pub sheet : List ℕ
   pub input_is : IfSome input (λ bytes. docket ≡ bytes)
 
--- a file, or the input, couldn't be read, or memory failed
+-- a file or the input could not be read, or memory ran out
 abbrev pub IsUnreadKey : Question → WhyFault → Type 0
 IsUnreadKey question fault = IsSome question.key × ((fault ≡ KeyUnread) ⊎ (fault ≡ Docket docket.Memory))
 
@@ -36,12 +36,12 @@ abbrev pub AnswersBeside : Limits → Question → Option (List ℕ) → Option 
 AnswersBeside limits question input key old new =
     (files : Beside input) × AppendsText (AnswersFilesWithin limits files.docket files.sheet key question.asked question.without_ranks) old new
 
--- why nothing, or not all, was told over them
+-- why nothing was written over the two, or not all of it
 abbrev pub FailsBeside : Limits → Question → Option (List ℕ) → Option (List ℕ) → WhyFault → Type 0
 FailsBeside limits question input key fault =
     IsUnreadSheet fault ⊎ (IsUnreadInput fault ⊎ ((files : Beside input) × IsFilesFaultWithin limits files.docket files.sheet key question.asked fault))
 
--- the text answers over the input, or where the question names a sheet's file, over both
+-- The text answers the question over the input. If the question names a sheet's file, the text answers over both.
 abbrev pub AnswersOver : {A : Type 0} → Limits → Option A → Question → Option (List ℕ) → Option (List ℕ) → Option (List ℕ) → Option (List ℕ) → Type 0
 AnswersOver limits None question input key old new = AppendsText (AnswersWithin limits input key question.asked question.without_ranks) old new
 AnswersOver limits (Some path) question input key old new = AnswersBeside limits question input key old new
@@ -57,7 +57,7 @@ pub record IsAnswered (limits : Limits) (question : Question) (input old new : O
   pub keyed : is_some key ≡ is_some question.key
   pub told : AnswersOver limits question.sheet question input key old new
 
--- the question wasn't answered, for a fault that holds; before one other than the writer's nothing was written
+-- The question was not answered, and the fault is true. Before any fault other than the writer's, nothing was
 pub record IsFailed (limits : Limits) (question : Question) (input old new : Option (List ℕ)) (fault : WhyFault) : Type 0 where
   -- the bytes of the file that the question names, and none where it names none
   pub key : Option (List ℕ)
@@ -65,7 +65,7 @@ pub record IsFailed (limits : Limits) (question : Question) (input old new : Opt
   pub holds : FailsOver limits question.sheet question input key fault ⊎ IsUnreadKey question fault
   pub before : fault ≢ Docket docket.Write → new ≡ old
 
--- the status is 0 for an answer, and else that of the fault
+-- the status is 0 for an answer, and else the status of the fault
 abbrev pub EndsTold : Limits → Question → Option (List ℕ) → Option (List ℕ) → Option (List ℕ) → ℕ → Type 0
 EndsTold limits question input old new status = ((status ≡ 0) × IsAnswered limits question input old new)
     ⊎ ((fault : WhyFault) × ((status ≡ fault_status_of fault) × IsFailed limits question input old new fault))

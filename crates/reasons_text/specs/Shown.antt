@@ -1,11 +1,11 @@
--- Texts as a terminal may show them.
+-- Texts as a terminal may show them, without control characters.
 use Rattle.std.specs.Prelude.{ℕ, ◌||◌, ◌&&◌, nat_lt, Bool, if◌then◌else◌, List, map, chars, encode_utf8_all}
 
--- the characters below 32, 127, and those from 128 to 159
+-- whether the character is a control character: below 32, or 127, or from 128 to 159
 abbrev pub is_control : ℕ → Bool
 is_control c = nat_lt c 32 || (nat_lt 126 c && nat_lt c 160)
 
--- a question mark in the place of a control character
+-- the character, or a question mark for a control character
 abbrev pub shown_char : ℕ → ℕ
 shown_char c = if is_control c then 63 else c
 

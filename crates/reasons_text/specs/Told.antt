@@ -1,9 +1,9 @@
--- Whom a question is about.
+-- Which members a question is about.
 use Rattle.match_model.specs.Instance.{Instance, IsProgramme, IsResident}
 use Rattle.reasons_text.specs.declared.answering.Told.{Told}
 use Rattle.reasons_text.specs.declared.answering.Told.TheVariants.{All, Resident, Pair}
 
--- whoever is named is a member of the instance
+-- each member that is named belongs to the instance
 abbrev pub IsTold : Instance → Told → Type 0
 IsTold inst All = Unit {0}
 IsTold inst (Resident r) = IsResident inst r

@@ -27,7 +27,7 @@ use std::hash::RandomState;
 use std::io::{Read, Write};
 use std::random::RandomSource;
 
-// How the answers are told: with these names, and with or without the numbers of the programmes' lists.
+// How answers are written: with these names, and with or without ranks of the programmes' lists.
 #[derive(Clone, Copy)]
 struct Manner<'a> {
     names: Names<'a>,
@@ -42,7 +42,7 @@ enum Told {
     Pair(ResidentNo, ProgrammeNo),
 }
 
-// Adds a line on each of these programmes, with the answer in its place.
+// Adds a line for each of these programmes, from the answer at the same place.
 fn push_each(
     alloc: Global,
     text: &mut String,
@@ -69,7 +69,7 @@ fn push_each(
     Ok(())
 }
 
-// Adds the first line on a resident, and the line on each programme of its record.
+// Adds the first line about a resident, and the line about each programme of the R record.
 fn push_lines(
     alloc: Global,
     text: &mut String,
@@ -89,7 +89,7 @@ fn push_lines(
     push_each(alloc, text, manner, resident, list, reasons)
 }
 
-// Adds the row on each of these programmes, with the answer in its place.
+// Adds a row for each of these programmes, from the answer at the same place.
 fn push_rows<W: Write>(
     rows: &mut RowWriter<'_, W>,
     manner: &Manner,
@@ -115,7 +115,7 @@ fn push_rows<W: Write>(
     Ok(())
 }
 
-// Adds the rows on all residents.
+// Adds the rows about all residents.
 fn push_all_rows<W: Write>(
     alloc: Global,
     rows: &mut RowWriter<'_, W>,
@@ -135,7 +135,7 @@ fn push_all_rows<W: Write>(
     Ok(())
 }
 
-/// Adds the rows of all on one resident, by the docket's own names and with the ranks.
+/// Adds the rows about one resident, with the docket's own names and with ranks.
 pub fn push_rows_on<W: Write>(
     alloc: Global,
     rows: &mut RowWriter<'_, W>,
@@ -160,7 +160,7 @@ pub fn push_rows_on<W: Write>(
     Ok(())
 }
 
-// Writes the names of the columns, and the rows on all residents.
+// Writes the names of the columns, and the rows about all residents.
 fn write_table<W: Write>(
     alloc: Global,
     writer: &mut W,
@@ -178,7 +178,7 @@ fn write_table<W: Write>(
     Ok(())
 }
 
-// The names of the columns, and the rows on all residents. They are written to memory, so want of it is the one fault.
+// The names of the columns, and the rows about all residents. They go to memory, so the only fault is out of memory.
 fn table_of(alloc: Global, case: &Case, manner: &Manner) -> Result<Vec<u8>, AllocError>
     ensures { IfOk result (λ text. IsTable case.now (naming_of manner.now.names) manner.now.without_ranks text.items) }
 {
@@ -189,7 +189,7 @@ fn table_of(alloc: Global, case: &Case, manner: &Manner) -> Result<Vec<u8>, Allo
     }
 }
 
-// The lines on a resident.
+// The lines about a resident.
 fn lines_of(
     alloc: Global,
     case: &Case,
@@ -204,7 +204,7 @@ fn lines_of(
     Ok(text.into_bytes())
 }
 
-// The line on a resident and a programme.
+// The line about a resident and a programme.
 fn line_of(
     alloc: Global,
     case: &Case,
@@ -230,7 +230,7 @@ fn line_of(
     Ok(text.into_bytes())
 }
 
-// What is told.
+// The text of the answer.
 fn told_text(alloc: Global, case: &Case, manner: &Manner, told: Told) -> Result<Vec<u8>, AllocError>
     requires { IsTold case.now.docket.instance told }
     ensures { IfOk result (λ text. IsTextOf case.now (naming_of manner.now.names) manner.now.without_ranks told text.items) }
@@ -242,8 +242,8 @@ fn told_text(alloc: Global, case: &Case, manner: &Manner, told: Told) -> Result<
     }
 }
 
-// The member of a side whom a name means alone. A name that means nobody is told with near ones, and one that means more
-// than one with their labels.
+// The only member of a side whom a name means. If a name means nobody, the fault has near names. If it means more
+// than one, the fault has their labels.
 fn named(alloc: Global, names: &Names, side: Side, name: &str) -> Result<u32, WhyFault>
     ensures name { IfOk result (MeansAlone (naming_of names.now) side name.now) }
     ensures fault { IfErr result (IsNameFault (naming_of names.now) side name.now) }
@@ -318,8 +318,8 @@ fn text_of(
 }
 
 /// Reads a docket with a sheet within the standard limits, and writes why. Of a resident it writes the first line and one on each programme of its
-/// record. Of a resident and a programme it writes one line, and of all the rows. The key's bytes have the members' real
-/// names. Nothing is written before a fault other than the writer's own.
+/// programme of the R record. For a resident and a programme it writes one line, and for all the rows. The key's
+/// bytes have the members' real names. Before a fault that is not the writer's, nothing is written.
 pub fn serve_why<R: Read + Drop, W: Write, H: RandomSource>(
     rt: &H,
     alloc: Global,

@@ -1,20 +1,20 @@
-//! What a resident is told, and how many of the answers say what.
+//! What a resident is told, with counts of the answers.
 ghost use Rattle.std.specs.Prelude.{◌≡◌, length, count_by};
 ghost use Rattle.reasons_text.specs.Answers.{ranked_back, withdrew};
 
 use match_model::ProgrammeNo;
 use match_reasons::Why;
 
-/// What a resident is told: the programmes of its record, in order, and the reason at each.
+/// What a resident is told: the programmes of the R record, in order, and the reason for each.
 #[derive(Drop)]
 pub struct Answers {
-    /// The programmes of the resident's record, in order.
+    /// The programmes of the resident's R record, in order.
     pub programmes: Vec<ProgrammeNo>,
-    /// What is told of each.
+    /// The reason for each.
     pub reasons: Vec<Why>,
 }
 
-/// How many programmes were asked about, how many of them ranked the resident, and how many answers tell of a withdrawal.
+/// How many programmes were asked about, how many of them ranked the resident, and how many answers are a withdrawal.
 #[derive(Clone, Copy, Debug)]
 pub(crate) struct Tally {
     pub(crate) listed: usize,
@@ -22,7 +22,7 @@ pub(crate) struct Tally {
     pub(crate) withdrew: usize,
 }
 
-// Whether the programme ranked the resident who is told this.
+// Whether this answer says that the programme ranked the resident.
 fn is_ranked_back(reason: &Why) -> bool
     ensures { result ≡ ranked_back reason.now }
 {
@@ -32,7 +32,7 @@ fn is_ranked_back(reason: &Why) -> bool
     }
 }
 
-// Whether it tells of a withdrawal.
+// Whether this answer is a withdrawal.
 fn is_withdrawal(reason: &Why) -> bool
     ensures { result ≡ withdrew reason.now }
 {

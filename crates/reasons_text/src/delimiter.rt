@@ -1,8 +1,8 @@
-//! What parts the fields of a key.
+//! Which mark separates the fields of a key.
 ghost use Rattle.std.specs.Prelude.{◌≡◌};
 ghost use Rattle.reasons_text.specs.Delimiter as spec;
 
-/// How often each mark stands in the bytes so far, outside quotes, and whether the next byte is inside.
+/// How often each mark stands in the bytes so far, outside quotes, and whether a quote is open.
 #[derive(Clone, Copy, Debug, PartialEq, Eq)]
 pub(crate) struct Marks {
     /// How many commas.
@@ -16,7 +16,7 @@ pub(crate) struct Marks {
 }
 
 impl Marks {
-    // No byte.
+    // The counts before any byte.
     fn none() -> Marks
         ensures { result ≡ spec.no_marks }
     {
@@ -28,7 +28,7 @@ impl Marks {
         }
     }
 
-    // Whether the byte ends a line that has a mark.
+    // Whether the byte ends a line in which a mark was counted.
     fn ends_line(&self, byte: u8) -> bool
         ensures { result ≡ spec.ends_line self.now byte }
     {
@@ -36,7 +36,7 @@ impl Marks {
         byte == b'\n' && !self.is_quoted && has_mark
     }
 
-    // Counts one byte more.
+    // Counts one more byte.
     #[tactic(auto, unfolding(crate::specs::Delimiter::counted))]
     fn count(&mut self, byte: u8)
         ensures { self.new ≡ spec.counted self.old byte }
@@ -52,7 +52,7 @@ impl Marks {
         }
     }
 
-    // The mark that is there most often.
+    // The mark with the highest count.
     fn chosen(&self) -> u8
         ensures { result ≡ spec.chosen self.now }
     {
@@ -66,7 +66,7 @@ impl Marks {
     }
 }
 
-// The marks of the first line that has one.
+// The counts of the first line that has a mark.
 fn marks_of(bytes: &[u8]) -> Marks
     ensures { result ≡ spec.marks_of spec.no_marks bytes.now }
 {
@@ -80,8 +80,8 @@ fn marks_of(bytes: &[u8]) -> Marks
     marks
 }
 
-/// What parts the fields of a key: the one of comma, semicolon and tab that its first line with one has most often, outside
-/// quotes.
+/// The mark that separates the fields of a key: comma, semicolon or tab. The first line that has any of them outside
+/// quotes decides; the most frequent mark wins.
 pub(crate) fn delimiter_of(bytes: &[u8]) -> u8
     ensures { result ≡ spec.delimiter_of bytes.now }
 {

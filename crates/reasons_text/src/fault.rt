@@ -1,4 +1,4 @@
-//! Why nothing, or not all, was told.
+//! Why nothing was written, or not all of it.
 ghost use Rattle.std.specs.Prelude.{◌≡◌};
 ghost use Rattle.docket.specs.declared.fault.DocketFault.TheVariants as docket_fault;
 ghost use Rattle.reasons_text.specs.declared.fault.WhyFault.TheVariants.{Docket};
@@ -10,7 +10,7 @@ use std::alloc::AllocError;
 use std::fmt;
 use thiserror::Error;
 
-/// Why a resident wasn't told.
+/// Why a question was not answered.
 #[derive(Debug, PartialEq, Eq, Drop, Error)]
 pub enum WhyFault {
     /// The docket could not be read, or the answer could not be written.
@@ -25,34 +25,34 @@ pub enum WhyFault {
     /// A row of the key isn't a side, a name and a real name.
     #[error("record {place} of the key: not a side, a name and a real name")]
     BadKey {
-        /// The record, from 1.
+        /// The number of the record, from 1.
         place: u64,
     },
-    /// A member has a row of the key before.
+    /// A member already has a row of the key.
     #[error("record {place} of the key: that member has a row before")]
     DoubledKey {
-        /// The record, from 1.
+        /// The number of the record, from 1.
         place: u64,
     },
-    /// No resident has the name; with what is told of it.
+    /// No resident has the name; with the text of the message.
     #[error("{0}")]
     NoResident(String),
-    /// No programme has the name; with what is told of it.
+    /// No programme has the name; with the text of the message.
     #[error("{0}")]
     NoProgramme(String),
-    /// More than one resident has the name; with who they are.
+    /// More than one resident has the name; with their labels.
     #[error("{0}")]
     ManyResidents(String),
-    /// More than one programme has the name; with which they are.
+    /// More than one programme has the name; with their labels.
     #[error("{0}")]
     ManyProgrammes(String),
     /// A record of the docket, or of the sheet's file, belongs to another part or to none.
     #[error(transparent)]
     Part(PartFault),
-    /// The records of both have this fault, in this file, and its place is that in the file.
+    /// The records of docket and sheet have this fault, in this file, with the record's number there.
     #[error("{fault}")]
     Records {
-        /// The docket, or the sheet's file.
+        /// The docket's file or the sheet's.
         file: Part,
         /// The fault.
         fault: DocketFault,
@@ -63,7 +63,7 @@ pub enum WhyFault {
     /// The sheet's file could not be read.
     #[error("the sheet could not be read")]
     SheetUnread,
-    /// The docket beside a sheet's file could not be read.
+    /// The docket could not be read, with the sheet in its own file.
     #[error("the input could not be read")]
     InputUnread,
 }

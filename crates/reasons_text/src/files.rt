@@ -1,4 +1,4 @@
-//! From the bytes of a docket and of a sheet's file to sentences and rows.
+//! From the bytes of a docket's file and a sheet's file to sentences and rows.
 ghost use Rattle.std.specs.Prelude.{◌≡◌, ◌≢◌, IfErr, OnOk, option_copied};
 ghost use Rattle.reasons_text.specs.Files as spec;
 ghost use Rattle.reasons_text.specs.Files.{AnswersFiles, AnswersFilesWithin, IsFilesFault, IsFilesFaultWithin};
@@ -14,7 +14,7 @@ use std::alloc::Global;
 use std::io::Write;
 use std::random::RandomSource;
 
-// A fault of the joined records, told in its file.
+// A fault of the joined records, with its file.
 fn in_its_file(joined: &Joined, fault: WhyFault) -> WhyFault
     ensures { result ≡ spec.in_its_file joined.now.docket joined.now.sheet fault }
 {

@@ -24,15 +24,15 @@ use docket::{Docket, DocketFault};
 use std::alloc::{AllocError, Global};
 use std::hash::RandomState;
 
-/// The names of one side's members, by number, and after them those of rows whose member isn't in the docket. A name and a
-/// sign are empty where there is no row, and a label where nobody else has the name.
+/// The names of one side's members, by number. After them come the names of rows whose member is not in the docket.
+/// Without a row, name and sign are empty. If nobody else has the name, the label is empty.
 #[derive(Drop)]
 pub(crate) struct SideKey {
     /// The real names.
     pub(crate) names: Vec<String>,
-    /// What tells members of one name apart: the ID, or the docket's name where there is none.
+    /// The sign, which separates members with the same name: the ID, or without an ID the docket's name.
     pub(crate) signs: Vec<String>,
-    /// How a member is shown whose name another has: `NAME (ID)`.
+    /// The label of a member if another member has the same name: `NAME (ID)`.
     pub(crate) labels: Vec<String>,
 }
 
@@ -43,7 +43,7 @@ pub(crate) struct Key {
     pub(crate) programmes: SideKey,
 }
 
-// Field `i` of a row, from 0, which is empty past the end.
+// Field `i` of a row, from 0, or an empty field past the end.
 #[tactic(auto, unfolding(docket::specs::Fields::field))]
 fn field(row: &ByteRecord, i: usize) -> &[u8]
     ensures { result.now ≡ field_in (fields_of row.now) i }
@@ -54,7 +54,7 @@ fn field(row: &ByteRecord, i: usize) -> &[u8]
     }
 }
 
-// So many empty texts.
+// This many empty texts.
 fn empty_texts(alloc: Global, count: u32) -> Result<Vec<String>, AllocError>
     ensures { IfOk result (λ texts. map string_bytes texts.items ≡ replicate count []) }
 {
@@ -65,7 +65,7 @@ fn empty_texts(alloc: Global, count: u32) -> Result<Vec<String>, AllocError>
     Ok(names)
 }
 
-/// The text in its place, unless it is empty or there is none.
+/// The text at this place, unless it is empty or missing.
 #[tactic(auto, unfolding(crate::specs::Naming::text_at))]
 pub(crate) fn text_in(texts: &[String], place: usize) -> Option<&str>
     ensures { option_copied result ≡ text_at (map string_bytes texts.now) place }
@@ -76,7 +76,7 @@ pub(crate) fn text_in(texts: &[String], place: usize) -> Option<&str>
     }
 }
 
-/// A name and its sign, as the office writes them: `NAME (ID)`.
+/// A name and its sign, as the office writes a label: `NAME (ID)`.
 #[tactic(auto, unfolding(crate::specs::Naming::label_of))]
 pub(crate) fn label_text(alloc: Global, name: &str, sign: &str) -> Result<String, AllocError>
     ensures { IfOk result (λ text. string_bytes text ≡ label_of name.now sign.now) }
@@ -84,7 +84,7 @@ pub(crate) fn label_text(alloc: Global, name: &str, sign: &str) -> Result<String
     format!(in alloc; "{name} ({sign})")
 }
 
-// A text of a row, as it is shown, unless it is no text.
+// A text of a row, as it is shown, if it is a text.
 #[tactic(auto, using(crate::proofs::TextFacts::is_text, crate::proofs::TextFacts::no_text))]
 fn row_text(alloc: Global, text: &[u8]) -> Result<Option<String>, AllocError>
     ensures { IfOk result (λ shown. option_map string_bytes shown ≡ (if is_utf8 text.now then Some (shown_text text.now) else None)) }
@@ -97,7 +97,7 @@ fn row_text(alloc: Global, text: &[u8]) -> Result<Option<String>, AllocError>
     Ok(Some(shown))
 }
 
-// What tells a row's member apart: the ID, or the docket's name where there is none.
+// The sign of a row's member: the ID, or without an ID the docket's name.
 fn sign(row: &ByteRecord) -> &[u8]
     ensures { result.now ≡ sign_in (fields_of row.now) }
 {
@@ -105,7 +105,7 @@ fn sign(row: &ByteRecord) -> &[u8]
     if id.len() == 0 { field(row, 1) } else { id }
 }
 
-// The side that a row is of, by its first field.
+// The side of a row, from its first field.
 #[tactic(auto, unfolding(docket::specs::Fields::field))]
 fn side_of_row(row: &ByteRecord) -> Option<Side>
     ensures { result ≡ row_side (fields_of row.now) }
@@ -117,7 +117,7 @@ fn side_of_row(row: &ByteRecord) -> Option<Side>
     }
 }
 
-// Whether there is no word so far, nor in this text.
+// Whether there was no word so far, and none in this text.
 fn both_blank(blank: bool, text: &[u8]) -> bool
     ensures { result ≡ (blank && length text.now == 0) }
 {
@@ -135,7 +135,7 @@ fn is_blank(row: &ByteRecord) -> bool
     blank
 }
 
-// Puts a text in its place, if there is such a place.
+// Puts a text at this place, if there is such a place.
 fn put(texts: &mut Vec<String>, place: usize, text: String)
     ensures { map string_bytes texts.new.items ≡ slice_set (map string_bytes texts.old.items) place (string_bytes text) }
 {
@@ -156,7 +156,7 @@ impl SideKey {
         }
     }
 
-    // No names of so many members.
+    // This many members, without names.
     fn empty(alloc: Global, count: u32) -> Result<SideKey, AllocError>
         ensures { IfOk result (λ key. side_of key ≡ unnamed_side count) }
     {
@@ -167,7 +167,7 @@ impl SideKey {
         })
     }
 
-    // Notes the name and the sign of a member, or after all members those of one who isn't in the docket.
+    // Notes the name and the sign of a member. If the docket does not have the member, they come after all members.
     fn note(&mut self, number: Option<u32>, name: String, sign: String) -> Result<(), AllocError>
         ensures { OnOk result (side_of self.new ≡ noted (side_of self.old) number (string_bytes name) (string_bytes sign)) }
     {
@@ -239,7 +239,7 @@ fn rows_of(alloc: Global, bytes: &[u8]) -> Reader<&[u8]>
         .from_reader(alloc, bytes)
 }
 
-// Reads the next row, and says whether there was one. A reader of bytes in memory fails for want of memory alone.
+// Reads the next row, and says whether there was one. A reader of bytes in memory can only fail if memory runs out.
 fn next_row(reader: &mut Reader<&[u8]>, row: &mut ByteRecord) -> Result<bool, WhyFault>
     requires plain { reader_trim reader.old ≡ trim.None }
     requires ready { Ready reader.old }
@@ -265,7 +265,7 @@ impl Key {
         }
     }
 
-    // No name of the docket's members.
+    // The docket's members, without names.
     fn unnamed(alloc: Global, docket: &Docket) -> Result<Key, AllocError>
         ensures { IfOk result (λ key. both_of key ≡ unnamed docket.now) }
     {
@@ -275,8 +275,8 @@ impl Key {
         })
     }
 
-    /// The names of a key's rows: `P,programme,name` and `R,resident,name`, and maybe an ID after them. Rows without a word
-    /// are passed over. Rows of members that the docket doesn't have give names that are taken.
+    /// The names in a key's rows: `P,programme,name` and `R,resident,name`, with an optional ID. Rows without a word
+    /// are skipped. If the docket does not have a row's member, the row's name still counts as taken.
     pub(crate) fn read(
         alloc: Global,
         keys: RandomState,
@@ -318,7 +318,7 @@ impl Key {
         Err(WhyFault::Docket(DocketFault::Memory))
     }
 
-    // Adds one row, unless it has no word.
+    // Adds one row, unless it has no word at all.
     fn add(
         &mut self,
         alloc: Global,

@@ -1,4 +1,4 @@
-//! Whose names are shown with their signs: those that another has.
+//! Which members are shown with their signs: those who share a name with another.
 ghost use Rattle.std.specs.Prelude.{◌≡◌, ◌≤◌, if◌then◌else◌, IfOk, List, OnOk, length, map, option_copied, string_bytes, ℕ};
 ghost use Rattle.reasons_text.specs.Keys.{AreLabels, has_name, is_this};
 ghost use Rattle.reasons_text.specs.Keys.{own_name as own_name_in};
@@ -14,10 +14,10 @@ use std::alloc::{AllocError, Global};
 use std::collections::HashMap;
 use std::hash::RandomState;
 
-// Who has each name, of a docket's members and of a key's rows.
+// For each name, the docket's member or the key's row that has it.
 type Owners<'a> = HashMap<&'a str, Meant, RandomState>;
 
-// Who has a name where this one has it too.
+// Who has a name once this member has it too.
 fn owner_with(owner: Meant, number: usize) -> Meant
     ensures { result ≡ spec.owner_with owner number }
 {
@@ -38,7 +38,7 @@ fn owner(owners: &Owners, name: &str) -> Meant
     }
 }
 
-// Notes that somebody has a name, if it is one.
+// Notes that a member has a name, if there is one.
 fn note<'a>(owners: &mut Owners<'a>, name: Option<&'a str>, number: usize) -> Result<(), AllocError>
     ensures { OnOk result ((text : List ℕ) → owner_in owners.new text
         ≡ (if is_this (option_copied name.entry) text then spec.owner_with (owner_in owners.old text) number else owner_in owners.old text)) }
@@ -51,7 +51,7 @@ fn note<'a>(owners: &mut Owners<'a>, name: Option<&'a str>, number: usize) -> Re
     Ok(())
 }
 
-// The docket's name of a member, if it is one of the docket's.
+// The docket's name of a member, if the member belongs to the docket.
 fn own_name(docket: &Docket, side: Side, number: usize) -> Option<&str>
     ensures { option_copied result ≡ own_name_in docket.now side number }
 {
@@ -62,7 +62,7 @@ fn own_name(docket: &Docket, side: Side, number: usize) -> Option<&str>
     }
 }
 
-// Notes the names of one, in the docket and by its row.
+// Notes a member's names, in the docket and in the key's row.
 fn note_both<'a>(
     owners: &mut Owners<'a>,
     docket: &'a Docket,
@@ -78,7 +78,7 @@ fn note_both<'a>(
     note(owners, text_in(names, number), number)
 }
 
-// How many of a side may have names: the docket's members, and those that only the key has.
+// How many members of a side may have names: the docket's, and those that only the key has.
 fn named(docket: &Docket, side: Side, names: &[String]) -> usize
     ensures members { members_of docket.now side ≤ result }
     ensures rows { length names.now ≤ result }
@@ -104,7 +104,7 @@ fn owners<'a>(
     Ok(owners)
 }
 
-// The label of a member, if another has its name.
+// The label of a member, if another member has the same name.
 fn label_if(
     alloc: Global,
     owners: &Owners,
@@ -126,7 +126,7 @@ fn label_if(
     }
 }
 
-/// The labels of a side's members whose name another has.
+/// The labels of a side's members who share a name with another.
 pub(crate) fn labels(
     alloc: Global,
     keys: RandomState,

@@ -1,7 +1,7 @@
-//! Telling residents why: a docket with a sheet is read, and plain sentences or rows go to any writer.
+//! Answers residents who ask why: reads a docket with a sheet, and writes plain sentences or rows to any writer.
 //!
-//! The program is `tell_words` over the words and the streams that it is given. The names that are near an unknown one, and the
-//! texts of faults, are shown by tests alone.
+//! The program is `tell_words` over its words and streams. Only tests show which names are near an unknown one, and
+//! compare the texts of faults.
 #![tactic(auto)]
 
 mod answering;

@@ -13,7 +13,7 @@ use std::alloc::{AllocError, Global};
 use std::convert::AsStr;
 use version::VERSION;
 
-// What the help says of what is read and written, of the exit status, and of examples.
+// The help about what is read and written, about the exit status, and with examples.
 const HELP: &str =
     "Reads a docket on standard input, and with --sheet its sheet from a file of its own. Each is then
 read as its own part: a docket has V, Q, P, R and W records, a sheet M, U and F. A record of another
@@ -38,7 +38,7 @@ Examples: residency-why --sheet sheet.csv resident-250 < examples/market.csv
           residency-why --sheet sheet.csv --key key.csv \"Ewa Kowalska\" --without-ranks < docket.csv
           residency-why --sheet sheet.csv --all < docket.csv > answers.csv";
 
-// Who asks.
+// The resident who asks.
 fn resident_argument<'a>(alloc: Global) -> Arg<'a>
     ensures rule { rule_of result ≡ word_rule (codes "resident") }
     ensures own { result.global ≡ false }
@@ -48,7 +48,7 @@ fn resident_argument<'a>(alloc: Global) -> Arg<'a>
         .help("The resident who asks")
 }
 
-// About which programme.
+// The programme that is asked about.
 fn programme_argument<'a>(alloc: Global) -> Arg<'a>
     ensures rule { rule_of result ≡ word_rule (codes "programme") }
     ensures own { result.global ≡ false }
@@ -58,7 +58,7 @@ fn programme_argument<'a>(alloc: Global) -> Arg<'a>
     )
 }
 
-// Whether all are told.
+// Whether the answer is for all residents.
 fn all_option<'a>(alloc: Global) -> Arg<'a>
     ensures rule { rule_of result ≡ flag_rule (codes "all") }
     ensures own { result.global ≡ false }
@@ -69,7 +69,7 @@ fn all_option<'a>(alloc: Global) -> Arg<'a>
         .action(ArgAction::SetTrue)
 }
 
-// Whether no rank is told.
+// Whether ranks are left out.
 fn without_ranks_option<'a>(alloc: Global) -> Arg<'a>
     ensures rule { rule_of result ≡ flag_rule (codes "without-ranks") }
     ensures own { result.global ≡ false }
@@ -80,7 +80,7 @@ fn without_ranks_option<'a>(alloc: Global) -> Arg<'a>
         .action(ArgAction::SetTrue)
 }
 
-// Where the real names are.
+// The file with the real names.
 fn key_option<'a>(alloc: Global) -> Arg<'a>
     ensures rule { rule_of result ≡ value_rule (codes "key") }
     ensures own { result.global ≡ false }
@@ -90,7 +90,7 @@ fn key_option<'a>(alloc: Global) -> Arg<'a>
     )
 }
 
-// Where the sheet is, if it isn't beside the docket.
+// The file with the sheet, if the docket does not have it.
 fn sheet_option<'a>(alloc: Global) -> Arg<'a>
     ensures rule { rule_of result ≡ value_rule (codes "sheet") }
     ensures own { result.global ≡ false }
@@ -131,7 +131,7 @@ fn command<'a>(alloc: Global) -> Result<Command<'a>, AllocError>
     command.arg(sheet_option(alloc))
 }
 
-// What the words are by this command.
+// What the parser finds in the words, for this command.
 fn matches_of<'a, S: AsStr>(
     command: &mut Command<'a>,
     words: &'a [S],
@@ -143,7 +143,7 @@ fn matches_of<'a, S: AsStr>(
     command.try_get_matches_from_mut(words)
 }
 
-// About whom the words ask, unless they ask about nobody, or about one and all.
+// Whom the words ask about, unless they ask about nobody, or about both one and all.
 fn asked<'a>(matches: &ArgMatches<'a>) -> Option<Asked<'a>>
     ensures all { IfSome result (λ asked. IsFlagged (codes "all") (rows_of (found_of matches.now)) → asked ≡ Asked.All) }
     ensures one { IfSome result (λ asked. IsUnflagged (codes "all") (rows_of (found_of matches.now))
@@ -164,7 +164,7 @@ fn asked<'a>(matches: &ArgMatches<'a>) -> Option<Asked<'a>>
     }
 }
 
-// What is told of words that ask about nobody, or about one and all.
+// The message for words that ask about nobody, or about both one and all.
 fn nobody_asked(command: &mut Command, is_all: bool) -> LineFault
     ensures { IsErrorOf (λ kind. (kind ≡ ErrorKind.ArgumentConflict) ⊎ (kind ≡ ErrorKind.MissingRequiredArgument)) result }
 {
@@ -185,7 +185,7 @@ fn nobody_asked(command: &mut Command, is_all: bool) -> LineFault
     }
 }
 
-/// The question that the words ask, the program's own name left out.
+/// The question of the words, without the program's own name.
 pub fn read_line<'a, S: AsStr>(alloc: Global, words: &'a [S]) -> Result<Question<'a>, LineFault>
     ensures question { IfOk result (Asks (map S.text words.entry.now)) }
     ensures refused { IfErr result (Refuses (map S.text words.entry.now)) }

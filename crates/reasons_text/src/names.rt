@@ -1,4 +1,4 @@
-//! The members' names as they are shown and asked about.
+//! The members' names, as they are shown and as questions use them.
 ghost use Rattle.std.specs.Prelude.{◌≡◌, ◌≤◌, length, IfOk};
 ghost use Rattle.reasons_text.specs.Lines.{has_withdrawn};
 ghost use Rattle.reasons_text.specs.Naming.{IsMeant, also_of, means, naming_of, names_in, shown, shown_programme, shown_resident, side_of};
@@ -10,26 +10,26 @@ use docket::Docket;
 use match_model::{ProgrammeNo, ResidentNo};
 use std::alloc::{AllocError, Global};
 
-/// Whom a text means, by number.
+/// Which members a text means, by number.
 #[derive(Clone, Copy, Debug, PartialEq, Eq)]
 pub(crate) enum Meant {
     /// Nobody.
     Nobody,
-    /// One member alone.
+    /// Exactly one member.
     One(usize),
     /// More than one.
     Several,
 }
 
-/// The members' names as they are shown: the key's, where it has one, and else the docket's. Where another has the name, the
-/// label is shown.
+/// The members' names as they are shown: the key's if it has one, else the docket's. If another member has the same
+/// name, the label is shown.
 #[derive(Clone, Copy)]
 pub(crate) struct Names<'a> {
     pub(crate) docket: &'a Docket,
     pub(crate) key: &'a Key,
 }
 
-// Whom a text means that means this member too.
+// Whom a text means if it means this member too.
 fn also(meant: Meant, number: usize) -> Meant
     ensures { result ≡ also_of meant number }
 {
@@ -59,7 +59,7 @@ impl Names<'_> {
         members.max(self.side(side).names.len())
     }
 
-    /// The name by which a member is shown, which is empty for a number that is nobody's.
+    /// The name that is shown for a member, or an empty name for a number without a member.
     #[tactic(auto, unfolding(crate::specs::Naming::shown))]
     pub(crate) fn shown(&self, side: Side, number: u32) -> &str
         ensures { result.now ≡ shown (naming_of self.now) side number }
@@ -75,7 +75,7 @@ impl Names<'_> {
         }
     }
 
-    /// The real name of a member, or the docket's of one who has none.
+    /// The real name of a member, or else the docket's name.
     pub(crate) fn real(&self, side: Side, number: u32) -> &str {
         match text_in(self.side(side).names.as_slice(), number as usize) {
             Some(name) => name,
@@ -105,7 +105,7 @@ impl Names<'_> {
         resident.0 < inst.residents() && inst.resident_withdrawn(resident)
     }
 
-    /// What a member is called where its name doesn't tell it apart: the label, or the docket's name of one without a row.
+    /// How a member is called if its name does not identify it: the label, or without a row the docket's name.
     pub(crate) fn label(
         &self,
         alloc: Global,
@@ -123,7 +123,7 @@ impl Names<'_> {
         label_text(alloc, name, sign)
     }
 
-    /// Whether a text means a member: it is the docket's name, the real one, the ID, or the label.
+    /// Whether a text means a member: it is the docket's name, the real name, the ID, or the label.
     #[tactic(auto, unfolding(crate::specs::Naming::means, crate::specs::Naming::is_by_key))]
     pub(crate) fn means(
         &self,

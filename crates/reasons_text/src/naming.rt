@@ -11,7 +11,7 @@ use std::alloc::{AllocError, Global};
 use std::collections::HashMap;
 use std::hash::RandomState;
 
-// The members' numbers by their names. They are hashed by keys that are drawn, as a docket's are.
+// The members' numbers, by their names. The names are hashed with random keys, as in a docket.
 type Numbers<'a> = HashMap<&'a [u8], u32, RandomState>;
 
 /// The members' numbers by their names, on both sides of a docket.
@@ -23,14 +23,14 @@ pub(crate) struct MemberNumbers<'a> {
     programmes: Numbers<'a>,
 }
 
-// The number at a name.
+// The number for a name.
 fn number_at(numbers: &Numbers, name: &[u8]) -> Option<u32>
     ensures { result ≡ number_in numbers.now name.now }
 {
     numbers.get(name).copied()
 }
 
-// Puts a number at its name, unless there is one before.
+// Sets the number for a name, unless it has one.
 fn put_first<'a>(numbers: &mut Numbers<'a>, name: &'a [u8], number: u32) -> Result<(), AllocError>
     ensures { OnOk result ((text : List ℕ) → number_in numbers.new text
         ≡ option_or (number_in numbers.old text) (if bytes_eq text name.entry.now then Some number else None)) }
@@ -42,7 +42,7 @@ fn put_first<'a>(numbers: &mut Numbers<'a>, name: &'a [u8], number: u32) -> Resu
     Ok(())
 }
 
-// The numbers of a side's members.
+// The numbers of a side's members, by their names.
 fn numbers_of<'a>(
     alloc: Global,
     keys: RandomState,
@@ -60,7 +60,7 @@ fn numbers_of<'a>(
 }
 
 impl<'a> MemberNumbers<'a> {
-    /// The numbers of a docket's members.
+    /// The numbers of a docket's members, by their names.
     pub(crate) fn of(
         alloc: Global,
         keys: RandomState,

@@ -1,4 +1,4 @@
-//! What is told of a name that means nobody, or more than one.
+//! The message for a name that means nobody, or more than one member.
 ghost use Rattle.std.specs.Prelude.{IfOk};
 ghost use Rattle.reasons_text.specs.Faults.{IsSharedName, IsUnknownName};
 
@@ -9,21 +9,21 @@ use crate::side::{Side, member_count};
 use std::alloc::{AllocError, Global};
 use strsim::levenshtein;
 
-// The most near names that are told.
+// The greatest number of near names in a message.
 const MOST_NEAR: usize = 3;
 
-// The most members that are told where more than one is meant.
+// The greatest number of members in a message, if a name means several.
 const MOST_MEANT: usize = 10;
 
-// The most bytes of a name whose near ones are looked for.
+// The greatest length of a name, in bytes, for which near names are searched.
 const MOST_ASKED: usize = 64;
 
-// How many edits away a name may be: a third of the letters that were asked for or two, and fewer than all of them.
+// How many edits away a near name may be: a third of the letters asked for, or two, and fewer than all of them.
 fn reach(letters: usize) -> usize {
     (letters / 3).max(2).min(letters.saturating_sub(1))
 }
 
-// How many edits a name is away, if it is near.
+// How many edits away a name is, if it is near.
 fn edits(alloc: Global, asked: &str, name: &str) -> Result<Option<usize>, AllocError> {
     if asked.len() > MOST_ASKED {
         return Ok(None);
@@ -37,7 +37,7 @@ fn edits(alloc: Global, asked: &str, name: &str) -> Result<Option<usize>, AllocE
     Ok(if edits <= reach { Some(edits) } else { None })
 }
 
-// How many edits a member is away, by its real name or by the name that is shown, if one of them is near.
+// How many edits away a member is, by the real or the shown name, if one of them is near.
 fn edits_of(
     alloc: Global,
     names: &Names,
@@ -59,7 +59,7 @@ fn edits_of(
     })
 }
 
-// Adds a near name to the question whether it was meant.
+// Adds a near name to the question `is it ..?`.
 fn push_meant(text: &mut String, name: &str) -> Result<(), AllocError> {
     if text.is_empty() {
         text.push_str("; did you mean ")?;
@@ -69,7 +69,7 @@ fn push_meant(text: &mut String, name: &str) -> Result<(), AllocError> {
     text.push_str(name)
 }
 
-// The end of that question, where there is one.
+// The end of that question, if there is one.
 fn end_meant(text: &mut String) -> Result<(), AllocError> {
     if text.is_empty() {
         return Ok(());
@@ -77,14 +77,14 @@ fn end_meant(text: &mut String) -> Result<(), AllocError> {
     text.push_str("?")
 }
 
-// What was asked, as it is shown.
+// The name that was asked for, as it is shown.
 fn shown(alloc: Global, asked: &str) -> Result<String, AllocError> {
     let mut text = String::new(alloc);
     push_shown(&mut text, asked)?;
     Ok(text)
 }
 
-// The question whether near names were meant, or nothing where none is near.
+// The question about near names, or nothing if no name is near.
 fn near_names(alloc: Global, names: &Names, side: Side, asked: &str) -> Result<String, AllocError> {
     let mut near = Vec::new(alloc);
     for number in 0..member_count(names.docket, side) {
@@ -101,7 +101,7 @@ fn near_names(alloc: Global, names: &Names, side: Side, asked: &str) -> Result<S
     Ok(meant)
 }
 
-/// The fault that nobody of a side has this name, with up to three near ones.
+/// The fault that no member of a side has this name, with up to three near names.
 pub(crate) fn unknown(
     alloc: Global,
     names: &Names,
@@ -122,7 +122,7 @@ pub(crate) fn unknown(
     })
 }
 
-// The labels of those whom a name means, up to ten, and how many more there are.
+// The labels of the members that a name means, up to ten, and the number of the others.
 fn labels_of(alloc: Global, names: &Names, side: Side, asked: &str) -> Result<String, AllocError> {
     let mut text = String::new(alloc);
     let mut meant = 0usize;

@@ -1,4 +1,4 @@
-//! The program, over any streams: it answers the question of its words, and its exit status says how that ended.
+//! The program, over any streams. It answers the question of its words, and its exit status says how this ended.
 ghost use Rattle.std.specs.Prelude.{◌≡◌, ◌≢◌, ◌⊎◌, IfErr, IfOk, IfSome, OnOk, is_some, option_copied};
 ghost use Rattle.std.specs.Process.{exit_status as exit_status_in};
 ghost use Rattle.reasons_text.specs.Program.{AnswersBeside, Ends, EndsTold, EndsWithin, FailsBeside, IsAnswered, IsFailed, IsUnreadInput, IsUnreadKey};
@@ -20,7 +20,7 @@ use std::random::RandomSource;
 use std::rt::Files;
 use std::{fs, io};
 
-// The bytes of a file, or the fault that tells that it can't be read.
+// The bytes of a file, or the fault that it can't be read.
 fn bytes_of<H: Files + AllocGlobal>(
     rt: &H,
     path: &str,
@@ -37,7 +37,7 @@ fn bytes_of<H: Files + AllocGlobal>(
     }
 }
 
-// The bytes of the key, where the question names one.
+// The bytes of the key, if the question names one.
 fn key_of<H: Files + AllocGlobal>(rt: &H, question: &Question) -> Result<Option<Vec<u8>>, WhyFault>
     ensures named { IfOk result (λ key. is_some key ≡ is_some question.now.key) }
     ensures fault { IfErr result (IsUnreadKey question.now) }
@@ -51,7 +51,7 @@ fn key_of<H: Files + AllocGlobal>(rt: &H, question: &Question) -> Result<Option<
     }
 }
 
-// The bytes of a key, if there is one.
+// A borrow of a key's bytes, if there is a key.
 fn lent(key: &Option<Vec<u8>>) -> Option<&[u8]>
     ensures { is_some (option_copied result) ≡ is_some key.now }
 {
@@ -180,11 +180,11 @@ where
 }
 
 /// Answers the question of the words within the standard limits, and gives the exit status. It is 0 for an answer, 1 where memory, reading or writing
-/// failed, and 2 for a wrong command line. It is 3 for a bad key, and for a docket or a sheet at fault, without a sheet or without
-/// the names.
+/// writing failed, and 2 for a wrong command line. It is 3 for a bad key, a docket or a sheet at fault, a missing
+/// sheet, and a missing name.
 ///
-/// The words are those after the program's own name. What help and the version say goes to standard output, and why nothing
-/// was told to standard error.
+/// The words are those after the program's own name. Help and the version go to standard output. The reason for a
+/// missing answer goes to standard error.
 pub fn tell_words<R, W, T, H>(
     rt: &H,
     alloc: Global,

@@ -1,25 +1,25 @@
-//! What is asked.
+//! The question of a command line.
 
-/// About whom it is asked.
+/// Whom the question is about.
 #[derive(Clone, Copy, Debug, PartialEq, Eq)]
 pub enum Asked<'a> {
-    /// Every resident, each programme of each record.
+    /// Every resident, with each programme of each R record.
     All,
-    /// The resident of this name, each programme of its record.
+    /// The resident with this name, and each programme of the R record.
     Resident(&'a str),
-    /// The resident of this name, and the programme of that one.
+    /// The resident with the first name, and the programme with the second.
     Pair(&'a str, &'a str),
 }
 
 /// A question.
 #[derive(Clone, Copy, Debug, PartialEq, Eq)]
 pub struct Question<'a> {
-    /// About whom.
+    /// Whom the question is about.
     pub asked: Asked<'a>,
-    /// Whether no number of a programme's list is to be told.
+    /// Whether ranks on programmes' lists are left out.
     pub without_ranks: bool,
     /// The file with the members' real names, if there is one.
     pub key: Option<&'a str>,
-    /// The file with the sheet, where it isn't beside the docket.
+    /// The file with the sheet, if the docket does not have it.
     pub sheet: Option<&'a str>,
 }

@@ -1,4 +1,4 @@
-//! The sentences.
+//! The sentences of answers.
 ghost use Rattle.std.specs.Prelude.{◌≡◌, ◌++◌, ◌==◌, IfOk, OnOk, string_bytes};
 ghost use Rattle.std.specs.List.{position_from};
 ghost use Rattle.reasons_text.specs.Lines as said;
@@ -12,12 +12,12 @@ use match_reasons::Why;
 use std::alloc::{AllocError, Global};
 use std::fmt;
 
-// A rank, which is counted from 0, as it is said: 1st, 2nd, 3rd.
+// A rank in words: 1st, 2nd, 3rd. It is kept as a number from 0.
 #[derive(Clone, Copy)]
 pub(crate) struct Place(pub(crate) usize);
 
 impl Place {
-    // What follows the number.
+    // The letters after the number.
     #[tactic(auto, unfolding(crate::specs::Lines::ending))]
     fn ending(&self) -> &'static str
         ensures { result.now ≡ ending self.now.0 }
@@ -46,7 +46,7 @@ impl fmt::Display for Place {
     }
 }
 
-// How many there are, in words where there are none.
+// A count as a text; zero is a word.
 #[derive(Clone, Copy)]
 struct Count(usize);
 
@@ -65,7 +65,7 @@ impl fmt::Display for Count {
     }
 }
 
-// What a resident is told to whom others were preferred.
+// The sentence for a resident when all places went to residents ranked higher.
 #[tactic(auto, unfolding(crate::specs::Lines::full_sentence))]
 fn full_sentence(
     alloc: Global,
@@ -94,7 +94,7 @@ fn full_sentence(
     )
 }
 
-// What is told where the programme or the resident withdrew.
+// The sentence when the programme or the resident withdrew.
 #[tactic(auto, unfolding(crate::specs::Lines::withdrawn_sentence))]
 fn withdrawn_sentence(
     alloc: Global,
@@ -110,7 +110,7 @@ fn withdrawn_sentence(
     }
 }
 
-// What is told of one programme.
+// The sentence about one programme.
 #[tactic(auto, unfolding(crate::specs::Lines::sentence))]
 fn sentence(
     alloc: Global,
@@ -147,7 +147,7 @@ fn sentence(
     }
 }
 
-/// Adds the line on one programme: its name, and what is told of it.
+/// Adds the line about one programme: its name, and the sentence.
 #[tactic(auto, unfolding(crate::specs::Lines::line))]
 pub(crate) fn push_line(
     alloc: Global,
@@ -168,15 +168,15 @@ pub(crate) fn push_line(
     text.push_str("\n")
 }
 
-// Which of these a programme is, from 0.
+// The place of a programme on this list, from 0.
 fn choice_of(list: &[ProgrammeNo], programme: ProgrammeNo) -> Option<usize>
     ensures { result ≡ position_from (λ p. p == programme) 0 list.now }
 {
     list.iter().position(|listed| *listed == programme)
 }
 
-// How the match ended for a resident that is with this programme, which is this choice of its list. With a programme that
-// withdrew or didn't rank it the sheet isn't right.
+// How the match ended for a resident with this programme, which is this choice of the list. If the programme withdrew
+// or didn't rank the resident, the sheet is wrong.
 #[tactic(auto, unfolding(crate::specs::Lines::matched, crate::specs::Lines::given, crate::specs::Lines::as_choice))]
 fn matched(
     alloc: Global,
@@ -204,7 +204,7 @@ fn matched(
     }
 }
 
-// How the match ended for a resident that didn't withdraw: where it is matched, and as which choice.
+// How the match ended for a resident who did not withdraw: matched or not, and with which choice.
 #[tactic(auto, unfolding(crate::specs::Lines::outcome))]
 fn outcome(
     alloc: Global,
@@ -240,7 +240,7 @@ fn ended(
     }
 }
 
-// The word for so many programmes.
+// The word for this number of programmes.
 #[tactic(auto, unfolding(crate::specs::Lines::programmes_word))]
 fn programmes_word(listed: usize) -> &'static str
     ensures { result.now ≡ said.programmes_word listed }
@@ -252,7 +252,7 @@ fn programmes_word(listed: usize) -> &'static str
     }
 }
 
-// How many programmes a resident ranked, and how many of these ranked it or withdrew.
+// How many programmes a resident ranked, and how many of them ranked the resident or withdrew.
 #[tactic(auto, unfolding(crate::specs::Lines::ranked))]
 fn ranked(alloc: Global, has_withdrawn: bool, tally: Tally) -> Result<String, AllocError>
     ensures { IfOk result (λ text. string_bytes text
@@ -273,8 +273,8 @@ fn ranked(alloc: Global, has_withdrawn: bool, tally: Tally) -> Result<String, Al
     )
 }
 
-/// Adds the first line: how the match ended for the resident, how many programmes it ranked, and how many of these ranked it
-/// or withdrew.
+/// Adds the first line: how the match ended for the resident, how many programmes the resident ranked, and how many
+/// of these ranked back or withdrew.
 pub(crate) fn push_first_line(
     alloc: Global,
     text: &mut String,

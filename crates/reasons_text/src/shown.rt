@@ -1,4 +1,4 @@
-//! Texts as a terminal may show them.
+//! Texts as a terminal may show them, without control characters.
 ghost use Rattle.std.specs.Prelude.{◌≡◌, ◌++◌, OnOk, string_bytes};
 ghost use Rattle.reasons_text.specs.Shown.{shown_char, shown_text};
 

@@ -1,4 +1,4 @@
-//! With which status the program ends.
+//! The exit status of the program.
 ghost use Rattle.std.specs.Prelude.{◌≡◌};
 ghost use Rattle.reasons_text.specs.Status.{exit_status_of};
 
@@ -6,8 +6,8 @@ use crate::fault::WhyFault;
 use docket_parts::PartFault;
 use program_shell::docket_status;
 
-/// The exit status of the program after a question. It is 0 for an answer, and 1 where memory, reading or writing failed.
-/// It is 3 for a docket at fault, without a sheet, or without the names, and for a name of more than one.
+/// The exit status of the program after a question. It is 0 for an answer, and 1 if memory, reading or writing
+/// failed. It is 3 for a docket at fault, a missing sheet, a missing name, and a name that means several members.
 pub fn exit_status(answer: &Result<(), WhyFault>) -> u8
     ensures { result ≡ exit_status_of answer.now }
 {

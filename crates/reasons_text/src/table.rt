@@ -1,4 +1,4 @@
-//! The rows on all residents.
+//! The rows of the table about all residents.
 ghost use Rattle.std.specs.Prelude.{◌≡◌, ◌∷◌, [], OnOk, Some};
 ghost use Rattle.row_writer.specs.RowText.{Adds, row};
 ghost use Rattle.reasons_text.specs.Lines as said;
@@ -26,7 +26,7 @@ pub(crate) fn push_columns<W: Write>(rows: &mut RowWriter<'_, W>) -> Result<(), 
     ])
 }
 
-// The word of an answer.
+// The word for an answer.
 #[tactic(auto, unfolding(crate::specs::Table::word))]
 fn word(reason: &Why) -> &'static str
     ensures { result.now ≡ table.word reason.now }
@@ -42,14 +42,14 @@ fn word(reason: &Why) -> &'static str
     }
 }
 
-// A rank, which is counted from 0, as it is shown, in this room.
+// A rank as it is shown, written into this buffer. It is kept as a number from 0.
 fn rank_text(room: &mut itoa::Buffer, rank: usize) -> &str
     ensures { result.now ≡ table.rank_text (Some rank) }
 {
     room.format((rank as u64).saturating_add(1))
 }
 
-// The resident's rank, in this room, where places were taken.
+// The resident's rank, written into this buffer, if the places were taken.
 #[tactic(auto, unfolding(crate::specs::Table::rank_field))]
 fn rank_field<'a>(room: &'a mut itoa::Buffer, reason: &Why, without_ranks: bool) -> &'a str
     ensures { result.now ≡ table.rank_field without_ranks reason.now }
@@ -60,7 +60,7 @@ fn rank_field<'a>(room: &'a mut itoa::Buffer, reason: &Why, without_ranks: bool)
     }
 }
 
-// The last rank that has a place, in this room, where places were taken.
+// The last rank that got a place, written into this buffer, if the places were taken.
 #[tactic(auto, unfolding(crate::specs::Table::last_field))]
 fn last_field<'a>(room: &'a mut itoa::Buffer, reason: &Why, without_ranks: bool) -> &'a str
     ensures { result.now ≡ table.last_field without_ranks reason.now }
@@ -74,7 +74,7 @@ fn last_field<'a>(room: &'a mut itoa::Buffer, reason: &Why, without_ranks: bool)
     }
 }
 
-// The quota, in this room, where places were taken.
+// The quota, written into this buffer, if the places were taken.
 #[tactic(auto, unfolding(crate::specs::Table::quota_field))]
 fn quota_field<'a>(room: &'a mut itoa::Buffer, reason: &Why) -> &'a str
     ensures { result.now ≡ table.quota_field reason.now }
@@ -85,7 +85,7 @@ fn quota_field<'a>(room: &'a mut itoa::Buffer, reason: &Why) -> &'a str
     }
 }
 
-// Adds the row of these fields.
+// Adds a row with these fields.
 fn push_fields<'a, W: Write>(
     rows: &mut RowWriter<'_, W>,
     resident: &'a [u8],
@@ -102,7 +102,7 @@ fn push_fields<'a, W: Write>(
     rows.push(&[resident, programme, choice, word, rank, last, quota])
 }
 
-/// Adds the row on one programme, which is this choice of the resident's, from 1.
+/// Adds the row about one programme, with its choice number for the resident, from 1.
 #[tactic(auto, unfolding(crate::specs::Table::answer_row))]
 pub(crate) fn push_row<W: Write>(
     rows: &mut RowWriter<'_, W>,

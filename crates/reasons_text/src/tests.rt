@@ -1,5 +1,4 @@
-//! One question from bytes to bytes, and how ranks are said. What is told in each case, and by whom it is compared, stands in
-//! `tests/why/run`.
+//! One question from bytes to bytes, and the words for ranks. `tests/why/run` compares the answers in each case.
 use crate::sentences::Place;
 use crate::{Asked, serve_why};
 use std::test::Fail;

@@ -1,4 +1,5 @@
--- What words order by the definitions, computed on words that are written out: the options that are given, and those that aren't.
+-- The orders that given words have by the definitions, computed for written-out words: with options that are given
+-- and options that are not.
 use Rattle.std.proofs.Common.{◌≡◌, refl, codes, List, [], ◌∷◌, Option, Some, option_map}
 use Rattle.clap.specs.Words.{Text, first_of, one_of, subcommand_of}
 use Rattle.clap.proofs.OnLiterals.{clap_on_literals}

@@ -1,4 +1,4 @@
--- What a run that closed gives, and what is written of it.
+-- The result of a closed run, and what is written about it.
 use Rattle.std.proofs.Common.{◌≡◌, ℕ, List, ◌++◌, slice_index_or, Option, Some, None, refl, sym, ap, ◌∙◌, append_assoc}
 use Rattle.std.specs.List.{All}
 use Rattle.std.specs.Io.KnownBytes.{Appends}
@@ -45,7 +45,7 @@ sheet_of d m whole instance stable = record {
   members = λ r p h. rw whole.programmes (programme_of_acceptable d.instance r p instance (stable.is_assignment.pairs_acceptable r p h));
 }
 
--- what a run that closed gives, whose options are admitted
+-- the result of a closed run with valid options
 abbrev pub closed_run : (d : Contents) (o : MatchOptions) (inst : Instance) (journal : List Event) (who entered : List ℕ) (m : List (Option ℕ)) →
     inst ≡ d.instance → OneSettledLaw → IsWithinLimits o → IsLegal inst o.capacity journal → IsClosed journal → m ≡ given inst journal →
     IsSettledRun inst journal m → AreCounted o.workers journal who entered → ClosedRun d o

@@ -1,4 +1,4 @@
--- What words order, as the parser of command lines reads them.
+-- Which order the words of a command line give.
 use Rattle.std.specs.Prelude.{◌≡◌, ◌≤◌, ◌⊎◌, ℕ, true, codes, decimal, List, [], ◌∷◌, Option, Some, None}
 use Rattle.clap.specs.Words.{App, IsAmong, Row, Rule, Text, first_of, fault_of, new_app, new_rule, one_of, subcommand_of, with_rule, with_subcommand}
 use Rattle.clap.specs.Simple.{new_shape, on_top}
@@ -16,11 +16,11 @@ use Rattle.residency.specs.declared.options.MatchOptions.{MatchOptions}
 use Rattle.residency.specs.declared.options.Order.{Order}
 use Rattle.residency.specs.declared.options.Order.TheVariants.{Match, Audit, Replay}
 
--- an option with a value, and the value where it isn't given
+-- an option with a value, and the option's default
 abbrev pub valued_rule : Text → Text → Rule
 valued_rule id value = record (new_rule id) { long = Some id; value_names = 1; defaults = value ∷ [] }
 
--- the number of workers: from 1 to 8, and 2 where it isn't given
+-- the number of workers, from 1 to 8, with the default 2
 abbrev pub workers_rule : Rule
 workers_rule = record (valued_rule (codes "workers") (codes "2")) { parser = Some (Unsigned 1 8) }
 
@@ -29,57 +29,57 @@ abbrev pub match_app : App
 match_app = with_rule (with_rule (with_rule (with_rule (new_app (codes "match")) workers_rule)
     (valued_rule (codes "capacity") (codes "full"))) (flag_rule (codes "journal"))) (flag_rule (codes "journal-by-worker"))
 
--- the program, without its commands; its own name isn't among the words
+-- the program's command line without its commands; the program's own name isn't among the words
 abbrev pub program_app : App
 program_app = on_top (λ s. record s { no_binary_name = true; has_version = true; subcommand_required = true }) (new_app (codes "residency"))
 
--- the program with its three commands
+-- the program's command line with its three commands
 abbrev pub commands_app : App
 commands_app = with_subcommand (with_subcommand (with_subcommand program_app match_app.top) (new_shape (codes "audit"))) (new_shape (codes "replay"))
 
--- the command that gives an order
+-- the command for an order
 abbrev pub command_of : Order → Text
 command_of (Match o) = codes "match"
 command_of Audit = codes "audit"
 command_of Replay = codes "replay"
 
--- the values give this number of workers, if they have one from 1 to 8
+-- the values give this number of workers, from 1 to 8
 abbrev pub GivesWorkers : List Row → ℕ → Type 0
 GivesWorkers rows workers = (n : ℕ) → 1 ≤ n → n ≤ 8 → one_of (codes "workers") rows ≡ Some (decimal n) → workers ≡ n
 
--- the values give the room of each mailbox
+-- the values give this room for each mailbox
 abbrev pub GivesRoom : List Row → Capacity → Type 0
 GivesRoom rows room = (text : Text) → first_of (codes "capacity") rows ≡ Some text → capacity_of text ≡ Some room
 
--- the values ask for this form of the journal: by worker comes first, then plain, then none
+-- The values ask for this form of the journal. By worker wins over plain, and plain wins over none.
 pub record GivesJournal (rows : List Row) (form : JournalForm) : Type 0 where
   pub by_worker : IsFlagged (codes "journal-by-worker") rows → form ≡ ByWorker
   pub plain : IsUnflagged (codes "journal-by-worker") rows → IsFlagged (codes "journal") rows → form ≡ Plain
   pub absent : IsUnflagged (codes "journal-by-worker") rows → IsUnflagged (codes "journal") rows → form ≡ Absent
 
--- the values give a match its options
+-- the values give a match these options
 pub record GivesOptions (rows : List Row) (o : MatchOptions) : Type 0 where
   pub workers : GivesWorkers rows o.workers
   pub capacity : GivesRoom rows o.capacity
   pub journal : GivesJournal rows o.journal
 
--- the values give the order its options
+-- the values give the order these options
 abbrev pub GivesOrder : List Row → Order → Type 0
 GivesOrder rows (Match o) = GivesOptions rows o
 GivesOrder rows Audit = Unit {0}
 GivesOrder rows Replay = Unit {0}
 
--- the command that was found, and its values, give the order
+-- this command with its values gives the order
 pub record IsNamed (found : Option (Text × List Row)) (order : Order) : Type 0 where
   pub rows : List Row
   pub command : found ≡ Some (command_of order, rows)
   pub options : GivesOrder rows order
 
--- the words give the order
+-- the words give this order
 abbrev pub Orders : List Text → Order → Type 0
 Orders words = IsNamed (subcommand_of commands_app words)
 
--- a match was found, with a room of its mailboxes that is no capacity
+-- the command is a match, and its mailbox room is not a valid capacity
 pub record HasBadRoom (found : Option (Text × List Row)) : Type 0 where
   pub rows : List Row
   pub command : found ≡ Some (codes "match", rows)
@@ -87,11 +87,11 @@ pub record HasBadRoom (found : Option (Text × List Row)) : Type 0 where
   pub room : first_of (codes "capacity") rows ≡ Some text
   pub bad : capacity_of text ≡ None
 
--- what was found is none of the three commands
+-- the command is none of the three
 abbrev pub NamesNone : Option (Text × List Row) → Type 0
 NamesNone found = (order : Order) (rows : List Row) → found ≡ Some (command_of order, rows) → ⊥
 
--- the words give no order, for this fault: memory failed, the parser refuses them, they name no command, or the
+-- the words give no order, and this is why: memory ran out, the parser refuses them, they name no command, or the
 -- capacity is bad
 abbrev pub Refuses : List Text → LineFault → Type 0
 Refuses words fault = IsErrorOf (λ kind. IsAmong kind (fault_of commands_app words)) fault

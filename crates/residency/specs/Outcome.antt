@@ -14,12 +14,12 @@ pub record IsGiven (inst : Instance) (cap : Capacity) (m : List (Option ℕ)) : 
   pub closed : IsClosed journal
   pub is_given : m ≡ given inst journal
 
--- the placement is settled, and no other is
+-- the placement is settled, and no other placement is settled
 pub record IsTheSettled (inst : Instance) (m : List (Option ℕ)) : Type 0 where
   pub settled : IsSettled inst m
   pub alone : (other : List (Option ℕ)) → IsSettled inst other → other ≡ m
 
--- some closed exchange gives the placement, which is stable and the one settled placement
+-- some closed exchange gives this placement; it is stable, and it is the only settled placement
 pub record IsOutcome (inst : Instance) (cap : Capacity) (m : List (Option ℕ)) : Type 0 where
   pub exchanged : IsGiven inst cap m
   pub stable : IsStable inst m

@@ -1,4 +1,4 @@
--- How the program ends, by what it was given and what it wrote.
+-- How the program ends, from its input and its output.
 use Rattle.std.specs.Prelude.{◌≡◌, ◌⊎◌, ℕ, Option, Some, Result, List}
 use Rattle.std.specs.Prelude.{String}
 use Rattle.std.specs.Global.{Vec}

@@ -1,4 +1,4 @@
--- What a call wrote, and why a call wrote nothing.
+-- What a call wrote, or why it wrote nothing.
 use Rattle.std.specs.Prelude.{◌≡◌, ◌≢◌, ◌⊎◌, ℕ, ◌++◌, Option, Some, None, Result, Ok, Err, List, []}
 use Rattle.std.specs.Io.KnownBytes.{Appends}
 use Rattle.exchange_core.specs.declared.event.Capacity.{Capacity}
@@ -27,26 +27,26 @@ use Rattle.residency.specs.Options.{IsWithinLimits}
 use Rattle.residency.specs.Outcome.{IsOutcome}
 use Rattle.residency.specs.Told.{status_told, fault_told}
 
--- the journal in the form that is wanted: nothing, its events, or its events with their workers
+-- the journal in the form that is wanted: no text, the events, or the events with their workers
 abbrev pub wanted_text : Contents → Capacity → JournalForm → List Event → ByWorkerParts → List ℕ
 wanted_text d cap Absent j by = []
 wanted_text d cap Plain j by = journal_text d cap j None
 wanted_text d cap ByWorker j by = journal_text d cap j (Some by)
 
--- the sheet, and after it the journal in the form that is wanted
+-- the sheet, followed by the journal in the form that is wanted
 abbrev pub match_text : Contents → Capacity → JournalForm → List (Option ℕ) → List Event → ByWorkerParts → List ℕ
 match_text d cap form m j by = sheet_text d m ++ wanted_text d cap form j by
 
--- the journal that a match's options want
+-- the journal that a match's options ask for
 abbrev pub wanted_journal : Contents → MatchOptions → List Event → ByWorkerParts → List ℕ
 wanted_journal d o j by = wanted_text d o.capacity o.journal j by
 
--- the sheet, and after it the journal that a match's options want
+-- the sheet, followed by the journal that a match's options ask for
 abbrev pub wanted_match : Contents → MatchOptions → List (Option ℕ) → List Event → ByWorkerParts → List ℕ
 wanted_match d o m j by = match_text d o.capacity o.journal m j by
 
--- a closed exchange over the docket within the limits, which gives the one settled placement; each event has one of so
--- many workers
+-- a closed exchange over the docket, within the limits, that gives the only settled placement; each event has a
+-- worker's number
 pub record ClosedRun (d : Contents) (o : MatchOptions) : Type 0 where
   pub limits : IsWithinLimits o
   pub assignment : List (Option ℕ)
@@ -55,22 +55,22 @@ pub record ClosedRun (d : Contents) (o : MatchOptions) : Type 0 where
   pub workers : by.workers ≡ o.workers
   pub by_worker : IsByWorker outcome.exchanged.journal by
 
--- what was appended, if it is known, is the sheet that a closed run over the docket gives, and the wanted form of its
--- journal
+-- The text that was appended, if it is known, is the sheet of a closed run over the docket. The journal follows in
+-- the form that is wanted.
 pub record WritesMatch (d : Contents) (o : MatchOptions) (old new : Option (List ℕ)) : Type 0 where
   pub run : ClosedRun d o
   pub appended : Appends old new (match_text d o.capacity o.journal run.assignment run.outcome.exchanged.journal run.by)
 
--- What was told of the docket's sheet is this status. Here `TellsReport` is the auditor's `WritesReport`, and `Told` its
--- `Status`.
+-- The rows about the docket's sheet have this status. `TellsReport` is the auditor's `WritesReport`, and `Told` is
+-- its `Status`.
 abbrev pub WritesReport : Contents → Status → Option (List ℕ) → Option (List ℕ) → Type 0
 WritesReport d status old new = (told : Told) × (status ≡ status_told told) × TellsReport d told old new
 
--- What was told of the docket's journal is this status. Here `TellsReplay` is the auditor's `WritesReplay`.
+-- The rows about the docket's journal have this status. `TellsReplay` is the auditor's `WritesReplay`.
 abbrev pub WritesReplay : Contents → Status → Option (List ℕ) → Option (List ℕ) → Type 0
 WritesReplay d status old new = (told : Told) × (status ≡ status_told told) × TellsReplay d told old new
 
--- why a match wrote no whole sheet: memory or the writer failed after a closed run, or the run gave none
+-- why a match wrote no whole sheet: memory or the writer failed after a closed run, or the run had no result
 abbrev pub IsMatchFault : MatchOptions → Contents → ServeFault → Type 0
 IsMatchFault o d (Docket fault) = ClosedRun d o × IsWriteFault fault
 IsMatchFault o d (Run fault) = IsRunFault d.instance o.capacity o.workers fault
@@ -106,18 +106,18 @@ IsFaultWithin limits IsFault bytes fault = IsReadFault limits bytes fault ⊎ Ar
 abbrev pub IsFaultOf : (Contents → ServeFault → Type 0) → List ℕ → ServeFault → Type 0
 IsFaultOf IsFault bytes fault = IsFaultWithin Standard IsFault bytes fault
 
--- a fault before which nothing was written: any but the writer's
+-- a fault before which nothing was written: any fault but the writer's
 abbrev pub IsBeforeWriting : ServeFault → Type 0
 IsBeforeWriting (Docket fault) = fault ≢ docket.Write
 IsBeforeWriting fault = Unit {0}
 
--- an order was served over a docket, with this status, and this was appended
+-- an order over a docket was served with this status, and this text was appended
 abbrev pub Serves : Order → Contents → Status → Option (List ℕ) → Option (List ℕ) → Type 0
 Serves (Match o) d status old new = (status ≡ Closed) × WritesMatch d o old new
 Serves Audit d status old new = WritesReport d status old new
 Serves Replay d status old new = WritesReplay d status old new
 
--- why an order over a docket wasn't served
+-- why an order over a docket was not served
 abbrev pub IsOrderFault : Order → Contents → ServeFault → Type 0
 IsOrderFault (Match o) = IsMatchFault o
 IsOrderFault Audit = IsAuditFault

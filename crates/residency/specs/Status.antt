@@ -1,4 +1,4 @@
--- With which status the program ends.
+-- The exit status of the program.
 use Rattle.std.specs.Prelude.{ℕ, Result, Ok, Err}
 use Rattle.program_shell.specs.Status.{docket_status_of}
 use Rattle.residency.specs.declared.fault.ServeFault.{ServeFault}
@@ -14,7 +14,7 @@ status_of Unstable = 4
 status_of ReplayGood = 0
 status_of ReplayBad = 4
 
--- 1 where memory, the run, the reader or the writer failed, 3 where the docket is at fault, or lacks what was asked about
+-- 1 if memory, the run, the reader or the writer failed; 3 if the docket is at fault or lacks what was asked for
 abbrev pub fault_status_of : ServeFault → ℕ
 fault_status_of (Docket fault) = docket_status_of fault
 fault_status_of NoSheet = 3

@@ -1,4 +1,4 @@
--- What is told of a sheet or a journal, as the end of a call.
+-- The outcome for a sheet or a journal, in the program's own terms.
 use Rattle.audit_text.specs.declared.status.Status.{Status as Told}
 use Rattle.audit_text.specs.declared.status.Status.TheVariants as told
 use Rattle.audit_text.specs.declared.fault.AnswerFault.{AnswerFault}
@@ -8,14 +8,14 @@ use Rattle.residency.specs.declared.status.Status.TheVariants.{Stable, Unstable,
 use Rattle.residency.specs.declared.fault.ServeFault.{ServeFault}
 use Rattle.residency.specs.declared.fault.ServeFault.TheVariants.{Docket, NoSheet, NoJournal, Memory}
 
--- what was told, `audit_text`'s `Status`, under the program's name for it
+-- the program's status for a `Status` of `audit_text`
 abbrev pub status_told : Told → Status
 status_told told.Stable = Stable
 status_told told.Unstable = Unstable
 status_told told.ReplayGood = ReplayGood
 status_told told.ReplayBad = ReplayBad
 
--- why nothing was told, under the program's name for it
+-- the program's fault for a reason why nothing was written
 abbrev pub fault_told : AnswerFault → ServeFault
 fault_told (answer.Docket fault) = Docket fault
 fault_told answer.NoSheet = NoSheet

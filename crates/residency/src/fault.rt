@@ -1,11 +1,11 @@
-//! Why nothing, or not all, was written.
+//! Why nothing was written, or not all of it.
 
 use audit_text::AnswerFault;
 use docket::DocketFault;
 use match_pool::RunFault;
 use thiserror::Error;
 
-/// Why a docket wasn't served.
+/// Why a docket was not served.
 #[derive(Debug, Drop, PartialEq, Eq, Error)]
 pub enum ServeFault {
     /// The docket could not be read, or the answer could not be written.
@@ -17,10 +17,10 @@ pub enum ServeFault {
     /// The docket has no journal.
     #[error("no journal in the docket")]
     NoJournal,
-    /// The exchange gave no result.
+    /// The run had no result.
     #[error(transparent)]
     Run(RunFault),
-    /// A growth was refused in an audit or a replay.
+    /// The memory could not grow in an audit or a replay.
     #[error("out of memory")]
     Memory,
 }

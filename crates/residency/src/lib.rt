@@ -1,9 +1,9 @@
-//! From bytes to bytes: a docket from any reader is matched, audited or replayed, and the answer goes to any writer.
+//! From bytes to bytes. A docket from any reader is matched, audited or replayed, and the answer goes to any writer.
 //!
-//! The program is `serve_words`, over the words and the streams that it is given.
+//! The program is `serve_words`, over its words and streams.
 //!
-//! Contracts say nothing of the texts of faults, help and version, nor of a number of workers written `+1`: tests
-//! compare them.
+//! Contracts say nothing about the texts of faults, help and version, nor about a number of workers written as `+1`.
+//! Tests compare these.
 #![tactic(auto)]
 
 mod fault;

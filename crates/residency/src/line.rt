@@ -19,7 +19,7 @@ use std::alloc::{AllocError, Global};
 use std::convert::AsStr;
 use version::VERSION;
 
-// The help of each command: what it reads and writes, its exit status, and an example.
+// The help of each command: its input and output, its exit status, and an example.
 const MATCH_HELP: &str =
     "Reads a docket on standard input: Q, P and R records, and W records where V,2 is the first.
 A sheet or a journal in it is not used.
@@ -108,7 +108,7 @@ fn journal_option<'a>(alloc: Global) -> Arg<'a>
         .action(ArgAction::SetTrue)
 }
 
-// Whether a match writes its journal with the worker of each event.
+// Whether the journal of a match has the worker of each event.
 fn by_worker_option<'a>(alloc: Global) -> Arg<'a>
     ensures rule { rule_of result ≡ flag_rule (codes "journal-by-worker") }
     ensures own { result.global ≡ false }
@@ -150,7 +150,7 @@ fn replay_command<'a>(alloc: Global) -> Command<'a>
     described(alloc, "replay", call, about, REPLAY_HELP)
 }
 
-// The program, without its commands, which are named after it.
+// The program's command line, without its commands.
 fn program<'a>(alloc: Global) -> Result<Command<'a>, AllocError>
     ensures { IfOk result (λ command. app_of command ≡ program_app) }
 {
@@ -166,7 +166,7 @@ fn program<'a>(alloc: Global) -> Result<Command<'a>, AllocError>
     )
 }
 
-// A program with one command more.
+// A program with one more command.
 fn with_command<'a>(program: Command<'a>, command: Command<'a>) -> Result<Command<'a>, AllocError>
     requires { (app_of command).top.is_plain ≡ true }
     ensures { IfOk result (λ both. app_of both ≡ with_subcommand (app_of program.entry) (app_of command.entry).top) }
@@ -183,7 +183,7 @@ fn commands<'a>(alloc: Global) -> Result<Command<'a>, AllocError>
     with_command(auditing, replay_command(alloc))
 }
 
-// The number of workers: from 1 to 8, as its option admits, and 2 where none is given.
+// The number of workers, from 1 to 8, with the default 2.
 fn workers_of(matches: &ArgMatches) -> usize
     ensures some { 1 ≤ result }
     ensures few { result ≤ 8 }
@@ -195,7 +195,7 @@ fn workers_of(matches: &ArgMatches) -> usize
     }
 }
 
-// The room of each mailbox: full where none is given.
+// The room of each mailbox, with the default full.
 fn room_of(matches: &ArgMatches) -> Result<Capacity, LineFault>
     ensures admitted { IfOk result (λ room. is_capacity room ≡ true) }
     ensures given { IfOk result (GivesRoom (rows_of (found_of matches.now))) }
@@ -208,7 +208,7 @@ fn room_of(matches: &ArgMatches) -> Result<Capacity, LineFault>
     }
 }
 
-// The journal that is wanted.
+// The form of journal that the words ask for.
 fn journal_of(matches: &ArgMatches) -> JournalForm
     ensures { GivesJournal (rows_of (found_of matches.now)) result }
 {
@@ -239,7 +239,7 @@ fn match_options(matches: &ArgMatches) -> Result<MatchOptions, LineFault>
     })
 }
 
-// What the words are by these commands.
+// What the parser finds in the words, for these commands.
 fn matches_of<'a, S: AsStr>(
     commands: &mut Command<'a>,
     words: &'a [S],
@@ -251,7 +251,7 @@ fn matches_of<'a, S: AsStr>(
     commands.try_get_matches_from_mut(words)
 }
 
-// The order that these matches name, if they name a command.
+// The order of these matches, if they name a command.
 fn order_named(matches: &ArgMatches) -> Result<Option<Order>, LineFault>
     ensures order { IfOk result (λ named. IfSome named IsOrder) }
     ensures named { IfOk result (λ named. IfSome named (IsNamed (subcommand_rows_of matches.now))) }
@@ -270,7 +270,7 @@ fn order_named(matches: &ArgMatches) -> Result<Option<Order>, LineFault>
     }
 }
 
-// What is told where no command is named.
+// The message if no command is named.
 fn nothing_named(commands: &mut Command) -> LineFault
     ensures { IsErrorOf (λ kind. kind ≡ MissingSubcommand) result }
 {
@@ -280,7 +280,7 @@ fn nothing_named(commands: &mut Command) -> LineFault
     }
 }
 
-/// The order that the words give. The program's own name isn't among them.
+/// The order of the words, without the program's own name.
 pub fn read_line<'a, S: AsStr>(alloc: Global, words: &'a [S]) -> Result<Order, LineFault>
     ensures order { IfOk result (Orders (map S.text words.entry.now)) }
     ensures limits { IfOk result IsOrder }

@@ -1,15 +1,15 @@
-//! What a command line orders.
+//! The orders of a command line.
 
 use exchange_core::Capacity;
 
 /// Which journal a match writes after its sheet.
 #[derive(Clone, Copy, Debug, PartialEq, Eq)]
 pub enum JournalForm {
-    /// None.
+    /// No journal.
     Absent,
-    /// Its events.
+    /// The events.
     Plain,
-    /// Its events, each with the number of the worker that entered it.
+    /// The events, each with the number of the worker that entered it.
     ByWorker,
 }
 
@@ -45,6 +45,6 @@ pub enum Order {
     Match(MatchOptions),
     /// Say what keeps the sheet of a docket from being stable.
     Audit,
-    /// Say whether the journal of a docket is a good exchange, and its sheet what it gives.
+    /// Say whether the journal of a docket is a good exchange, and whether it gives the docket's sheet.
     Replay,
 }

@@ -1,4 +1,4 @@
-//! The program, over any streams: it serves the order of its words, and its exit status tells how that ended.
+//! The program, over any streams. It serves the order of its words, and its exit status says how this ended.
 ghost use Rattle.std.specs.Process.{exit_status as exit_status_in};
 ghost use Rattle.residency.specs.Program.{Ends, EndsWithin, EndsServingWithin};
 
@@ -52,9 +52,9 @@ where
 
 /// Serves the order of the words within the standard limits over a reader and a writer, and gives the exit status.
 ///
-/// The words are those after the program's own name. Help and the version go to standard output, and why nothing, or
-/// not all, was served goes to standard error. The handle starts the threads of a match, and gives the randomness with
-/// which a docket is read.
+/// The words are those after the program's own name. Help and the version go to standard output. The reason for a
+/// missing or partial answer goes to standard error. The handle starts the threads of a match, and gives the random
+/// bytes for reading a docket.
 pub fn serve_words<R, W, T, H>(
     rt: H,
     alloc: Global,

@@ -25,7 +25,7 @@ use std::random::RandomSource;
 use std::sync::Wait;
 use std::thread::Threads;
 
-// Adds the journal of an exchange in the form that is wanted.
+// Adds the journal of an exchange, in the form that is wanted.
 fn push_wanted<W: Write>(
     rows: &mut RowWriter<'_, W>,
     docket: &Docket,
@@ -44,8 +44,8 @@ fn push_wanted<W: Write>(
     }
 }
 
-// Writes the sheet that a closed exchange over the docket gave, and its journal if it is wanted. Both go through one
-// buffer, which is made before the first byte is written. So want of memory leaves nothing half written.
+// Writes the sheet of a closed exchange over the docket, and its journal if that is wanted. Both go through one
+// buffer, made before the first byte is written. So if memory runs out, nothing is half written.
 fn write_match<W: Write>(
     alloc: Global,
     docket: &Docket,
@@ -70,7 +70,7 @@ fn write_match<W: Write>(
     Ok(())
 }
 
-// Runs the exchange over a docket to its close, and writes its sheet, and its journal if it is wanted.
+// Runs the exchange over a docket to its close. Writes its sheet, and its journal if that is wanted.
 fn match_docket<W, G, H>(
     rt: H,
     alloc: Global,
@@ -92,7 +92,7 @@ where
 {
     law_one_settled();
     let inst = docket.instance();
-    // For the proof alone: reading an instance tells that its rankings are mutual and within the limits.
+    // Only for the proof: the rankings of an instance are mutual and within the limits.
     let _instance = inst.residents();
     let done = match run(rt, alloc, inst, options.capacity, options.workers, gate) {
         Ok(done) => done,
@@ -137,7 +137,8 @@ fn write_audit<W: Write>(
     }
 }
 
-// Writes whether a docket's journal is a good exchange, and whether it gives the docket's sheet, if there is one.
+// Writes whether a docket's journal is a good exchange. If there is a sheet, also writes whether the journal gives
+// this sheet.
 fn write_answer<W: Write>(
     alloc: Global,
     docket: &Docket,
@@ -189,7 +190,7 @@ where
 /// Reads a docket within the standard limits, runs its exchange to the close by threads, and writes its sheet. If the
 /// options want it, the journal of this very run follows. The gate never stops a run.
 ///
-/// A sheet or a journal in the docket is read and must be well formed, and isn't used. Nothing is written before the
+/// A sheet or a journal in the docket is read and must be well formed, but is not used. Nothing is written before the
 /// exchange has closed.
 pub fn serve_match<R, W, G, H>(
     rt: H,
@@ -250,7 +251,7 @@ where
 
 /// Reads a docket within the standard limits, and writes what keeps its sheet from being stable.
 ///
-/// A journal in the docket is read and must be well formed, and isn't used.
+/// A journal in the docket is read and must be well formed, but is not used.
 pub fn serve_audit<R: Read + Drop, W: Write, H: RandomSource>(
     rt: &H,
     alloc: Global,

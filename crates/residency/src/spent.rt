@@ -1,9 +1,9 @@
-//! What becomes of what nobody needs any more.
+//! What happens to values that are no longer needed.
 
 use std::mem;
 
-/// What happens to used memory: it is given back piece by piece, or left to the system by a program that is about to
-/// end.
+/// What happens to used memory: it is given back piece by piece, or a program that is about to end leaves it to the
+/// system.
 #[derive(Clone, Copy, Debug)]
 pub(crate) enum Spent {
     GivenBack,
@@ -11,7 +11,7 @@ pub(crate) enum Spent {
 }
 
 impl Spent {
-    /// Lets a value go.
+    /// Drops a value, or leaves it to the system.
     pub(crate) fn let_go<T: Drop>(self, value: T) {
         match self {
             Spent::GivenBack => drop(value),

@@ -1,11 +1,11 @@
-//! How a call ended, and with which status the program ends.
+//! How a call ended, and the program's exit status for it.
 ghost use Rattle.std.specs.Prelude.{◌≡◌};
 ghost use Rattle.residency.specs.Status.{exit_status_of};
 
 use crate::fault::ServeFault;
 use program_shell::docket_status;
 
-/// How a call ended that wrote its whole answer.
+/// The outcome of a call that wrote its whole answer.
 #[derive(Clone, Copy, Debug, PartialEq, Eq)]
 pub enum Status {
     /// The exchange closed, and its sheet was written.
@@ -14,9 +14,9 @@ pub enum Status {
     Stable,
     /// The sheet isn't stable.
     Unstable,
-    /// The journal is a good exchange, and the sheet is what it gives.
+    /// The journal is a good exchange, and gives the sheet.
     ReplayGood,
-    /// The journal isn't, or the sheet differs from what it gives.
+    /// The journal is not a good exchange, or does not give the sheet.
     ReplayBad,
 }
 

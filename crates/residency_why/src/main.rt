@@ -1,4 +1,5 @@
-//! The program that tells residents why: its words say whom, and the docket with its sheet is on standard input.
+//! The program for residents who ask why. Its words name the resident. The docket with its sheet is on standard
+//! input.
 #![tactic(auto)]
 
 use reasons_text::tell_words;

@@ -1,4 +1,4 @@
--- The text of a row, field after field.
+-- The text of a row, field by field.
 use Rattle.std.proofs.Common.{◌≡◌, ◌≢◌, ◌==◌, ◌<◌, ◌+◌, ◌∷◌, [], ℕ, List, Bool, Option, None, Some, true, false, length, take, get_or, ◌++◌, refl, sym, ap, append-nil, ◌∙◌, subst, arith}
 use Rattle.std.proofs.lemmas.Bool.{ne_eqb}
 use Rattle.std.specs.Borrow.{MutBor}
@@ -21,7 +21,7 @@ adds_both contents a b c first second h k = (k.0 ∙ h.0, Appends-trans _ _ _ _ 
 long : (b : ℕ) (rest : List ℕ) → (length (b ∷ rest) == 0) ≡ false
 long b rest = ne_eqb _ 0 (λ z. absurd (omega (arith, z)))
 
--- the text of a field is empty where the field is
+-- the text of an empty field is empty
 shown : (field : List ℕ) → (length (field_text row_setup field) == 0) ≡ (length field == 0)
 shown [] = refl
 shown (b ∷ rest) = by_need (needs_quotes row_setup (b ∷ rest)) refl
@@ -50,14 +50,14 @@ pub escaped_other : (b : ℕ) → b ≢ quote_mark → escaped row_setup (b ∷ 
 unfolding escaped
 escaped_other b n = let e = ne_eqb b quote_mark n in rw e refl
 
--- one byte more of a field between quotes
+-- one more byte of a quoted field
 pub quoted_next : {W : Type 0} (contents : W → Option (List ℕ)) (a b c : RowWriter W) (field : List ℕ) (i : ℕ) → i < length field
     → Adds contents a b (quote_mark ∷ escaped row_setup (take i field)) → Adds contents b c (escaped row_setup (get_or field i 0 ∷ []))
     → Adds contents a c (quote_mark ∷ escaped row_setup (take (i + 1) field))
 quoted_next contents a b c field i lt h k =
     subst (Adds contents a c) (quoted-step row_setup quote_mark field i lt) (adds_both contents a b c _ _ h k)
 
--- one field more of a row
+-- one more field of a row
 pub fields_next : {W : Type 0} (contents : W → Option (List ℕ)) (a b c d : RowWriter W) (fields : List (List ℕ)) (field : List ℕ) (i : ℕ) →
     i < length fields → Adds contents a b (row_body row_setup (take i fields)) → Adds contents b c (next_sep row_setup i)
     → Adds contents c d (field_text row_setup field) → field ≡ get_or fields i [] → Adds contents a d (row_body row_setup (take (i + 1) fields))
@@ -65,7 +65,7 @@ fields_next contents a b c d fields field i lt h k l e =
     subst (Adds contents a d) (sym (row-step row_setup fields i lt))
     (adds_both contents a b d _ _ h (adds_both contents b c d _ _ k (rw e at l)))
 
--- a row is its fields and its end
+-- a row is its fields followed by its end
 pub row_whole : {W : Type 0} (contents : W → Option (List ℕ)) (a b c : RowWriter W) (fields : List (List ℕ)) → Adds contents a b (row_body row_setup fields)
     → Adds contents b c (row_end fields) → Adds contents a c (row fields)
 unfolding row
@@ -79,7 +79,7 @@ known_sent (Some o) (Some m) None none rows text e first second = absurd second
 known_sent (Some o) (Some m) (Some n) none rows text e first second =
     second ∙ first ∙ ap (λ (start : List ℕ). (o ++ start) ++ text) e ∙ ap (λ (start : List ℕ). start ++ text) (append-nil o)
 
--- a text was added to no rows, and what then waited was handed to the writer
+-- a text was added to no rows, and then the buffer was sent to the writer
 pub sent : {W : Type 0} (contents : W → Option (List ℕ)) (start last : RowWriter W) (lent : MutBor W) (new : W) (none text : List ℕ) → IsOver start lent none
     → none ≡ [] → Adds contents start last text → Writes contents last.writer.now new last.waiting.now.items → Writes contents lent.now new text
 sent contents start last lent new none text over empty added handed =

@@ -1,6 +1,6 @@
 //! Rows of CSV on their way to a writer.
 //!
-//! What only tests refuse: a body that only answers that memory is wanting, or that the writer failed.
+//! Only tests refuse a body that always answers out of memory, or that the writer failed.
 #![tactic(auto)]
 
 mod writer;

@@ -1,5 +1,4 @@
-//! A writer of rows of CSV, with a buffer that is made before the first byte goes out: from then on nothing can be refused
-//! but by the writer.
+//! A writer of rows of CSV. Its buffer is made before the first byte goes out. From then on only the writer can fail.
 ghost use Rattle.std.specs.Prelude.{◌≡◌, ◌∷◌, [], map, OnOk, IfOk};
 ghost use Rattle.csv.specs.Writing.{needs_byte, needs_quotes, escaped, quoted, field_text, next_sep, is_blank as shows_nothing};
 ghost use Rattle.row_writer.specs.RowText.{Adds, IsOver, Writes, row_setup, row, row_end};
@@ -7,14 +6,14 @@ ghost use Rattle.row_writer.specs.RowText.{Adds, IsOver, Writes, row_setup, row,
 use std::alloc::{AllocError, Global};
 use std::io::Write;
 
-// How many bytes wait at most until they are handed to the writer.
+// The greatest number of bytes that wait in the buffer.
 const ROOM: usize = 16_384;
 
-/// The writer answered a fault.
+/// The writer failed.
 #[derive(Clone, Copy, Debug, PartialEq, Eq)]
 pub struct WriteFailed;
 
-/// Room for the rows that wait to be handed to a writer: 16,384 bytes, which never grow.
+/// A buffer for rows on their way to a writer: 16,384 bytes, which never grow.
 pub fn room_for_rows(alloc: Global) -> Result<Vec<u8>, AllocError>
     ensures { IfOk result (λ room. room.items ≡ []) }
 {
@@ -22,28 +21,28 @@ pub fn room_for_rows(alloc: Global) -> Result<Vec<u8>, AllocError>
     Ok(room)
 }
 
-/// A writer, and rows that wait in their room to be handed to it.
+/// A writer, and a buffer with rows on their way to it.
 #[derive(Drop)]
 pub struct RowWriter<'a, W> {
     writer: &'a mut W,
     waiting: &'a mut Vec<u8>,
 }
 
-// Whether a byte of a field calls for quotes round the field.
+// Whether a field with this byte needs quotes.
 fn is_marked(b: u8) -> bool
     ensures { result ≡ needs_byte row_setup b }
 {
     b == b',' || b == b'"' || b == b'\r' || b == b'\n'
 }
 
-// Whether a field calls for quotes.
+// Whether a field needs quotes.
 fn is_quoted(field: &[u8]) -> bool
     ensures { result ≡ needs_quotes row_setup field.now }
 {
     field.iter().any(|b| is_marked(*b))
 }
 
-// Whether the row would show no byte, and gets two quotes to stand for its one empty field.
+// Whether the row would be empty. Then two quotes stand for its one empty field.
 fn is_blank(fields: &[&[u8]]) -> bool
     ensures { result ≡ shows_nothing row_setup (map (λ f. f.now) fields.now) }
 {
@@ -54,7 +53,7 @@ fn is_blank(fields: &[&[u8]]) -> bool
 }
 
 impl<'a, W: Write> RowWriter<'a, W> {
-    /// No rows yet, where the room is empty.
+    /// No rows yet, with an empty buffer.
     pub fn new(writer: &'a mut W, room: &'a mut Vec<u8>) -> RowWriter<'a, W>
         ensures { IsOver result writer.entry room.old.items }
     {
@@ -64,8 +63,8 @@ impl<'a, W: Write> RowWriter<'a, W> {
         }
     }
 
-    // Hands what waits to the writer, and then these bytes where there still isn't room for them. It stands apart from
-    // `put`, so that the test for room is inlined.
+    // Sends the buffer to the writer, and then these bytes if the buffer still has no room for them. This is a
+    // separate function, so that the test for room in `put` is inlined.
     #[cold]
     #[inline(never)]
     fn put_past(&mut self, bytes: &[u8]) -> Result<(), WriteFailed>
@@ -101,7 +100,7 @@ impl<'a, W: Write> RowWriter<'a, W> {
         Ok(())
     }
 
-    // Adds a byte of a field that stands between quotes: a quote twice.
+    // Adds a byte of a quoted field. A quote is written twice.
     fn put_escaped(&mut self, byte: u8) -> Result<(), WriteFailed>
         ensures { OnOk result (Adds W.contents self.old self.new (escaped row_setup (byte ∷ []))) }
     {
@@ -137,7 +136,7 @@ impl<'a, W: Write> RowWriter<'a, W> {
         }
     }
 
-    // Adds what stands before the field at this place: a comma, if it isn't the first.
+    // Adds a comma before the field at this place, unless it is the first.
     #[inline]
     fn put_comma(&mut self, place: usize) -> Result<(), WriteFailed>
         ensures { OnOk result (Adds W.contents self.old self.new (next_sep row_setup place)) }
@@ -148,7 +147,7 @@ impl<'a, W: Write> RowWriter<'a, W> {
         }
     }
 
-    // Ends a row of these fields.
+    // Adds the end of a row with these fields.
     fn put_end(&mut self, fields: &[&[u8]]) -> Result<(), WriteFailed>
         ensures { OnOk result (Adds W.contents self.old self.new (row_end (map (λ f. f.now) fields.now))) }
     {
@@ -159,7 +158,7 @@ impl<'a, W: Write> RowWriter<'a, W> {
         }
     }
 
-    /// Adds a row, and hands to the writer what there is no room for.
+    /// Adds a row. What does not fit into the buffer goes to the writer.
     pub fn push(&mut self, fields: &[&[u8]]) -> Result<(), WriteFailed>
         ensures { OnOk result (Adds W.contents self.old self.new (row (map (λ f. f.now) fields.now))) }
     {
@@ -170,7 +169,7 @@ impl<'a, W: Write> RowWriter<'a, W> {
         self.put_end(fields)
     }
 
-    /// Hands to the writer what still waits.
+    /// Sends the rest of the buffer to the writer.
     pub fn send(self) -> Result<(), WriteFailed>
         ensures { OnOk result (Writes W.contents self.entry.writer.now self.exit.0.now self.entry.waiting.now.items) }
     {

@@ -1,4 +1,4 @@
--- Why the path that is made for a hash climbs to the root: each step of the climb is at the parent.
+-- Why the path made for a hash climbs to the root: each step of the climb reaches the parent.
 use Rattle.std.proofs.Common.{◌≡◌, ℕ, zero, suc, ◌+◌, ◌-◌, ◌/◌, ◌%◌, ◌≤◌, true, false, nat_lt, List, [], ◌∷◌, length, slice_get, Some, None, arith, refl, subst, inl, inr}
 use Rattle.std.proofs.lemmas.Option.{slice_get_within, slice_get_cases}
 use Rattle.std.proofs.lemmas.Bool.{lt-ltb, le-ltb}
@@ -8,7 +8,7 @@ use Rattle.seal.specs.Tree.{pair_up, levels_up, top, Left, Right, side, sides_fr
 use Rattle.seal.specs.SealLaws.{CompleteLaw}
 use Rattle.seal.proofs.Parents.{twice, twice_is, length-pair_up, parent_of_pair, parent_of_last}
 
--- where a place's parent is, with what stands beside it
+-- where the parent of a place stands, and the sibling
 data Parent (hs : List (List ℕ)) (i : ℕ) (h : List ℕ) : Type 0 where
   on_left : (l : List ℕ) → side i (length hs) ≡ Some Left → sibling i hs ≡ Some l → slice_get (pair_up hs) (i / 2) ≡ Some (node l h) → Parent hs i h
   on_right : (r : List ℕ) → side i (length hs) ≡ Some Right → sibling i hs ≡ Some r → slice_get (pair_up hs) (i / 2) ≡ Some (node h r) → Parent hs i h
@@ -38,7 +38,7 @@ parent hs i h e = elim (eqb_tells (i % 2) 1) [
       ]
 ]
 
--- the climb over one more level, given the climb from each parent
+-- the climb over one more level, from the climb of each parent
 climb_on : (levels i : ℕ) (hs : List (List ℕ)) (h : List ℕ) →
     ((k : List ℕ) → slice_get (pair_up hs) (i / 2) ≡ Some k →
     climb_by (sides_from levels (i / 2) (length (pair_up hs))) k (path_from levels (i / 2) (pair_up hs)) ≡ Some (top (levels_up levels (pair_up hs)))) →

@@ -5,8 +5,8 @@ ghost use Rattle.seal.specs.Tree.{climb};
 
 use crate::hashes::node_of;
 
-/// Whether the hash of a leaf, at a place of so many, climbs by this path to this root. A place past the count, and a path
-/// that is too short or too long, climbs to nothing.
+/// Whether the hash of a leaf climbs to this root by this path, from this place in a tree with this many leaves. A
+/// place past the count, or a path of the wrong length, never does.
 pub fn opens(
     root: &[u8; 32],
     count: usize,

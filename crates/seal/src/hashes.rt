@@ -1,4 +1,4 @@
-//! What is hashed: a leaf with the salt that keeps it from being guessed, and a node over two others.
+//! The hashes: of a leaf with its salt, which makes it impossible to guess, and of a node over two others.
 
 ghost use Rattle.std.specs.Prelude.{◌≡◌, ◌∷◌, ◌++◌};
 ghost use Rattle.std.specs.Int.{w64, to_be_bytes};
@@ -19,7 +19,7 @@ pub fn salt(secret: &[u8; 32], tag: u8, index: u64) -> [u8; 32]
     hasher.finalize()
 }
 
-/// The hash of a leaf: of the byte 0, its salt and its text.
+/// The hash of a leaf: of the byte 0, the salt and the text.
 pub fn leaf_hash(salt: &[u8; 32], text: &[u8]) -> [u8; 32]
     ensures { result ≡ hashes.leaf_hash (record { salt = salt.now; text = text.now }) }
 {
@@ -30,7 +30,7 @@ pub fn leaf_hash(salt: &[u8; 32], text: &[u8]) -> [u8; 32]
     hasher.finalize()
 }
 
-// The hash of a node over two others: of the byte 1 and both.
+// The hash of a node over two others: of the byte 1 and the two hashes.
 pub(crate) fn node_of(left: &[u8; 32], right: &[u8; 32]) -> [u8; 32]
     ensures { result ≡ node left.now right.now }
 {

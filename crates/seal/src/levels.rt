@@ -8,7 +8,7 @@ use crate::hashes::node_of;
 use sha2::{Digest, Sha256};
 use std::alloc::{AllocError, Global};
 
-// Makes a level into the next one, in its own place.
+// Turns a level into the next one, in place.
 fn pair_level(level: &mut Vec<[u8; 32]>)
     ensures { level.new.items ≡ pair_up level.old.items }
 {
@@ -22,7 +22,8 @@ fn pair_level(level: &mut Vec<[u8; 32]>)
     level.truncate(count / 2 + count % 2);
 }
 
-/// The root of the tree over these leaf hashes; over none it is the digest of nothing. Errs only for memory.
+/// The root of the tree over these leaf hashes. Without leaves it is the digest of no bytes. The only error is out of
+/// memory.
 pub fn root(alloc: Global, hashes: &[[u8; 32]]) -> Result<[u8; 32], AllocError>
     ensures { IfOk result (λ r. r ≡ tree.root hashes.now) }
 {

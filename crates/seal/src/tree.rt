@@ -1,4 +1,4 @@
-//! A whole tree: all its levels in one vector, from which each path is read.
+//! A whole tree. One vector has all its levels, and each path is read from it.
 
 ghost use Rattle.std.specs.Prelude.{◌≡◌, ◌<◌, ◌≤◌, ◌++◌, ℕ, List, length, take, drop, vec_len, IfOk, OnOk};
 ghost use Rattle.seal.specs.Tree.{pair_up, all_levels, path_of};
@@ -9,7 +9,7 @@ use sha2::{Digest, Sha256};
 use std::alloc::{AllocError, Global};
 use std::marker::Model;
 
-/// A tree over leaf hashes, which are what clauses see of it.
+/// A tree over leaf hashes. Clauses see a tree as its leaf hashes.
 #[derive(Drop)]
 pub struct Tree {
     count: usize,
@@ -28,7 +28,7 @@ impl Model for Tree {
     ghost invariant = { λ t. (t.count ≤ length t.nodes.items) × (t.nodes.items ≡ all_levels (take t.count t.nodes.items)) };
 }
 
-// Puts the parents of the nodes from `start` on behind them.
+// Appends the parents of the nodes from `start` on.
 fn push_parents(nodes: &mut Vec<[u8; 32]>, start: usize) -> Result<(), AllocError>
     requires { start ≤ vec_len nodes.old }
     ensures { OnOk result (nodes.new.items ≡ nodes.old.items ++ pair_up (drop start nodes.old.items)) }
@@ -46,7 +46,8 @@ fn push_parents(nodes: &mut Vec<[u8; 32]>, start: usize) -> Result<(), AllocErro
 }
 
 impl Tree {
-    /// The tree over these leaf hashes. Errs only for memory: it takes two hashes for each leaf, and one for each level.
+    /// The tree over these leaf hashes. The only error is out of memory. It takes two hashes for each leaf, and one
+    /// for each level.
     pub fn new(alloc: Global, hashes: &[[u8; 32]]) -> Result<Tree, AllocError>
         ensures { IfOk result (λ t. t ≡ hashes.now) }
     {
@@ -63,7 +64,7 @@ impl Tree {
         })
     }
 
-    /// The root; of no leaves it is the digest of nothing.
+    /// The root. Without leaves it is the digest of no bytes.
     pub fn root(&self) -> [u8; 32]
         ensures { result ≡ tree.root self.now }
     {
@@ -73,7 +74,8 @@ impl Tree {
         }
     }
 
-    /// The path by which the leaf at this place climbs to the root: its siblings, lowest first. Errs only for memory.
+    /// The path by which the leaf at this place climbs to the root: its siblings, lowest first. The only error is out
+    /// of memory.
     pub fn opening(&self, alloc: Global, index: usize) -> Result<Vec<[u8; 32]>, AllocError>
         requires { index < length self.now }
         ensures { IfOk result (λ p. p.items ≡ path_of index self.now) }

@@ -1,4 +1,5 @@
--- Counts in lists of numbers: different ones are no more than those they stand among, and totals of ordered terms.
+-- Counts in lists of numbers: different numbers in a list are no more than its items, and ordered terms have ordered
+-- totals.
 use Rattle.std.proofs.Common.{◌≡◌, ℕ, ◌+◌, ◌<◌, ◌≤◌, Bool, true, false, cond, not, eqb, List, [], ◌∷◌, length, arith, refl, sym, ap, ◌∙◌, inl, inr, subst, eqb-true, eq-eqb}
 use Rattle.std.specs.List.{sum_by, count_by, filter, range_with_len}
 use Rattle.std.proofs.lemmas.List.Sums.{sum_by-cons, length-filter, count_by-le-length}
@@ -7,7 +8,7 @@ use Rattle.match_model.proofs.Rankings.{is_listed_from, is_listed-true}
 use Rattle.match_model.proofs.Listed.{no_repeats_tail, no_repeats_head}
 use Rattle.settle_law.proofs.Places.{IsListed-cons, IsListed-cons_same, IsListed-cons_cases, IsListed-nil, range_has, HasNoRepeats-range, HasNoRepeats-filter, IsListed-filter}
 
--- a test as a number, 1 where it passes
+-- a test as a number: 1 if it passes, else 0
 abbrev pub one_if : Bool → ℕ
 one_if b = cond b 1 0
 
@@ -15,7 +16,7 @@ pub one_if_le : (b c : Bool) → (b ≡ true → c ≡ true) → one_if b ≤ on
 one_if_le true c h = rw (h refl) (omega arith)
 one_if_le false c h = omega arith
 
--- two tests of which at most one passes, and only where the third does
+-- two tests, of which at most one passes, and only if a third test passes
 pub one_if_apart : (b c d : Bool) → (b ≡ true → d ≡ true) → (c ≡ true → d ≡ true) → (b ≡ true → c ≡ true → ⊥) →
     one_if b + one_if c ≤ one_if d
 one_if_apart true true d h k n = absurd (n refl refl)
@@ -23,7 +24,7 @@ one_if_apart true false d h k n = rw (h refl) (omega arith)
 one_if_apart false true d h k n = rw (k refl) (omega arith)
 one_if_apart false false d h k n = omega arith
 
--- terms that are ordered add up to totals that are
+-- ordered terms have ordered totals
 pub sum_by-le_listed : (f g : ℕ → ℕ) (xs : List ℕ) → ((x : ℕ) → IsListed xs x → f x ≤ g x) → sum_by f xs ≤ sum_by g xs
 sum_by-le_listed f g [] h = omega arith
 sum_by-le_listed f g (x ∷ xs) h =
@@ -31,7 +32,7 @@ sum_by-le_listed f g (x ∷ xs) h =
     let first : f x ≤ g x = h x (IsListed-cons_same x xs) in
     omega (arith, sum_by-cons f x xs, sum_by-cons g x xs)
 
--- terms that are ordered and have totals ordered the other way are equal, one by one
+-- if terms are ordered one way and their totals the other way, the terms are equal
 pub same_terms : (f g : ℕ → ℕ) (xs : List ℕ) → ((x : ℕ) → IsListed xs x → f x ≤ g x) → sum_by g xs ≤ sum_by f xs →
     (x : ℕ) → IsListed xs x → f x ≡ g x
 same_terms f g [] h t x l = absurd (IsListed-nil x l)
@@ -45,7 +46,7 @@ same_terms f g (y ∷ ys) h t x l =
       | inr c ↦ same_terms f g ys (λ z m. h z (IsListed-cons y ys z m)) (omega arith) x c
     ]
 
--- terms that are all 0
+-- a sum of terms that are all 0
 pub sum_by_zeros : (f : ℕ → ℕ) (xs : List ℕ) → ((x : ℕ) → f x ≡ 0) → sum_by f xs ≡ 0
 sum_by_zeros f [] h = refl
 sum_by_zeros f (x ∷ xs) h = omega (arith, sum_by-cons f x xs, h x, sum_by_zeros f xs h)
@@ -56,12 +57,12 @@ sum_by-plus f g [] = refl
 sum_by-plus f g (x ∷ xs) =
     omega (arith, sum_by-plus f g xs, sum_by-cons f x xs, sum_by-cons g x xs, sum_by-cons (λ y. f y + g y) x xs)
 
--- more pass a weaker test
+-- a weaker test passes for at least as many items
 pub count_by-le_listed : (f g : ℕ → Bool) (xs : List ℕ) → ((x : ℕ) → IsListed xs x → f x ≡ true → g x ≡ true) →
     count_by f xs ≤ count_by g xs
 count_by-le_listed f g xs h = sum_by-le_listed (λ x. one_if (f x)) (λ x. one_if (g x)) xs (λ x l. one_if_le (f x) (g x) (h x l))
 
--- those that pass one of two tests that never both pass
+-- items that pass one of two tests that never both pass
 pub count_by-apart : (f g h : ℕ → Bool) (xs : List ℕ) → ((x : ℕ) → f x ≡ true → h x ≡ true) →
     ((x : ℕ) → g x ≡ true → h x ≡ true) → ((x : ℕ) → f x ≡ true → g x ≡ true → ⊥) →
     count_by f xs + count_by g xs ≤ count_by h xs
@@ -94,7 +95,7 @@ count_by_pos f (y ∷ ys) x l p =
       | inr c ↦ let h = count_by_pos f ys x c p in omega arith
     ]
 
--- different numbers that all stand in a list are no more than those of its items that are among them
+-- Different numbers that stand in a list are no more than the items of the list that are among them.
 pub different_among : (xs ys : List ℕ) → HasNoRepeats xs → ((x : ℕ) → IsListed xs x → IsListed ys x) →
     length xs ≤ count_by (is_listed xs) ys
 different_among [] ys n h = omega arith
@@ -107,7 +108,7 @@ different_among (x ∷ xs) ys n h =
     (λ z e d. no_repeats_head x xs n (is_listed-true xs x (subst (λ w. is_listed xs w ≡ true) (sym (eqb-true x z e)) d))) in
     omega arith
 
--- different numbers that all stand in a list and pass a test are no more than those of its items that pass
+-- Different numbers that stand in a list and pass a test are no more than the items that pass.
 pub different_pass : (xs ys : List ℕ) (f : ℕ → Bool) → HasNoRepeats xs →
     ((x : ℕ) → IsListed xs x → IsListed ys x × (f x ≡ true)) → length xs ≤ count_by f ys
 different_pass xs ys f n h =
@@ -125,7 +126,7 @@ count_by-same-le xs q n =
     let size = length-filter (λ x. eqb q x) xs in
     omega arith
 
--- it does stand there, where it is one of the numbers below n
+-- each number below n stands once in the list of the numbers below n
 pub count_by-range_same : (n q : ℕ) → q < n → count_by (λ p. eqb q p) (range_with_len 0 n) ≡ 1
 count_by-range_same n q l =
     let le = count_by-same-le (range_with_len 0 n) q (HasNoRepeats-range 0 n) in

@@ -17,7 +17,7 @@ sum_below_first : (f : ℕ → ℕ) (n : ℕ) → sum_below f (suc n) ≡ f 0 + 
 sum_below_first f zero = omega arith
 sum_below_first f (suc n) = omega (arith, sum_below_first f n)
 
--- the lists of some members are no longer than all lists
+-- the lists of some members have at most as many items as all lists
 lists_within : (lists : List (List ℕ)) (n : ℕ) → sum_below (λ i. length (list_at lists i)) n ≤ sum_by (λ (xs : List ℕ). length xs) lists
 lists_within [] n = omega (arith, sum_below_zero n)
 lists_within (xs ∷ rest) zero = omega arith
@@ -57,7 +57,7 @@ module _ (inst : Instance) (cap : Capacity) (j : List Event) (legal : IsLegal in
   hears_within : over_programmes inst (λ p. length (hears p j)) ≤ over_programmes inst (λ p. length (answers_to p j))
   hears_within = sum_below-le _ _ (length inst.quotas) (λ p l. prefix_length (hears p j) (answers_to p j) (hears_in_order inst cap j legal p))
 
-  -- offers and takes are at most E each, answers and hears at most 2E each
+  -- there are at most E offers and E takes, and at most 2E answers and 2E hears
   pub bound : length j ≤ 6 * pair_count inst + 1
   bound =
       let offers = offers_of_total inst cap j legal in

@@ -1,4 +1,4 @@
--- Why no achievable programme is turned down, of any offers made in order within the quotas.
+-- Why no achievable programme is turned down, whatever offers were made in order and within the quotas.
 use Rattle.std.proofs.Common.{◌≡◌, ℕ, ◌+◌, ◌<◌, ◌≤◌, Bool, true, false, not, ◌&&◌, List, ◌∷◌, ◌++◌, length, arith, refl, sym, ap, ◌∙◌, inl, inr, subst, true≢false, length-append}
 use Rattle.std.specs.Prelude.{Option, Some, None}
 use Rattle.std.specs.List.{count_by}
@@ -16,25 +16,26 @@ use Rattle.settle_law.proofs.Places.{listed_cases, before_from_not_after, place-
 use Rattle.settle_law.proofs.Counting.{different_pass, count_by-not}
 use Rattle.settle_law.proofs.Placements.{holds_true, members_of, length-members_of, members_differ, member_from_listed}
 
--- the best of the programmes whose offers r took
+-- the best programme among the offers that r took
 abbrev pub best_taken : Instance → (ℕ → List ℕ) → ℕ → Option ℕ
 best_taken inst taken r = best_of (list_of_resident inst r) (taken r)
 
--- whether r took an offer of p, and has another as its best
+-- whether r took an offer by p, and has another programme as its best
 abbrev pub has_turned_down : Instance → (ℕ → List ℕ) → ℕ → ℕ → Bool
 has_turned_down inst taken p r = is_listed (taken r) p && not (holds p (best_taken inst taken r))
 
--- who was offered by each programme and what each resident took: in order, and no more at a time than the quota
+-- the residents to whom each programme offered, and the offers that each resident took: in order, and never above the
+-- quota
 pub record Standing (inst : Instance) (offers taken : ℕ → List ℕ) : Type 0 where
   pub in_order : (p : ℕ) → (rest : List ℕ) × (offers p ++ rest ≡ list_of_programme inst p)
   pub taken_was_offered : (r p : ℕ) → IsListed (taken r) p → IsListed (offers p) r
   pub within_quota : (p : ℕ) → length (offers p) ≤ quota inst p + count_by (has_turned_down inst taken p) (offers p)
 
--- nobody has turned down a programme that is achievable for it
+-- no resident has turned down a programme that is achievable for it
 pub record SparesAll (inst : Instance) (taken : ℕ → List ℕ) : Type 0 where
   pub spares : (r p : ℕ) → has_turned_down inst taken p r ≡ true → ¬ IsAchievable inst r p
 
--- in a stable assignment, a programme that a resident would rather have is full, of residents before that one
+-- in a stable assignment, a programme that a resident prefers is full of residents that stand before this one
 pub record IsFullOfBetter (inst : Instance) (m : List (Option ℕ)) (p r : ℕ) : Type 0 where
   pub full : quota inst p ≤ member_count m p
   pub better : (s : ℕ) → IsMemberOf m s p → IsBefore (list_of_programme inst p) s r
@@ -52,7 +53,7 @@ full_of_better inst m r p st ac np pr = record {
 }
 
 module _ (inst : Instance) (good : IsInstance inst) (offers taken : ℕ → List ℕ) (st : Standing inst offers taken) where
-  -- whoever was offered stands among the first of the programme's list, as many as were offered
+  -- a resident who got an offer stands among the first of the programme's list, as many as got one
   pub offered_is_listed : (p r : ℕ) → IsListed (offers p) r →
       Acceptable inst r p × (place (list_of_programme inst p) r < length (offers p))
   offered_is_listed p r l =
@@ -61,13 +62,13 @@ module _ (inst : Instance) (good : IsInstance inst) (offers taken : ℕ → List
       let size : length (offers p) ≤ length (list_of_programme inst p) = subst (λ xs. length (offers p) ≤ length xs) o.1 (omega (arith, length-append (offers p) o.0)) in
       (omega arith, omega arith)
 
-  -- whoever wasn't stands behind them
+  -- a resident without an offer stands after them
   others_are_behind : (p r : ℕ) → (IsListed (offers p) r → ⊥) → length (offers p) ≤ place (list_of_programme inst p) r
   others_are_behind p r n =
       let o = st.in_order p in
       subst (λ xs. length (offers p) ≤ place xs r) o.1 (place-append_other (offers p) o.0 r n)
 
-  -- so whoever stands before one that was offered was offered too
+  -- a resident who stands before one with an offer also got an offer
   pub offered_before : (p r s : ℕ) → IsListed (offers p) r → IsBefore (list_of_programme inst p) s r → IsListed (offers p) s
   offered_before p r s l b = elim (listed_cases (offers p) s) [
     | inl c ↦ c
@@ -77,14 +78,14 @@ module _ (inst : Instance) (good : IsInstance inst) (offers taken : ℕ → List
         absurd (omega arith)
   ]
 
-  -- and whoever was offered stands before whoever wasn't
+  -- a resident with an offer stands before a resident without
   pub offered_first : (p r s : ℕ) → IsListed (offers p) s → (IsListed (offers p) r → ⊥) → IsBefore (list_of_programme inst p) s r
   offered_first p r s l n =
       let within = (offered_is_listed p s l).1 in
       let behind = others_are_behind p r n in
       omega arith
 
-  -- different residents that were offered a place and haven't turned it down are within the quota
+  -- different residents who got an offer and haven't turned it down are at most as many as the quota
   pub crowd_within : (p : ℕ) (xs : List ℕ) → HasNoRepeats xs →
       ((x : ℕ) → IsListed xs x → IsListed (offers p) x × (has_turned_down inst taken p x ≡ false)) →
       length xs ≤ quota inst p
@@ -94,12 +95,12 @@ module _ (inst : Instance) (good : IsInstance inst) (offers taken : ℕ → List
       let c = st.within_quota p in
       omega arith
 
-  -- a best programme isn't turned down
+  -- the best programme isn't turned down
   pub best_is_kept : (r b : ℕ) → best_taken inst taken r ≡ Some b → has_turned_down inst taken b r ≡ false
   best_is_kept r b e =
       and_right (is_listed (taken r) b) (not (holds b (best_taken inst taken r))) (ap not (holds_true b (best_taken inst taken r) e))
 
-  -- what r turned down is behind its best
+  -- a programme that r turned down stands after r's best
   pub best_is_before : (r q b : ℕ) → best_taken inst taken r ≡ Some b → has_turned_down inst taken q r ≡ true →
       (b ≡ q → ⊥) × IsBefore (list_of_resident inst r) b q
   best_is_before r q b e t =
@@ -114,7 +115,7 @@ module _ (inst : Instance) (good : IsInstance inst) (offers taken : ℕ → List
         ],
       )
 
-  -- where all others spare what is achievable for them, so does r
+  -- if all other residents spare what is achievable for them, so does r
   pub spares_one : (r : ℕ) →
       ((s p : ℕ) → (s ≡ r → ⊥) → has_turned_down inst taken p s ≡ true → ¬ IsAchievable inst s p) → (q : ℕ) →
       has_turned_down inst taken q r ≡ true → ¬ IsAchievable inst r q

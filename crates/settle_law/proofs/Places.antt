@@ -1,4 +1,4 @@
--- Places in a list of numbers: who stands in it, who stands before whom, and that nobody stands in it twice.
+-- Places in a list of numbers: which numbers stand in it, which stands first, and that none stands twice.
 use Rattle.std.proofs.Common.{◌≡◌, ℕ, zero, suc, ◌+◌, ◌<◌, ◌≤◌, ◌⊎◌, Bool, true, false, cond, eqb, List, [], ◌∷◌, ◌++◌, length, get_or, arith, refl, sym, ap, ◌∙◌, inl, inr, subst, eqb-true}
 use Rattle.std.specs.List.{filter, range_with_len}
 use Rattle.std.proofs.lemmas.Bool.{eqb-false, cases_lt}
@@ -6,7 +6,7 @@ use Rattle.std.proofs.lemmas.Option.{get_or_from_slice_get}
 use Rattle.match_model.specs.Ranking.{place, IsListed, IsBefore, HasNoRepeats}
 use Rattle.match_model.proofs.Listed.{place-head, slice_get_place, same_from_place, no_repeats_tail, no_repeats_head}
 
--- whether an item is the head, with what that says of its place
+-- whether an item is the head, and what this says about its place
 pub place_cases : (y : ℕ) (ys : List ℕ) (x : ℕ) →
     ((y ≡ x) × (place (y ∷ ys) x ≡ 0)) ⊎ ((y ≡ x → ⊥) × (place (y ∷ ys) x ≡ 1 + place ys x))
 place_cases y ys x = go (eqb y x) refl
@@ -16,11 +16,11 @@ place_cases y ys x = go (eqb y x) refl
     go true e = inl (eqb-true y x e, rw e refl)
     go false e = inr (eqb-false y x e, rw e refl)
 
--- the item at a listed item's place is that item
+-- the item at the place of a listed item is that item
 pub get_or-place : (xs : List ℕ) (x d : ℕ) → IsListed xs x → get_or xs (place xs x) d ≡ x
 get_or-place xs x d l = get_or_from_slice_get xs (place xs x) x d (slice_get_place xs x l)
 
--- a listed item that doesn't stand after another, and isn't that one, stands before it
+-- if a listed item doesn't stand after another, and is a different one, it stands before it
 pub before_from_not_after : (xs : List ℕ) (x y : ℕ) → IsListed xs x → (x ≡ y → ⊥) → (IsBefore xs y x → ⊥) →
     IsBefore xs x y
 before_from_not_after xs x y l n h = elim (cases_lt (place xs x) (place xs y)) [
@@ -31,7 +31,7 @@ before_from_not_after xs x y l n h = elim (cases_lt (place xs x) (place xs y)) [
   ]
 ]
 
--- what stands at a place within the list is listed
+-- an item at a place within the list is listed
 pub place-get_or-le : (xs : List ℕ) (k d : ℕ) → k < length xs → place xs (get_or xs k d) ≤ k
 place-get_or-le [] k d l = absurd (omega arith)
 place-get_or-le (y ∷ ys) zero d l = rw (place-head y ys) (omega arith)
@@ -42,7 +42,7 @@ place-get_or-le (y ∷ ys) (suc k) d l =
 pub IsListed-get_or : (xs : List ℕ) (k d : ℕ) → k < length xs → IsListed xs (get_or xs k d)
 IsListed-get_or xs k d l = let h = place-get_or-le xs k d l in omega arith
 
--- who stands in a list with one more item at its head
+-- which numbers stand in a list with one more item at its head
 pub IsListed-cons_same : (y : ℕ) (ys : List ℕ) → IsListed (y ∷ ys) y
 IsListed-cons_same y ys = let e = place-head y ys in omega arith
 
@@ -58,7 +58,7 @@ IsListed-nil x l = omega arith
 pub listed_cases : (xs : List ℕ) (x : ℕ) → IsListed xs x ⊎ (IsListed xs x → ⊥)
 listed_cases xs x = elim (cases_lt (place xs x) (length xs)) [ inl c ↦ inl c | inr c ↦ inr (λ l. omega arith) ]
 
--- whoever is new in a list that goes on stands after the old ones
+-- a number that is new in a longer list stands after the old ones
 pub place-append_other : (xs ys : List ℕ) (x : ℕ) → (IsListed xs x → ⊥) → length xs ≤ place (xs ++ ys) x
 place-append_other [] ys x n = omega arith
 place-append_other (y ∷ xs) ys x n = elim (place_cases y (xs ++ ys) x) [
@@ -108,7 +108,7 @@ HasNoRepeats-filter f (y ∷ ys) h = go (f y) (HasNoRepeats-filter f ys (no_repe
     go true m = HasNoRepeats-cons y (filter f ys) (λ l. no_repeats_head y ys h (IsListed-filter f ys y l).0) m
     go false m = m
 
--- the numbers from a on
+-- the numbers from a on, in order
 pub IsListed-range : (a n x : ℕ) → IsListed (range_with_len a n) x → (a ≤ x) × (x < a + n)
 IsListed-range a zero x l = absurd (omega arith)
 IsListed-range a (suc n) x l = elim (IsListed-cons_cases a (range_with_len (a + 1) n) x l) [

@@ -1,4 +1,4 @@
--- That the definitions of stable and settled mean what they say, on small instances.
+-- Small instances that show that the definitions of stable and settled mean what they say.
 use Rattle.std.proofs.Common.{◌≡◌, ℕ, zero, suc, ◌<◌, ◌≤◌, ◌⊎◌, false, List, [], ◌∷◌, length, get_or, arith, refl, sym, ap, ◌∙◌, inl, inr, subst}
 use Rattle.std.specs.Prelude.{Option, Some, None}
 use Rattle.std.specs.List.{All}
@@ -27,19 +27,19 @@ members_at_least m p xs n h =
     let among = different_among xs (members_of m p) n (λ r l. member_listed m p r (h r l)) in
     omega (arith, length-members_of m p, count_by-le-length (is_listed xs) (members_of m p))
 
--- who stands in a list of one or two
+-- which numbers stand in a list of one or two
 is_the_one : (a x : ℕ) → IsListed (a ∷ []) x → a ≡ x
 is_the_one a x l = elim (IsListed-cons_cases a [] x l) [ inl c ↦ c | inr c ↦ absurd (IsListed-nil x c) ]
 
 is_one_of_two : (a b x : ℕ) → IsListed (a ∷ b ∷ []) x → (a ≡ x) ⊎ (b ≡ x)
 is_one_of_two a b x l = elim (IsListed-cons_cases a (b ∷ []) x l) [ inl c ↦ inl c | inr c ↦ inr (is_the_one b x c) ]
 
--- nobody comes first of a list whose first stands before all
+-- nobody comes before the first of a list
 nobody_first : (inst : Instance) (p r : ℕ) (first : List ℕ) → ((s : ℕ) → IsBefore (list_of_programme inst p) s r → ⊥) →
     0 < length first → ¬ All (ComesFirst inst p r) first
 nobody_first inst p r first n l all = n (get_or first 0 0) (all 0 0 l).before
 
--- those who come first are no more than a list in which they all stand
+-- the residents who come first are no more than a list that has all of them
 few_first : (inst : Instance) (p r : ℕ) (first ys : List ℕ) → HasNoRepeats first → All (ComesFirst inst p r) first →
     ((s : ℕ) → ComesFirst inst p r s → IsListed ys s) → length first ≤ length ys
 few_first inst p r first ys n all h =
@@ -49,7 +49,7 @@ few_first inst p r first ys n all h =
 achievable_pair : (inst : Instance) (r p : ℕ) → IsAchievable inst r p → Acceptable inst r p
 achievable_pair inst r p a = a.is_stable.is_assignment.pairs_acceptable r p a.has_both
 
--- two programmes of one place each and two residents, where the two sides disagree
+-- two programmes with one place each and two residents, where the two sides disagree
 abbrev two_each : Instance
 two_each = record {
   quotas = 1 ∷ 1 ∷ [];
@@ -66,7 +66,7 @@ best_for_programmes = Some 0 ∷ Some 1 ∷ []
 abbrev best_for_residents : List (Option ℕ)
 best_for_residents = Some 1 ∷ Some 0 ∷ []
 
--- who is acceptable there: the four pairs
+-- the acceptable pairs: all four
 two_each_pairs : (P : ℕ → ℕ → Type 0) → P 0 0 → P 0 1 → P 1 0 → P 1 1 → (r p : ℕ) → Acceptable two_each r p → P r p
 two_each_pairs P a b c d r zero l = elim (is_one_of_two 0 1 r l) [ inl e ↦ subst (λ z. P z 0) e a | inr e ↦ subst (λ z. P z 0) e c ]
 two_each_pairs P a b c d r (suc zero) l = elim (is_one_of_two 1 0 r l) [ inl e ↦ subst (λ z. P z 1) e d | inr e ↦ subst (λ z. P z 1) e b ]
@@ -94,7 +94,7 @@ second_kept (suc zero) = omega arith
 second_kept (suc (suc p)) = members_within best_for_residents (suc (suc p)) [] (λ r e.
     let low : suc (suc p) < 2 = second_members (λ s q. q < 2) (omega arith) (omega arith) r (suc (suc p)) e in absurd (omega arith))
 
--- each programme has its first resident, so neither would rather have the other
+-- each programme has its first resident, so it prefers no other
 first_has_no_room : (r p : ℕ) → (p < 2) → (IsMemberOf best_for_programmes r p → ⊥) →
     HasRoomFor two_each best_for_programmes p r → ⊥
 first_has_no_room r zero l n (inl free) = omega arith
@@ -103,7 +103,7 @@ first_has_no_room r (suc zero) l n (inl free) = omega arith
 first_has_no_room r (suc zero) l n (inr w) = first_members (λ s q. q ≡ 1 → IsBefore (list_of_programme two_each q) r s → ⊥) (λ e b. omega arith) (λ e b. omega arith) w.0 1 w.1 refl w.2
 first_has_no_room r (suc (suc p)) l n room = omega arith
 
--- each resident has its first programme, so neither would rather have the other
+-- each resident has its first programme, so it prefers no other
 second_would_not : (r p : ℕ) → Acceptable two_each r p → (IsMemberOf best_for_residents r p → ⊥) →
     Prefers (get_or two_each.resident_lists r []) p (programme_of best_for_residents r) → ⊥
 second_would_not = two_each_pairs (λ r p. (IsMemberOf best_for_residents r p → ⊥) → Prefers (get_or two_each.resident_lists r []) p (programme_of best_for_residents r) → ⊥)
@@ -129,7 +129,7 @@ second_is_stable = record {
   nothing_blocks = λ r p b. second_would_not r p b.acceptable b.not_placed b.resident_would;
 }
 
--- with nobody placed each acceptable pair blocks, by a free place
+-- if nobody is placed, each acceptable pair blocks, since there is a free place
 pub nobody_placed_is_not_stable : ¬ IsStable two_each (None ∷ None ∷ [])
 nobody_placed_is_not_stable s = s.nothing_blocks 0 0 (record { acceptable = omega arith; not_placed = λ e. absurd (cc); resident_would = tt; programme_would = inl (omega arith) })
 
@@ -141,13 +141,13 @@ both_achievable = two_each_pairs (IsAchievable two_each)
     (record { matching = best_for_residents; is_stable = second_is_stable; has_both = refl })
     (record { matching = best_for_programmes; is_stable = first_is_stable; has_both = refl })
 
--- one that is achievable comes first of the other
+-- one achievable resident comes before the other
 other_first : (p r s : ℕ) → quota two_each p ≡ 1 → Acceptable two_each s p →
     IsBefore (list_of_programme two_each p) s r → IsBest two_each p r → ⊥
 other_first p r s q l b best = best.no_quota_first (s ∷ []) (HasNoRepeats-cons s [] (IsListed-nil s) HasNoRepeats-nil) (sym q)
     (all_listed (ComesFirst two_each p r) (s ∷ []) (λ x m. subst (ComesFirst two_each p r) (is_the_one s x m) (record { before = b; achievable = both_achievable s p l })))
 
--- the first matching alone is settled
+-- only the first matching is settled
 pub first_is_settled : IsSettled two_each best_for_programmes
 first_is_settled = record { one_place_each = refl; members_are_best = λ p r. (best r p, back p r); residents_have_worst = worst }
   where
@@ -180,7 +180,7 @@ only_first_is_settled m s = one_settled two_each m best_for_programmes s first_i
 pub second_is_not_settled : ¬ IsSettled two_each best_for_residents
 second_is_not_settled s = other_first 1 0 1 refl (omega arith) (omega arith) ((s.members_are_best 1 0).0 refl)
 
--- a programme of two places and one of one, the second of which only the first resident lists
+-- a programme with two places and a programme with one; only the first resident lists the second programme
 abbrev two_and_one : Instance
 two_and_one = record {
   quotas = 2 ∷ 1 ∷ [];
@@ -225,7 +225,8 @@ one_and_two_is_stable = record {
       (λ n w. omega arith) (λ n w. n refl) (λ n w. n refl) (λ n w. n refl) r p b.acceptable b.not_placed b.resident_would;
 }
 
--- the first resident is never placed with the first programme: it and the second would both rather be placed with one another
+-- The first resident is never placed with the first programme: it and the second programme would both rather be
+-- together.
 first_not_with_first : ¬ IsAchievable two_and_one 0 0
 first_not_with_first a =
     let n = a.matching in
@@ -284,7 +285,7 @@ one_and_two_is_settled = record { one_place_each = refl; members_are_best = λ p
     )
     worst (suc (suc (suc r))) l = absurd (omega arith)
 
--- one programme, which both residents list, of three places and of one
+-- one programme that both residents list, with three places and with one
 abbrev with_places : ℕ → Instance
 with_places n = record {
   quotas = n ∷ [];
@@ -298,7 +299,7 @@ with_places_pairs : (n : ℕ) (P : ℕ → ℕ → Type 0) → P 0 0 → P 1 0 �
 with_places_pairs n P a b r zero l = elim (is_one_of_two 0 1 r l) [ inl e ↦ subst (λ z. P z 0) e a | inr e ↦ subst (λ z. P z 0) e b ]
 with_places_pairs n P a b r (suc p) l = absurd (IsListed-nil r l)
 
--- with more places than residents, both are placed, and both are among the best three
+-- with more places than residents, both residents are placed, and both are among the best three
 abbrev both_placed : List (Option ℕ)
 both_placed = Some 0 ∷ Some 0 ∷ []
 
@@ -340,7 +341,7 @@ both_is_settled = record { one_place_each = refl; members_are_best = λ p r. (be
     worst (suc zero) l = (here 1 0 refl, λ q a. inl (with_places_pairs 3 (λ r s. s ≡ 0) refl refl 1 q (achievable_pair (with_places 3) 1 q a)))
     worst (suc (suc r)) l = absurd (omega arith)
 
--- with one place the first resident has it, and no programme is achievable for the second
+-- with one place the first resident gets it, and no programme is achievable for the second
 abbrev first_placed : List (Option ℕ)
 first_placed = Some 0 ∷ None ∷ []
 

@@ -1,4 +1,4 @@
--- The laws of legal lists: each is the contract of the function of its name.
+-- The laws of legal lists. Each law is the contract of the function of the same name.
 use Rattle.std.specs.Prelude.{◌≡◌, ◌+◌, ◌*◌, ◌≤◌, ◌++◌, false, List, length}
 use Rattle.match_model.specs.Instance.{Instance, IsInstance, pair_count}
 use Rattle.exchange_core.specs.declared.event.Event.{Event}
@@ -19,20 +19,20 @@ BoundLaw =
     (inst : Instance) (cap : Capacity) (j : List Event) → IsLegal inst cap j →
     length j ≤ 6 * pair_count inst + 1
 
--- as long as a legal list isn't closed, some event may follow
+-- until a legal list is closed, some event may follow
 abbrev pub NoJamLaw : Type 0
 NoJamLaw =
     (inst : Instance) (cap : Capacity) (j : List Event) →
     IsInstance inst → IsCapacity cap → IsLegal inst cap j → is_closed j ≡ false →
     (e : Event) × MayFollow inst cap j e
 
--- the list goes on to a closed legal one
+-- the list can be continued to a closed legal list
 pub record GoesOn (inst : Instance) (cap : Capacity) (j : List Event) : Type 0 where
   pub rest : List Event
   pub legal : IsLegal inst cap (j ++ rest)
   pub closed : IsClosed (j ++ rest)
 
--- every legal list goes on to a closed one
+-- every legal list can be continued to a closed one
 abbrev pub ClosesLaw : Type 0
 ClosesLaw =
     (inst : Instance) (cap : Capacity) (j : List Event) →

@@ -1,4 +1,4 @@
--- The laws of what an exchange gives: each is the contract of the function of its name.
+-- The laws of the placement that an exchange gives. Each law is the contract of the function of the same name.
 use Rattle.std.specs.Prelude.{◌≡◌, ℕ, ◌↔◌, IsSome, IsTrue, List, Option}
 use Rattle.std.specs.List.{All}
 use Rattle.match_model.specs.Instance.{Instance, IsInstance, IsResident, IsProgramme, list_of_resident}
@@ -11,23 +11,23 @@ use Rattle.exchange_core.specs.Legal.{IsLegal, IsClosed}
 use Rattle.exchange_core.specs.Left.{given}
 use Rattle.settle_law.specs.Stable.{IsStable, IsAchievable, IsSettled}
 
--- this answer of r isn't a rejection of a programme that is achievable for r
+-- this answer of r does not reject a programme that is achievable for r
 abbrev pub SparesAchievable : Instance → ℕ → Answered → Type 0
 SparesAchievable inst r answer = IsTrue (is_rejection answer) → ¬ IsAchievable inst r answer.0
 
--- in no legal list do a resident's takes call for a rejection of a programme that is achievable for it
+-- in a legal list, a resident never owes a rejection of a programme that is achievable for it
 abbrev pub NeverRejectsLaw : Type 0
 NeverRejectsLaw =
     (inst : Instance) (cap : Capacity) (j : List Event) → IsInstance inst → IsLegal inst cap j → (r : ℕ) →
     All (SparesAchievable inst r) (calls (list_of_resident inst r) (takes r j))
 
--- what a closed legal list gives is stable and settled
+-- the placement that a closed legal list gives is stable and settled
 abbrev pub SettledLaw : Type 0
 SettledLaw =
     (inst : Instance) (cap : Capacity) (j : List Event) → IsInstance inst → IsLegal inst cap j → IsClosed j →
     IsStable inst (given inst j) × IsSettled inst (given inst j)
 
--- every stable assignment matches the residents that a closed legal list matches, and as many at each programme
+-- every stable assignment matches the same residents as a closed legal list, and the same number at each programme
 abbrev pub SameResidentsLaw : Type 0
 SameResidentsLaw =
     (inst : Instance) (cap : Capacity) (j : List Event) → IsInstance inst → IsLegal inst cap j → IsClosed j →

@@ -1,4 +1,4 @@
-//! Laws of legal lists of events, each the contract of a function without parameters.
+//! Laws of legal lists of events. Each law is the contract of a function without parameters.
 #![tactic(auto)]
 
 mod lists;

@@ -1,9 +1,9 @@
-//! What holds of every legal list, whatever the order of its events.
+//! Laws that hold for every legal list, whatever the order of its events.
 
 ghost use Rattle.settle_law.specs.ListLaws.{OrderlyLaw, BoundLaw, NoJamLaw, ClosesLaw};
 
-/// Every legal list is orderly, and so is each of its fronts. Offers go down the rankings. Takes and hears go by what
-/// was sent, answers by what was called for. No programme has more offers out than its quota, and nothing follows a
+/// Every legal list and each of its beginnings are orderly. Offers go down the rankings. Takes and hears follow what
+/// was sent, and answers follow what was due. No programme has more offers out than its quota, and nothing follows a
 /// close.
 pub fn law_orderly()
     ensures { OrderlyLaw }
@@ -14,12 +14,12 @@ pub fn law_bound()
     ensures { BoundLaw }
 {}
 
-/// As long as a legal list isn't closed, some event may follow, for every admitted capacity. So no legal list is stuck.
+/// Until a legal list is closed, some event may follow, for every valid capacity. So no legal list is stuck.
 pub fn law_no_jam()
     ensures { NoJamLaw }
 {}
 
-/// Every legal list goes on to a closed one, whichever events were chosen first, for every admitted capacity.
+/// Every legal list can be continued to a closed one, whichever events came first, for every valid capacity.
 pub fn law_closes()
     ensures { ClosesLaw }
 {}

@@ -1,8 +1,8 @@
-//! What an exchange gives: no achievable programme is rejected, and a closed exchange is settled.
+//! The placement that an exchange gives. No achievable programme is rejected, and a closed exchange is settled.
 
 ghost use Rattle.settle_law.specs.SettledLaws.{NeverRejectsLaw, SettledLaw, SameResidentsLaw, OneSettledLaw, HasSettledLaw};
 
-/// In no legal list is a resident called to reject a programme that is achievable for it.
+/// In a legal list, a resident never has to reject a programme that is achievable for it.
 pub fn law_never_rejects()
     ensures { NeverRejectsLaw }
 {}
@@ -13,7 +13,7 @@ pub fn law_settled()
     ensures { SettledLaw }
 {}
 
-/// Every stable assignment matches the residents that a closed legal list matches, and as many at each programme.
+/// Every stable assignment matches the same residents as a closed legal list, and the same number at each programme.
 pub fn law_same_residents()
     ensures { SameResidentsLaw }
 {}

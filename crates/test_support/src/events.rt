@@ -23,7 +23,7 @@ pub const HOLD: AnswerKind = AnswerKind::Hold;
 /// The offer is refused at once.
 pub const DECLINE: AnswerKind = AnswerKind::Decline;
 
-/// An offer that was held is given up for a better one.
+/// A held offer is given back, for a better one.
 pub const RELEASE: AnswerKind = AnswerKind::Release;
 
 /// A programme offers a place to a resident.
@@ -60,7 +60,8 @@ pub fn hear(programme: ProgrammeNo, resident: ResidentNo, kind: AnswerKind) -> E
     }
 }
 
-/// The events of an exchange of two programmes and two residents, who rank them the other way round.
+/// The events of an exchange of two programmes and two residents. The residents' rankings are the opposite of the
+/// programmes'.
 pub fn nine_events() -> [Event; 9] {
     [
         offer(A, X),
@@ -75,8 +76,8 @@ pub fn nine_events() -> [Event; 9] {
     ]
 }
 
-/// The events of an exchange in which `B` displaces `X` from `A`, which has two places. `Y` takes before `X`, though
-/// `X` was sent an offer first.
+/// The events of an exchange in which `B` displaces `X` from `A`, a programme with two places. `Y` takes before `X`,
+/// although `X` was sent an offer first.
 pub fn nineteen_events() -> [Event; 19] {
     [
         offer(A, X),
@@ -101,7 +102,7 @@ pub fn nineteen_events() -> [Event; 19] {
     ]
 }
 
-/// The desk that an event is of; none of the close.
+/// The desk that an event belongs to; none for the close.
 pub fn desk_of(event: &Event) -> Option<Desk> {
     match event {
         Event::Take { resident, .. } | Event::Answer { resident, .. } => {

@@ -1,4 +1,4 @@
-//! Members, lists of events, gates and sources of randomness that the tests of several crates share.
+//! Members, lists of events, gates and sources of random bytes that the tests of several crates share.
 #![tactic(auto)]
 
 pub mod events;

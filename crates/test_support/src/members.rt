@@ -1,4 +1,4 @@
-//! What the members of an instance are.
+//! Tests on the members of an instance.
 use match_model::{Instance, ProgrammeNo, ResidentNo};
 
 /// Whether a programme has this many places and this list.

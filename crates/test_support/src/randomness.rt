@@ -1,4 +1,4 @@
-//! Randomness that a test chooses.
+//! Sources of random bytes that a test chooses.
 use std::io;
 use std::random::RandomSource;
 

@@ -1,4 +1,4 @@
-//! Gates that hold workers until, by the clock, nobody has entered anything for long.
+//! Gates that hold workers until, by the clock, nobody has entered an event for a long time.
 ghost use Rattle.std.specs.Prelude.{true, false};
 
 use exchange_core::Desk;
@@ -8,19 +8,19 @@ use std::sync::Wait;
 use std::sync::atomic::{AtomicBool, AtomicU32, AtomicU64, Ordering};
 use std::time::Duration;
 
-/// The microseconds between two looks of a gate whether anything more was entered.
+/// The microseconds between two tests of a gate for new entries.
 const PERIOD: u64 = 10_000;
 
-/// How many looks in a row see nothing more when all others sleep, which nap for at most a hundred milliseconds.
+/// How many tests in a row see no new entry when all other workers sleep. A nap takes at most a hundred milliseconds.
 const UNTIL_ASLEEP: u32 = 15;
 
-/// How many looks in a row see nothing more when the run is at rest.
+/// How many tests in a row see no new entry when the run is at rest.
 const AT_REST: u32 = 25;
 
-/// How often a gate looks at most.
+/// The greatest number of tests of a gate.
 const MOST_LOOKS: u32 = 500;
 
-/// What a gate saw of a run when it was at rest: how many events were entered, and each worker that it held.
+/// What a gate saw of a run at rest: how many events were entered, and each worker that the gate held.
 #[derive(Drop)]
 struct Rest<R: Wait + Copy> {
     rt: R,
@@ -54,8 +54,8 @@ impl<R: Wait + Copy> Rest<R> {
         sum
     }
 
-    // Waits until so many looks in a row see that nobody has entered or begun anything more, or until the rest is over. How
-    // many events were entered then.
+    // Waits until this many tests in a row see no new entry and no new pass, or until the rest is over. Returns how
+    // many events were entered by then.
     fn until_quiet(&self, looks: u32) -> u64 {
         let mut seen = (0, 0);
         let mut quiet = 0_u32;
@@ -76,7 +76,7 @@ impl<R: Wait + Copy> Rest<R> {
         seen.0
     }
 
-    // Holds a worker that has this desk until the run is at rest.
+    // Holds a worker at this desk until the run is at rest.
     fn hold(&self, worker: usize, desk: u32) {
         if self.over.load(Ordering::SeqCst) {
             return;
@@ -114,7 +114,7 @@ fn number_of(desk: Desk) -> u32 {
     }
 }
 
-// The desk whose number is noted, if one is.
+// The desk whose number is noted, if there is one.
 fn desk_in(noted: &AtomicU32) -> Option<Desk> {
     let number = noted.load(Ordering::SeqCst);
     let half = number.saturating_sub(1) / 2;
@@ -125,8 +125,9 @@ fn desk_in(noted: &AtomicU32) -> Option<Desk> {
     }
 }
 
-/// A gate for up to four workers. The pass of one number, of one desk or of all, lasts until each other worker has done
-/// what it can and sleeps. Later passes of other desks are held until the run is at rest, one for each worker but one.
+/// A gate for up to four workers. It holds one pass, chosen by its number among the passes of one desk or of all.
+/// This pass lasts until each other worker has done what it can and sleeps. Later passes of other desks are held
+/// until the run is at rest, one for each worker but one.
 #[derive(Drop)]
 pub struct RestsInPass<R: Wait + Copy> {
     rest: Rest<R>,
@@ -139,8 +140,8 @@ pub struct RestsInPass<R: Wait + Copy> {
 }
 
 impl<R: Wait + Copy> RestsInPass<R> {
-    /// A gate that has seen nothing. `place` is the number, from 1, of the last pass that isn't held, among all passes
-    /// or those of one desk. With 0 all passes are held. At most `most` are held.
+    /// A gate that has seen nothing. `place` is the number, from 1, of the last pass that isn't held, among all
+    /// passes or those of one desk. With 0 all passes are held. At most `most` passes are held.
     pub fn new(rt: R, of: Option<Desk>, place: u64, most: u64) -> RestsInPass<R> {
         RestsInPass {
             rest: Rest::new(rt),
@@ -162,7 +163,7 @@ impl<R: Wait + Copy> RestsInPass<R> {
         is_over.then_some(self.rest.entered.load(Ordering::SeqCst))
     }
 
-    /// The desk of each worker that was held.
+    /// The desk of each held worker.
     pub fn held(&self) -> [Option<Desk>; 4] {
         let [a, b, c, d] = &self.rest.desks;
         [desk_in(a), desk_in(b), desk_in(c), desk_in(d)]
@@ -174,7 +175,7 @@ impl<R: Wait + Copy> RestsInPass<R> {
             && self.passed.fetch_add(1, Ordering::SeqCst).saturating_add(1) == self.place
     }
 
-    // Whether this pass is held, since it begins after the one of that number.
+    // Whether this pass is held, because it begins after the pass with that number.
     fn is_held(&self, desk: u32) -> bool {
         self.of != desk && self.held.fetch_add(1, Ordering::SeqCst) < self.most
     }

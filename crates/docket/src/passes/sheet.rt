@@ -16,14 +16,14 @@ use docket_names::digits_worth;
 use match_model::{Assignment, Instance, ProgrammeNo, ResidentNo};
 use std::alloc::{AllocError, Global};
 
-// So many flags that aren't set.
+// This many flags, all false.
 fn flags(alloc: Global, count: usize) -> Result<Vec<bool>, AllocError>
     ensures { IfOk result (λ flags. flags.items ≡ replicate count false) }
 {
     vec![in alloc; false; count]
 }
 
-// So many counts of 0.
+// This many counts, all 0.
 fn zeros(alloc: Global, count: usize) -> Result<Vec<u32>, AllocError>
     ensures { IfOk result (λ counts. counts.items ≡ replicate count 0) }
 {
@@ -37,22 +37,22 @@ fn all_set(flags: &[bool]) -> bool
     flags.iter().all(|flag| *flag)
 }
 
-// The sheet as far as its rows were read.
+// The sheet, as far as its rows were read.
 #[derive(Drop)]
 struct Marks {
     sheet: Assignment,
-    // By resident whether it has an M or U row.
+    // For each resident, whether there is an M or U row.
     marked: Vec<bool>,
-    // By programme whether it has an F row.
+    // For each programme, whether there is an F row.
     filled: Vec<bool>,
-    // By programme how many M rows have it.
+    // For each programme, the number of its M rows.
     counts: Vec<u32>,
 }
 
 impl Marks {
     ghost use Rattle.docket.specs.Marks.{IsMarked};
 
-    // No row was read yet.
+    // The marks before any row.
     fn new(alloc: Global, tables: &Tables) -> Result<Marks, DocketFault>
         ensures marked { IfOk result (λ marks. IsMarked marks tables.now []) }
         ensures memory { IfErr result (λ e. e ≡ DocketFault.Memory) }
@@ -73,7 +73,7 @@ impl Marks {
         })
     }
 
-    // `M,resident,programme`
+    // Adds `M,resident,programme`.
     fn add_matched(&mut self, tables: &Tables, k: usize) -> Result<(), DocketFault>
         requires place { k < length tables.now }
         requires kind { kind_of (row_at tables.now k) ≡ MATCHED }
@@ -97,7 +97,7 @@ impl Marks {
         Ok(())
     }
 
-    // `U,resident`
+    // Adds `U,resident`.
     fn add_unmatched(&mut self, tables: &Tables, k: usize) -> Result<(), DocketFault>
         requires place { k < length tables.now }
         requires kind { kind_of (row_at tables.now k) ≡ UNMATCHED }
@@ -116,7 +116,7 @@ impl Marks {
         Ok(())
     }
 
-    // `F,programme,filled,quota`
+    // Adds `F,programme,filled,quota`.
     fn add_filled(&mut self, tables: &Tables, k: usize) -> Result<(), DocketFault>
         requires place { k < length tables.now }
         requires kind { kind_of (row_at tables.now k) ≡ FILLED }
@@ -135,7 +135,7 @@ impl Marks {
         Ok(())
     }
 
-    // One row more of the first walk.
+    // One more row of the first walk.
     fn add_row(&mut self, tables: &Tables, k: usize) -> Result<(), DocketFault>
         requires place { k < length tables.now }
         requires marked { IsMarked self.old tables.now (take k tables.now) }
@@ -169,7 +169,7 @@ impl Marks {
         all_set(self.marked.as_slice()) && all_set(self.filled.as_slice())
     }
 
-    // Whether an F row is right by the M rows and by the quota.
+    // Whether an F row agrees with the M rows and with the quota.
     fn is_right(&self, tables: &Tables, k: usize, instance: &Instance) -> bool
         requires place { k < length tables.now }
         requires kind { kind_of (row_at tables.now k) ≡ FILLED }
@@ -178,7 +178,7 @@ impl Marks {
         requires known { first_from (mark_fault tables.now) [] tables.now ≡ None }
         ensures { filled_fault tables.now (take k tables.now) (row_at tables.now k) ≡ unless result (DocketFault.BadSheet (k + 1)) }
     {
-        // For the proof alone: rows of the first pass have no fault.
+        // Only for the proof: rows of the first pass have no fault.
         let _sound = tables.place(k);
         let Some(programme) = tables.programme(k, 1) else {
             unreachable!("the first walk knew the programme");
@@ -188,7 +188,7 @@ impl Marks {
         filled == self.counts[programme.0 as usize] && quota == instance.quota(programme)
     }
 
-    // The third walk: F rows that aren't right.
+    // The third walk: F rows that are wrong.
     fn check_filled(&self, tables: &Tables, instance: &Instance) -> Result<(), DocketFault>
         requires marked { IsMarked self.now tables.now tables.now }
         requires quotas { instance.now.quotas ≡ quotas_of tables.now }
@@ -208,7 +208,7 @@ impl Marks {
     }
 }
 
-/// The sheet of a docket that has one.
+/// The sheet of a docket with a sheet.
 pub(crate) fn sheet_of(
     alloc: Global,
     tables: &Tables,

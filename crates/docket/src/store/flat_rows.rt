@@ -1,4 +1,4 @@
-//! Rows, one after another, and where each of them ends.
+//! Rows, one after another, with the place where each ends.
 ghost use Rattle.std.specs.Prelude.{◌≡◌, ◌<◌, ◌≤◌, ◌++◌, ◌∷◌, [], Some, true, length, take, drop, slice_get, IfSome, IfNone, IfOk, OnOk};
 ghost use Rattle.csv.specs.Records.{fields_of};
 ghost use Rattle.docket.specs.Fields as fields;
@@ -15,7 +15,7 @@ use std::alloc::{AllocError, Global};
 use std::hash::RandomState;
 use std::marker::Model;
 
-/// Rows in one long record of texts by number, and where each of them ends in it.
+/// Rows in one long record of numbers of texts, with the place where each row ends.
 #[derive(Drop)]
 pub(crate) struct FlatRows {
     texts: Texts,
@@ -47,7 +47,7 @@ fn append_text(texts: &mut Texts, fields: &mut Numbers, text: &[u8]) -> Result<(
     Ok(())
 }
 
-// Adds the numbers of the fields of a row from field `from` on.
+// Adds the numbers of a row's fields, from field `from` on.
 #[inline(always)]
 fn append(
     texts: &mut Texts,
@@ -68,8 +68,8 @@ fn append(
     Ok(())
 }
 
-// Adds the numbers of the fields of a row with a list, which are all, or as many as bring the texts above so many: its kind and
-// its owner at least. Says how many there are.
+// Adds the numbers of the fields of a row with a list. It stops once there are more texts than this, but not before
+// the kind and the owner. Returns how many fields were added.
 fn append_list(
     texts: &mut Texts,
     fields: &mut Numbers,
@@ -100,7 +100,7 @@ fn append_list(
 }
 
 impl FlatRows {
-    /// No rows yet. Their texts are hashed by these keys.
+    /// No rows yet. Texts will be hashed with these keys.
     pub(crate) fn new(alloc: Global, keys: RandomState) -> FlatRows
         ensures { result.rows ≡ [] }
     {
@@ -111,7 +111,7 @@ impl FlatRows {
         }
     }
 
-    /// Takes every row away. The texts stay.
+    /// Removes every row. The texts stay.
     pub(crate) fn clear(&mut self)
         ensures { self.new.rows ≡ [] }
     {
@@ -119,7 +119,7 @@ impl FlatRows {
         self.ends.clear();
     }
 
-    /// Adds the fields of a row from field `from` on, as a row. Where memory is wanting no row is kept.
+    /// Adds the fields of a row, from field `from` on, as a row. If memory runs out, no row is kept.
     #[inline(always)]
     pub(crate) fn push(&mut self, row: &ByteRecord, from: usize) -> Result<(), AllocError>
         requires { AreNamed (fields_of row.now) }
@@ -139,8 +139,8 @@ impl FlatRows {
         Ok(())
     }
 
-    /// Adds a row with a list: all its fields, or as many as bring the texts above so many, its kind and its owner at least.
-    /// Says how many there are. Where memory is wanting no row is kept.
+    /// Adds a row with a list. It stops once there are more texts than this, but not before the kind and the owner.
+    /// Returns how many fields were added. If memory runs out, no row is kept.
     pub(crate) fn push_list(&mut self, row: &ByteRecord, most: usize) -> Result<usize, AllocError>
         requires names { AreNamed (fields_of row.now) }
         requires owner { 2 ≤ length (fields_of row.now) }
@@ -162,7 +162,7 @@ impl FlatRows {
         Ok(count)
     }
 
-    /// The number of a text, which joins the texts where it is new. The rows stay.
+    /// The number of a text. A new text is added. The rows stay the same.
     pub(crate) fn text_number(&mut self, text: &[u8]) -> Result<usize, AllocError>
         requires { is_name text.now ≡ true }
         ensures rows { self.new.rows ≡ self.old.rows }
@@ -179,7 +179,7 @@ impl FlatRows {
         &self.texts
     }
 
-    /// The different texts of the rows, which are let go.
+    /// The different texts of the rows. The rows are dropped.
     pub(crate) fn into_texts(self) -> Texts
         ensures { result ≡ self.texts }
     {
@@ -199,7 +199,7 @@ impl FlatRows {
         self.ends.get(k) - start_of(&self.ends, k)
     }
 
-    /// The number of the text of field `i` of row `k`; none past the end, where a field is empty.
+    /// The number of the text in field `i` of row `k`. None past the row's end.
     #[inline(always)]
     pub(crate) fn number(&self, k: usize, i: usize) -> Option<usize>
         requires { k < length self.now.rows }
@@ -215,7 +215,7 @@ impl FlatRows {
         }
     }
 
-    /// Field `i` of row `k`, which is empty past the end.
+    /// Field `i` of row `k`, or an empty field past the row's end.
     pub(crate) fn field(&self, k: usize, i: usize) -> &[u8]
         requires { k < length self.now.rows }
         ensures { result.now ≡ fields.field (row_at self.now.rows k) i }

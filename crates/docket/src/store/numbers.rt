@@ -1,12 +1,12 @@
-//! Numbers in as little room as they take.
+//! Numbers, stored in as few bytes as they need.
 ghost use Rattle.std.specs.Prelude.{◌≡◌, ◌<◌, ◌++◌, ◌∷◌, [], length, slice_index_or, OnOk};
 ghost use Rattle.csv.specs.Records.{prev};
 
 use std::alloc::{AllocError, Global};
 use std::marker::Model;
 
-/// Numbers, in order. Each takes two bytes as long as all fit there; from the first that doesn't fit on each takes four, and
-/// from the first that doesn't fit in four on each takes eight.
+/// Numbers, in order. While all fit into two bytes, each takes two. From the first larger one on each takes four.
+/// From the first that needs more than four on each takes eight.
 #[derive(Drop)]
 pub(crate) struct Numbers {
     count: usize,
@@ -45,7 +45,7 @@ impl Numbers {
         self.count
     }
 
-    /// Takes every number away.
+    /// Removes every number.
     pub(crate) fn clear(&mut self)
         ensures { self.new ≡ [] }
     {
@@ -92,7 +92,7 @@ impl Numbers {
     }
 }
 
-/// Where item `k` starts of those that end there.
+/// The start of item `k`, from the ends of the items.
 pub(crate) fn start_of(ends: &Numbers, k: usize) -> usize
     requires { k < length ends.now }
     ensures { result ≡ prev 0 ends.now k }

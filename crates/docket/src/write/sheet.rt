@@ -37,7 +37,7 @@ fn push_mark<W: Write>(
     }
 }
 
-// By programme how many residents have it.
+// For each programme, the number of its residents.
 fn member_counts(
     alloc: Global,
     programmes: usize,
@@ -72,7 +72,7 @@ fn push_residents<W: Write>(
     Ok(())
 }
 
-/// Adds the row of a programme after its kind: its name, how many residents it has, and its quota.
+/// Adds the rest of a programme's row after its letter: the name, the number of its residents, and its quota.
 ///
 /// The programme is a member.
 pub fn push_programme<W: Write>(
@@ -108,11 +108,11 @@ fn push_programmes<W: Write>(
     Ok(())
 }
 
-/// Adds the sheet of an assignment to rows on their way to a writer: a row for each resident, and then one for each
+/// Adds the sheet of an assignment to rows on their way to a writer: a row for each resident, then one for each
 /// programme.
 ///
-/// The assignment has an entry for each resident, and only programmes of the docket. The faults are `Memory` and `Write`;
-/// before any but the writer's nothing was written.
+/// The assignment has an entry for each resident, and only programmes of the docket. The faults are `Memory` and
+/// `Write`. Before a fault that is not the writer's, nothing was written.
 pub fn push_sheet<W: Write>(
     alloc: Global,
     rows: &mut RowWriter<'_, W>,
@@ -131,7 +131,8 @@ pub fn push_sheet<W: Write>(
     Ok(())
 }
 
-/// Writes the sheet of an assignment, as `push_sheet` has it. Before a fault other than the writer's nothing was written.
+/// Writes the sheet of an assignment, as `push_sheet` describes. Before a fault that is not the writer's, nothing was
+/// written.
 pub fn write_sheet<W: Write>(
     alloc: Global,
     docket: &Docket,

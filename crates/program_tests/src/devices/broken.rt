@@ -1,8 +1,8 @@
-//! Readers that give a byte at a time and may fail or be interrupted, and a writer that may fail.
+//! Readers that give one byte at a time and may fail or be interrupted, and a writer that may fail.
 use std::io;
 use std::io::{Read, Write};
 
-/// Gives its text byte by byte as far as `cut`, and then an error.
+/// Gives its text byte by byte up to `cut`, and then an error.
 #[derive(Drop)]
 pub(crate) struct CutReader<'a> {
     text: &'a [u8],
@@ -32,7 +32,7 @@ impl<'a> Read for CutReader<'a> {
     }
 }
 
-/// Gives its text byte by byte, and is interrupted once each time before so many bytes.
+/// Gives its text byte by byte, and is interrupted once each time before this many bytes.
 #[derive(Drop)]
 pub(crate) struct InterruptedReader<'a> {
     text: &'a [u8],
@@ -71,7 +71,7 @@ impl<'a> Read for InterruptedReader<'a> {
     }
 }
 
-/// Takes three bytes a call, and fails at the call after `good`.
+/// Accepts three bytes in each call, and fails at the call after `good`.
 #[derive(Drop)]
 pub(crate) struct CutWriter {
     got: Vec<u8>,
@@ -83,7 +83,7 @@ impl CutWriter {
         CutWriter { got, good }
     }
 
-    /// What it took so far.
+    /// The bytes accepted so far.
     pub(crate) fn got(&self) -> &[u8] {
         self.got.as_slice()
     }

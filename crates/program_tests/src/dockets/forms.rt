@@ -1,4 +1,4 @@
-//! One docket in many forms, fields that are no names, and a reader that fails.
+//! One docket in many forms, fields that are not names, and a reader that fails.
 use super::{first_wrong, is_told, read, read_slowly};
 use crate::texts::SMALL;
 use docket::{Docket, DocketFault, read_docket};
@@ -7,10 +7,10 @@ use std::test::Fail;
 use test_support::events::{A, B, X, Y};
 use test_support::members::{is_programme, is_resident};
 
-// Lines ended by CR and LF, a blank line, and quotes.
+// Lines that end with CR and LF, a blank line, and quotes.
 const CR_AND_LF: &str = "Q,\"a\",1\r\nQ,b,1\r\n\r\nP,a,x,y\r\nP,b,y,x\r\nR,x,b,a\r\nR,y,a,b\r\n";
 
-// Lines ended by CR alone, and none at the end.
+// Lines that end with CR alone, and a last line without an end.
 const CR_ALONE: &str = "Q,a,1\rQ,b,1\rP,a,x,y\rP,b,y,x\rR,x,b,a\rR,y,a,b";
 
 // A byte order mark, and blank lines.
@@ -51,7 +51,7 @@ fn is_small_instance(instance: &Instance) -> bool {
         && is_resident(instance, Y, &[A, B])
 }
 
-// Whether what was read is the docket of `SMALL`.
+// Whether the docket that was read is that of `SMALL`.
 fn is_small(answer: Result<Docket, DocketFault>) -> bool {
     match answer {
         Ok(docket) => has_small_names(&docket) && is_small_instance(docket.instance()),
@@ -98,7 +98,7 @@ Q,a,1 \u{feff}Q,b,1 = record 2: unknown kind of row
 \u{feff}Z = record 1: unknown kind of row
 \u{feff} = read";
 
-// Bytes that are no text, and what is told of them.
+// Bytes that are not text, and their outcome.
 const BYTES: [(&[u8], &str); 5] = [
     (b"Q,\xff,1\n", "record 1: bad name"),
     (b"Q,\x80,1\n", "record 1: bad name"),
@@ -119,7 +119,7 @@ fn fields_that_are_no_names(rt: HostRuntime) -> Result<(), Fail> {
     Ok(())
 }
 
-// The bytes of `SMALL` after which a reader fails, and the record that they don't end.
+// The bytes of `SMALL` after which a reader fails, and the number of the unfinished record.
 const CUTS: [(usize, u32); 9] = [
     (0, 1),
     (5, 1),

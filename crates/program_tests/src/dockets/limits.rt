@@ -10,7 +10,7 @@ use residency::ServeFault;
 use std::alloc::{AllocError, Global};
 use std::test::Fail;
 
-// The list of a resident who ranks all of ten programmes, last first.
+// The list of a resident who ranks all ten programmes, last first.
 const TEN: &str = ",p9,p8,p7,p6,p5,p4,p3,p2,p1,p0\n";
 
 // A docket of numbered records.
@@ -20,7 +20,7 @@ fn numbered(alloc: Global, start: &str, count: u32, end: &str) -> Result<String,
     Ok(text)
 }
 
-// Ten programmes and 20,000 residents who all rank one another, the last of them in the records `last`.
+// Ten programmes and 20,000 residents who all rank each other. `last` has the records of the last resident.
 fn ranked(alloc: Global, last: &str) -> Result<String, AllocError> {
     let mut text = numbered(alloc, "Q,p", 10, ",1\n")?;
     push_lists(&mut text, alloc)?;
@@ -29,7 +29,7 @@ fn ranked(alloc: Global, last: &str) -> Result<String, AllocError> {
     Ok(text)
 }
 
-// A capacity and then the same event, in so many records.
+// A capacity and then the same event, in this many records.
 fn closes(alloc: Global, records: u32) -> Result<String, AllocError> {
     let mut text = String::new(alloc);
     text.push_str("C,full\n")?;
@@ -39,7 +39,7 @@ fn closes(alloc: Global, records: u32) -> Result<String, AllocError> {
     Ok(text)
 }
 
-// As many programmes as there may be, and one more record.
+// The greatest number of programmes, and one more record.
 fn most_programmes_and(alloc: Global, last: &str) -> Result<String, AllocError> {
     let mut text = numbered(alloc, "Q,p", 2_000, ",10000\n")?;
     text.push_str(last)?;
@@ -48,7 +48,7 @@ fn most_programmes_and(alloc: Global, last: &str) -> Result<String, AllocError> 
 
 #[test]
 fn programmes(rt: HostRuntime) -> Result<(), Fail> {
-    // the quota comes after the count of programmes, and a name declared twice before it
+    // the quota is tested after the number of programmes, and a second declaration before that
     for (last, wanted) in [
         ("", "read"),
         ("Q,q,10001\n", "record 2001: more than 2000 programmes"),
@@ -125,7 +125,7 @@ fn one_record_too_many(rt: HostRuntime) -> Result<(), Fail> {
     Ok(())
 }
 
-// What is told of the docket that is beyond each limit.
+// The fault of a docket beyond each limit.
 const BEYOND: [DocketFault; 5] = [
     DocketFault::Model {
         place: 2_001,
@@ -146,7 +146,7 @@ const BEYOND: [DocketFault; 5] = [
     DocketFault::TooManyRecords { place: 2_000_001 },
 ];
 
-// The docket beyond a limit, by its place in `BEYOND`.
+// The docket beyond a limit, by the limit's place in `BEYOND`.
 fn beyond(alloc: Global, limit: usize) -> Result<String, AllocError> {
     match limit {
         0 => most_programmes_and(alloc, "Q,q,10000\n"),

@@ -26,7 +26,7 @@ fn is_whole(docket: &Docket) -> bool {
     docket.instance().pairs() == 4 && is_right_sheet(sheet) && is_right_journal(journal)
 }
 
-// Whether what is read of the texts has each part.
+// Whether the docket that is read from the texts has each part.
 fn reads_whole(alloc: Global, texts: &[&str]) -> Result<bool, AllocError> {
     let text = joined(alloc, texts)?;
     match read(alloc, text.as_str()) {
@@ -60,7 +60,7 @@ fn reads_a_docket_whole(rt: HostRuntime) -> Result<(), Fail> {
 
 #[test]
 fn reads_what_a_docket_lacks(rt: HostRuntime) {
-    // if nobody is declared, the sheet is the one without rows
+    // if nobody is declared, the sheet has no rows
     for (input, wanted) in [
         (SMALL, (None, false)),
         ("", (Some(0), false)),

@@ -1,4 +1,4 @@
-//! Sheets and journals by their bytes, and read back.
+//! Sheets and journals as bytes, written and read back.
 use super::read;
 use crate::devices::broken::CutWriter;
 use crate::texts::{
@@ -14,7 +14,7 @@ use std::io::Write;
 use std::test::Fail;
 use test_support::events::{A, B, X, Y, answer, hear, nine_events, nineteen_events};
 
-// The rows of a docket with a sheet, in no order.
+// The rows of a docket with a sheet, in a mixed order.
 const SHUFFLED: &str = "Q,a,1\nQ,b,1\nF,b,1,1\nF,a,1,1\nM,y,a\nM,x,b\nR,x,b,a\nR,y,a,b\n";
 
 // More residents than the quota, none of them on a list.
@@ -81,7 +81,7 @@ fn is_journal(docket: &Docket, capacity: Capacity, events: &[Event]) -> bool {
     }
 }
 
-// Whether what is read has this journal.
+// Whether the docket that is read has this journal.
 fn has_journal(alloc: Global, input: &str, capacity: Capacity, events: &[Event]) -> bool {
     match read(alloc, input) {
         Ok(docket) => is_journal(&docket, capacity, events),
@@ -89,13 +89,13 @@ fn has_journal(alloc: Global, input: &str, capacity: Capacity, events: &[Event])
     }
 }
 
-// Whether the journal that is read with a docket is written as this text.
+// Whether a journal is written as this text, after it was read with a docket.
 fn writes_journal(alloc: Global, input: &str, journal: &str) -> bool {
     let mut output = Vec::new(alloc);
     journal_written(alloc, input, &mut output) == Ok(()) && output.as_slice() == journal.as_bytes()
 }
 
-// Whether the journal is read, before its members and after them, and written as it was.
+// Whether the journal is read, before its members and after them, and written unchanged.
 fn is_kept(
     alloc: Global,
     members: &str,
@@ -157,7 +157,7 @@ fn keeps_journals(rt: HostRuntime) -> Result<(), Fail> {
     Ok(())
 }
 
-// Whether what is read has a journal by this many workers, each event by the worker in its place.
+// Whether the docket that is read has a journal by this many workers, with each event's worker in order.
 fn has_workers(alloc: Global, input: &str, workers: u32, who: &[u8]) -> bool {
     match read(alloc, input) {
         Ok(docket) => is_by(&docket, workers, who),
@@ -176,7 +176,7 @@ fn is_by(docket: &Docket, workers: u32, who: &[u8]) -> bool {
     }
 }
 
-// Whether a journal by worker is read so with these members, and written again as it was.
+// Whether a journal by worker is read with these members, and written unchanged.
 fn is_kept_by_worker(
     alloc: Global,
     members: &str,
@@ -225,7 +225,7 @@ fn writes_sheets(rt: HostRuntime) {
 fn a_writer_that_fails(rt: HostRuntime) -> Result<(), Fail> {
     let alloc = rt.alloc();
     let failed = Err(DocketFault::Write);
-    // three bytes a call: a sheet of 28 bytes, and a journal of 129
+    // three bytes in each call: a sheet of 28 bytes, and a journal of 129
     for (good, answer) in [(0, failed), (9, failed), (10, Ok(()))] {
         let mut writer = CutWriter::new(Vec::new(alloc), good);
         assert!(rt;
@@ -244,7 +244,7 @@ fn a_writer_that_fails(rt: HostRuntime) -> Result<(), Fail> {
     Ok(())
 }
 
-// A row of two fields, and one of a programme, as they are sent.
+// A row with two fields, and a programme's row, as they are sent.
 fn gathered(alloc: Global, docket: &Docket) -> Result<Vec<u8>, DocketFault> {
     let mut output = Vec::new(alloc);
     let mut room = room_for_rows(alloc)?;
@@ -257,7 +257,7 @@ fn gathered(alloc: Global, docket: &Docket) -> Result<Vec<u8>, DocketFault> {
     Ok(output)
 }
 
-// The rows that are gathered for the docket that is read.
+// The rows that are gathered for a docket that is read.
 fn gathered_of(alloc: Global, input: &str) -> Result<Vec<u8>, DocketFault> {
     match read(alloc, input) {
         Ok(docket) => gathered(alloc, &docket),

@@ -1,4 +1,4 @@
-//! What a match with its journal writes: appended to its docket it is stable, and its replay is good.
+//! What a match with a journal writes. Appended to its docket, the sheet is stable and the replay is good.
 use crate::commands::{NARROW_WITH_JOURNAL, WITH_JOURNAL, serve};
 use crate::markets::hundreds;
 use crate::texts::{
@@ -25,7 +25,7 @@ pub(super) fn matched<H: Threads + Wait + RandomSource + Sync + Send + Copy>(
     }
 }
 
-// Whether an order over a docket ends so, and writes this text.
+// Whether an order over a docket ends in this way, and writes this text.
 fn tells<H: Threads + Wait + RandomSource + Sync + Send + Copy>(
     rt: H,
     alloc: Global,
@@ -39,7 +39,7 @@ fn tells<H: Threads + Wait + RandomSource + Sync + Send + Copy>(
     status == Ok(wanted) && output.as_slice() == text.as_bytes()
 }
 
-/// Whether a sheet and a journal that were written, appended to these members, are stable and give a good replay.
+/// Whether a written sheet and journal, appended to these members, are stable and give a good replay.
 pub(super) fn is_good<H: Threads + Wait + RandomSource + Sync + Send + Copy>(
     rt: H,
     alloc: Global,
@@ -90,7 +90,7 @@ fn its_journal_is_good(rt: HostRuntime) -> Result<(), Fail> {
     Ok(())
 }
 
-// Dockets of the same members that have a sheet already, or a journal of another exchange, or both.
+// Dockets with the same members that already have a sheet, or a journal of another exchange, or both.
 const USED: [&[&str]; 5] = [
     &[SMALL, OTHER_SHEET],
     &[SMALL, "C,7\n", CLOSE],
@@ -99,7 +99,7 @@ const USED: [&[&str]; 5] = [
     &[OTHER_SHEET, SMALL, "C,7\n", SMALL_JOURNAL, CLOSE],
 ];
 
-// Whether this is the sheet, the row of the capacity, and the nine events of an exchange, and nothing else.
+// Whether this is exactly the sheet, the row of the capacity, and the nine events of an exchange.
 fn is_new(written: &[u8], capacity: &str) -> bool {
     let (sheet, journal) = written.split_at(written.len().min(SMALL_SHEET.len()));
     sheet == SMALL_SHEET.as_bytes()

@@ -1,4 +1,4 @@
-//! Matches that are held up on their way, and matches of dockets as large as there may be.
+//! Matches that are held up, and matches of the largest dockets.
 use super::journals::{is_good, matched};
 use crate::commands::{MATCH, NARROW, serve};
 use crate::markets::{in_one_order, sheet_in_one_order, widest};
@@ -50,13 +50,13 @@ fn two_at_once(rt: HostRuntime) {
     assert!(rt; seen(&firm.0) == Some(9));
 }
 
-// Whether a sheet has a row for each of 20,000 residents and of 2,000 programmes, and no other.
+// Whether a sheet has exactly a row for each of 20,000 residents and of 2,000 programmes.
 fn is_widest_sheet(sheet: &[u8]) -> bool {
     let residents = rows(sheet, "M,").saturating_add(rows(sheet, "U,"));
     residents == 20_000 && rows(sheet, "F,") == 2_000 && rows(sheet, "") == 22_000
 }
 
-// Whether a sheet that was written, appended to its docket, is read and stable.
+// Whether a written sheet, appended to its docket, is read and stable.
 fn is_stable<H: Threads + Wait + RandomSource + Sync + Send + Copy>(
     rt: H,
     alloc: Global,
@@ -83,7 +83,7 @@ fn the_widest_docket(rt: HostRuntime) -> Result<(), Fail> {
     Ok(())
 }
 
-// A mailbox with as many places as there may be, and the journal.
+// A mailbox with the greatest number of places, and the journal.
 const ROOMY: Order = Order::Match(MatchOptions {
     workers: 2,
     capacity: Capacity::Each(1_024),

@@ -1,11 +1,11 @@
-//! A gate that counts what is entered.
+//! A gate that counts entries.
 ghost use Rattle.std.specs.Prelude.{true, false};
 
 use super::Counts;
 use exchange_core::Desk;
 use match_pool::{Gate, Go};
 
-/// A gate that tells how often `entered` was called for each worker, and never stops the run.
+/// A gate that counts how often `entered` was called for each worker, and never stops the run.
 #[derive(Drop)]
 pub struct Counting {
     counts: Counts,

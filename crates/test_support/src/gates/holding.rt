@@ -7,7 +7,7 @@ use match_pool::{Gate, Go};
 use std::sync::atomic::{AtomicBool, AtomicU64, Ordering};
 use std::thread;
 
-/// What a gate has seen that holds one pass until other workers have entered two events.
+/// The record of a gate that holds one pass until other workers have entered two events.
 #[derive(Drop)]
 pub struct Held {
     place: u64,
@@ -17,7 +17,7 @@ pub struct Held {
 }
 
 impl Held {
-    /// A gate that has seen nothing. It holds the pass at this place, counted from 0.
+    /// A new record, for a run to come. The gate holds the pass at this place, counted from 0.
     pub fn new(place: u64) -> Held {
         Held {
             place,
@@ -27,7 +27,7 @@ impl Held {
         }
     }
 
-    /// Whether the gate held the pass and didn't give up.
+    /// Whether the gate held the pass and did not give up.
     pub fn has_held(&self) -> bool {
         self.held.load(Ordering::SeqCst)
     }
@@ -47,7 +47,7 @@ impl Held {
         self.counts.of_all().saturating_sub(self.counts.of(worker))
     }
 
-    // Holds the pass at its place. Whether the gate has given up on the other workers.
+    // Holds the pass at its place. Returns whether the gate has given up on the other workers.
     fn gives_up(&self, worker: usize) -> bool {
         if self.passed.fetch_add(1, Ordering::SeqCst) != self.place {
             return false;
@@ -83,7 +83,7 @@ impl Gate for Firm {
     }
 }
 
-/// A gate that holds a pass, and stops the run where it gives up.
+/// A gate that holds a pass, and stops the run if it gives up.
 #[derive(Drop)]
 pub struct Loose(pub Held);
 
@@ -105,22 +105,22 @@ impl Gate for Loose {
     }
 }
 
-/// The order in which a gate lets the workers go that it holds.
+/// The order in which a gate releases the workers that it holds.
 #[derive(Clone, Copy, Debug, PartialEq, Eq)]
 pub enum Order {
     /// As they came.
     FirstFirst,
-    /// The last that came goes first.
+    /// The worker that came last goes first.
     LastFirst,
-    /// Every other one, and then the rest.
+    /// Every other worker first, then the rest.
     EveryOther,
 }
 
-/// A gate for a market of pairs: a programme with one place and a resident, who rank one another alone.
+/// A gate for a market of pairs: each is a programme with one place and a resident who rank only each other.
 ///
-/// It holds all workers but the last that comes, each in a pass of its own. Once all is entered that doesn't need a
-/// held worker, it lets the first go. Each later one follows when again all is entered that doesn't need those still
-/// held.
+/// It holds all workers but the last that comes, each in its own pass. Once everything is entered that doesn't need a
+/// held worker, it releases the first. It releases each later worker when everything is entered that doesn't need
+/// those still held.
 #[derive(Drop)]
 pub struct AllButOne {
     pairs: u64,
@@ -135,7 +135,7 @@ pub struct AllButOne {
 }
 
 impl AllButOne {
-    /// A gate that has seen nothing of a run of so many pairs. It holds this many workers.
+    /// A gate that has seen nothing, for a run with this many pairs. It holds this many workers.
     pub fn new(pairs: u64, held: u64, order: Order) -> AllButOne {
         AllButOne {
             pairs,
@@ -150,12 +150,12 @@ impl AllButOne {
         }
     }
 
-    /// Whether the gate held each of these workers and let it go, and gave none up.
+    /// Whether the gate held and released each of these workers, and gave up on none.
     pub fn has_held_all(&self) -> bool {
         self.gone.load(Ordering::SeqCst) == self.held && !self.gave_up.load(Ordering::SeqCst)
     }
 
-    // When the worker that came at this place is let go, as a place in the order.
+    // When a worker is released, from the place at which it came.
     fn place_of(&self, came: u64) -> u64 {
         match self.order {
             Order::FirstFirst => came,
@@ -165,8 +165,8 @@ impl AllButOne {
         }
     }
 
-    // Whether it is the turn of this place. All workers to hold came, those before it were let go, and all is entered
-    // that can be.
+    // Whether this place has its turn. All workers to hold have come, those before it were released, and everything
+    // is entered that can be.
     fn is_turn_of(&self, place: u64) -> bool {
         let entered = self.counts.of_all();
         let blocked = self.blocked.load(Ordering::SeqCst);

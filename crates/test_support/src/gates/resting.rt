@@ -1,4 +1,4 @@
-//! Gates that hold a worker until the others are at rest, or until one has gone on.
+//! Gates that hold a worker until the others are at rest, or until another has gone on.
 ghost use Rattle.std.specs.Prelude.{true, false};
 
 use super::{Counts, LINGER, TURNS};
@@ -15,17 +15,17 @@ use std::time::Duration;
 pub struct Hold {
     /// The worker that was held.
     pub worker: usize,
-    /// The desk whose receipt it had.
+    /// The desk of the worker's receipt.
     pub desk: Desk,
     /// How many events this worker had entered.
     pub own: u64,
     /// How many events all workers had entered when the hold began.
     pub from: u64,
-    /// How many they had entered when it ended.
+    /// How many events all workers had entered when the hold ended.
     pub to: u64,
 }
 
-/// A gate that holds the pass at one place until nobody has entered anything for long, and tells of it.
+/// A gate that holds the pass at one place until nobody has entered an event for a long time, and reports this hold.
 #[derive(Drop)]
 pub struct Stalls {
     place: u64,
@@ -62,7 +62,7 @@ impl Stalls {
         self.counts.of(worker)
     }
 
-    /// The hold, if the run had so many passes.
+    /// The hold, if the run had this many passes.
     pub fn hold(&self) -> Option<Hold> {
         if !self.held.load(Ordering::SeqCst) {
             return None;
@@ -82,7 +82,7 @@ impl Stalls {
         })
     }
 
-    // Notes whose pass is held.
+    // Notes the worker and the desk of the held pass.
     fn note(&self, worker: usize, desk: Desk) {
         self.worker.store(worker as u64, Ordering::SeqCst);
         self.own.store(self.counts.of(worker), Ordering::SeqCst);
@@ -117,7 +117,8 @@ impl Gate for Stalls {
     }
 }
 
-/// A gate that holds the worker that entered the event of one number, counted from 1, until another has entered one.
+/// A gate that holds the worker that entered the event with one number, counted from 1. It holds this worker until
+/// another has entered an event.
 #[derive(Drop)]
 pub struct HoldsEntered {
     number: u64,
@@ -176,8 +177,9 @@ impl Gate for HoldsEntered {
     }
 }
 
-/// A gate that holds the worker that entered the first event until others have entered two, or for long don't, and a
-/// while longer. It holds it again at its next event, until another has entered one more.
+/// A gate that holds the worker that entered the first event. It holds this worker until others have entered two
+/// events, or have entered none for a long time, and then a while longer. It holds the worker again at its next
+/// event, until another has entered one more.
 #[derive(Drop)]
 pub struct HoldsVisit {
     has_begun: AtomicBool,
@@ -197,12 +199,12 @@ impl HoldsVisit {
         }
     }
 
-    /// Whether the worker was held at its second event, and another entered one meanwhile.
+    /// Whether the worker was held at its second event, and another entered an event meanwhile.
     pub fn has_held(&self) -> bool {
         self.held.load(Ordering::SeqCst)
     }
 
-    // Waits until other workers have entered so many events. Whether they have.
+    // Waits until other workers have entered this many events. Returns whether they have.
     fn wait_for_others(&self, worker: usize, count: u64) -> bool {
         for _ in 0..TURNS {
             if self.counts.of_all().saturating_sub(self.counts.of(worker)) >= count {
@@ -240,14 +242,15 @@ impl Gate for HoldsVisit {
     }
 }
 
-/// For how long, in microseconds, a gate lets others come to rest: by then each that has found nothing to do has looked again.
+/// For how long, in microseconds, a gate lets others come to rest. By then each worker that found nothing to do has
+/// looked again.
 const WHILE: u64 = 20_000;
 
-/// How often a gate looks, a while apart, whether another worker has entered an event.
+/// How often a gate tests, with a pause between, whether another worker has entered an event.
 const LOOKS: u32 = 150;
 
-/// A gate that holds each receipt of one desk for a while. It holds the worker again at its next entry after that receipt,
-/// until another worker has entered an event. After that it holds nobody.
+/// A gate that holds each receipt of one desk for a while. After that receipt it holds the worker again at the next
+/// entry, until another worker has entered an event. After that it holds nobody.
 #[derive(Drop)]
 pub struct Rested<R: Wait + Copy> {
     rt: R,
@@ -261,7 +264,7 @@ pub struct Rested<R: Wait + Copy> {
 }
 
 impl<R: Wait + Copy> Rested<R> {
-    /// Nothing is seen yet of this desk.
+    /// A gate that has seen nothing of this desk.
     pub fn new(rt: R, desk: Desk) -> Rested<R> {
         Rested {
             rt,
@@ -285,7 +288,7 @@ impl<R: Wait + Copy> Rested<R> {
             .park_timeout(&self.rt, 0, Duration::from_micros(WHILE));
     }
 
-    // How many events others than this worker have entered.
+    // How many events the other workers have entered.
     fn of_others(&self, worker: usize) -> u64 {
         self.counts.of_all().saturating_sub(self.counts.of(worker))
     }
@@ -332,8 +335,8 @@ impl<R: Wait + Copy + Sync> Gate for Rested<R> {
     }
 }
 
-/// A gate that holds the first pass of another desk until this desk has passed, and for long after it. It holds this
-/// desk's pass until another is held.
+/// A gate that holds the first pass of another desk until this desk has passed, and for a long time after that. It
+/// holds this desk's pass until another pass is held.
 #[derive(Drop)]
 pub struct AfterAnother {
     desk: Desk,
@@ -359,7 +362,7 @@ impl AfterAnother {
     }
 }
 
-// Waits until this is so, or for long.
+// Waits until the flag is set, or for a long time.
 fn wait_for(flag: &AtomicBool) -> bool {
     for _ in 0..TURNS {
         if flag.load(Ordering::SeqCst) {

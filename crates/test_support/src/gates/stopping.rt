@@ -23,8 +23,9 @@ impl Gate for StopsAtOnce {
     fn entered(&self, _worker: usize) {}
 }
 
-/// A gate that stops the run at its pass of one number, counted from 1, and at each later pass. The first worker that
-/// then enters what it had begun is held. It goes on when another has entered two events, or none comes for long.
+/// A gate that stops the run at its pass with one number, counted from 1, and at each later pass. The first worker
+/// that then enters its begun event is held. It goes on when another has entered two events, or when none has for a
+/// long time.
 #[derive(Drop)]
 pub struct StopsFrom {
     first: u64,
@@ -62,7 +63,7 @@ impl StopsFrom {
         self.counts.of(worker)
     }
 
-    /// Whether each worker entered at most one event after the entry of one that was stopped.
+    /// Whether each worker entered at most one event after the entry of a stopped worker.
     pub fn all_ended(&self) -> bool {
         for worker in 0..8 {
             if self.later.of(worker) > 1 {
