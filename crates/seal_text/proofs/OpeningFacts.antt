@@ -1,10 +1,8 @@
 -- The rows of a root and of an opening.
-use Rattle.std.proofs.Common.{◌≡◌, ℕ, zero, suc, ◌+◌, ◌-◌, ◌<◌, ◌≤◌, Bool, true, false, not, List, [], ◌∷◌, ◌++◌, length, drop, take, drop-cons, get_or, Option, Some, None, refl, sym, ap, ◌∙◌, arith, append-nil, append_assoc, length-drop}
-use native.Mathlib.Numerals.{unary_clauses}
-use Rattle.std.specs.Prelude.{All, MatchOption, bytes_eq, codes, decimal, map, ⊤}
-use Rattle.std.proofs.lemmas.List.{drop_all, map_push, take_all}
+use Rattle.std.proofs.Common.{◌≡◌, ℕ, ◌+◌, ◌<◌, ◌≤◌, List, [], ◌∷◌, ◌++◌, length, drop, get_or, Option, Some, None, refl, sym, ap, ◌∙◌, arith, append-nil, append_assoc}
+use Rattle.std.specs.Prelude.{All, MatchOption, codes, decimal, map}
+use Rattle.std.proofs.lemmas.List.{drop_all, map_push}
 use Rattle.std.proofs.lemmas.List.Elements.{All-head, All-tail, All-push, All-nil}
-use Rattle.std.proofs.lemmas.Slice.Eq.{bytes_eq-Decides}
 use Rattle.std.proofs.lemmas.Fmt.{decimal_nonempty}
 use Rattle.csv.specs.Records.{Row, field_at, fields_of}
 use Rattle.hex.specs.Hex.{encode_lower}

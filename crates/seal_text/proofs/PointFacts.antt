@@ -1,9 +1,9 @@
 -- The rows of a member, row after row.
-use Rattle.std.proofs.Common.{◌≡◌, ◌≢◌, ℕ, zero, suc, ◌+◌, ◌-◌, ◌<◌, ◌≤◌, Bool, true, false, List, [], ◌∷◌, ◌++◌, length, drop, drop-cons, get_or, Option, Some, None, refl, sym, ap, ◌∙◌, arith, below_more, add-one, inl, inr}
+use Rattle.std.proofs.Common.{◌≡◌, ◌≢◌, ℕ, zero, suc, ◌+◌, ◌<◌, ◌≤◌, Bool, true, false, List, [], ◌∷◌, length, drop, drop-cons, get_or, Option, Some, None, refl, sym, ap, ◌∙◌, arith, below_more, add-one, inl, inr}
 use Rattle.std.proofs.lemmas.Bool.{cases_lt}
-use Rattle.std.specs.Prelude.{All, AllPairs, Contains, IfNone, MatchBool, bytes_eq, codes, if◌then◌else◌}
+use Rattle.std.specs.Prelude.{All, Contains, IfNone, MatchBool, bytes_eq, codes, if◌then◌else◌}
 use Rattle.std.proofs.lemmas.List.{length-map, drop_all}
-use Rattle.std.proofs.lemmas.List.Elements.{All-cons, All-from_get_or, All-nil}
+use Rattle.std.proofs.lemmas.List.Elements.{All-cons, All-from_get_or}
 use Rattle.csv.specs.Records.{Row, field_at, fields_of}
 use Rattle.docket.specs.Fields.{field}
 use Rattle.docket_names.specs.Words.{number_of}
@@ -13,7 +13,7 @@ use Rattle.seal_text.specs.Receipt.{AreAnswers, AreChoices, AreMembers, AreProgr
 use Rattle.seal_text.specs.Reasons.{AreLeft, CanStand, is_past_after, stand_of}
 use Rattle.seal_text.specs.Records.{rows_in}
 use Rattle.seal_text.specs.declared.reasons.Stand.{Stand}
-use Rattle.seal_text.specs.declared.reasons.Stand.TheVariants.{Unmatched, Before, At, After}
+use Rattle.seal_text.specs.declared.reasons.Stand.TheVariants.{Before, At}
 use Rattle.seal_text.proofs.RecordFacts.{row_there}
 
 -- a field that is there

@@ -1,6 +1,6 @@
 -- What a good receipt is, by four points: each opening gives the published root, the rows are of this member, a resident's
 -- reasons can stand where they stand, and a programme's residents fit its quota and its list.
-use Rattle.std.specs.Prelude.{◌≡◌, ◌≢◌, ◌⊎◌, ⊤, ℕ, ◌+◌, ◌<◌, ◌≤◌, Bool, MatchBool, Option, Some, None, IsSome, List, [], ◌∷◌, ◌++◌, length, drop, map, codes, decimal, bytes_eq, slice_index_or, All, AllPairs, Contains}
+use Rattle.std.specs.Prelude.{◌≡◌, ◌≢◌, ◌⊎◌, ⊤, ℕ, ◌+◌, ◌<◌, ◌≤◌, MatchBool, Option, Some, None, IsSome, List, [], ◌∷◌, ◌++◌, length, drop, map, codes, decimal, bytes_eq, slice_index_or, All, AllPairs, Contains}
 use Rattle.hex.specs.Hex.{encode_lower, IsBytes}
 use Rattle.seal.specs.Hashes.{leaf_hash}
 use Rattle.seal.specs.Tree.{climb}

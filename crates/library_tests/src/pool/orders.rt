@@ -37,15 +37,15 @@ impl At {
 // A gate that stops a run at one receipt, once a put or a take of another worker is held. It counts what is entered from then on,
 // and lets the take go once anything is.
 #[derive(Drop)]
-struct StopsBeside<'a, R: Wait + Copy> {
-    latch: &'a Latch<R>,
+struct StopsBeside<R: Wait + Copy> {
+    latch: Latch<R>,
     at: At,
     has_stopped: AtomicBool,
     entered: AtomicU64,
 }
 
-impl<'a, R: Wait + Copy> StopsBeside<'a, R> {
-    fn new(latch: &'a Latch<R>, at: At) -> StopsBeside<'a, R> {
+impl<R: Wait + Copy> StopsBeside<R> {
+    fn new(latch: Latch<R>, at: At) -> StopsBeside<R> {
         StopsBeside {
             latch,
             at,
@@ -55,7 +55,7 @@ impl<'a, R: Wait + Copy> StopsBeside<'a, R> {
     }
 }
 
-impl<'a, R: Wait + Copy + Sync> Gate for StopsBeside<'a, R> {
+impl<R: Wait + Copy + Sync> Gate for StopsBeside<R> {
     ghost MAY_STOP = { true };
 
     const MAY_STOP: bool = true;
@@ -85,11 +85,10 @@ fn told_after_a_stop<R: Threads + Wait + Sync + Send + Copy>(
     let Ok(inst) = made(alloc, TWO_BY_TWO) else {
         return None;
     };
-    let latch = Latch::new(rt, false);
-    let gate = StopsBeside::new(&latch, At::Desk(Desk::Resident(Y)));
+    let gate = StopsBeside::new(Latch::new(rt, false), At::Desk(Desk::Resident(Y)));
     let mailboxes = Latched {
         rt,
-        latch: &latch,
+        latch: &gate.latch,
         lost: Some(X),
     };
     run_over(rt, alloc, &mailboxes, &inst, Capacity::Full, 2, &gate).err()
@@ -133,16 +132,15 @@ fn is_heeded_at_once<R: Threads + Wait + Sync + Send + Copy>(
     inst: &Instance,
     at: At,
 ) -> bool {
-    let latch = Latch::new(rt, true);
-    let gate = StopsBeside::new(&latch, at);
+    let gate = StopsBeside::new(Latch::new(rt, true), at);
     let mailboxes = Latched {
         rt,
-        latch: &latch,
+        latch: &gate.latch,
         lost: None,
     };
     let done = run_over(rt, alloc, &mailboxes, inst, Capacity::Full, 2, &gate);
     let is_stopped = done.is_ok_and(|done| done.ending == Ending::Stopped);
-    is_stopped && latch.has_begun() && gate.entered.load(Ordering::SeqCst) == 2
+    is_stopped && gate.latch.has_begun() && gate.entered.load(Ordering::SeqCst) == 2
 }
 
 // A worker may be kept from heeding the stop for long by other work of the machine, but not twice in three runs.

@@ -1,4 +1,4 @@
-use Rattle.std.proofs.Common.{sym, ◌∙◌, ◌≡◌, ◌<◌, arith, get_or, length}
+use Rattle.std.proofs.Common.{sym}
 use Rattle.seal_text.proofs.DigitFacts.{plain_some, plain_none, plain_led}
 use Rattle.seal_text.proofs.digits.plain_number.Goals as goal
 use Rattle.seal_text.proofs.digits.plain_number.Goals.{else-text-gt1-via-then-text-gt1+else-text-eq48, else-text-gt1-via-else-text-gt1}

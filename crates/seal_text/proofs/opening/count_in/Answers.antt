@@ -1,5 +1,4 @@
-use Rattle.std.proofs.Common.{sym, ◌∙◌, ◌≡◌, ap, List, ℕ, Bool, false}
-use Rattle.std.specs.Prelude.{bytes_eq, codes}
+use Rattle.std.proofs.Common.{sym, ◌∙◌, ◌≡◌}
 use Rattle.csv.specs.Records.{fields_of}
 use Rattle.docket.specs.Fields.{field}
 use Rattle.seal_text.specs.Receipt.{IsPlain, IsDigest}

@@ -1,10 +1,8 @@
-use Rattle.std.proofs.Common.{sym, ◌∙◌, ◌≡◌, ap, List, ℕ, Bool, false}
-use Rattle.std.specs.Prelude.{bytes_eq, codes}
+use Rattle.std.proofs.Common.{sym, ◌∙◌}
 use Rattle.csv.specs.Records.{fields_of}
-use Rattle.docket.specs.Fields.{field}
 use Rattle.seal_text.specs.Sealed.{word_of}
 use Rattle.seal_text.proofs.FieldFacts.{text_is, not_text}
-use Rattle.seal_text.proofs.OpeningFacts.{place_parts, place_row_is, place_cases}
+use Rattle.seal_text.proofs.OpeningFacts.{place_parts, place_cases}
 use Rattle.seal_text.proofs.opening.place_in.Goals as goal
 use Rattle.seal_text.proofs.opening.place_in.Goals.{then-not-has-via-then-not-has, then-not-has-via-else-not-has+then-not-has-2}
 

@@ -10,7 +10,7 @@ use Rattle.docket_parts.specs.Lines.{lines}
 use Rattle.seal_text.specs.Records.{rows_in}
 use Rattle.seal_text.specs.Sealed.{word_of}
 use Rattle.seal_text.proofs.FieldFacts.{rest_is}
-use Rattle.seal_text.proofs.OpeningFacts.{if_wrong, two_rows, too_short, root_denied, place_denied, digests_denied, climb_denied, opens_root}
+use Rattle.seal_text.proofs.OpeningFacts.{if_wrong, two_rows, digests_denied, climb_denied, opens_root}
 use Rattle.seal_text.proofs.opening.read_opening.Goals as goal
 
 pub returns-in_default-2-clause-opens : goal.returns-in_default-2-clause-opens

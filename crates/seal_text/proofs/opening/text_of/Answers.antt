@@ -1,4 +1,4 @@
-use Rattle.std.proofs.Common.{sym, ◌∙◌, arith, [], ◌≡◌, ap}
+use Rattle.std.proofs.Common.{sym, ◌∙◌, arith, [], ap}
 use Rattle.std.proofs.lemmas.List.{length-map, take_all}
 use Rattle.csv.specs.Records.{fields_of}
 use Rattle.docket_parts.specs.Lines.{lines}

@@ -1,4 +1,4 @@
-use Rattle.std.proofs.Common.{sym, ◌∙◌, arith}
+use Rattle.std.proofs.Common.{sym, arith}
 use Rattle.csv.specs.Records.{fields_of}
 use Rattle.seal_text.proofs.FieldFacts.{text_is}
 use Rattle.seal_text.proofs.PointFacts.{listed_at}

@@ -1,4 +1,4 @@
-use Rattle.std.proofs.Common.{refl, sym, ◌∙◌, ap, List, ◌∷◌, [], Some}
+use Rattle.std.proofs.Common.{refl, ◌∙◌, ap, List, ◌∷◌, []}
 use Rattle.csv.specs.Records.{Row, fields_of}
 use Rattle.seal_text.specs.Records.{rows_in}
 use Rattle.seal_text.proofs.points.programme_lists.Goals as goal
