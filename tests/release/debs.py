@@ -16,8 +16,8 @@ import subprocess
 import tarfile
 from typing import TYPE_CHECKING, Dict, List, Tuple
 
-import programs
 import roots
+from programs import called
 
 if TYPE_CHECKING:
     from launchers import Trial
@@ -168,7 +168,7 @@ class Debian:
 
 def runs(trial: Trial, debian: Debian, number: str, programs: List[str]) -> None:
     for name in programs:
-        trial.same(debian.run(f"{name} --version")[:2], (0, f"{programs.called(name)} {number}\n".encode()), f"the package's {name} --version")
+        trial.same(debian.run(f"{name} --version")[:2], (0, f"{called(name)} {number}\n".encode()), f"the package's {name} --version")
     trial.same(debian.run("residency match", DOCKET), (0, SHEET, b""), "the package's residency match")
     if debian.run("python3 --version")[0] == 0:
         status, out, err = debian.run("cd /tmp && residency-office run /usr/share/doc/residency/examples/office/programmes.csv "

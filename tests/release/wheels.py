@@ -14,7 +14,7 @@ import sys
 import zipfile
 from typing import TYPE_CHECKING, Dict, List, Set, Tuple
 
-import programs
+from programs import called
 
 if TYPE_CHECKING:
     from launchers import Trial
@@ -145,7 +145,7 @@ def installed(trial: Trial, python: str, room: str, wheel: str, archive: str, pr
     has_office = os.path.exists(f"{archive}/bin/residency-office")
     trial.same(scripts, sorted([*programs, *(["residency-office"] if has_office else [])]), "what the wheel puts on the path")
     for name in programs:
-        trial.same(venv.run(name, "--version")[:2], (0, f"{programs.called(name)} {number}\n".encode()), f"the wheel's {name} --version")
+        trial.same(venv.run(name, "--version")[:2], (0, f"{called(name)} {number}\n".encode()), f"the wheel's {name} --version")
         own = subprocess.run([f"{archive}/bin/{name}", "--help"], capture_output=True, check=False)
         trial.same(venv.run(name, "--help"), (0, own.stdout, b""), f"the wheel's {name} --help")
     trial.same(venv.run("residency", "match", data=DOCKET), (0, SHEET, b""), "the wheel's residency match")
