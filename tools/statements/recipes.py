@@ -21,7 +21,7 @@ RECIPES: Dict[str, Recipe] = {
     "field": Recipe("the number of workers, which a `C` row may have, and the worker of each event",
                     r"\b\w*by_worker\w*|\b(?:workers|worker|who)_(?:of|in|row|rows)\b|journal-by-worker", [
         "First define the field's meaning and its fault, with the definitions of its row. Then change the code that keeps the field, and the code that writes it.",
-        "A docket without the field has to keep its meaning: the old worked rows test this.",
+        "A docket without the field has to keep its meaning, which the old worked rows test.",
     ]),
     "fault": Recipe("the fault `bad withdrawal row` of a docket", r"\bBadWithdrawal\b|bad withdrawal", [
         "First add the fault's variant with its text, and define when the fault is told. Then change the clause about the fault, and the body.",

@@ -18,28 +18,28 @@ use Rattle.audit_files.specs.declared.fault.FilesFault.TheVariants as files
 use Rattle.audit_files.specs.declared.serve.Verdict.{Verdict}
 use Rattle.audit_files.specs.declared.serve.Verdict.TheVariants.{Good, Bad}
 
--- Each record of the three files belongs to its file's part. All records, one file after another, are this docket,
--- without a fault.
+-- Each record of the three files belongs to its file. All records, one file after another, are this docket, without a
+-- fault.
 pub record IsDocketIn (docket sheet journal : List ℕ) (d : Contents) : Type 0 where
   pub own : fault_of_all docket sheet journal ≡ None
   pub sound : fault_of (rows_of_all docket sheet journal) ≡ None
   pub docket_is : d ≡ contents_of (rows_of_all docket sheet journal)
 
--- Each record belongs to its file's part. The fault is the first that a docket of these records has, told with its
--- file; or the machine had no randomness for the reader.
+-- Each record belongs to its file. The fault is the first fault of a docket with these records, and is reported with
+-- its file; or the machine had no random bytes for the reader.
 pub record HasDocketFault (docket sheet journal : List ℕ) (fault : FilesFault) : Type 0 where
   pub own : fault_of_all docket sheet journal ≡ None
   pub first : DocketFault
   pub is_first : ((place : ℕ) × (first ≡ Read place)) ⊎ (fault_of (rows_of_all docket sheet journal) ≡ Some first)
   pub is_told : fault ≡ told (length (rows_of docket)) (length (rows_of sheet)) first
 
--- the fault is the first record that belongs to another part or to none
+-- the fault is the first record that belongs to another file or to no file
 pub record HasPartFault (docket sheet journal : List ℕ) (fault : FilesFault) : Type 0 where
   pub first : PartFault
   pub is_first : fault_of_all docket sheet journal ≡ Some first
   pub is_told : fault ≡ files.Part first
 
--- why three files are no docket: memory ran out, a record belongs to another part or to none, or the records have a
+-- why three files are no docket: memory ran out, a record belongs to another file or to no file, or the records have a
 -- fault
 abbrev pub IsReadingFault : List ℕ → List ℕ → List ℕ → FilesFault → Type 0
 IsReadingFault docket sheet journal fault =
@@ -68,7 +68,7 @@ abbrev pub verdict_on_result : Option ℕ → Option Status → Verdict
 verdict_on_result None replayed = verdict_on_replay replayed
 verdict_on_result (Some r) replayed = Bad
 
--- good if the sheet is stable and all else is good
+-- good if the sheet is stable, the sheet is the match's result, and the replay is good or was not wanted
 abbrev pub verdict_of : Status → Option ℕ → Option Status → Verdict
 verdict_of Stable first replayed = verdict_on_result first replayed
 verdict_of audited first replayed = Bad
@@ -91,7 +91,7 @@ pub record AnswersFiles (wants_facts : Bool) (docket sheet : List ℕ) (journal 
   pub read : IsDocketIn docket sheet (unwrap_or journal []) d
   pub tells : Tells d journal (facts_if wants_facts d docket sheet journal) verdict text
 
--- why the answer about a docket is not whole: it has no sheet or no journal, or memory ran out
+-- why the answer about a docket is not whole: the docket has no sheet or no journal, or memory ran out
 abbrev pub IsAnswerFault : Contents → FilesFault → Type 0
 IsAnswerFault d files.NoSheet = d.sheet ≡ None
 IsAnswerFault d files.NoJournal = d.journal ≡ None
@@ -104,8 +104,8 @@ pub record StopsAtDocket (docket sheet journal : List ℕ) (fault : FilesFault) 
   pub read : IsDocketIn docket sheet journal d
   pub fault_is : IsAnswerFault d fault
 
--- Why nothing was written, or not all of it. Either the files are no docket, or the docket lacks something, or the
--- writer failed.
+-- Why the answer was not written, or not all of it. Either the files are no docket, or the docket lacks something, or
+-- the writer failed.
 abbrev pub IsServingFault : List ℕ → List ℕ → Option (List ℕ) → FilesFault → Type 0
 IsServingFault docket sheet journal fault =
     (fault ≡ files.Write) ⊎ (IsReadingFault docket sheet (unwrap_or journal []) fault ⊎ StopsAtDocket docket sheet (unwrap_or journal []) fault)

@@ -12,11 +12,11 @@ abbrev pub unplaced : DocketFault → FilesFault
 unplaced Memory = files.Memory
 unplaced fault = files.Write
 
--- a fault, with its file and its place there if it has a record
+-- a fault, told with its file and with its record's number in this file, if the fault has a record
 abbrev pub placed : DocketFault → Option FileFault → FilesFault
 placed fault None = unplaced fault
 placed fault (Some there) = files.Docket there.file there.fault
 
--- a fault of the joined records; the docket and the sheet have these numbers of records
+-- a fault of the joined records, told with its file; the numbers of records in the docket and in the sheet are given
 abbrev pub told : ℕ → ℕ → DocketFault → FilesFault
 told docket sheet fault = placed fault (file_fault docket sheet fault)

@@ -13,7 +13,7 @@ use Rattle.audit_files.specs.declared.fault.FilesFault.TheVariants.{Part, Docket
 use Rattle.audit_files.specs.declared.serve.Verdict.{Verdict}
 use Rattle.audit_files.specs.declared.serve.Verdict.TheVariants.{Good, Bad}
 
--- 3 if a record belongs elsewhere; 1 if memory ran out
+-- 3 if a record belongs to another file; 1 if memory ran out
 abbrev pub part_status_of : PartFault → ℕ
 part_status_of (part.AnotherPart file place) = 3
 part_status_of (part.UnknownKind file place) = 3
@@ -28,13 +28,13 @@ fault_status_of NoJournal = 3
 fault_status_of Memory = 1
 fault_status_of Write = 1
 
--- 0 if all is good; 4 if something is not
+-- 0 if everything is good; 4 if something is not good
 abbrev pub exit_status_of : Result Verdict FilesFault → ℕ
 exit_status_of (Ok Good) = 0
 exit_status_of (Ok Bad) = 4
 exit_status_of (Err fault) = fault_status_of fault
 
--- the words give no order, nothing was written, and the status tells why
+-- the words give no order, nothing was written, and the status says why
 pub record EndsRefused (old new : Option (List ℕ)) (status : ℕ) : Type 0 where
   pub fault : UsageFault
   pub nothing : new ≡ old
@@ -45,7 +45,8 @@ pub record EndsUnread (old new : Option (List ℕ)) (status : ℕ) : Type 0 wher
   pub nothing : new ≡ old
   pub tells : status ≡ 1
 
--- The files have these bytes. Either the whole answer was written, or this is why not. The status tells which.
+-- The files have these bytes. Either the whole answer was written, or this fault says why not. The status says which of
+-- the two.
 pub record EndsServed (old new : Option (List ℕ)) (status : ℕ) : Type 0 where
   pub wants_facts : Bool
   pub docket : List ℕ

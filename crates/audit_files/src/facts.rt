@@ -11,7 +11,7 @@ use match_model::{ProgrammeNo, ResidentNo};
 use sha2::{Digest, Sha256};
 use std::alloc::{AllocError, Global};
 
-// Adds the digest of a file.
+// Adds the row with a file's digest.
 fn put_digest(
     alloc: Global,
     text: &mut Vec<u8>,
@@ -25,7 +25,7 @@ fn put_digest(
     put_long_row(text, b"H", part, digits.as_bytes())
 }
 
-// Adds the digest of the journal's file, if there is one.
+// Adds the row with the digest of the journal's file, if there is a journal.
 fn put_journal_digest(
     alloc: Global,
     text: &mut Vec<u8>,
@@ -39,7 +39,7 @@ fn put_journal_digest(
     }
 }
 
-// Adds the numbers of members.
+// Adds the row with the numbers of programmes and residents.
 fn put_members(text: &mut Vec<u8>, docket: &Docket) -> Result<(), AllocError>
     ensures { OnOk result (Grows text.old text.new (spec.members_row docket.now)) }
 {
@@ -49,7 +49,7 @@ fn put_members(text: &mut Vec<u8>, docket: &Docket) -> Result<(), AllocError>
     put_long_row(text, b"T", programmes.as_bytes(), residents.as_bytes())
 }
 
-// Adds the row of a programme, if it is withdrawn.
+// Adds the row of a programme, if the programme is withdrawn.
 fn put_programme(
     text: &mut Vec<u8>,
     docket: &Docket,
@@ -99,7 +99,7 @@ fn put_residents(text: &mut Vec<u8>, docket: &Docket) -> Result<(), AllocError>
     Ok(())
 }
 
-/// Adds the facts.
+/// Adds all rows of facts about the files.
 pub(crate) fn put_facts(
     alloc: Global,
     text: &mut Vec<u8>,

@@ -1,16 +1,16 @@
-//! Why files were not audited.
+//! Why an audit over files gave no answer.
 
 use docket::DocketFault;
 use docket_parts::{Part, PartFault};
 use thiserror::Error;
 
-/// Why files were not audited.
+/// Why an audit over files gave no answer.
 #[derive(Clone, Copy, Debug, PartialEq, Eq, Error)]
 pub enum FilesFault {
-    /// A record belongs to another part, or to none.
+    /// A record in one of the files belongs to another file, or to none of them.
     #[error(transparent)]
     Part(PartFault),
-    /// The records have this fault, in this file, with the record's number there.
+    /// The docket has this fault, in this file. The fault has the number of the record in the file.
     #[error("{fault}")]
     Docket { file: Part, fault: DocketFault },
     /// The sheet's file has no record.
@@ -28,7 +28,7 @@ pub enum FilesFault {
 }
 
 impl FilesFault {
-    /// The file at fault, if the fault has one.
+    /// The file in which the fault is, if the fault is in a file.
     pub fn file(&self) -> Option<Part> {
         match self {
             FilesFault::Part(PartFault::AnotherPart { file, .. })

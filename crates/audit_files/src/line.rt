@@ -26,20 +26,20 @@ command line; 1 where memory, reading or writing failed.
 Examples: residency-audit docket.csv sheet.csv
           residency-audit docket.csv sheet.csv journal.csv --facts";
 
-/// Which files to audit.
+/// Which files the command line asks to audit.
 #[derive(Clone, Copy, Debug, PartialEq, Eq)]
 pub(crate) struct Order<'a> {
-    /// The docket's file.
+    /// The path of the docket's file.
     pub(crate) docket: &'a str,
-    /// The sheet's file.
+    /// The path of the sheet's file.
     pub(crate) sheet: &'a str,
-    /// The journal's file, if there is one.
+    /// The path of the journal's file, if a journal is named.
     pub(crate) journal: Option<&'a str>,
-    /// Whether the facts are wanted.
+    /// Whether the rows of facts are asked for.
     pub(crate) facts: bool,
 }
 
-// The word for a file that has to be given.
+// The command line's argument for a file that has to be named.
 fn file_argument<'a>(
     alloc: Global,
     id: &'static str,
@@ -52,7 +52,7 @@ fn file_argument<'a>(
         .required(true)
 }
 
-// Whether the facts are wanted.
+// The command line's option for the rows of facts.
 fn facts_option<'a>(alloc: Global) -> Arg<'a> {
     Arg::new(alloc, "facts")
         .long("facts")
@@ -60,7 +60,7 @@ fn facts_option<'a>(alloc: Global) -> Arg<'a> {
         .action(ArgAction::SetTrue)
 }
 
-// The program.
+// The description of the program for the command line's parser.
 fn command<'a>(alloc: Global) -> Result<Command<'a>, AllocError> {
     let command = Command::new(alloc, "residency-audit").bin_name("residency-audit")?;
     let command = command
@@ -88,7 +88,7 @@ fn command<'a>(alloc: Global) -> Result<Command<'a>, AllocError> {
     command.arg(facts_option(alloc))
 }
 
-/// The order of the words, without the program's own name.
+/// Which files the command line's words ask to audit. The words are those after the program's own name.
 pub(crate) fn read_line<'a, S: AsStr>(
     alloc: Global,
     words: &'a [S],

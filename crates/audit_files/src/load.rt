@@ -1,4 +1,4 @@
-//! The bytes of the files in the words.
+//! The bytes of the files that the command line names.
 ghost use Rattle.std.specs.Prelude.{◌≡◌};
 
 use crate::line::Order;
@@ -7,23 +7,23 @@ use std::io::Read;
 use std::rt::Files;
 use std::{fs, io};
 
-/// The bytes of the files.
+/// The bytes of the three files.
 #[derive(Drop)]
 pub(crate) struct Loaded {
     /// The bytes of the docket's file.
     pub(crate) docket: Vec<u8>,
     /// The bytes of the sheet's file.
     pub(crate) sheet: Vec<u8>,
-    /// The bytes of the journal's file, if there is one.
+    /// The bytes of the journal's file, if there is a journal.
     pub(crate) journal: Option<Vec<u8>>,
 }
 
 /// A file that could not be read.
 #[derive(Clone, Copy, Debug, PartialEq, Eq)]
 pub(crate) struct Unread<'a> {
-    /// The file.
+    /// The path of the file.
     pub(crate) path: &'a str,
-    /// Whether memory ran out.
+    /// Whether the reason is that memory ran out.
     pub(crate) memory: bool,
 }
 
@@ -41,7 +41,7 @@ fn load_input<R: Read>(alloc: Global, reader: &mut R) -> io::Result<Vec<u8>> {
     }
 }
 
-// The bytes of a file, or of standard input.
+// The bytes of a file, or of standard input if the word stands for it.
 fn load_file<'a, R: Read, H: Files + AllocGlobal>(
     rt: &H,
     alloc: Global,
@@ -62,7 +62,7 @@ fn load_file<'a, R: Read, H: Files + AllocGlobal>(
     }
 }
 
-// The bytes of a file, or of standard input, if a file is named.
+// The bytes of a file or of standard input, if the command line names a file.
 fn load_if<'a, R: Read, H: Files + AllocGlobal>(
     rt: &H,
     alloc: Global,
@@ -78,7 +78,7 @@ fn load_if<'a, R: Read, H: Files + AllocGlobal>(
     }
 }
 
-/// The bytes of the files in an order.
+/// The bytes of all files that the command line names.
 pub(crate) fn load<'a, R: Read, H: Files + AllocGlobal>(
     rt: &H,
     alloc: Global,

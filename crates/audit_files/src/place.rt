@@ -1,4 +1,4 @@
-//! A fault of the joined records, told with its file.
+//! A fault of the joined records is reported with the file in which it is.
 ghost use Rattle.std.specs.Prelude.{◌≡◌};
 ghost use Rattle.audit_files.specs.Place as spec;
 
@@ -6,7 +6,7 @@ use crate::fault::FilesFault;
 use docket::DocketFault;
 use docket_parts::{FileFault, Joined, file_fault};
 
-// A fault without a record.
+// A fault that names no record, as a fault of the audit over files.
 fn unplaced(fault: DocketFault) -> FilesFault
     ensures { result ≡ spec.unplaced fault }
 {
@@ -16,7 +16,8 @@ fn unplaced(fault: DocketFault) -> FilesFault
     }
 }
 
-/// A fault of the joined records, with its file and its record there.
+/// A fault of the joined records as a fault of the audit over files: with its file, and with the number of its record
+/// in this file.
 pub fn told(joined: &Joined, fault: DocketFault) -> FilesFault
     ensures { result ≡ spec.told joined.now.docket joined.now.sheet fault }
 {

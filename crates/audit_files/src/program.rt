@@ -1,4 +1,5 @@
-//! The program, over any streams. It audits the files in its words, and its exit status says how this ended.
+//! The program, over any streams. The program audits the files that the command line names. The program's exit status
+//! says what was found, or why no answer was written.
 ghost use Rattle.std.specs.Prelude.{◌≡◌};
 ghost use Rattle.std.specs.Process.{exit_status as exit_status_in};
 ghost use Rattle.audit_files.specs.Status.{Ends, EndsServed, EndsUnread};
@@ -17,7 +18,7 @@ use std::process::ExitCode;
 use std::random::RandomSource;
 use std::rt::Files;
 
-// The path of the file of a part.
+// The path of the file for this part.
 fn path_of<'a>(order: &Order<'a>, part: Part) -> &'a str {
     match (part, order.journal) {
         (Part::Docket, _) => order.docket,
@@ -27,7 +28,7 @@ fn path_of<'a>(order: &Order<'a>, part: Part) -> &'a str {
     }
 }
 
-// Whether more than one file is standard input.
+// Whether the command line names standard input for more than one file.
 fn is_twice(order: &Order) -> bool {
     let journal = match order.journal {
         Some(path) => is_input(path),
@@ -37,7 +38,7 @@ fn is_twice(order: &Order) -> bool {
     docket && sheet || docket && journal || sheet && journal
 }
 
-// Prints why the answer is not whole. The exit status never depends on whether this text could be written.
+// Prints why the answer is missing or incomplete. The exit status never depends on whether this text could be written.
 fn tell<T: Eprint>(told: &T, order: &Order, fault: &FilesFault) {
     let _ = match fault.file() {
         Some(part) => eprintln!(told; "residency: {}: {fault}", path_of(order, part)),
@@ -58,7 +59,7 @@ fn tell_unread<T: Eprint>(told: &T, unread: &Unread) -> ExitCode
     ExitCode::from(1)
 }
 
-// Serves the bytes of the files, or prints why it could not.
+// Writes the answer over the bytes of the files, or prints why there is no answer.
 fn serve_loaded<W: Write, T: Eprint, H: RandomSource>(
     rt: &H,
     alloc: Global,
@@ -88,7 +89,7 @@ fn serve_loaded<W: Write, T: Eprint, H: RandomSource>(
     ExitCode::from(exit_status(&answer))
 }
 
-// Serves an order.
+// Reads the files that the command line names, and writes the answer.
 fn serve_order<R, W, T, H>(
     rt: &H,
     alloc: Global,
@@ -118,8 +119,9 @@ fn refuse_inputs<T: Eprint>(told: &T) -> ExitCode
     ExitCode::from(2)
 }
 
-/// Audits the files in the words, and returns the exit status. It is 0 if all is good, and 4 if something is not. It
-/// is 1 if memory, reading or writing failed, 2 for a wrong command line, and 3 for a file at fault.
+/// Audits the files that the words name, and returns the exit status. The status is 0 if everything is good, and 4 if
+/// something is bad. The status is 1 if memory, reading or writing failed, 2 for a wrong command line, and 3 for a file
+/// at fault.
 ///
 /// The words are those after the program's own name. Help and the version go to standard output. The reason for a
 /// missing answer goes to standard error.

@@ -1,4 +1,4 @@
-//! The docket in three files, each read as its own part.
+//! How a docket is read from three files, each read as its own part.
 ghost use Rattle.std.specs.Prelude.{◌≡◌, IfOk, IfErr};
 ghost use Rattle.audit_files.specs.Answer.{IsDocketIn, IsReadingFault};
 
@@ -9,7 +9,7 @@ use docket_parts::{PartFault, join};
 use std::alloc::Global;
 use std::random::RandomSource;
 
-/// The docket in three files, each read as its own part. A missing file counts as empty.
+/// Reads a docket from three files, each read as its own part. A missing file counts as empty.
 pub fn read_files<H: RandomSource>(
     rt: &H,
     alloc: Global,

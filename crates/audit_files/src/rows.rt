@@ -1,4 +1,4 @@
-//! The rows that an audit over files adds to those of an audit and a replay.
+//! The rows that an audit over files writes besides the rows of an audit and of a replay.
 ghost use Rattle.std.specs.Prelude.{◌≡◌, ℕ, OnOk};
 ghost use Rattle.docket_parts.specs.Lines.{Grows};
 ghost use Rattle.audit_files.specs.Rows as spec;
@@ -8,7 +8,7 @@ use docket::Docket;
 use match_model::ResidentNo;
 use std::alloc::AllocError;
 
-/// Adds bytes.
+/// Adds these bytes to the text.
 #[inline]
 pub(crate) fn put(text: &mut Vec<u8>, bytes: &[u8]) -> Result<(), AllocError>
     ensures { OnOk result (Grows text.old text.new bytes.now) }
@@ -16,7 +16,7 @@ pub(crate) fn put(text: &mut Vec<u8>, bytes: &[u8]) -> Result<(), AllocError>
     text.extend_from_slice(bytes)
 }
 
-/// Adds a row with a letter and one more field.
+/// Adds a row with a letter and one field.
 pub(crate) fn put_row(text: &mut Vec<u8>, letter: &[u8], field: &[u8]) -> Result<(), AllocError>
     ensures { OnOk result (Grows text.old text.new (spec.short_row letter.now field.now)) }
 {
@@ -26,7 +26,7 @@ pub(crate) fn put_row(text: &mut Vec<u8>, letter: &[u8], field: &[u8]) -> Result
     put(text, b"\n")
 }
 
-/// Adds a row with a letter and two more fields.
+/// Adds a row with a letter and two fields.
 pub(crate) fn put_long_row(
     text: &mut Vec<u8>,
     letter: &[u8],
@@ -43,7 +43,8 @@ pub(crate) fn put_long_row(
     put(text, b"\n")
 }
 
-/// Adds the row that says whether a sheet is the result, or the first resident for whom it differs.
+/// Adds the row about the match's result. The row says that the sheet is the result, or names the first resident for
+/// whom the sheet differs.
 pub(crate) fn put_result(
     text: &mut Vec<u8>,
     docket: &Docket,

@@ -1,4 +1,4 @@
-//! From the bytes of files to the bytes of an answer.
+//! From the bytes of three files to the bytes of an answer.
 ghost use Rattle.std.specs.Prelude.{◌≡◌, ◌≢◌, ℕ, [], Some, List, IfOk, IfErr, option_copied, unwrap_or};
 ghost use Rattle.std.specs.Io.KnownBytes.{Appends};
 ghost use Rattle.docket_parts.specs.Lines.{Grows};
@@ -21,10 +21,10 @@ use std::random::RandomSource;
 /// What an audit over files found.
 #[derive(Clone, Copy, Debug, PartialEq, Eq)]
 pub enum Verdict {
-    /// The sheet is stable and is the match's result. If there is a journal, it is a good exchange and gives the
+    /// The sheet is stable and is the match's result. If there is a journal, it is a good exchange and leads to the
     /// sheet.
     Good,
-    /// One of these is not true.
+    /// The sheet or the journal is not good.
     Bad,
 }
 
@@ -40,7 +40,7 @@ fn add_audit(alloc: Global, docket: &Docket, text: &mut Vec<u8>) -> Result<Statu
     }
 }
 
-// Adds the row that says whether the sheet is the result.
+// Adds the row that says whether the sheet is the match's result.
 fn add_result(
     alloc: Global,
     docket: &Docket,
@@ -94,7 +94,7 @@ fn add_replay_if(
     }
 }
 
-// The verdict over everything that was found.
+// The verdict from the audit, from the comparison with the result, and from the replay.
 fn verdict_on(audited: Status, first: Option<ResidentNo>, replayed: Option<Status>) -> Verdict
     ensures { result ≡ verdict_of audited first replayed }
 {
@@ -104,7 +104,7 @@ fn verdict_on(audited: Status, first: Option<ResidentNo>, replayed: Option<Statu
     }
 }
 
-// Adds all rows about a docket, except the facts.
+// Adds all rows about a docket, except the rows of facts.
 fn add_answer(
     alloc: Global,
     docket: &Docket,
@@ -129,7 +129,7 @@ fn add_answer(
     Ok(verdict_on(audited, first, replayed))
 }
 
-// The text of the facts, if they are wanted; else an empty text.
+// The text of the facts if the facts are asked for, else an empty text.
 fn facts_of(
     alloc: Global,
     wants_facts: bool,
@@ -150,7 +150,7 @@ fn facts_of(
     Ok(text)
 }
 
-// The bytes of a file, or none without a file.
+// The bytes of a file, or no bytes if there is no file.
 fn bytes_of(file: Option<&[u8]>) -> &[u8]
     ensures { result.now ≡ unwrap_or (option_copied file.entry) [] }
 {
@@ -160,10 +160,11 @@ fn bytes_of(file: Option<&[u8]>) -> &[u8]
     }
 }
 
-/// Audits a sheet against the docket of another file, and against the match's result. If there is a journal, replays
-/// it. Each file is read as its own part. The whole answer is made before the first byte is written.
+/// Audits a sheet against a docket from another file, and compares the sheet with the match's result. If there is a
+/// journal, the journal is replayed. Each file is read as its own part. The whole answer is made before the first byte
+/// is written.
 ///
-/// If they are wanted, the facts come first: the SHA-256 of each file, the numbers of members, and the withdrawn
+/// If the facts are asked for, they come first: the SHA-256 of each file, the numbers of members, and the withdrawn
 /// members.
 pub fn serve_files<W: Write, H: RandomSource>(
     rt: &H,

@@ -7,8 +7,8 @@ use crate::serve::Verdict;
 use docket_parts::PartFault;
 use program_shell::docket_status;
 
-/// The exit status after an audit over files. It is 0 if all is good, and 4 if something is not. It is 1 if memory,
-/// reading or writing failed, and 3 if a file is at fault.
+/// The exit status after an audit over files. The status is 0 if everything is good, and 4 if something is bad. The
+/// status is 1 if memory, reading or writing failed, and 3 if a file is at fault.
 pub(crate) fn exit_status(answer: &Result<Verdict, FilesFault>) -> u8
     ensures { result ≡ exit_status_of answer.now }
 {

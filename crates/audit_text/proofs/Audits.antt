@@ -1,4 +1,4 @@
--- An audit's report is about the docket, and says whether its sheet is stable.
+-- The report of an audit names only members of the docket, and says whether the docket's sheet is stable.
 use Rattle.std.proofs.Common.{◌≡◌, ℕ, ◌<◌, inl, inr, Bool, true, false, Option, Some, List, [], length, refl, arith}
 use Rattle.std.specs.List.{All, Contains}
 use Rattle.std.proofs.lemmas.List.{get_or_past}
@@ -18,7 +18,7 @@ use Rattle.audit_text.specs.declared.status.Status.TheVariants.{Stable, Unstable
 use Rattle.audit_text.specs.Report.{IsPairOf, IsReportOf}
 use Rattle.audit_text.specs.Serving.{TellsStable}
 
--- a number with an acceptable resident is a programme
+-- if some resident is acceptable for p, then p is a programme
 pub programme_of_acceptable : (inst : Instance) (r p : ℕ) → IsInstance inst → Acceptable inst r p → IsProgramme inst p
 programme_of_acceptable inst r p instance listed = elim (cases_lt p (length inst.programme_lists)) [
   | inl below ↦ omega (arith, instance.one_list_each)
@@ -28,7 +28,7 @@ programme_of_acceptable inst r p instance listed = elim (cases_lt p (length inst
       absurd (omega arith)
 ]
 
--- a number with an acceptable programme is a resident
+-- if some programme is acceptable for r, then r is a resident
 resident_of_acceptable : (inst : Instance) (r p : ℕ) → IsInstance inst → Acceptable inst r p → IsResident inst r
 resident_of_acceptable inst r p instance listed = elim (cases_lt r (length inst.resident_lists)) [
   | inl below ↦ below
@@ -38,7 +38,7 @@ resident_of_acceptable inst r p instance listed = elim (cases_lt r (length inst.
       absurd (omega arith)
 ]
 
--- a property of each pair for which R holds also holds for all listed pairs
+-- if each pair for which R holds has a property, all pairs in the list of these pairs have it
 all_listed : (R : ℕ → ℕ → Type 0) (P : ℕ × ℕ → Type 0) (pairs : List (ℕ × ℕ)) → Lists R pairs → ((a b : ℕ) → R a b → P (a, b)) → All P pairs
 all_listed R P pairs lists h =
     All-weaker (Contains pairs) P (λ x k. h x.0 x.1 ((lists.each x.0 x.1).0 k)) pairs (All-contains_itself pairs)
@@ -53,7 +53,7 @@ report_of_docket d m report whole is_sheet instance reports = record {
       (λ r p h. (resident_of_acceptable d.instance r p instance h.acceptable, programme_of_acceptable d.instance r p instance h.acceptable));
 }
 
--- the status of a sheet
+-- the status that says whether a sheet is stable
 abbrev pub stability : Bool → Status
 stability true = Stable
 stability false = Unstable

@@ -1,11 +1,11 @@
--- The rows of workers, one after another.
+-- The rows with the numbers of workers' events, written one after another.
 use Rattle.std.proofs.Common.{◌≡◌, ℕ, zero, suc, Option, ◌+◌, ◌<◌, List, [], ◌∷◌, ◌++◌, length, take, get_or, sym, ap, ◌∙◌, arith, append_assoc, append-nil}
 use Rattle.row_writer.specs.RowText.{Adds}
 use Rattle.row_writer.specs.declared.writer.RowWriter.{RowWriter}
 use Rattle.row_writer.proofs.RowTextFacts.{adds_none, adds_both}
 use Rattle.audit_text.specs.Answer.{worker_row, worker_rows}
 
--- the rows of the first counts, and of one more
+-- the rows of the first k + 1 workers are the rows of the first k workers and the row of one more
 worker_rows-more : (first : ℕ) (counts : List ℕ) (k : ℕ) → k < length counts
     → worker_rows first (take (k + 1) counts) ≡ worker_rows first (take k counts) ++ worker_row (first + k) (get_or counts k 0)
 unfolding worker_rows

@@ -1,4 +1,4 @@
--- The rows of a report, one after another.
+-- The rows of an audit's report, written one after another.
 use Rattle.std.proofs.Common.{◌≡◌, ℕ, ◌==◌, ◌&&◌, Bool, true, false, List, [], ◌∷◌, Option, length, codes, refl, arith}
 use Rattle.std.specs.List.{flat_map}
 use Rattle.std.proofs.lemmas.Bool.{eqb-true}
@@ -9,7 +9,7 @@ use Rattle.row_writer.proofs.RowTextFacts.{adds_both}
 use Rattle.match_audit.specs.declared.report.AuditReport.{AuditReport}
 use Rattle.audit_text.specs.Report.{finds_nothing, stability_row, pair_row, over_row, report_text}
 
--- nothing was found
+-- the report has no finding
 abbrev pub IsEmpty : AuditReport → Type 0
 IsEmpty report = (report.unacceptable.items ≡ []) × (report.over.items ≡ []) × (report.blocking.items ≡ [])
 
@@ -39,7 +39,7 @@ stability_row-unstable report h = by_test (finds_nothing report) refl
     by_test true e = absurd (h (is_nothing report e))
     by_test false e = rw e
 
--- the report consists of its four parts
+-- the rows of a report are the row about stability and the rows of the three lists
 pub report_text-rows : {W : Type 0} (contents : W → Option (List ℕ)) (d : Contents) (report : AuditReport)
     (none start unacceptable over whole : RowWriter W) → Adds contents none start (stability_row report)
     → Adds contents start unacceptable (flat_map (pair_row d (codes "X")) report.unacceptable.items)

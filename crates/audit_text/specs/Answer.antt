@@ -57,7 +57,8 @@ abbrev pub event_count : Option JournalParts → ℕ
 event_count (Some journal) = length journal.events
 event_count None = 0
 
--- the fields of a fault's row; the place is that of the refused event, from 1, or one past the last event
+-- the fields of a row about a fault of a journal; an event's number is counted from 1, and a missing close has the
+-- number after the last event
 abbrev pub fault_fields : Contents → ReplayFault → List (List ℕ)
 fault_fields d BadCapacity = codes "N" ∷ codes "0" ∷ codes "bad-capacity" ∷ []
 fault_fields d Memory = codes "N" ∷ codes "0" ∷ codes "memory" ∷ []
@@ -84,7 +85,7 @@ unfoldable pub count_rows : Result Replayed ReplayFault → Option (List ℕ) �
 count_rows (Ok replayed) (Some counts) = worker_rows 0 counts
 count_rows answer counts = []
 
--- the rows of an answer
+-- the rows of a replay's answer
 unfoldable pub replay_text : Contents → Result Replayed ReplayFault → Option (List ℕ) → List ℕ
 replay_text d answer counts = row (answer_fields d answer) ++ count_rows answer counts
 

@@ -1,4 +1,4 @@
--- What was written about a docket's sheet and about its journal, or why nothing was.
+-- What was written about a docket's sheet and about its journal, or why it was not written.
 use Rattle.std.specs.Prelude.{◌≡◌, ◌≢◌, ◌⊎◌, ◌↔◌, ℕ, Option, Some, None, Result, Ok, Err, List, IsSome, option_map}
 use Rattle.std.specs.Io.KnownBytes.{Appends}
 use Rattle.match_model.specs.Instance.{Instance}
@@ -69,12 +69,12 @@ pub record WritesReplay (d : Contents) (status : Status) (old new : Option (List
   pub tells : status ≡ replay_status replay.answer
   pub appended : Appends old new (replay_text d replay.answer (counts_in replay.journal))
 
--- the fault is of memory or the writer
+-- memory ran out, or the writer failed
 abbrev pub IsWriteFault : DocketFault → Type 0
 IsWriteFault fault = (fault ≡ docket.Memory) ⊎ (fault ≡ docket.Write)
 
 -- Why an audit wrote no whole report. Memory or the writer failed after the report was made, or the docket has no
--- sheet, or memory ran out before.
+-- sheet, or memory ran out before the report was made.
 abbrev pub IsAuditFault : Contents → AnswerFault → Type 0
 IsAuditFault d (Docket fault) = SheetReport d × IsWriteFault fault
 IsAuditFault d NoSheet = d.sheet ≡ None
@@ -82,7 +82,7 @@ IsAuditFault d Memory = IsSome d.sheet
 IsAuditFault d fault = ⊥
 
 -- Why a replay wrote no whole answer. Memory or the writer failed after the answer was found, or the docket has no
--- journal, or memory ran out before.
+-- journal, or memory ran out before the answer was found.
 abbrev pub IsReplayFault : Contents → AnswerFault → Type 0
 IsReplayFault d (Docket fault) = JournalAnswer d × IsWriteFault fault
 IsReplayFault d NoJournal = d.journal ≡ None

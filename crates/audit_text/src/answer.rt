@@ -11,7 +11,7 @@ use match_audit::{ReplayFault, Replayed};
 use std::alloc::Global;
 use std::io::Write;
 
-// The word for a refusal.
+// The word for the cause of a refused event.
 fn refusal_word(refused: &Refused) -> &'static str
     ensures { result.now ≡ word_of refused.now }
 {
@@ -29,7 +29,7 @@ fn refusal_word(refused: &Refused) -> &'static str
     }
 }
 
-// The word for what is pending.
+// The word for what is pending at a desk.
 fn pending_word(what: &Pending) -> &'static str
     ensures { result.now ≡ kind_of what.now }
 {
@@ -65,7 +65,7 @@ fn event_count(docket: &Docket) -> usize
     }
 }
 
-// Adds the row of a fault that has only a word.
+// Adds the row of a fault that is said by a word alone.
 fn push_word<W: Write>(
     rows: &mut RowWriter<'_, W>,
     place: &[u8],
@@ -94,7 +94,7 @@ fn push_pending<W: Write>(
     ])
 }
 
-// Adds the row of a refused event.
+// Adds the row of a refused event, with the cause.
 fn push_refused<W: Write>(
     rows: &mut RowWriter<'_, W>,
     docket: &Docket,
@@ -112,7 +112,7 @@ fn push_refused<W: Write>(
     }
 }
 
-// Adds the row of a fault.
+// Adds the row of a replay's fault.
 fn push_fault<W: Write>(
     rows: &mut RowWriter<'_, W>,
     docket: &Docket,
@@ -148,7 +148,7 @@ fn push_good<W: Write>(rows: &mut RowWriter<'_, W>, events: usize) -> Result<(),
     rows.push(&[b"G", events.as_bytes()])
 }
 
-// Adds the row of an answer.
+// Adds the row of a replay's answer.
 fn push_answer<W: Write>(
     rows: &mut RowWriter<'_, W>,
     docket: &Docket,
@@ -163,7 +163,7 @@ fn push_answer<W: Write>(
     }
 }
 
-// Adds the row of a worker.
+// Adds the row with the number of a worker's events.
 #[tactic(auto, unfolding(crate::specs::Answer::worker_row))]
 fn push_worker<W: Write>(
     rows: &mut RowWriter<'_, W>,
@@ -178,7 +178,7 @@ fn push_worker<W: Write>(
     rows.push(&[b"K", worker.as_bytes(), events.as_bytes()])
 }
 
-// Adds the row of each worker.
+// Adds a row for each worker, with the number of the worker's events.
 fn push_workers<W: Write>(rows: &mut RowWriter<'_, W>, counts: &[u64]) -> Result<(), WriteFailed>
     ensures { OnOk result (Adds W.contents rows.old rows.new (worker_rows 0 counts.now)) }
 {
@@ -188,7 +188,7 @@ fn push_workers<W: Write>(rows: &mut RowWriter<'_, W>, counts: &[u64]) -> Result
     Ok(())
 }
 
-// Adds the rows after the row of an answer.
+// Adds the rows that follow the row of a replay's answer.
 #[tactic(auto, unfolding(crate::specs::Answer::count_rows))]
 fn push_counts<W: Write>(
     rows: &mut RowWriter<'_, W>,
@@ -203,7 +203,7 @@ fn push_counts<W: Write>(
     }
 }
 
-// Adds the row of an answer, and the rows after it.
+// Adds the row of a replay's answer, and the rows that follow it.
 fn push_replay<W: Write>(
     rows: &mut RowWriter<'_, W>,
     docket: &Docket,
@@ -217,10 +217,10 @@ fn push_replay<W: Write>(
     push_counts(rows, answer, counts)
 }
 
-/// Writes the answer of a replay of the docket's journal, in one row. After a good answer with counts, a row for each
-/// worker says how many events it made.
+/// Writes the answer of a replay of the docket's journal, in one row. After a good answer, if `counts` are given, a row
+/// for each worker says how many events this worker made.
 ///
-/// The answer names only members of the docket. Before a fault that is not the writer's, nothing was written.
+/// The answer names only members of the docket. If the fault is not the writer's, nothing was written.
 pub fn write_replay<W: Write>(
     alloc: Global,
     docket: &Docket,

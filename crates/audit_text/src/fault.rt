@@ -1,9 +1,9 @@
-//! Why there is no answer about a docket.
+//! Why no answer about a docket was written.
 
 use docket::DocketFault;
 use thiserror::Error;
 
-/// Why there is no answer about a docket.
+/// Why no answer about a docket was written.
 #[derive(Clone, Copy, Debug, PartialEq, Eq, Error)]
 pub enum AnswerFault {
     /// Memory ran out, or the answer could not be written.

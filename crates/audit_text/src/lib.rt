@@ -1,6 +1,6 @@
 //! The rows that an audit and a replay of a docket write.
 //!
-//! The crate uses no threads, so the auditor's program needs none.
+//! This crate uses no threads, so the program that audits files needs no threads.
 #![tactic(auto)]
 
 mod answer;

@@ -12,7 +12,7 @@ use match_model::{ProgrammeNo, ResidentNo};
 use std::alloc::Global;
 use std::io::Write;
 
-// Adds the row of a resident and a programme.
+// Adds a row with a resident and a programme.
 fn push_pair<W: Write>(
     rows: &mut RowWriter<'_, W>,
     docket: &Docket,
@@ -91,7 +91,7 @@ fn push_report<W: Write>(
 /// Writes what an audit found: whether the sheet is stable, the unacceptable pairs, the programmes over their quota,
 /// and the blocking pairs.
 ///
-/// The report names only members of the docket. Before a fault that is not the writer's, nothing was written.
+/// The report names only members of the docket. If the fault is not the writer's, nothing was written.
 pub fn write_report<W: Write>(
     alloc: Global,
     docket: &Docket,

@@ -1,4 +1,4 @@
-//! What is written about a docket's sheet and its journal.
+//! What an audit writes about a docket's sheet, and what a replay writes about its journal.
 ghost use Rattle.std.specs.Prelude.{◌≡◌, ◌≢◌, ℕ, length, option_copied, option_map, IfOk, IfErr, IfSome};
 ghost use Rattle.std.specs.Global.{Vec};
 ghost use Rattle.match_audit.specs.Report.{Reports};
@@ -28,8 +28,7 @@ fn report_of(alloc: Global, docket: &Docket, sheet: &Assignment) -> Result<Audit
     }
 }
 
-/// Writes what keeps a docket's sheet from being stable. Before a fault that is not the writer's, nothing was
-/// written.
+/// Writes what keeps a docket's sheet from being stable. If the fault is not the writer's, nothing was written.
 pub fn audit_docket<W: Write>(
     alloc: Global,
     docket: &Docket,
@@ -42,7 +41,7 @@ pub fn audit_docket<W: Write>(
     let Some(sheet) = docket.sheet() else {
         return Err(AnswerFault::NoSheet);
     };
-    // Only for the proof: the rankings of an instance are mutual and within the limits.
+    // For the proof alone: the rankings of an instance are mutual and within the limits.
     let _instance = docket.instance().residents();
     let report = report_of(alloc, docket, sheet)?;
     match write_report(alloc, docket, &report, writer) {
@@ -67,7 +66,7 @@ fn counts_of(alloc: Global, journal: &Journal) -> Result<Option<Vec<u64>>, Answe
     }
 }
 
-// A borrow of the counts.
+// A view of the counts, if there are counts.
 fn lent(counts: &Option<Vec<u64>>) -> Option<&[u64]>
     ensures { option_copied result ≡ option_map (λ (v : Vec ℕ). v.items) counts.now }
 {
@@ -77,8 +76,8 @@ fn lent(counts: &Option<Vec<u64>>) -> Option<&[u64]>
     }
 }
 
-/// Writes whether a docket's journal is a good exchange. If there is a sheet, also writes whether the journal gives
-/// this sheet. Before a fault that is not the writer's, nothing was written.
+/// Writes whether a docket's journal is a good exchange. If there is a sheet, the answer also says whether the journal
+/// leads to this sheet. If the fault is not the writer's, nothing was written.
 pub fn replay_docket<W: Write>(
     alloc: Global,
     docket: &Docket,

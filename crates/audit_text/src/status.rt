@@ -7,8 +7,8 @@ pub enum Status {
     Stable,
     /// The sheet isn't stable.
     Unstable,
-    /// The journal is a good exchange, and gives the sheet.
+    /// The journal is a good exchange, and leads to the sheet if the docket has a sheet.
     ReplayGood,
-    /// The journal is not a good exchange, or does not give the sheet.
+    /// The journal is not a good exchange, or does not lead to the sheet.
     ReplayBad,
 }

@@ -1,4 +1,4 @@
--- What a list of desks keeps while desks are listed and taken.
+-- What stays true of the two tiers of listed desks while desks are listed and taken.
 use Rattle.std.proofs.Common.{◌≡◌, ℕ, ◌+◌, ◌<◌, ◌≤◌, ◌==◌, inl, inr, Bool, true, false, cond, List, [], ◌∷◌, ◌++◌, length, get_or, set, refl, sym, ap, ◌∙◌, subst, arith, length-append}
 use Rattle.std.specs.Prelude.{sum_by}
 use Rattle.std.proofs.lemmas.Bool.{eqb-true, eqb-false, cases_lt}
@@ -15,7 +15,7 @@ times_le Listed = omega arith
 times_le InHand = omega arith
 times_le InHandAgain = omega arith
 
--- a fact about one tier also holds for the other
+-- what is true of two tiers stays true when the first and the second tier change roles
 pub swapped : (places : List Place) (listed behind : List ℕ) (r s : ℕ) → AreListed places listed behind r s → AreListed places behind listed s r
 swapped places listed behind r s are = record {
   once = λ d. omega (arith, are.once d);
@@ -24,7 +24,7 @@ swapped places listed behind r s are = record {
   room_behind = are.room;
 }
 
--- there is room for a desk that isn't listed
+-- if a desk isn't listed, a tier has room for it
 pub has_room : (places : List Place) (listed behind : List ℕ) (r s d : ℕ) → AreListed places listed behind r s → d < length places
     → times (get_or places d Idle) ≡ 0 → length listed < r
 has_room places listed behind r s d are within none =
@@ -32,7 +32,7 @@ has_room places listed behind r s d are within none =
     let most = sum_by-le times 1 (set places d Listed) (λ k e l. times_le (get_or (set places d Listed) k e)) in
     omega (arith, more, most, length-set places d Listed, are.as_many, are.room, none)
 
--- how often each desk is listed, after one desk moved
+-- how often a desk should be listed, after one desk's state changed
 moved_once : (places : List Place) (d : ℕ) (place : Place) (k : ℕ) → d < length places
     → times (get_or (set places d place) k Idle) ≡ cond (d == k) (times place) (times (get_or places k Idle))
 moved_once places d place k within = by (d == k) refl
@@ -41,7 +41,7 @@ moved_once places d place k within = by (d == k) refl
     by true e = ap times (get_or-set_at places d k place Idle (sym (eqb-true d k e)) within)
     by false e = ap times (get_or-set_other places d k place Idle (λ f. eqb-false d k e (sym f)))
 
--- a desk that isn't listed is listed first
+-- the first tier after a desk is listed in it
 pub listed_more : (places : List Place) (listed behind : List ℕ) (r s d : ℕ) → AreListed places listed behind r s → d < length places
     → times (get_or places d Idle) ≡ 0 → AreListed (set places d Listed) (listed ++ d ∷ []) behind r s
 listed_more places listed behind r s d are within none = record {
@@ -63,13 +63,13 @@ listed_more places listed behind r s d are within none = record {
         let new : times (get_or (set places d Listed) k Idle) ≡ times (get_or places k Idle) = moved_once places d Listed k within ∙ ap (λ (b : Bool). cond b 1 (times (get_or places k Idle))) e in
         omega (arith, are.once k, one, new)
 
--- or behind
+-- the second tier after a desk is listed in it
 pub listed_behind : (places : List Place) (listed behind : List ℕ) (r s d : ℕ) → AreListed places listed behind r s → d < length places
     → times (get_or places d Idle) ≡ 0 → AreListed (set places d Listed) listed (behind ++ d ∷ []) r s
 listed_behind places listed behind r s d are within none =
     swapped _ _ _ _ _ (listed_more places behind listed s r d (swapped _ _ _ _ _ are) within none)
 
--- a desk that isn't listed moves to a place other than the list
+-- a desk that isn't listed gets a state in which it isn't listed either
 pub moved_quietly : (places : List Place) (listed behind : List ℕ) (r s d : ℕ) (place : Place) → AreListed places listed behind r s → d < length places
     → times (get_or places d Idle) ≡ 0 → times place ≡ 0 → AreListed (set places d place) listed behind r s
 moved_quietly places listed behind r s d place are within none still = record {
@@ -86,7 +86,7 @@ moved_quietly places listed behind r s d place are within none still = record {
         omega (arith, here, new, still)
     once k false e = moved_once places d place k within ∙ ap (λ (b : Bool). cond b (times place) (times (get_or places k Idle))) e
 
--- the first desk is listed, and only there
+-- the desk in front of a tier has the state `Listed`
 pub top_is_listed : (places : List Place) (rest behind : List ℕ) (r s d : ℕ) → AreListed places (rest ++ d ∷ []) behind r s → times (get_or places d Idle) ≡ 1
 top_is_listed places rest behind r s d are =
     let pushed = sum_by_push (one_for d) rest d in
@@ -100,14 +100,14 @@ top_is_listed places rest behind r s d are =
         by true e = e
         by false e = absurd (eqb-false n n e refl)
 
--- the first desk is one of the desks
+-- the desk in front of a tier has a number below the number of desks
 pub top_within : (places : List Place) (rest behind : List ℕ) (r s d : ℕ) → AreListed places (rest ++ d ∷ []) behind r s → d < length places
 top_within places rest behind r s d are = elim (cases_lt d (length places)) [
   | inl l ↦ l
   | inr m ↦ absurd (omega (arith, top_is_listed places rest behind r s d are, ap times (get_or_past places d Idle m)))
 ]
 
--- the first desk is taken off the list
+-- the tiers after the desk in front is taken
 pub top_taken : (places : List Place) (rest behind : List ℕ) (r s d : ℕ) → AreListed places (rest ++ d ∷ []) behind r s → AreListed (set places d InHand) rest behind r s
 top_taken places rest behind r s d are = record {
   once = λ k. once k (d == k) refl;

@@ -1,4 +1,4 @@
--- What a row of links and a queue's list keep.
+-- The list of desks in a mailbox's queue, and the links that are stored for these desks.
 use Rattle.std.proofs.Common.{◌≡◌, ◌≢◌, ℕ, zero, suc, ◌+◌, ◌<◌, ◌≤◌, ◌==◌, inl, inr, Bool, true, false, cond, List, [], ◌∷◌, ◌++◌, Option, Some, None, length, get_or, refl, sym, ap, ◌∙◌, arith, append_assoc}
 use Rattle.std.specs.Prelude.{sum_by}
 use Rattle.std.proofs.lemmas.Bool.{eqb-true, eqb-false, cases_lt}
@@ -8,7 +8,7 @@ use Rattle.std.proofs.lemmas.List.Sums.{sum_by-le, sum_by-append, sum_by-cons}
 use Rattle.desk_scheduler.specs.Desks.{one_for}
 use Rattle.desk_scheduler.specs.Waits.{Waits, linked_at, one_waits, one_waits_at, waiting_from, queue_of, first_of, last_from, last_of, without, linked_to, ended_at, IsQueue, AreQueues}
 
--- Numbers and lists
+-- Facts about numbers and lists, which name no queue
 
 pub eqb_same : (n : ℕ) → (n == n) ≡ true
 eqb_same n = by (n == n) refl
@@ -36,11 +36,11 @@ none_some d e = cc
 pub some_same : (m n : ℕ) → Some m ≡ Some n → m ≡ n
 some_same m n e = cc
 
--- one desk counts once where it stands
+-- in a list where desk d stands between xs and ys, d counts once more than in xs and ys together
 pub count_split : (d : ℕ) (xs ys : List ℕ) → sum_by (one_for d) (xs ++ d ∷ ys) ≡ sum_by (one_for d) xs + sum_by (one_for d) ys + 1
 count_split d xs ys = omega (arith, sum_by-append (one_for d) xs (d ∷ ys), sum_by-cons (one_for d) d ys, one_same d)
 
--- the first and the last of a list stand in it
+-- the first and the last desk of a list are counted in the list
 pub first_counts : (d : ℕ) (ys : List ℕ) → first_of ys ≡ Some d → 1 ≤ sum_by (one_for d) ys
 first_counts d [] e = absurd (cc)
 first_counts d (y ∷ ys) e =
@@ -73,7 +73,7 @@ pub not_empty : (zs : List ℕ) (k : ℕ) (ys : List ℕ) → [] ≢ zs ++ k ∷
 not_empty [] k ys e = cc
 not_empty (z ∷ zs) k ys e = cc
 
--- where a list is cut at an element, the element stands in one of its two parts
+-- if two joined lists are cut at an item, this item stands in the first or in the second of them
 pub data Cut (xs ys ahead : List ℕ) (k : ℕ) (bs : List ℕ) : Type 0 where
   in_front : (zs : List ℕ) → xs ≡ ahead ++ k ∷ zs → bs ≡ zs ++ ys → Cut xs ys ahead k bs
   in_rest : (zs : List ℕ) → ahead ≡ xs ++ zs → ys ≡ zs ++ k ∷ bs → Cut xs ys ahead k bs
@@ -90,7 +90,7 @@ cut (x ∷ xs) ys (a ∷ ahead) k bs e =
     go head (in_front zs f r) = in_front zs (cc) r
     go head (in_rest zs f r) = in_rest zs (cc) r
 
--- where a desk counts, the list is cut at it
+-- if a desk is counted in a list, the list can be cut at this desk
 pub record CutAt (d : ℕ) (queue : List ℕ) : Type 0 where
   pub front : List ℕ
   pub rest : List ℕ
@@ -133,7 +133,7 @@ without_cut d (x ∷ xs) ys none rest = by (λ front. without_cut d xs ys front 
         ap (λ (b : Bool). cond b (without d (xs ++ d ∷ ys)) (x ∷ without d (xs ++ d ∷ ys))) e
         ∙ ap (λ (l : List ℕ). x ∷ l) (later (omega (arith, none, sum_by-cons (one_for d) x xs, zero_here)))
 
--- Rows
+-- Facts about the stored links of a mailbox's queue
 
 pub waits_le : (m : ℕ) (o : Option ℕ) → one_waits_at m o ≤ 1
 waits_le m None = omega arith
@@ -167,7 +167,7 @@ pub waiting_none : (behind : List (Option ℕ)) (most : ℕ) → waiting_from be
 waiting_none behind zero = refl
 waiting_none behind (suc most) = refl
 
--- a desk of a row is within it
+-- a desk with a stored link has a number below the number of desks
 pub within_row : (row : List (Option ℕ)) (d m : ℕ) → get_or row d None ≡ Some m → d < length row
 within_row row d m at = elim (cases_lt d (length row)) [
   | inl l ↦ l
@@ -179,7 +179,7 @@ waits_sum m [] = omega arith
 waits_sum m (o ∷ os) = omega (arith, sum_by-cons (one_waits_at m) o os, sum_by-cons one_waits o os, waits_le_any m o, waits_sum m os)
 
 module _ (w : Waits) (m : ℕ) (queue : List ℕ) (is : IsQueue w m queue) where
-  -- a desk of the queue waits for its mailbox, and stands in it once
+  -- a desk in the queue of a mailbox waits for this mailbox, and stands in the queue once
   pub cut_waits : (xs : List ℕ) (d : ℕ) (ys : List ℕ) → queue ≡ xs ++ d ∷ ys
       → (linked_at w.mailbox d ≡ Some m) × (sum_by (one_for d) xs ≡ 0) × (sum_by (one_for d) ys ≡ 0)
   cut_waits xs d ys e =
@@ -192,11 +192,11 @@ module _ (w : Waits) (m : ℕ) (queue : List ℕ) (is : IsQueue w m queue) where
         omega (arith, n, c, s, l),
       )
 
-  -- who counts in it waits for its mailbox
+  -- a desk that is counted in the queue of a mailbox waits for this mailbox
   pub counts_waits : (d : ℕ) → 1 ≤ sum_by (one_for d) queue → linked_at w.mailbox d ≡ Some m
   counts_waits d some = waits_where m (linked_at w.mailbox d) (omega (arith, some, is.once d, waits_le m (linked_at w.mailbox d)))
 
-  -- the links lead through the whole queue
+  -- a walk along the links finds the whole queue
   pub walked : queue_of w m ≡ queue
   walked =
       let most : length queue ≤ length w.mailbox = omega (arith, is.as_many, sum_by-le (one_waits_at m) 1 w.mailbox (λ k e l. waits_le m (get_or w.mailbox k e))) in
@@ -211,7 +211,7 @@ module _ (w : Waits) (m : ℕ) (queue : List ℕ) (is : IsQueue w m queue) where
           ap (λ (o : Option ℕ). y ∷ waiting_from w.behind most o) next
           ∙ ap (λ (l : List ℕ). y ∷ l) (go (xs ++ y ∷ []) ys most later (omega (arith, l)))
 
-  -- what leaves its desks' links and its ends alone leaves the queue
+  -- a change that leaves the links of a queue's desks and its two ends alone leaves the queue as it is
   pub untouched : (v : Waits) → linked_at v.first m ≡ linked_at w.first m → linked_at v.last m ≡ linked_at w.last m
       → ((d : ℕ) → linked_at w.mailbox d ≡ Some m → linked_at v.before d ≡ linked_at w.before d)
       → ((d : ℕ) → linked_at w.mailbox d ≡ Some m → linked_at v.behind d ≡ linked_at w.behind d)
@@ -252,12 +252,12 @@ ended_here row o m to is l = ap (λ (p : Option ℕ). linked_at (ended_at row p 
 pub ended_else : (row : List (Option ℕ)) (o : Option ℕ) (m : ℕ) (to : Option ℕ) (e : ℕ) → o ≡ Some e → linked_at (ended_at row o m to) m ≡ linked_at row m
 ended_else row o m to e is = ap (λ (p : Option ℕ). linked_at (ended_at row p m to) m) is
 
--- past the rows there is no queue
+-- a number that is no mailbox's has an empty queue
 pub queue_past : (w : Waits) (m : ℕ) → length w.first ≤ m → queue_of w m ≡ []
 queue_past w m past = ap (λ (o : Option ℕ). waiting_from w.behind (length w.mailbox) o) (get_or_past w.first m None past) ∙ waiting_none w.behind (length w.mailbox)
 
 module _ (w : Waits) (count : ℕ) (are : AreQueues w count) where
-  -- who doesn't wait for a mailbox isn't in its queue
+  -- a desk that doesn't wait for a mailbox isn't in this mailbox's queue
   pub not_in : (d m : ℕ) → linked_at w.mailbox d ≢ Some m → without d (queue_of w m) ≡ queue_of w m
   not_in d m waits_not = elim (cases_lt m (length w.first)) [
     | inl l ↦ without_none d (queue_of w m) (out (one_waits_at m (linked_at w.mailbox d)) refl ((are.queued m l).once d))
@@ -270,7 +270,7 @@ module _ (w : Waits) (count : ℕ) (are : AreQueues w count) where
           let one : one_waits_at m (linked_at w.mailbox d) ≡ 1 = omega (arith, e, waits_le m (linked_at w.mailbox d)) in
           absurd (waits_not (waits_where m (linked_at w.mailbox d) one))
 
-  -- where none is counted every queue is empty
+  -- if the number of waiting desks is 0, every queue is empty
   pub nobody : count ≡ 0 → (m : ℕ) → queue_of w m ≡ []
   nobody none m = elim (cases_lt m (length w.first)) [
     | inl l ↦ empty (queue_of w m) (omega (arith, (are.queued m l).as_many, waits_sum m w.mailbox, are.counted, none))
@@ -281,21 +281,21 @@ module _ (w : Waits) (count : ℕ) (are : AreQueues w count) where
       empty [] e = refl
       empty (x ∷ xs) e = absurd (omega (arith, e))
 
-  -- and each mailbox has no first
+  -- if the number of waiting desks is 0, no mailbox has a first waiting desk
   pub no_first : count ≡ 0 → (m : ℕ) → linked_at w.first m ≡ None
   no_first none m = elim (cases_lt m (length w.first)) [
     | inl l ↦ (are.queued m l).first ∙ ap first_of (nobody none m)
     | inr past ↦ get_or_past w.first m None past
   ]
 
-  -- the first of a mailbox's row is the first of its queue
+  -- the first desk that is stored for a mailbox is the first desk of its queue
   pub first_is : (m : ℕ) → linked_at w.first m ≡ first_of (queue_of w m)
   first_is m = elim (cases_lt m (length w.first)) [
     | inl l ↦ (are.queued m l).first
     | inr past ↦ get_or_past w.first m None past ∙ ap first_of (sym (queue_past w m past))
   ]
 
-  -- the last of a mailbox waits for it
+  -- the last desk that is stored for a mailbox waits for this mailbox
   pub last_waits : (m e : ℕ) → linked_at w.last m ≡ Some e → linked_at w.mailbox e ≡ Some m
   last_waits m e last =
       let l : m < length w.first = omega (arith, within_row w.last m e last, are.rows.last) in

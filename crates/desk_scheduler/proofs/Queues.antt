@@ -1,4 +1,4 @@
--- What the queues keep while desks join and leave.
+-- What stays true of the queues while desks join and leave them.
 use Rattle.std.proofs.Common.{◌≡◌, ◌≢◌, ℕ, ◌+◌, ◌*◌, ◌<◌, ◌≤◌, ◌==◌, inl, inr, Bool, true, false, List, [], ◌∷◌, ◌++◌, Option, Some, None, length, set, refl, sym, ap, ◌∙◌, subst, arith, length-append, append_assoc}
 use Rattle.std.specs.Prelude.{sum_by, replicate}
 use Rattle.std.proofs.lemmas.Bool.{eqb-true, eqb-false, cases_lt}
@@ -10,7 +10,7 @@ use Rattle.desk_scheduler.specs.Desks.{one_for}
 use Rattle.desk_scheduler.specs.Waits.{Waits, linked_at, one_waits, one_waits_at, waiting_from, queue_of, first_of, last_from, last_of, without, linked_to, ended_at, joined_rows, left_rows, Linked, IsQueue, AreQueues}
 use Rattle.desk_scheduler.proofs.QueueRows.{in_front, in_rest, one_same, one_other, none_some, some_same, count_split, first_counts, last_counts, last_of_counts, last_append, last_append_none, some_last, not_empty, Cut, cut, CutAt, cut_at, without_cut, waits_le, waits_here, waits_elsewhere, waiting_none, within_row, cut_waits, counts_waits, walked, untouched, linked_to_other, ended_at_other, length_linked_to, length_ended_at, linked_to_here, ended_here, ended_else, queue_past, not_in, last_waits}
 
--- Nobody waits yet
+-- The queues while no desk waits
 
 none_at : (n : ℕ) (k : ℕ) (row : List (Option ℕ)) → row ≡ replicate n None → linked_at row k ≡ None
 none_at n k row is = ap (λ (r : List (Option ℕ)). linked_at r k) is ∙ elim (cases_lt k n) [
@@ -50,10 +50,10 @@ nobody_yet w n first last mailbox before behind = (
     empty : (m : ℕ) → queue_of w m ≡ []
     empty m = ap (λ (o : Option ℕ). waiting_from w.behind (length w.mailbox) o) (none_at n m w.first first) ∙ waiting_none w.behind (length w.mailbox)
 
--- A desk joins
+-- The queues after desk d joins the queue of mailbox m
 
 module _ (w : Waits) (count m d : ℕ) (are : AreQueues w count) (within : d < length w.mailbox) (waits_not : linked_at w.mailbox d ≡ None) where
-  -- a desk that waits is a different desk
+  -- a desk that waits is not desk d, which does not wait yet
   waits_apart : (k n : ℕ) → linked_at w.mailbox k ≡ Some n → k ≢ d
   waits_apart k n waits same =
       let bad : linked_at w.mailbox d ≡ Some n = subst (λ (j : ℕ). linked_at w.mailbox j ≡ Some n) same waits in
@@ -69,21 +69,21 @@ module _ (w : Waits) (count m d : ℕ) (are : AreQueues w count) (within : d < l
   before_other : (k n : ℕ) → linked_at w.mailbox k ≡ Some n → linked_at (joined_rows w m d).before k ≡ linked_at w.before k
   before_other k n waits = get_or-set_other w.before d k (linked_at w.last m) None (waits_apart k n waits)
 
-  -- the links of all desks stay, except that of the last desk
+  -- only the last desk of the queue gets a new link to the desk behind it
   behind_other : (k n : ℕ) → linked_at w.mailbox k ≡ Some n → ((e : ℕ) → linked_at w.last m ≡ Some e → k ≢ e)
       → linked_at (joined_rows w m d).behind k ≡ linked_at w.behind k
   behind_other k n waits apart =
       get_or-set_other (linked_to w.behind (linked_at w.last m) (Some d)) d k None None (waits_apart k n waits)
       ∙ linked_to_other w.behind (linked_at w.last m) (Some d) k apart
 
-  -- a desk that waits for another mailbox isn't the last one here
+  -- a desk that waits for another mailbox isn't the last desk of this queue
   elsewhere_apart : (k n : ℕ) → n ≢ m → linked_at w.mailbox k ≡ Some n → (e : ℕ) → linked_at w.last m ≡ Some e → k ≢ e
   elsewhere_apart k n apart waits e last same =
       let here : linked_at w.mailbox k ≡ Some m = subst (λ (j : ℕ). linked_at w.mailbox j ≡ Some m) (sym same) (last_waits w count are m e last) in
       let both : Some n ≡ Some m = sym waits ∙ here in
       apart (cc)
 
-  -- the other queues stay
+  -- the queues of all other mailboxes stay as they are
   joined_else : (n : ℕ) → n < length w.first → n ≢ m → IsQueue (joined_rows w m d) n (queue_of w n)
   joined_else n l apart = untouched w n (queue_of w n) (are.queued n l) (joined_rows w m d)
       (ended_at_other w.first (linked_at w.last m) m (Some d) n apart)
@@ -105,7 +105,7 @@ module _ (w : Waits) (count m d : ℕ) (are : AreQueues w count) (within : d < l
       sum : sum_by (one_waits_at n) (set w.mailbox d (Some m)) ≡ sum_by (one_waits_at n) w.mailbox
       sum = omega (arith, sum_by-set (one_waits_at n) w.mailbox d (Some m) None within, none, waits_elsewhere n m (λ f. apart (sym f)))
 
-  -- the new desk stands behind all others that wait here
+  -- desk d stands behind all desks that wait for mailbox m
   joined_here : m < length w.first → IsQueue (joined_rows w m d) m (queue_of w m ++ d ∷ [])
   joined_here l = record {
     first = first_by (queue_of w m) (are.queued m l).first (are.queued m l).last;
@@ -141,7 +141,7 @@ module _ (w : Waits) (count m d : ℕ) (are : AreQueues w count) (within : d < l
           let new : one_waits_at m (linked_at (set w.mailbox d (Some m)) k) ≡ one_waits_at m (linked_at w.mailbox k) = ap (one_waits_at m) (mailbox_other k apart) in
           omega (arith, sum_by_push (one_for k) (queue_of w m) d, (are.queued m l).once k, not_one, new)
 
-      -- a desk that already waited here
+      -- the links of a desk that waited for mailbox m before desk d joined
       link_front : (xs : List ℕ) (k : ℕ) (zs : List ℕ) → queue_of w m ≡ xs ++ k ∷ zs → Linked (joined_rows w m d) xs k (zs ++ d ∷ [])
       link_front xs k [] e =
           let old = (are.queued m l).links xs k [] e in
@@ -165,7 +165,7 @@ module _ (w : Waits) (count m d : ℕ) (are : AreQueues w count) (within : d < l
                 absurd (omega (arith, counts, none_here))) ∙ old.behind;
           }
 
-      -- the desk itself
+      -- the links of desk d itself
       link_last : (xs zs : List ℕ) (k : ℕ) (ys : List ℕ) → xs ≡ queue_of w m ++ zs → d ∷ [] ≡ zs ++ k ∷ ys → Linked (joined_rows w m d) xs k ys
       link_last xs [] k ys front rest =
           let same : k ≡ d = cc in
@@ -256,14 +256,14 @@ marked w count called are = record {
       record { first = q.first; last = q.last; links = λ xs d ys e. let k = q.links xs d ys e in record { before = k.before; behind = k.behind }; once = q.once; as_many = q.as_many };
 }
 
--- A desk leaves
+-- The queues after desk d leaves the queue of mailbox m
 
 module _ (w : Waits) (count m d : ℕ) (are : AreQueues w count) (waits : linked_at w.mailbox d ≡ Some m) where
-  -- the queue of the desk's mailbox, split at the desk
+  -- the queue of mailbox m is cut at desk d
   cut_here : m < length w.first → CutAt d (queue_of w m)
   cut_here l = cut_at d (queue_of w m) (omega (arith, (are.queued m l).once d, ap (one_waits_at m) waits, waits_here m))
 
-  -- the desks before and behind it wait for the same mailbox
+  -- the desks before and behind desk d wait for the same mailbox as d
   before_waits : (e : ℕ) → linked_at w.before d ≡ Some e → linked_at w.mailbox e ≡ Some m
   before_waits e at = elim (cases_lt m (length w.first)) [
     | inl l ↦
@@ -284,7 +284,7 @@ module _ (w : Waits) (count m d : ℕ) (are : AreQueues w count) (waits : linked
     | inr past ↦ absurd (none_some e (sym (are.unlinked d m waits past).behind ∙ at))
   ]
 
-  -- two desks that wait for different mailboxes are different
+  -- two desks that wait for different mailboxes are different desks
   waits_else : (k n : ℕ) → n ≢ m → linked_at w.mailbox k ≡ Some n → (e : ℕ) → linked_at w.mailbox e ≡ Some m → k ≢ e
   waits_else k n apart there e here same =
       let both : linked_at w.mailbox k ≡ Some m = subst (λ (j : ℕ). linked_at w.mailbox j ≡ Some m) (sym same) here in
@@ -352,7 +352,7 @@ module _ (w : Waits) (count m d : ℕ) (are : AreQueues w count) (waits : linked
       ended_else w.last (linked_at w.behind d) m (linked_at w.before d) y (behind_is l xs (y ∷ ys) is)
       ∙ ((are.queued m l).last ∙ (ap last_of is ∙ (last_append None xs d (y ∷ ys) ∙ sym (last_append None xs y ys))))
 
-  -- the desks before it keep their links, except the last of them
+  -- the desks before desk d have the same links as before, except the last of them
   front_links : (l : m < length w.first) (xs ys : List ℕ) → queue_of w m ≡ xs ++ d ∷ ys → (ahead : List ℕ) (k : ℕ) (zs : List ℕ) → xs ≡ ahead ++ k ∷ zs
       → Linked (left_rows w m d) ahead k (zs ++ ys)
   front_links l xs ys is ahead k zs front = record {
@@ -386,7 +386,7 @@ module _ (w : Waits) (count m d : ℕ) (are : AreQueues w count) (waits : linked
           absurd (omega (arith, some, here, at_most_one l xs ys is e)))
           ∙ ((are.queued m l).links ahead k ((z ∷ zs) ++ d ∷ ys) (whole (z ∷ zs) front)).behind
 
-  -- the desks behind it keep their links, except the first of them
+  -- the desks behind desk d have the same links as before, except the first of them
   rest_links : (l : m < length w.first) (xs ys : List ℕ) → queue_of w m ≡ xs ++ d ∷ ys → (zs : List ℕ) (k : ℕ) (bs : List ℕ) → ys ≡ zs ++ k ∷ bs
       → Linked (left_rows w m d) (xs ++ zs) k bs
   rest_links l xs ys is zs k bs rest = record {
@@ -456,7 +456,7 @@ module _ (w : Waits) (count m d : ℕ) (are : AreQueues w count) (waits : linked
       by false e =
           let there_before : linked_at w.mailbox k ≡ Some n = sym (gone k (eqb-false k d e)) ∙ there in
           let was = are.unlinked k n there_before past_rows in
-          -- if k is a neighbour of the desk, k waits for the same mailbox
+          -- if desk k is next to desk d, then k waits for the same mailbox as d
           let alone : (o : ℕ) → linked_at w.mailbox o ≡ Some m → k ≡ o → n ≡ m = (λ o here same. some_same n m (sym there_before ∙ subst (λ (j : ℕ). linked_at w.mailbox j ≡ Some m) (sym same) here)) in
           record {
             before = left_before k (λ o at same. none_some o (sym (are.unlinked d m waits (omega (arith, past_rows, alone o (behind_waits o at) same))).behind ∙ at)) ∙ was.before;
@@ -517,7 +517,7 @@ module _ (w : Waits) (count m d : ℕ) (are : AreQueues w count) (waits : linked
             ∙ ap (without d) (sym (queue_past w n past))
       ]
 
--- the first of a queue stands before the others, and in no other queue
+-- the first desk of a queue stands in no other queue, and the queue is this desk and the desks behind it
 pub called_first : (w : Waits) (count m d : ℕ) → AreQueues w count → linked_at w.first m ≡ Some d
     → (queue_of w m ≡ d ∷ without d (queue_of w m)) × (linked_at w.mailbox d ≡ Some m)
 called_first w count m d are first =

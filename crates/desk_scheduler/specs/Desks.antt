@@ -5,18 +5,19 @@ use Rattle.desk_scheduler.specs.declared.wake.Wake.{Wake}
 use Rattle.desk_scheduler.specs.declared.wake.Wake.TheVariants.{Work, Hold}
 use Rattle.desk_scheduler.specs.declared.side.Place.TheVariants.{Idle, Listed, InHand, InHandAgain}
 
--- The place of each desk of one kind, and the two lists of desks that may have work. The second list has the desks
--- that were woken for a hold only, and comes after the first. In each list the next desk stands first.
+-- The place of each desk of one side, such as idle, listed or held, and two lists of desks that may have work. The
+-- second list has the desks that were woken only by an answer `hold`, and is used after the first list. In each list
+-- the next desk stands first.
 pub record Desks : Type 0 where
   pub places : List Place
   pub ready : List ℕ
   pub behind : List ℕ
 
--- the place of a desk
+-- the place of a desk: whether the desk is idle, listed or held by a worker
 abbrev pub place_of : Desks → ℕ → Place
 place_of desks d = slice_index_or desks.places d Idle
 
--- the desks, with this desk at this place
+-- the desks, after this desk got this place
 abbrev pub moved : Desks → ℕ → Place → Desks
 moved desks d place = record { places = slice_set desks.places d place; ready = desks.ready; behind = desks.behind }
 
@@ -45,8 +46,8 @@ listed_from desks d wake InHandAgain = desks
 abbrev pub listing : Desks → ℕ → Wake → Desks
 listing desks d wake = listed_from desks d wake (place_of desks d)
 
--- A worker lets go of a desk at this place. If the desk may have work again, it is listed. A desk that no worker
--- holds stays where it is.
+-- A worker lets go of a desk at this place. If the desk may have work again, it is listed. A desk that no worker holds
+-- keeps its place.
 abbrev pub let_go_from : Desks → ℕ → Bool → Place → Desks
 let_go_from desks d again InHandAgain = on_top desks d
 let_go_from desks d true InHand = on_top desks d
@@ -71,19 +72,19 @@ taken_from desks [] [] = None
 abbrev pub taken : Desks → Option (ℕ × Desks)
 taken desks = taken_from desks desks.ready desks.behind
 
--- how often a desk at this place is listed
+-- how often a desk at this place is listed: once or never
 abbrev pub times : Place → ℕ
 times Idle = 0
 times Listed = 1
 times InHand = 0
 times InHandAgain = 0
 
--- 1 for this desk, 0 for another
+-- 1 for this desk, 0 for any other desk
 abbrev pub one_for : ℕ → ℕ → ℕ
 one_for d x = cond (x == d) 1 0
 
--- A desk is listed once if its place says so, and else never. It is in the list that its place names. Each list has
--- as many desks as places say, and has room for all.
+-- If the place of a desk is `Listed`, the desk stands once in the two lists together; else it stands in neither list.
+-- The two lists together have as many desks as there are places `Listed`. Each list has room for all desks.
 pub record AreListed (places : List Place) (listed behind : List ℕ) (reserved reserved_behind : ℕ) : Type 0 where
   pub once : (d : ℕ) → sum_by (one_for d) listed + sum_by (one_for d) behind ≡ times (slice_index_or places d Idle)
   pub as_many : length listed + length behind ≡ sum_by times places

@@ -23,7 +23,7 @@ pub record GetDesks (old new : Manned) (count : ℕ) : Type 0 where
   pub begun : new.begun ≡ old.begun
 
 module _ {H L : Type 0} where
-  -- what the scheduler gave to a worker in this turn
+  -- which desk the scheduler gave to a worker in this turn, if any
   abbrev pub next_in : (H → ℕ) → Turn H L → Next
   next_in number (turn.Desk hand) = next.Desk (number hand)
   next_in number (turn.Nothing own) = next.Nothing

@@ -40,7 +40,7 @@ waiting_from behind (suc most) (Some desk) = desk ∷ waiting_from behind most (
 abbrev pub queue_of : Waits → ℕ → List ℕ
 queue_of w m = waiting_from w.behind (length w.mailbox) (linked_at w.first m)
 
--- the first desk of a list; and the last
+-- the first desk of a list, and the last desk of a list
 abbrev pub first_of : List ℕ → Option ℕ
 first_of [] = None
 first_of (d ∷ ds) = Some d
@@ -62,7 +62,7 @@ abbrev pub linked_to : List (Option ℕ) → Option ℕ → Option ℕ → List 
 linked_to row None to = row
 linked_to row (Some desk) to = slice_set row desk to
 
--- the end of a mailbox's queue, set if there is no such desk
+-- the queues' ends after this mailbox's end is set; with a desk, no end changes
 abbrev pub ended_at : List (Option ℕ) → Option ℕ → ℕ → Option ℕ → List (Option ℕ)
 ended_at row None m to = slice_set row m to
 ended_at row (Some desk) m to = row
@@ -94,8 +94,8 @@ pub record Linked (w : Waits) (xs : List ℕ) (d : ℕ) (ys : List ℕ) : Type 0
   pub before : linked_at w.before d ≡ last_of xs
   pub behind : linked_at w.behind d ≡ first_of ys
 
--- These are the desks that wait for room in a mailbox. The mailbox's ends are the first and the last of them. Each
--- desk is linked to its neighbours. A desk is among them once, exactly if its row says so.
+-- These desks wait for room in a mailbox. The mailbox's ends are the first and the last of these desks. Each desk is
+-- linked to its neighbours. A desk stands in the queue once if its row names this mailbox, and else not at all.
 pub record IsQueue (w : Waits) (m : ℕ) (queue : List ℕ) : Type 0 where
   pub first : linked_at w.first m ≡ first_of queue
   pub last : linked_at w.last m ≡ last_of queue
@@ -110,8 +110,8 @@ pub record AreRows (w : Waits) : Type 0 where
   pub before : length w.before ≡ length w.first
   pub behind : length w.behind ≡ length w.first
 
--- Each mailbox has its queue, and the count is the number of waiting desks. A desk that waits for a mailbox that does
--- not exist has no links.
+-- Each mailbox has its queue, and the count that is kept with the queues is the number of all waiting desks. A desk that
+-- waits for a mailbox that does not exist has no links.
 pub record AreQueues (w : Waits) (count : ℕ) : Type 0 where
   pub counted : count ≡ sum_by one_waits w.mailbox
   pub rows : AreRows w

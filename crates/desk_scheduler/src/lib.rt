@@ -1,4 +1,5 @@
-//! Which desks workers hold, which may have work, and which wait for room. The crate has no thread and no lock.
+//! Which desks workers have, which desks may have work, and which desks wait for room. The crate has no thread and no
+//! lock.
 #![tactic(auto)]
 
 mod scheduler;

@@ -1,4 +1,4 @@
-//! Which desks workers hold, and which desks may have work.
+//! Which desks workers have, and which desks are listed because they may have work.
 ghost use Rattle.std.specs.Prelude.{◌≡◌, ◌≢◌, ◌+◌, ◌-◌, ◌<◌, ◌^◌, ◌||◌, ◌&&◌, [], true, false, length, fold, nat_lt, replicate, cond, IfOk};
 ghost use Rattle.std.specs.List.{range_with_len};
 ghost use Rattle.desk_scheduler.specs.Desks.{letting_go};
@@ -14,7 +14,7 @@ use std::marker::Model;
 /// The answer to a worker that looks for a desk.
 #[derive(Clone, Copy, Debug, PartialEq, Eq)]
 pub enum Next {
-    /// The worker gets this desk.
+    /// The worker gets the desk with this number.
     Desk(u32),
     /// No desk is listed.
     Nothing,
@@ -22,9 +22,10 @@ pub enum Next {
     Ended,
 }
 
-/// The held desks and the listed desks, by number: residents' desks before programmes'. Residents' desks come first,
-/// so that a programme hears many answers in one visit. On each side a desk that only has to hear a hold comes after
-/// the others. Otherwise the desk listed last comes first, since most of its data is still near.
+/// Which desks workers have, and which desks are listed. Residents' desks are numbered before programmes' desks. A
+/// listed resident's desk is taken before any programme's desk, so that a programme hears many answers in one visit. On
+/// each side, a desk that only has to hear the answer `hold` is taken after all other desks. Among the other desks the
+/// one listed last is taken first, since its data is mostly still in the cache.
 #[derive(Debug, Drop)]
 pub struct Scheduler {
     residents: Side,
@@ -45,7 +46,8 @@ impl Model for Scheduler {
 }
 
 impl Scheduler {
-    /// No desk is held. Every programme's desk may have work, the first programme's first.
+    /// A scheduler at the start: no worker has a desk, and every programme's desk is listed, the first programme's desk
+    /// in front.
     pub fn open(alloc: Global, residents: u32, programmes: u32) -> Result<Scheduler, AllocError>
         requires { residents + programmes < 2 ^ 32 }
         ensures residents { IfOk result (λ s. (s.residents.places ≡ replicate residents Idle)
@@ -64,7 +66,8 @@ impl Scheduler {
         })
     }
 
-    /// Wakes a desk. An idle desk is listed in the tier for this wake. A held desk is marked.
+    /// Wakes a desk. If no worker has the desk, it is listed, sooner or later by the reason `wake`. If a worker has the
+    /// desk, the desk is marked to be listed afterwards.
     #[inline(always)]
     pub fn list(&mut self, desk: u32, wake: Wake)
         ensures listed { self.new ≡ woken_by self.old (desk, wake) }
@@ -78,7 +81,7 @@ impl Scheduler {
         }
     }
 
-    /// Lists all these desks. They are no longer noted.
+    /// Lists all noted desks, and removes the notes.
     #[inline(always)]
     pub fn list_all(&mut self, woken: &mut Woken)
         ensures listed { self.new ≡ fold woken_by self.old woken.old }
@@ -93,7 +96,7 @@ impl Scheduler {
         woken.clear();
     }
 
-    /// A worker lets go of a desk. If the desk may have work again, it is listed.
+    /// A worker leaves a desk. If the desk may have work again, it is listed.
     #[inline(always)]
     pub fn let_go(&mut self, desk: u32, again: bool)
         ensures let_go { self.new ≡ at_desk (λ desks d. letting_go desks d again) self.old desk }
@@ -107,7 +110,7 @@ impl Scheduler {
         }
     }
 
-    /// A worker takes the first listed desk, until the run ends.
+    /// A worker takes the first listed desk. Once the run has ended, the worker gets no desk.
     #[inline(always)]
     pub fn next(&mut self) -> Next
         ensures next { (result, self.new) ≡ next_of self.old }
@@ -127,8 +130,8 @@ impl Scheduler {
         }
     }
 
-    /// A worker takes this desk if it is idle, else the first listed desk. The answer is `Nothing` only if this desk
-    /// is held and no desk is listed.
+    /// A worker takes this desk if no worker has it and it is not listed, else the first listed desk. The answer is
+    /// `Nothing` only if another worker has this desk and no desk is listed.
     pub fn claim_or_next(&mut self, desk: u32) -> Next
         ensures next { (result, self.new) ≡ claim_or_next_of self.old desk }
         ensures in_hand { result ≡ Next.Nothing → IsInHand self.old desk }
@@ -146,7 +149,7 @@ impl Scheduler {
         self.next()
     }
 
-    // A worker takes this desk if it is idle. Returns whether it did.
+    // A worker takes this desk if the desk is idle. Returns whether the worker took it.
     fn claim(&mut self, desk: u32) -> bool
         ensures claimed { result ≡ true → (place_at self.old desk ≡ Idle) × (self.new ≡ at_desk in_hand self.old desk) }
         ensures left { result ≡ false → (place_at self.old desk ≢ Idle) × (self.new ≡ self.old) }
@@ -159,7 +162,7 @@ impl Scheduler {
         self.programmes.has(programme) && self.programmes.claim(programme)
     }
 
-    /// A worker begins to wait.
+    /// Notes that a worker begins to wait.
     pub fn wait_begins(&mut self)
         ensures waiting { self.old.waiting + 1 < 2 ^ 64 → self.new.waiting ≡ self.old.waiting + 1 }
         ensures rest { self.new ≡ waiting_now self.old self.new.waiting }
@@ -167,21 +170,21 @@ impl Scheduler {
         self.waiting = self.waiting.saturating_add(1);
     }
 
-    /// A worker no longer waits.
+    /// Notes that a worker no longer waits.
     pub fn wait_ends(&mut self)
         ensures { self.new ≡ waiting_now self.old (self.old.waiting - 1) }
     {
         self.waiting = self.waiting.saturating_sub(1);
     }
 
-    /// The run ends: no worker gets a desk any more.
+    /// Ends the run: from now on no worker gets a desk.
     pub fn end(&mut self)
         ensures { self.new ≡ ended_now self.old }
     {
         self.ended = true;
     }
 
-    /// Whether a waiting worker has a reason to wake.
+    /// Whether a waiting worker has a reason to wake: a desk is listed, or the run has ended.
     #[inline(always)]
     pub fn has_news(&self) -> bool
         ensures { result ≡ (self.now.ended || any_ready self.now) }
@@ -189,7 +192,7 @@ impl Scheduler {
         self.ended || self.residents.is_ready() || self.programmes.is_ready()
     }
 
-    /// Whether some worker waits and has a reason to wake.
+    /// Whether some worker waits while a desk is listed.
     #[inline(always)]
     pub fn wakes_one(&self) -> bool
         ensures { result ≡ (nat_lt 0 self.now.waiting && any_ready self.now) }
@@ -197,7 +200,7 @@ impl Scheduler {
         self.waiting > 0 && (self.residents.is_ready() || self.programmes.is_ready())
     }
 
-    /// Whether the run ends.
+    /// Whether the run has ended.
     pub fn is_ended(&self) -> bool
         ensures { result ≡ self.now.ended }
     {

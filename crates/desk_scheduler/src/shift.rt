@@ -1,4 +1,4 @@
-//! The workers of a run and its desks: one value, under one lock.
+//! The workers of a run and its desks, as one value under one lock.
 ghost use Rattle.std.specs.Prelude.{◌≡◌, ◌+◌, ◌<◌, ◌≤◌, ◌||◌, ◌&&◌, [], false, true, fold, nat_lt, IfOk, IfErr, IfSome, IfNone};
 ghost use Rattle.desk_scheduler.specs.Desks.{letting_go};
 ghost use Rattle.desk_scheduler.specs.Shift.{GetDesks, next_in, desks_in};
@@ -10,8 +10,8 @@ use crate::woken::Woken;
 use crate::workers::{Holding, Looking, Resting, Workers, WorkersIdentity};
 use std::marker::Model;
 
-/// A desk that a worker holds. Only a worker that looked for a desk gets one, and a desk is let go only with this
-/// value.
+/// A desk that a worker has. Only a worker that looked for a desk gets a `Hand`, and the worker gives the `Hand` up
+/// when leaving the desk.
 #[derive(Drop)]
 pub struct Hand<J: WorkersIdentity> {
     desk: u32,
@@ -28,11 +28,12 @@ impl<J: WorkersIdentity> Hand<J> {
     }
 }
 
-/// What a worker that looks for a desk gets in this run.
+/// The answer to a worker of this run that looks for a desk.
 pub type TurnOf<J> = Turn<Hand<J>, Looking<J>>;
 
-/// The schedule of a run, and its workers. Each worker has a token of what it does: a `Hand` with a desk, `Looking`,
-/// or `Resting`. Only a call of this value gives a token, and the next call takes it. Never do all workers rest.
+/// The schedule of a run, and its workers. Each worker has a token that says what it does: a `Hand` with a desk,
+/// `Looking`, or `Resting`. Only calls of this value give tokens, and each call takes the worker's old token. At no
+/// time do all workers rest.
 #[derive(Drop)]
 pub struct Shift<J: WorkersIdentity> {
     scheduler: Scheduler,
@@ -57,7 +58,7 @@ impl<J: WorkersIdentity> Model for Shift<J> {
 }
 
 impl<J: WorkersIdentity> Shift<J> {
-    /// This schedule, before any worker begins.
+    /// A shift with this schedule, before any worker begins.
     pub fn new(scheduler: Scheduler, workers: Workers<J>) -> Shift<J>
         requires nobody_waits { scheduler.waiting ≡ 0 }
         requires nobody { workers.begun ≡ 0 }
@@ -67,7 +68,7 @@ impl<J: WorkersIdentity> Shift<J> {
         Shift { scheduler, workers }
     }
 
-    /// One more worker begins, and looks for a desk. None if 63 have begun.
+    /// One more worker begins, and looks for a desk. The result is none if 63 workers have begun.
     pub fn begins(&mut self) -> Option<Looking<J>>
         ensures begun { IfSome result (λ _. self.new.begun ≡ self.old.begun + 1) }
         ensures looks { IfSome result (λ _. self.new.looking ≡ self.old.looking + 1) }
@@ -78,7 +79,7 @@ impl<J: WorkersIdentity> Shift<J> {
         self.workers.begins()
     }
 
-    /// Lists all these desks. They are no longer noted.
+    /// Lists all noted desks, and removes the notes.
     #[inline(always)]
     pub fn list_all(&mut self, woken: &mut Woken)
         ensures listed { self.new.schedule ≡ fold woken_by self.old.schedule woken.old }
@@ -89,7 +90,8 @@ impl<J: WorkersIdentity> Shift<J> {
         self.scheduler.list_all(woken);
     }
 
-    /// A worker lets go of its desk, and looks for another. If the desk may have work again, it is listed.
+    /// A worker leaves its desk, and looks for a desk again. If the desk that it left may have work again, that desk is
+    /// listed.
     #[inline(always)]
     pub fn let_go(&mut self, hand: Hand<J>, again: bool) -> Looking<J>
         ensures let_go { self.new.schedule ≡ at_desk (λ desks d. letting_go desks d again) self.old.schedule hand.desk }
@@ -101,7 +103,7 @@ impl<J: WorkersIdentity> Shift<J> {
         self.workers.lets_go(held)
     }
 
-    /// A worker that looks for a desk gets the first listed one, until the run ends.
+    /// A worker that looks for a desk gets the first listed desk, until the run ends.
     #[inline(always)]
     pub fn next(&mut self, own: Looking<J>) -> TurnOf<J>
         ensures next { (next_in (λ hand. hand.desk) result, self.new.schedule) ≡ next_of self.old.schedule }
@@ -112,8 +114,8 @@ impl<J: WorkersIdentity> Shift<J> {
         self.gets(next, own)
     }
 
-    /// A worker that looks gets this desk if it is idle, else the first listed desk. It gets nothing only if this
-    /// desk is held and no desk is listed.
+    /// A worker that looks for a desk gets this desk if it is idle, else the first listed desk. The worker gets no desk
+    /// only if another worker has this desk and no desk is listed, or if the run has ended.
     pub fn claim_or_next(&mut self, own: Looking<J>, desk: u32) -> TurnOf<J>
         ensures next { (next_in (λ hand. hand.desk) result, self.new.schedule) ≡ claim_or_next_of self.old.schedule desk }
         ensures in_hand { next_in (λ hand. hand.desk) result ≡ Next.Nothing → IsInHand self.old.schedule desk }
@@ -125,7 +127,7 @@ impl<J: WorkersIdentity> Shift<J> {
         self.gets(next, own)
     }
 
-    // What a worker that looks gets, to which the scheduler gave this.
+    // The worker's new token, for the answer that the scheduler gave to the worker.
     #[inline(always)]
     fn gets(&mut self, next: Next, own: Looking<J>) -> TurnOf<J>
         ensures next { next_in (λ hand. hand.desk) result ≡ next }
@@ -142,7 +144,7 @@ impl<J: WorkersIdentity> Shift<J> {
         }
     }
 
-    /// A worker that looks rests, if another has a desk in its hands. Else it has to look on.
+    /// A worker that looks for a desk rests, if some other worker has a desk. Otherwise the worker has to look on.
     pub fn rests(&mut self, own: Looking<J>) -> Result<Resting<J>, Looking<J>>
         ensures rests { IfOk result (λ _. (self.new.resting ≡ self.old.resting + 1)
             × (self.new.looking + 1 ≡ self.old.looking)) }
@@ -169,7 +171,7 @@ impl<J: WorkersIdentity> Shift<J> {
         self.workers.wakes(own)
     }
 
-    /// The run ends: no worker gets a desk any more.
+    /// Ends the run: from now on no worker gets a desk.
     pub fn end(&mut self)
         ensures ended { self.new.schedule ≡ ended_now self.old.schedule }
         ensures counted { GetDesks self.old self.new 0 }
@@ -177,7 +179,7 @@ impl<J: WorkersIdentity> Shift<J> {
         self.scheduler.end();
     }
 
-    /// Whether a resting worker has a reason to wake.
+    /// Whether a resting worker has a reason to wake: a desk is listed, or the run has ended.
     #[inline(always)]
     pub fn has_news(&self) -> bool
         ensures { result ≡ (self.now.schedule.ended || any_ready self.now.schedule) }
@@ -185,7 +187,7 @@ impl<J: WorkersIdentity> Shift<J> {
         self.scheduler.has_news()
     }
 
-    /// Whether some worker rests and has a reason to wake.
+    /// Whether some worker rests while a desk is listed.
     #[inline(always)]
     pub fn wakes_one(&self) -> bool
         ensures { result ≡ (nat_lt 0 self.now.resting && any_ready self.now.schedule) }

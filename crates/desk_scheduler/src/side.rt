@@ -1,4 +1,4 @@
-//! The desks of one kind: the place of each, and which may have work.
+//! The desks of one side: the state of each desk, and which desks are listed.
 ghost use Rattle.std.specs.Prelude.{◌≡◌, ◌≢◌, ◌<◌, [], None, Some, true, false, length, replicate, nat_lt, MatchOption, IfOk};
 ghost use Rattle.std.specs.List.{range_with_len};
 ghost use Rattle.desk_scheduler.specs.Desks.{listing, letting_go, is_listed, moved, on_top, on_top_behind, place_of, taken, times};
@@ -8,22 +8,22 @@ use crate::wake::Wake;
 use std::alloc::{AllocError, Global};
 use std::marker::Model;
 
-/// The place of a desk.
+/// The state of a desk in the schedule.
 #[derive(Clone, Copy, Debug, PartialEq, Eq)]
 pub(crate) enum Place {
-    /// No worker holds the desk, and it has no known work.
+    /// No worker has the desk, and no work at the desk is known.
     Idle,
-    /// In the list of desks that may have work.
+    /// The desk is listed, since it may have work.
     Listed,
-    /// A worker holds the desk.
+    /// A worker has the desk.
     InHand,
-    /// A worker holds the desk. It is to be listed when the worker lets go.
+    /// A worker has the desk. When the worker leaves the desk, the desk is listed.
     InHandAgain,
 }
 
-/// The desks of one kind, by number: the place of each, and the listed ones, in two tiers. The second tier has the
-/// desks that were woken only for a hold. Their turn comes when no other desk is listed. In each tier the desk listed
-/// last comes first.
+/// The desks of one side: the state of each desk, and the listed desks in two tiers. The second tier has the desks that
+/// were woken only because of the answer `hold`. A desk of the second tier is taken only when the first tier is empty.
+/// In each tier the desk that was listed last is taken first.
 #[derive(Debug, Drop)]
 pub(crate) struct Side {
     places: Vec<Place>,
@@ -44,7 +44,7 @@ impl Model for Side {
 }
 
 impl Side {
-    /// Idle desks, without work.
+    /// A side of idle desks, of which none is listed.
     pub(crate) fn idle(alloc: Global, desks: u32) -> Result<Side, AllocError>
         ensures { IfOk result (λ side. (side.places ≡ replicate desks Idle)
             × (side.ready ≡ []) × (side.behind ≡ [])) }
@@ -56,7 +56,7 @@ impl Side {
         })
     }
 
-    /// Desks that may all have work, the first desk first.
+    /// A side of listed desks. The first desk is taken first.
     pub(crate) fn ready(alloc: Global, desks: u32) -> Result<Side, AllocError>
         ensures desks { IfOk result (λ side. length side.places ≡ desks) }
         ensures all { IfOk result (λ side. side.ready ≡ range_with_len 0 desks) }
@@ -77,7 +77,7 @@ impl Side {
         (desk as usize) < self.places.len()
     }
 
-    /// Whether a desk is listed.
+    /// Whether some desk of this side is listed.
     #[inline(always)]
     pub(crate) fn is_ready(&self) -> bool
         ensures { result ≡ is_listed self.now }
@@ -85,7 +85,7 @@ impl Side {
         !self.listed.is_empty() || !self.behind.is_empty()
     }
 
-    /// Wakes a desk.
+    /// Wakes a desk for this reason.
     #[inline(always)]
     pub(crate) fn list(&mut self, desk: u32, wake: Wake)
         requires { desk < length self.old.places }
@@ -101,7 +101,7 @@ impl Side {
         }
     }
 
-    /// A worker lets go of a desk. If the desk may have work again, it is listed.
+    /// A worker leaves a desk. If the desk may have work again, it is listed.
     #[inline(always)]
     pub(crate) fn let_go(&mut self, desk: u32, again: bool)
         requires { desk < length self.old.places }
@@ -114,7 +114,7 @@ impl Side {
         }
     }
 
-    // Lists a desk that is not listed, as the next one.
+    // Lists a desk that is not listed yet, in front of the first tier.
     #[inline(always)]
     fn put(&mut self, desk: u32)
         requires within { desk < length self.old.places }
@@ -125,7 +125,7 @@ impl Side {
         self.listed.push_reserved(desk);
     }
 
-    // Lists a desk that is not listed, in the second tier.
+    // Lists a desk that is not listed yet, in front of the second tier.
     #[inline(always)]
     fn put_behind(&mut self, desk: u32)
         requires within { desk < length self.old.places }
@@ -136,7 +136,8 @@ impl Side {
         self.behind.push_reserved(desk);
     }
 
-    /// A worker takes the first listed desk; from the second tier only if the first is empty.
+    /// A worker takes the first desk of the first tier. If this tier is empty, the worker takes the first desk of the
+    /// second tier.
     #[inline(always)]
     pub(crate) fn next(&mut self) -> Option<u32>
         ensures { MatchOption result ((taken self.old ≡ None) × (self.new ≡ self.old)) (λ desk.
@@ -163,7 +164,7 @@ impl Side {
         Some(desk)
     }
 
-    /// A worker takes this desk if it is idle. Returns whether it did.
+    /// A worker takes this desk if the desk is idle. Returns whether the worker took it.
     #[inline(always)]
     pub(crate) fn claim(&mut self, desk: u32) -> bool
         requires { desk < length self.old.places }

@@ -1,9 +1,9 @@
 //! The answer to a worker that looks for a desk.
 
-/// The answer to a worker that looks for a desk: a hand with a desk, or its token back to look on.
+/// The answer to a worker that looks for a desk: either a hand with a desk, or the worker's own token back.
 #[derive(Drop)]
 pub enum Turn<H, L> {
-    /// The worker holds a desk now.
+    /// The worker has a desk now.
     Desk(H),
     /// No desk is listed, and the worker looks on.
     Nothing(L),

@@ -1,4 +1,4 @@
-//! The desks that wait for room in a mailbox.
+//! The queues of desks that wait for room in a mailbox.
 ghost use Rattle.std.specs.Prelude.{◌≡◌, ◌≢◌, ◌<◌, ◌++◌, ◌∷◌, [], ℕ, List, Option, None, Some, true, false, length, replicate, slice_set, MatchOption, IfOk};
 ghost use Rattle.std.specs.Option.{ForSome};
 ghost use Rattle.desk_scheduler.specs.Waits.{ended_at, joined_rows, left_rows, linked_at, linked_to, queue_of, was_called, without};
@@ -6,10 +6,10 @@ ghost use Rattle.desk_scheduler.specs.Waits.{ended_at, joined_rows, left_rows, l
 use std::alloc::{AllocError, Global};
 use std::marker::Model;
 
-/// The desks that wait for room in a mailbox, after their put was refused as full. Each mailbox has its first and its
-/// last waiting desk. Each desk has its mailbox, the desks before and behind it, and whether it was called. The
-/// number of waiting desks is kept, so that nothing is looked up while no desk waits. Mailboxes and desks have the
-/// desk's number. Each desk waits for one mailbox at most.
+/// For each mailbox the queue of desks that wait for room in it, after a full mailbox refused the message of the desk.
+/// A mailbox has links to its first and its last waiting desk. A desk has the number of its mailbox, links to the desks
+/// before and behind it, and a flag whether it was called. A desk waits for at most one mailbox. The number of waiting
+/// desks is stored, so that no queue is looked up while no desk waits. A mailbox has the number of its receiver's desk.
 #[derive(Debug, Drop)]
 pub struct WaitQueues {
     first: Vec<Option<u32>>,
@@ -46,7 +46,7 @@ impl Model for WaitQueues {
 }
 
 impl WaitQueues {
-    /// No desk waits, for this many desks.
+    /// The queues for this number of desks, while no desk waits.
     pub fn with_desks(alloc: Global, desks: usize) -> Result<WaitQueues, AllocError>
         ensures none { IfOk result (λ q. (q.mailbox ≡ replicate desks None)
             × (q.called ≡ replicate desks false)) }
@@ -65,8 +65,8 @@ impl WaitQueues {
         })
     }
 
-    /// A desk begins to wait for room in a mailbox, behind all others, and for no other mailbox. If it already waits
-    /// there, it keeps its place.
+    /// A desk begins to wait for room in a mailbox, behind all desks that wait there, and leaves any other queue. If
+    /// the desk already waits there, it stays where it is in the queue.
     pub fn join(&mut self, mailbox: u32, desk: u32)
         ensures waits { desk < length self.old.mailbox →
             linked_at self.new.mailbox desk ≡ Some mailbox }
@@ -106,7 +106,7 @@ impl WaitQueues {
         }
     }
 
-    // A desk that waits for no mailbox begins to wait, behind all others.
+    // A desk that waits for no mailbox joins the end of this mailbox's queue.
     fn join_behind(&mut self, mailbox: u32, desk: u32)
         requires within { desk < length self.old.mailbox }
         requires waits_not { linked_at self.old.mailbox desk ≡ None }
@@ -130,7 +130,7 @@ impl WaitQueues {
         self.count += 1;
     }
 
-    /// A desk no longer waits, if it did.
+    /// Takes a desk out of the queue in which it waits, if there is such a queue.
     #[inline(always)]
     pub fn leave(&mut self, desk: u32)
         ensures waits_not { linked_at self.new.mailbox desk ≡ None }
@@ -162,7 +162,7 @@ impl WaitQueues {
         self.unlink(mailbox, desk);
     }
 
-    // A desk leaves this mailbox's queue: the desks before and behind it are linked.
+    // Takes a desk out of this mailbox's queue, by linking the desks before and behind it.
     fn unlink(&mut self, mailbox: u32, desk: u32)
         requires waits { linked_at self.old.mailbox desk ≡ Some mailbox }
         ensures rows { self.new ≡ left_rows self.old mailbox desk }
@@ -176,7 +176,7 @@ impl WaitQueues {
         self.count -= 1;
     }
 
-    /// The first desk that waits for room in a mailbox is called, and no longer waits.
+    /// Calls the first desk that waits for room in a mailbox, if there is one. The desk leaves the queue.
     #[inline(always)]
     pub fn call_first(&mut self, mailbox: u32) -> Option<u32>
         ensures first { result ≡ linked_at self.old.first mailbox }
@@ -221,8 +221,8 @@ impl WaitQueues {
         mark(&mut self.called, desk, called);
     }
 
-    /// A worker takes a desk, which then no longer waits. Returns whether the desk was called since it was last
-    /// taken.
+    /// A worker has taken a desk, which leaves its queue. Returns whether the desk was called since a worker last took
+    /// it.
     #[inline(always)]
     pub fn comes(&mut self, desk: u32) -> bool
         ensures called { result ≡ was_called self.old.called desk }
@@ -256,7 +256,7 @@ fn link(row: &mut Vec<Option<u32>>, at: u32, to: Option<u32>)
     }
 }
 
-// Sets the link of the desk `at`. Without such a desk, sets the end of the mailbox's queue.
+// Sets the link of the desk `at`. If there is no such desk, sets the first or the last desk of the mailbox's queue.
 #[inline(always)]
 fn relink(
     links: &mut Vec<Option<u32>>,

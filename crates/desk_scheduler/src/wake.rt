@@ -1,11 +1,11 @@
 //! The reason for which a desk is woken.
 
-/// The reason for which a desk is woken. It decides whether the desk comes sooner or later.
+/// The reason for which a desk is woken. This reason decides whether the desk is taken sooner or later.
 #[derive(Clone, Copy, Debug, Default, PartialEq, Eq)]
 pub enum Wake {
-    /// The desk may have more to do than to hear a hold.
+    /// The desk may have more to do than to hear the answer `hold`.
     #[default]
     Work,
-    /// The desk got a hold, and mostly has nothing to do.
+    /// The desk was sent the answer `hold`, after which it mostly has nothing to do.
     Hold,
 }

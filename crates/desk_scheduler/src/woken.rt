@@ -1,4 +1,4 @@
-//! The desks that a worker's entries gave work, until they are listed.
+//! The desks to which a worker's events gave work, noted until the scheduler lists them.
 ghost use Rattle.std.specs.Prelude.{◌≡◌, ◌<◌, ◌↔◌, ◌++◌, ◌∷◌, [], true, false, length};
 
 use crate::wake::Wake;
@@ -8,7 +8,8 @@ use std::marker::Model;
 /// How many desks can be noted at once.
 const MOST: usize = 64;
 
-/// Desks by number, in the order in which they were noted. They are removed only by being listed.
+/// The noted desks with the reasons for which they were woken, in the order in which they were noted. Notes are removed
+/// only when the desks are listed.
 #[derive(Debug, Drop)]
 pub struct Woken {
     desks: ArrayVec<(u32, Wake), MOST>,
@@ -24,7 +25,7 @@ impl Model for Woken {
 }
 
 impl Woken {
-    /// No desk is noted.
+    /// A value without notes.
     pub fn new() -> Woken
         ensures { result ≡ [] }
     {
@@ -49,7 +50,7 @@ impl Woken {
         self.desks.is_full()
     }
 
-    /// Notes a desk.
+    /// Notes a desk that was woken for this reason.
     #[inline(always)]
     pub fn note(&mut self, desk: u32, wake: Wake)
         requires { length self.old < 64 }

@@ -1,4 +1,4 @@
-//! The workers of a run, counted under the scheduler's lock. Each holds a desk, looks for one, or rests.
+//! The workers of a run, counted under the scheduler's lock. Each worker has a desk, looks for a desk, or rests.
 ghost use Rattle.std.specs.Prelude.{◌≡◌, ◌+◌, ◌-◌, ◌<◌, ◌≤◌, ℕ, IfOk, IfErr, IfSome, IfNone};
 
 use std::marker::{Brand, PhantomData};
@@ -7,10 +7,10 @@ use std::sync::ledger::{Blank, Book, Ledger, Share};
 /// The greatest number of workers that can begin.
 const MOST: u64 = 63;
 
-/// Into how many parts each of the three count ledgers is cut.
+/// Into how many parts each of the three ledgers of counts is cut.
 pub const WORKER_PARTS: u64 = 64;
 
-/// The names of the three ledgers that count the workers of a run. Each run has its own three.
+/// The names of the three ledgers that count the workers of a run. Each run has three ledgers of its own.
 pub trait WorkersIdentity {
     ghost holding: { ℕ };
 
@@ -30,11 +30,11 @@ impl WorkersIdentity for Brand {
 /// Three ledgers without a name, for the counts of one run's workers.
 #[derive(Drop)]
 pub struct WorkerBlanks {
-    /// For the workers that hold a desk.
+    /// The ledger for the workers that have a desk.
     pub holding: Blank,
-    /// For the workers that look for a desk.
+    /// The ledger for the workers that look for a desk.
     pub looking: Blank,
-    /// For the workers that rest.
+    /// The ledger for the workers that rest.
     pub resting: Blank,
     pub ghost parts: { (holding.parts ≡ 64) × (looking.parts ≡ 64) × (resting.parts ≡ 64) },
 }
@@ -49,7 +49,7 @@ impl WorkerBlanks {
         }
     }
 
-    /// The counts of the run in the type's name, before any worker begins.
+    /// Opens the three ledgers of the run that the type names, before any worker begins.
     pub fn open<J: WorkersIdentity>(self) -> Workers<J>
         requires holding { self.holding.name ≡ J.holding }
         requires looking { self.looking.name ≡ J.looking }
@@ -65,13 +65,13 @@ impl WorkerBlanks {
     }
 }
 
-/// The ledger of the workers that hold a desk.
+/// The ledger that counts the workers that have a desk.
 pub struct HoldingLedger<J: WorkersIdentity>(PhantomData<J>);
 
-/// The ledger of the workers that look for a desk.
+/// The ledger that counts the workers that look for a desk.
 pub struct LookingLedger<J: WorkersIdentity>(PhantomData<J>);
 
-/// The ledger of the workers that rest.
+/// The ledger that counts the workers that rest.
 pub struct RestingLedger<J: WorkersIdentity>(PhantomData<J>);
 
 impl<J: WorkersIdentity> Ledger for HoldingLedger<J> {
@@ -92,7 +92,8 @@ impl<J: WorkersIdentity> Ledger for RestingLedger<J> {
     ghost parts = { 64 };
 }
 
-/// The token of a worker that holds a desk. It takes no bytes. Only a worker that looked and took a desk has it.
+/// The token of a worker that has a desk. The token has no bytes. Only a worker that looked for a desk and took one has
+/// this token.
 #[derive(Drop)]
 pub struct Holding<J: WorkersIdentity> {
     holds: Share<HoldingLedger<J>>,
@@ -122,8 +123,8 @@ pub struct Resting<J: WorkersIdentity> {
     ghost amounts: { (holds.amount ≡ 0) × (looks.amount ≡ 0) × (rests.amount ≡ 1) },
 }
 
-/// How many workers have begun, and how many of them have no desk: these look or rest. The three ledgers count the
-/// workers that hold a desk, that look and that rest. Each worker's token is its part of a ledger. Never do all
+/// How many workers have begun, and how many of them look for a desk or rest. Three ledgers count the workers that have
+/// a desk, that look for a desk and that rest. Each worker's token is the worker's part of a ledger. At no time do all
 /// workers rest.
 #[derive(Drop)]
 pub struct Workers<J: WorkersIdentity> {
@@ -143,7 +144,7 @@ pub struct Workers<J: WorkersIdentity> {
 }
 
 impl<J: WorkersIdentity> Workers<J> {
-    /// No worker has begun.
+    /// The counts before any worker has begun.
     pub fn none(holding: Blank, looking: Blank, resting: Blank) -> Workers<J>
         requires names { (holding.name ≡ J.holding) × (looking.name ≡ J.looking) × (resting.name ≡ J.resting) }
         requires parts { (holding.parts ≡ 64) × (looking.parts ≡ 64) × (resting.parts ≡ 64) }
@@ -164,7 +165,7 @@ impl<J: WorkersIdentity> Workers<J> {
         }
     }
 
-    /// One more worker begins, and looks for a desk. None if 63 have begun.
+    /// One more worker begins, and looks for a desk. The result is none if 63 workers have begun.
     pub fn begins(&mut self) -> Option<Looking<J>>
         ensures begun { IfSome result (λ _. self.new.begun ≡ self.old.begun + 1) }
         ensures looks { IfSome result (λ _. self.new.looking.total ≡ self.old.looking.total + 1) }
@@ -178,7 +179,7 @@ impl<J: WorkersIdentity> Workers<J> {
         Some(self.cut())
     }
 
-    // A part of each ledger for one more worker, which looks for a desk.
+    // Cuts a part of each ledger for one more worker, which looks for a desk.
     fn cut(&mut self) -> Looking<J>
         requires { self.old.begun < 63 }
         ensures begun { self.new.begun ≡ self.old.begun + 1 }
@@ -208,7 +209,7 @@ impl<J: WorkersIdentity> Workers<J> {
         }
     }
 
-    /// A worker that looks for a desk gets one.
+    /// A worker that looks for a desk gets a desk.
     pub fn takes(&mut self, own: Looking<J>) -> Holding<J>
         ensures holding { self.new.holding.total ≡ self.old.holding.total + 1 }
         ensures looking { self.new.looking.total + 1 ≡ self.old.looking.total }
@@ -236,7 +237,7 @@ impl<J: WorkersIdentity> Workers<J> {
         }
     }
 
-    /// A worker lets go of its desk, and looks for another.
+    /// A worker leaves its desk, and looks for a desk again.
     pub fn lets_go(&mut self, own: Holding<J>) -> Looking<J>
         ensures holding { self.new.holding.total + 1 ≡ self.old.holding.total }
         ensures looking { self.new.looking.total ≡ self.old.looking.total + 1 }
@@ -264,7 +265,7 @@ impl<J: WorkersIdentity> Workers<J> {
         }
     }
 
-    /// A worker that looks rests, if another has a desk in its hands. Else it has to look on.
+    /// A worker that looks for a desk rests, if some other worker has a desk. Otherwise the worker has to look on.
     pub fn rests(&mut self, own: Looking<J>) -> Result<Resting<J>, Looking<J>>
         ensures rests { IfOk result (λ _. (self.new.resting.total ≡ self.old.resting.total + 1)
             × (self.new.looking.total + 1 ≡ self.old.looking.total)) }
@@ -279,7 +280,7 @@ impl<J: WorkersIdentity> Workers<J> {
         Ok(self.lies_down(own))
     }
 
-    // A worker that looks rests, where another has a desk.
+    // A worker that looks for a desk rests. Some other worker has a desk.
     fn lies_down(&mut self, own: Looking<J>) -> Resting<J>
         requires { self.old.without < self.old.begun }
         ensures rests { self.new.resting.total ≡ self.old.resting.total + 1 }

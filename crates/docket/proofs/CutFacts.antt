@@ -1,4 +1,4 @@
--- If lists are cut, the second pass has a fault, and it is the same for all rows.
+-- If a row with a list is stored only in part, the second pass has a fault. The whole rows have the same fault.
 use Rattle.match_model.specs.declared.limits.Limits.{Limits}
 use Rattle.docket.specs.Limits.{widest}
 use Rattle.std.proofs.Common.{◌≡◌, ◌⊎◌, ◌≤◌, ◌<◌, ◌+◌, ℕ, zero, suc, List, [], ◌∷◌, ◌++◌, Bool, true, false, length, take, sym, ◌∙◌, refl, ap, arith, rules, Option, Some, None, inl, inr}
@@ -26,7 +26,7 @@ use Rattle.docket.proofs.KeptFacts.{cut_kind, cut_owner, front_seen, alike_progr
 use Rattle.docket.proofs.KeepFacts.{lists_alike}
 use Rattle.docket.proofs.ListedFacts.{known_texts, AllKnown, few_among, count_wider, row_told, front_known}
 
--- a row that the first pass accepted is within the limits
+-- a row that the first pass accepted is within the widest limits
 limit_none : (before : List Fields) (row : Fields) → length before < MAX_RECORDS → reading_fault widest before row ≡ None → limit_fault widest before row ≡ None
 limit_none before row few e =
     let own = both_none (row_fault (next_place before) (workers_in before) row) (option_or (repeat_fault before row) (limit_fault widest before row)) (sym (reading_fault-few widest before row few) ∙ e) in
@@ -52,7 +52,7 @@ resident_room before row kind none = by (nat_le NATIONAL_RESIDENTS (length (resi
     by true e h = absurd (cc h)
     by false e h = search (rules, e)
 
--- if each row of a kind is within the limit, so is the number of names of this kind
+-- if each row of one kind passes the test of the limit, the number of names of this kind is within the limit
 few_names : (k most : ℕ) → ((before : List Fields) (row : Fields) → kind_of row ≡ k → limit_fault widest before row ≡ None → length (names_of k before) < most)
     → (rows : List Fields) → first_from (reading_fault widest) [] rows ≡ None → length rows ≤ MAX_RECORDS → (n : ℕ) → n ≤ length rows → length (names_of k (take n rows)) ≤ most
 few_names k most room rows none few zero le = omega arith
@@ -75,7 +75,7 @@ few_names k most room rows none few (suc n) le = by (is_kind k (row_at rows n)) 
         rw (grown, e) (omega (arith, size, less))
     by false e before = rw (grown, e) before
 
--- there are no more members than the limit
+-- the members are at most as many as the widest limits allow
 pub record AreFew (rows : List Fields) : Type 0 where
   pub programmes : length (programmes_of rows) ≤ NATIONAL_PROGRAMMES
   pub residents : length (residents_of rows) ≤ NATIONAL_RESIDENTS
@@ -101,7 +101,7 @@ few_known rows few =
     let r = few.residents in
     omega (arith, size, p, r)
 
--- if the rows' lists have more texts than the limit, one text is not a known name
+-- if the rows' lists have more texts than the limit, one of the texts is neither a letter nor a member's name
 not_all_known : (rows listed : List Fields) → length (known_texts rows) ≤ MOST_LISTED → AreMany listed
     → ((text : List ℕ) → is_listed listed text ≡ true → is_among (known_texts rows) text ≡ true) → ⊥
 not_all_known rows listed few many known =
@@ -110,7 +110,7 @@ not_all_known rows listed few many known =
     let more = many.many in
     omega (arith, wider, most, more, few)
 
--- the second pass uses what all rows declare
+-- the second pass makes the same test of a row after the stored rows as after the whole rows
 ranking_same : (all kept : List Fields) → AreAlike IsFront all kept → (before : List Fields) (row : Fields) → ranking_fault kept before row ≡ ranking_fault all before row
 unfolding ranking_fault
 ranking_same all kept h before row = rw (alike_programmes IsFront front_seen all kept h, alike_residents IsFront front_seen all kept h) refl
@@ -121,7 +121,8 @@ unfolding first_from
 first_same f g h before [] = refl
 first_same f g h before (row ∷ rows) = rw (h before row, first_same f g h (before ++ row ∷ []) rows) refl
 
--- if rows are cut, the second pass has a fault there or before, and it is the same fault
+-- if a row is cut, the second pass has a fault at this row or before, and the stored rows and the whole rows give the
+-- same fault
 cut_told : (all kept : List Fields) (h : AreCutAt all kept) → AreFew kept
     → (e : DocketFault) × (first_from (ranking_fault kept) [] kept ≡ Some e) × (first_from (ranking_fault all) [] all ≡ Some e)
 unfolding first_from
@@ -159,7 +160,8 @@ cut_told all kept h few = by (first_from (ranking_fault kept) [] h.front) refl
     by (Some e) f = (e, rw (at_kept, f) refl, rw (at_all, f) refl)
     by None f = let t = told f in (UnknownName (next_place h.front), rw (at_kept, f, t.0) refl, rw (at_all, f, t.1) refl)
 
--- the later passes have the same first fault; without a fault the rows are whole
+-- the stored rows and the whole rows give the later passes the same first fault; if there is no fault, the stored rows
+-- are the whole rows
 abbrev pub IsAsGood : Limits → List Fields → List Fields → Type 0
 IsAsGood lim all kept = (later_fault lim kept ≡ later_fault lim all) × (later_fault lim kept ≡ None → kept ≡ all)
 
@@ -170,7 +172,7 @@ lists_later lim all kept (inr h) few =
     let t = cut_told all kept h few in
     (rw (t.1, t.2) refl, λ none. absurd (cc (rw t.1 at none)))
 
--- the case that no later pass has a fault
+-- if none of four passes has a fault, the last two have none
 pub none_later : (a b c d : Option DocketFault) → option_or a (option_or b (option_or c d)) ≡ None → (c ≡ None) × (d ≡ None)
 none_later None None c d e = both_none c d e
 none_later None (Some f) c d e = absurd (cc e)

@@ -1,4 +1,4 @@
--- What one more row declares.
+-- What the rows declare after one more row is added.
 use Rattle.match_model.specs.declared.limits.Limits.{Limits}
 use Rattle.std.proofs.Common.{◌≡◌, ℕ, List, [], ◌∷◌, ◌++◌, Bool, true, false, length, sym, ◌∙◌, refl, ap, Option, Some, None, map, find, filter, is_some, inl, inr, append-nil, ◌<◌, ◌≤◌}
 use Rattle.std.specs.Prelude.{◌==◌, ◌&&◌, ◌||◌, not, if◌then◌else◌, option_map, unwrap_or, bytes_eq, codes, Ok, Err, nat_le, nat_lt, option_and_then, IfSome}
@@ -36,7 +36,7 @@ use Rattle.docket.proofs.WithdrawalFacts.{names_withdrawn-if, is_version_2-other
 use Rattle.docket.proofs.RowsFacts.{event_kind_is, event_word_is}
 use Rattle.docket.proofs.WordFacts.{workers_within, worker_within}
 
--- a function of the rows of a kind, with one more row
+-- the values of a function on the rows of one kind, after one more row
 pub images-if : {A : Type 0} (f : Fields → A) (kind : ℕ) (rows : List Fields) (row : Fields)
     → map f (rows_of kind (rows ++ row ∷ [])) ≡ (if is_kind kind row then map f (rows_of kind rows) ++ f row ∷ [] else map f (rows_of kind rows))
 images-if f kind rows row =
@@ -65,25 +65,25 @@ pub quotas_of-if : (rows : List Fields) (row : Fields)
 unfolding quotas_of
 quotas_of-if rows row = images-if (λ r. unwrap_or (number_of (field r 2)) 0) QUOTA rows row
 
--- no list
+-- the entry of a member without a list
 abbrev none : Option (List ℕ)
 none = None
 
--- the lists before any is given, with one more owner
+-- the lists of all owners before any list is given, after one more owner
 nones-if : (owners : List (List ℕ)) (name : List ℕ) (b : Bool)
     → map (λ (n : List ℕ). none) (if b then owners ++ name ∷ [] else owners)
     ≡ (if b then map (λ (n : List ℕ). none) owners ++ none ∷ [] else map (λ (n : List ℕ). none) owners)
 nones-if owners name true = map-append (λ (n : List ℕ). none) owners (name ∷ [])
 nones-if owners name false = refl
 
--- the flags before any withdrawal, with one more member
+-- the flags of all members before any withdrawal, after one more member
 here-if : (owners : List (List ℕ)) (name : List ℕ) (b : Bool)
     → map (λ (n : List ℕ). false) (if b then owners ++ name ∷ [] else owners)
     ≡ (if b then map (λ (n : List ℕ). false) owners ++ false ∷ [] else map (λ (n : List ℕ). false) owners)
 here-if owners name true = map-append (λ (n : List ℕ). false) owners (name ∷ [])
 here-if owners name false = refl
 
--- the capacity, with one more row
+-- the capacity that the rows declare, after one more row
 pub capacity_in-if : (rows : List Fields) (row : Fields)
     → capacity_in (rows ++ row ∷ []) ≡ option_or (capacity_in rows) (if is_kind CAPACITY row then Some (unwrap_or (capacity_of (field row 1)) Full) else None)
 unfolding capacity_in
@@ -98,7 +98,7 @@ capacity_in-if rows row =
     by None false = refl
     by (Some r) b = refl
 
--- the number of workers, with one more row
+-- the number of workers that the rows declare, after one more row
 pub workers_in-if : (rows : List Fields) (row : Fields)
     → workers_in (rows ++ row ∷ []) ≡ (if is_some (capacity_in rows) then workers_in rows else if is_kind CAPACITY row then workers_of (field row 2) else None)
 unfolding workers_in capacity_in
@@ -114,7 +114,7 @@ workers_in-if rows row =
     by None false = refl
     by (Some r) b = refl
 
--- without a capacity there is no number of workers
+-- rows that declare no capacity declare no number of workers
 pub workers_in-none : (rows : List Fields) → is_some (capacity_in rows) ≡ false → workers_in rows ≡ None
 unfolding workers_in capacity_in
 workers_in-none rows e = by (find (is_kind CAPACITY) rows) e
@@ -124,13 +124,13 @@ workers_in-none rows e = by (find (is_kind CAPACITY) rows) e
     by None e = refl
     by (Some r) e = absurd (cc e)
 
--- the workers of the events, with one more row
+-- the workers of the events, after one more row
 pub who_of-if : (rows : List Fields) (row : Fields)
     → who_of (rows ++ row ∷ []) ≡ (if is_kind EVENT row then who_of rows ++ worker_in row ∷ [] else who_of rows)
 unfolding who_of
 who_of-if rows row = images-if worker_in EVENT rows row
 
--- without events there are no workers
+-- rows without events have no workers of events
 pub who_of-none : (rows : List Fields) → list_any (is_kind EVENT) rows ≡ false → who_of rows ≡ []
 unfolding who_of
 who_of-none rows e = ap (map worker_in) (none_of rows e)
@@ -144,7 +144,7 @@ who_of-none rows e = ap (map worker_in) (none_of rows e)
         by true f more = absurd (cc f)
         by false f more = more f
 
--- a row of another kind changes no workers
+-- a row that is neither a C row nor an E row changes neither the number of workers nor the workers of events
 pub by_other : (workers : Option ℕ) (who : List ℕ) (rows : List Fields) (row : Fields) (k : ℕ) → kind_of row ≡ k → (k == CAPACITY) ≡ false → (k == EVENT) ≡ false
     → AreByWorker workers who rows → AreByWorker workers who (rows ++ row ∷ [])
 by_other workers who rows row k kind c e h = record {
@@ -161,7 +161,7 @@ by_other workers who rows row k kind c e h = record {
     all None = refl
     all (Some n) = rw (who_of-if rows row, kind, e) refl
 
--- the first C row, which stands before any event
+-- the first C row, before any event, sets the number of workers
 pub by_opened : (old workers : Option ℕ) (who : List ℕ) (rows : List Fields) (row : Fields) → kind_of row ≡ CAPACITY → is_some (capacity_in rows) ≡ false
     → list_any (is_kind EVENT) rows ≡ false → workers_of (field row 2) ≡ workers → AreByWorker old who rows → AreByWorker workers who (rows ++ row ∷ [])
 by_opened old workers who rows row kind none free read h = record {
@@ -187,7 +187,7 @@ by_opened old workers who rows row kind none free read h = record {
         let few = workers_within (field row 2) n e in
         record { some = few.0; few = few.1; numbers = rw empty (All-nil (λ w. w < n)) }
 
--- one more event, in a journal by worker and in one without workers
+-- what the rows declare after one more event, in a journal by worker and in a journal without workers
 pub by_worked : (workers : Option ℕ) (who : List ℕ) (rows : List Fields) (row : Fields) (word : EventWord) (worker : ℕ) → is_some (capacity_in rows) ≡ true
     → IsEventOf (Some word) row → worker_at (workers_in rows) word row ≡ Some worker → is_some workers ≡ true → AreByWorker workers who rows
     → AreByWorker workers (who ++ worker ∷ []) (rows ++ row ∷ [])
@@ -212,7 +212,7 @@ by_plain None who rows row kind has some h = record {
   within = tt;
 }
 
--- whether some row passes a test, with one more row
+-- whether some row passes a test, after one more row
 pub list_any-if : (p : Fields → Bool) (rows : List Fields) (row : Fields) → list_any p (rows ++ row ∷ []) ≡ (if p row then true else list_any p rows)
 list_any-if p rows row = list_any-append p rows (row ∷ []) ∙ by (list_any p rows) (p row)
   where
@@ -222,7 +222,7 @@ list_any-if p rows row = list_any-append p rows (row ∷ []) ∙ by (list_any p 
     by false true = refl
     by false false = refl
 
--- what is declared stays when texts are added
+-- what the rows declare stays the same when texts are added
 pub declared_grown : (d : Declarations) (texts more : List (List ℕ)) (rows : List Fields) → StartsWith texts more → IsDeclared d texts rows → IsDeclared d more rows
 declared_grown d texts more rows s h = record {
   quotas = h.quotas;
@@ -242,7 +242,7 @@ declared_grown d texts more rows s h = record {
   no_resident_gone = h.no_resident_gone;
 }
 
--- one more row of kind k
+-- what the rows declare, after one more row of kind k
 pub declared_push : (d e : Declarations) (texts : List (List ℕ)) (rows : List Fields) (row : Fields) (k : ℕ) → kind_of row ≡ k → IsDeclared d texts rows
     → e.builder.quotas ≡ (if k == QUOTA then d.builder.quotas ++ unwrap_or (number_of (field row 2)) 0 ∷ [] else d.builder.quotas)
     → e.builder.programme_lists ≡ (if k == QUOTA then d.builder.programme_lists ++ None ∷ [] else d.builder.programme_lists)
@@ -295,7 +295,7 @@ declared_push d e texts rows row k kind h q pl rl p r ra c ev sh ve wp wr pg rg 
     no_event false None more has was none = was refl
     no_event b (Some x) more has was none = absurd (cc none)
 
--- a name is declared exactly if some row of the kind has it
+-- a name is declared by rows of a kind exactly if some row of this kind has the name
 pub is_declared-rows : (kind : ℕ) (rows : List Fields) (name : List ℕ) → is_declared (names_of kind rows) name ≡ list_any (is_row_of kind name) rows
 is_declared-rows kind rows name = is_declared-map (λ (r : Fields). field r 1) (rows_of kind rows) name ∙ kept rows
   where
@@ -309,7 +309,7 @@ is_declared-rows kind rows name = is_declared-map (λ (r : Fields). field r 1) (
         by true e = ap (λ x. bytes_eq name (field r 1) || x) e
         by false e = e
 
--- the error of a first test, or of a second
+-- an error explained by the first of two tests is explained by both tests together
 pub refuses_first : (first second : Option DocketFault) (e : DocketFault) → Refuses first e → Refuses (option_or first second) e
 refuses_first first second e (inl memory) = inl memory
 refuses_first None second e (inr some) = absurd (cc some)
@@ -318,7 +318,7 @@ refuses_first (Some f) second e (inr some) = inr some
 pub refuses_second : (first second : Option DocketFault) (e : DocketFault) → first ≡ None → Refuses second e → Refuses (option_or first second) e
 refuses_second first second e none h = rw none h
 
--- the builder's answer, as a fault at a record
+-- the builder's refusal, as a fault at this record
 pub refuses_builder : (T : Type 0) (n : ℕ) (f : Option ModelFault) (fault : ModelFault) → AnswersFirst {T = T} f (Err fault)
     → Refuses (option_map (at_record n) f) (at_record n fault)
 refuses_builder T n None fault e = inl (ap (at_record n) e)
@@ -328,7 +328,7 @@ pub answers_built : {T : Type 0} (n : ℕ) (f : Option ModelFault) (v : T) → A
 answers_built n None v e = refl
 answers_built n (Some g) v e = absurd (cc e)
 
--- the limits are the builder's
+-- the test of the limits is the builder's own test of its limits
 pub limit_fault-quota : (d : Draft) (before : List Fields) (row : Fields) → kind_of row ≡ QUOTA → d.quotas ≡ quotas_of before
     → limit_fault d.limits before row ≡ option_map (at_record (next_place before)) (programme_fault d (unwrap_or (number_of (field row 2)) 0))
 unfolding limit_fault quotas_of programmes_of
@@ -353,7 +353,7 @@ limit_fault-resident d before row kind lists = rw (kind, lists, length-map (resi
     by true = refl
     by false = refl
 
--- the test of the names in a Q, P or R row
+-- the first pass's test for a repeated name, in a Q, P or R row
 pub repeat_fault-quota : (before : List Fields) (row : Fields) → kind_of row ≡ QUOTA
     → repeat_fault before row ≡ unless (not (is_declared (programmes_of before) (field row 1))) (DeclaredTwice (next_place before))
 unfolding repeat_fault programmes_of
@@ -373,12 +373,12 @@ pub limit_fault-other : (lim : Limits) (before : List Fields) (row : Fields) (k 
 unfolding limit_fault
 limit_fault-other lim before row k kind a b = rw (kind, a, b) refl
 
--- a first fault and no second fault: the result is the first
+-- a fault followed by no fault is that fault
 pub option_or-none : {A : Type 0} (o : Option A) → o ≡ option_or o None
 option_or-none None = refl
 option_or-none (Some x) = refl
 
--- the test of a name, in the terms of the call that makes it
+-- the test for a repeated name, in the terms of the call that makes this test
 pub quota_asked : (before : List Fields) (row : Fields) (names : List (List ℕ)) (name : List ℕ) (n : ℕ) → kind_of row ≡ QUOTA
     → names ≡ programmes_of before → name ≡ field row 1 → n ≡ next_place before
     → repeat_fault before row ≡ unless (not (is_declared names name)) (DeclaredTwice n)
@@ -394,7 +394,7 @@ pub resident_asked : (before : List Fields) (row : Fields) (names : List (List �
     → repeat_fault before row ≡ unless (not (is_declared names name)) (DeclaredTwice n)
 resident_asked before row names name n kind e f g = rw (repeat_fault-resident before row kind, e, f, g) refl
 
--- the test of the limits, in the terms of the builder
+-- the test of the limits, in the terms of the builder's call
 pub quota_limited : (d : Draft) (before : List Fields) (row : Fields) (q n : ℕ) → kind_of row ≡ QUOTA → d.quotas ≡ quotas_of before
     → q ≡ unwrap_or (number_of (field row 2)) 0 → n ≡ next_place before
     → limit_fault d.limits before row ≡ option_map (at_record n) (programme_fault d q)
@@ -405,11 +405,11 @@ pub resident_limited : (d : Draft) (before : List Fields) (row : Fields) (n : �
     → limit_fault d.limits before row ≡ option_map (at_record n) (resident_fault d)
 resident_limited d before row n kind e g = rw (limit_fault-resident d before row kind e, g) refl
 
--- two tests without a fault
+-- if neither of two tests has a fault, both together have no fault
 pub no_fault : (first second : Option DocketFault) → first ≡ None → second ≡ None → option_or first second ≡ None
 no_fault first second e f = rw (e, f) refl
 
--- there is a capacity exactly if there is a C row
+-- the rows declare a capacity exactly if they have a C row
 pub is_some-capacity_in : (rows : List Fields) → is_some (capacity_in rows) ≡ list_any (is_kind CAPACITY) rows
 unfolding capacity_in
 is_some-capacity_in [] = refl
@@ -436,7 +436,7 @@ pub event_asked : (before : List Fields) (row : Fields) (cap : Option Capacity) 
 unfolding repeat_fault
 event_asked before row cap n kind e g = rw (kind, e, g, is_some-capacity_in before) refl
 
--- the answer when a test of a record is refused
+-- if a record fails this test, the first pass reports the test's fault
 pub test_refused : (lim : Limits) (before : List Fields) (row : Fields) (test : Bool) (fault : DocketFault) → repeat_fault before row ≡ unless test fault → test ≡ false
     → Refuses (option_or (repeat_fault before row) (limit_fault lim before row)) fault
 test_refused lim before row test fault e f = rw (e, f) (inr refl)
@@ -445,17 +445,17 @@ pub test_passed : (lim : Limits) (before : List Fields) (row : Fields) (test : B
     → limit_fault lim before row ≡ None → option_or (repeat_fault before row) (limit_fault lim before row) ≡ None
 test_passed lim before row test fault e f g = rw (e, f, g) refl
 
--- there are at most 8 workers
+-- a journal by worker has at most 8 workers
 pub workers_few : (workers : Option ℕ) (who : List ℕ) → IfSome workers (λ n. AreWorkers n who) → IfSome workers (λ n. n ≤ 8)
 workers_few None who h = tt
 workers_few (Some n) who h = h.few
 
--- what isn't there
+-- an option that fails the test for a value is none
 pub none_is : {A : Type 0} (o : Option A) → is_some o ≡ false → o ≡ None
 none_is None e = refl
 none_is (Some x) e = absurd (cc e)
 
--- no choice before
+-- if the first option is none, the second option decides
 pub option_or-first : {A : Type 0} (o p : Option A) → is_some o ≡ false → p ≡ option_or o p
 option_or-first None p e = refl
 option_or-first (Some x) p e = cc e

@@ -1,4 +1,4 @@
--- The passes together.
+-- What the passes over the rows find, taken together.
 use Rattle.docket.proofs.WidestFacts.{sound_widest, few_widest}
 use Rattle.docket.specs.Limits.{most_records}
 use Rattle.match_model.specs.declared.limits.Limits.{Limits}
@@ -42,7 +42,7 @@ and_false : (b : Bool) → (b && false) ≡ false
 and_false true = refl
 and_false false = refl
 
--- there are no names exactly if no row declares a member
+-- the docket has no names exactly if no row declares a member
 no_members : (rows : List Fields) → (nat_eq (length (programmes_of rows)) 0 && nat_eq (length (residents_of rows)) 0) ≡ not (list_any declares_member rows)
 unfolding programmes_of residents_of
 no_members [] = refl
@@ -58,7 +58,7 @@ no_members (r ∷ rows) = by (is_kind QUOTA r) (is_kind RESIDENT_LIST r) (no_mem
     by false true more = rw (not_empty (field r 1) (map (λ (row : Fields). field row 1) (rows_of RESIDENT_LIST rows))) (and_false (nat_eq (length (map (λ (row : Fields). field row 1) (rows_of QUOTA rows))) 0))
     by false false more = more
 
--- whether there is a sheet, from what is declared
+-- whether the docket has a sheet, as the first pass notes it
 pub sheet_is : (d : Declarations) (texts : List (List ℕ)) (rows : List Fields) → IsDeclared d texts rows
     → (d.has_sheet_row || (nat_eq (length d.programmes) 0 && nat_eq (length d.residents) 0)) ≡ has_sheet rows
 unfolding has_sheet
@@ -67,13 +67,13 @@ sheet_is d texts rows h =
     let r : length d.residents ≡ length (residents_of rows) = names_length texts d.residents (residents_of rows) h.residents in
     rw (h.sheet_rows, p, r, no_members rows) refl
 
--- the workers of the events, as the first pass has them
+-- the workers of the events that the first pass notes are the docket's workers of events
 pub by_worker_is : (workers : Option ℕ) (who : List ℕ) (rows : List Fields) → AreByWorker workers who rows
     → (option_map (λ n. record { workers = n; who = who }) workers ≡ by_worker_of rows) × IfSome (by_worker_of rows) (λ by. AreWorkers by.workers by.who)
 by_worker_is None who rows h = rw (← h.workers_are) (refl, tt)
 by_worker_is (Some n) who rows h = rw (← h.workers_are, ← h.who_are) (refl, h.within)
 
--- before the second pass
+-- before the second pass the builder has exactly what the first pass declared
 pub ranked_start : (d : Declarations) (texts : List (List ℕ)) (rows : List Fields) → IsDeclared d texts rows → IsRanked d.builder rows []
 ranked_start d texts rows h = record {
   quotas = h.quotas;
@@ -83,14 +83,14 @@ ranked_start d texts rows h = record {
   residents_withdrawn = h.no_resident_gone ∙ sym (withdrawn_of-none (codes "R") (residents_of rows));
 }
 
--- the whole call's answer, if the bytes are known: a fault from reading the records
+-- if reading the records gives a fault and the bytes are known, the whole call reports this fault
 pub whole_reading : (lim : Limits) (known : Option (List ℕ)) (e : DocketFault) → IsReadFault e ⊎ Explains (option_map rows_in known) (first_from (reading_fault lim) []) e
     → IsReadFault e ⊎ IfSome known (λ bytes. Refuses (fault_within lim bytes) e)
 whole_reading lim known e (inl read) = inl read
 whole_reading lim None e (inr h) = inr tt
 whole_reading lim (Some bytes) e (inr h) = inr (refuses_first _ _ e h)
 
--- the docket, and its lists if they are kept
+-- if no pass has a fault, the whole call returns the docket, and its lists if they are asked for
 pub whole_read : (lim : Limits) (known : Option (List ℕ)) (keeps : Bool) (rows : List Fields) (r : Result (Contents × Option Written) DocketFault) → AreKeptOf lim (option_map rows_in known) rows
     → first_from (reading_fault lim) [] rows ≡ None → length rows ≤ most_records lim → IfOk r (λ read. read.0 ≡ contents_of rows) → IfOk r (λ read. read.1 ≡ lists_if keeps rows)
     → Answers (later_fault lim rows) r → IfOk r (λ read. IsReadAs lim known keeps read.0 read.1)
@@ -108,7 +108,7 @@ whole_later lim None rows (Err e) all sound few answers = inr tt
 whole_later lim (Some bytes) rows (Err e) all sound few answers =
     inr (refuses_second _ _ e all.1 (rw (sym (later_kept lim (rows_in bytes) rows all.0 (sound_widest lim rows sound) (few_widest lim (length rows) few)).0) answers))
 
--- a sheet's faults count only if there is a sheet
+-- in a docket with a sheet, the fault of the sheet is the first fault of its three walks
 pub sheet_asked : (rows : List Fields) → has_sheet rows ≡ true
     → sheet_fault rows ≡ option_or (first_from (mark_fault rows) [] rows) (option_or (missing_fault rows) (first_from (filled_fault rows) [] rows))
 unfolding sheet_fault
@@ -118,7 +118,7 @@ pub sheet_free : (rows : List Fields) → has_sheet rows ≡ false → sheet_fau
 unfolding sheet_fault
 sheet_free rows e = rw e refl
 
--- the second pass and the later ones
+-- the first fault after the first pass: of the lists, then of the pairs, then of the sheet, then of the events
 pub later_is : (lim : Limits) (rows : List Fields) → later_fault lim rows
     ≡ option_or (option_or (first_from (ranking_fault rows) [] rows) (pairs_fault lim rows)) (option_or (sheet_fault rows) (first_from (event_fault rows) [] rows))
 unfolding later_fault
@@ -129,7 +129,7 @@ later_is lim rows = by (first_from (ranking_fault rows) [] rows)
     by None = refl
     by (Some f) = refl
 
--- if no later pass finds a fault, each event's names are declared
+-- if no later pass finds a fault, the names of all events are declared
 pub events_known : (lim : Limits) (rows : List Fields) → later_fault lim rows ≡ None → first_from (event_fault rows) [] rows ≡ None
 unfolding later_fault
 events_known lim rows fine = (both_none (sheet_fault rows) _ (both_none (pairs_fault lim rows) _ (both_none (first_from (ranking_fault rows) [] rows) _ fine).1).1).1
@@ -151,7 +151,7 @@ same_contents p r n s j = λ i. record { programmes = p i; residents = r i; inst
 abbrev parts_of : List Event → Option ByWorkerParts → Capacity → JournalParts
 parts_of items by c = record { capacity = c; events = items; by = by }
 
--- the journal with this capacity and these events
+-- the journal made of this capacity, these events and these workers is the docket's journal
 pub journal_is : (rows : List Fields) (cap : Option Capacity) (items : List Event) (workers : Option ByWorkerParts) → cap ≡ capacity_in rows → items ≡ events_of rows
     → workers ≡ by_worker_of rows → option_map (parts_of items workers) cap ≡ journal_of rows
 unfolding capacity_in

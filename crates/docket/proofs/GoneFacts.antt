@@ -23,7 +23,7 @@ use Rattle.docket.proofs.SoundFacts.{both_none, unless_none}
 use Rattle.docket.proofs.RankingFacts.{sound_row, off, bytes_eq-swap, lists_of-other, distinct_programmes, distinct_residents}
 use Rattle.docket.proofs.WithdrawalFacts.{withdrawn_of-other}
 
--- the flags, after one more withdrawal
+-- the flags of withdrawn members, after one more withdrawal
 pub withdrawn_of-owner : (side : List ℕ) (names : List (List ℕ)) (before : List Fields) (row : Fields) (i : ℕ) → distinct names ≡ true
     → number_in names (field row 2) ≡ Some i → is_row_of withdrawal_kind side row ≡ true
     → withdrawn_of side names (before ++ row ∷ []) ≡ slice_set (withdrawn_of side names before) i true
@@ -51,18 +51,18 @@ withdrawn_of-owner side names before row i d at on =
     own : flag_after (field row 2) ≡ true
     own = rw (list_any-append (is_withdrawal_of side (field row 2)) before (row ∷ []), on, bytes_eq-same (field row 2)) (right (flag_before (field row 2)))
 
--- whether the member with a number is withdrawn
+-- the flag of a member says whether some W row withdraws this member
 pub withdrawn_at : (side : List ℕ) (names : List (List ℕ)) (before : List Fields) (name : List ℕ) (i : ℕ) → number_in names name ≡ Some i
     → slice_index_or (withdrawn_of side names before) i false ≡ list_any (is_withdrawal_of side name) before
 unfolding withdrawn_of
 withdrawn_at side names before name i at = at_number (λ (n : List ℕ). list_any (is_withdrawal_of side n) before) names name i false at
 
--- there are as many flags as members
+-- there is one flag for each member
 pub length-withdrawn_of : (side : List ℕ) (names : List (List ℕ)) (rows : List Fields) → length (withdrawn_of side names rows) ≡ length names
 unfolding withdrawn_of
 length-withdrawn_of side names rows = length-map names (λ (name : List ℕ). list_any (is_withdrawal_of side name) rows)
 
--- a W row that the first pass accepted withdraws nobody twice
+-- a W row that the first pass accepted withdraws a member whom no earlier row withdrew
 pub not_withdrawn : (rows : List Fields) (k : ℕ) → first_from (reading_fault widest) [] rows ≡ None → length rows ≤ MAX_RECORDS → k < length rows
     → kind_of (row_at rows k) ≡ withdrawal_kind → list_any (is_withdrawal_of (field (row_at rows k) 1) (field (row_at rows k) 2)) (take k rows) ≡ false
 unfolding repeat_fault
@@ -78,7 +78,7 @@ not_withdrawn rows k sound few lt kind = by (take k rows) (row_at rows k) kind (
         let last = both_none (withdrawal_row_fault (next_place before) row) fresh own.1 in
         off _ (unless_none (not (list_any (is_withdrawal_of (field row 1) (field row 2)) before)) (DeclaredTwice (next_place before)) last.1)
 
--- the second pass's test of a W row
+-- in the second pass a W row has a fault exactly if its member is not declared
 pub withdrawal_named : (rows before : List Fields) (row : Fields) (names : List (List ℕ)) (n i : ℕ) → kind_of row ≡ withdrawal_kind → names_on (field row 1) rows ≡ names
     → number_in names (field row 2) ≡ Some i → ranking_fault rows before row ≡ None
 unfolding ranking_fault
@@ -89,7 +89,7 @@ pub withdrawal_unnamed : (rows before : List Fields) (row : Fields) (names : Lis
 unfolding ranking_fault
 withdrawal_unnamed rows before row names n kind on at place = rw (kind, on, at, place) refl
 
--- the builder after a W row, if its flags are those of the finished rows
+-- what the builder has after a W row, if the builder's flags are those of the rows read so far
 ranked_gone : (b e : Draft) (rows : List Fields) (k : ℕ) → k < length rows → kind_of (row_at rows k) ≡ withdrawal_kind → IsRanked b rows (take k rows)
     → e.quotas ≡ b.quotas → e.programme_lists ≡ b.programme_lists → e.resident_lists ≡ b.resident_lists
     → e.programmes_withdrawn ≡ withdrawn_of (codes "P") (programmes_of rows) (take k rows ++ row_at rows k ∷ [])
@@ -131,7 +131,7 @@ ranked_resident_gone b e rows k i sound few lt kind on at h is =
     ∙ ap (λ (flags : List Bool). slice_set flags i true) h.residents_withdrawn
     ∙ sym (withdrawn_of-owner (codes "R") (residents_of rows) (take k rows) (row_at rows k) i (distinct_residents rows sound few) at (rw (kind, on) refl)))
 
--- the builder accepts the withdrawal of a W row that names a member
+-- the builder accepts the withdrawal in a W row that names a declared member
 stays : (side : List ℕ) (names : List (List ℕ)) (rows : List Fields) (k i : ℕ) (flags : List Bool) → first_from (reading_fault widest) [] rows ≡ None → length rows ≤ MAX_RECORDS
     → k < length rows → kind_of (row_at rows k) ≡ withdrawal_kind → field (row_at rows k) 1 ≡ side → number_in names (field (row_at rows k) 2) ≡ Some i
     → flags ≡ withdrawn_of side names (take k rows) → model.withdrawal_fault flags i ≡ None
@@ -151,7 +151,7 @@ pub resident_stays : (b : Draft) (rows : List Fields) (k i : ℕ) → first_from
     → IsRanked b rows (take k rows) → model.withdrawal_fault b.residents_withdrawn i ≡ None
 resident_stays b rows k i sound few lt kind on at h = stays (codes "R") (residents_of rows) rows k i b.residents_withdrawn sound few lt kind on at h.residents_withdrawn
 
--- a withdrawal that was refused had a fault
+-- if a test had no fault, the call that makes this test did not refuse
 pub not_refused : {T E : Type 0} (fault : Option E) (r : Result T E) (e : E) → fault ≡ None → AnswersExactly fault r → r ≡ Err e → ⊥
 not_refused fault (Ok v) e none answers is = cc is
 not_refused fault (Err f) e none answers is = cc (none, answers)

@@ -1,4 +1,4 @@
--- The kept rows, after one more row.
+-- The stored rows after one more row is stored.
 use Rattle.docket.specs.Limits.{most_records}
 use Rattle.match_model.specs.declared.limits.Limits.{Limits}
 use Rattle.std.proofs.Common.{◌≡◌, ◌⊎◌, ◌≤◌, ◌<◌, ℕ, List, [], ◌∷◌, ◌++◌, false, length, sym, ◌∙◌, refl, ap, arith, Option, Some, None, inl, inr, append_assoc, subst, count_by}
@@ -15,7 +15,7 @@ use Rattle.docket.proofs.ListedFacts.{count_wider}
 use Rattle.docket.proofs.PassFacts.{split_end}
 use Rattle.docket.proofs.StandInFacts.{front_sound, blank_sound, close_sound}
 
--- rows that are cut are alike
+-- rows of which some are cut are alike to the whole rows, row by row
 pub cut_alike : (Is : Fields → Fields → Type 0) (Many : List Fields → Type 0) (all kept : List Fields) → AreCut Is Many all kept → AreAlike Is all kept
 cut_alike Is Many all kept (inl same) = rw same (alike_same Is all)
 cut_alike Is Many all kept (inr h) = rw (h.all_are, h.kept_are) (alike_append Is h.front h.front h.rest h.after (alike_same Is h.front) h.alike)
@@ -25,7 +25,7 @@ lists_alike all kept (inl same) = rw same (alike_same IsFront all)
 lists_alike all kept (inr h) =
     rw (h.all_are, h.kept_are) (alike_append IsFront h.front h.front (h.row ∷ h.rest) (h.short ∷ h.after) (alike_same IsFront h.front) (alike_first IsFront h.row h.short h.rest h.after (inr h.cut) h.alike))
 
--- the first pass makes the same tests of the kept rows
+-- there are as many stored rows as rows that were read
 pub kept_length : (all kept : List Fields) → AreKept all kept → length kept ≡ length all
 kept_length all kept h =
     alike_length IsFront h.marked kept (lists_alike h.marked kept h.lists)
@@ -38,7 +38,7 @@ kept_reading lim all kept row h =
     ∙ alike_reading lim IsBlank blank_seen h.noted h.marked row (cut_alike IsBlank AreManyMarks h.noted h.marked h.sheet)
     ∙ alike_reading lim IsClose close_seen all h.noted row (cut_alike IsClose AreManyNames all h.noted h.journal)
 
--- one more row, whole or cut
+-- one more row is stored, either whole or in its short form
 abbrev IsPut : (Fields → Fields → Type 0) → Type 0 → Fields → Fields → Type 0
 IsPut Is Many row short = (short ≡ row) ⊎ (Is row short × Many)
 
@@ -95,7 +95,7 @@ lists_push all kept row short put (inr h) = inr (record {
   alike = alike_append IsFront h.rest h.after (row ∷ []) (short ∷ []) h.alike (alike_one IsFront row short (put_is IsFront (AreMany (kept ++ short ∷ [])) row short put));
 })
 
--- the kept marks and names are those of the rows before lists were cut
+-- a sheet with too many rows, or events with too many names, had too many before lists were cut
 marks_back : (marked kept : List Fields) → AreListsCut marked kept → AreManyMarks kept → AreManyMarks marked
 marks_back marked kept h many =
     let same = alike_filter IsFront is_sheet_row front_mark marked kept (lists_alike marked kept h) in
@@ -149,7 +149,7 @@ kept_push all kept new row h k = rw k.rows (by k.shown)
           lists = lists_push h.marked kept k.short k.short (inl refl) h.lists;
         }
 
--- the kept form of a row declares the same, and has no fault if the row has none
+-- the short form of a row declares what the row declares, and has no fault if the row has no fault
 pub keeps_declared : (d : Declarations) (texts : List (List ℕ)) (old new : List Fields) (row : Fields) → Keeps old new row → IsDeclared d texts (old ++ row ∷ []) → IsDeclared d texts new
 keeps_declared d texts old new row k h = rw k.rows (by k.shown)
   where
@@ -168,11 +168,11 @@ keeps_sound lim old new row k few e = by k.shown
     by (inr (inr (inl blank))) = let is = blank.0 in rw is.blank (blank_sound lim old few)
     by (inr (inr (inr close))) = close_sound lim old row k.short few close.0 e
 
--- at first no row is kept
+-- before the first record no row is stored
 pub kept_none : (kept : List Fields) → kept ≡ [] → AreKept [] kept
 kept_none kept e = record { noted = []; marked = []; journal = inl refl; sheet = inl refl; lists = inl e }
 
--- no row is left
+-- at the end of the records the stored rows are those of all records
 pub kept_end : (lim : Limits) (all : Option (List Fields)) (done kept : List Fields) (left after : Option (List Fields)) (row : Fields) → IsSplit all done left → GivesRow left after false row
     → AreKept done kept → first_from (reading_fault lim) [] done ≡ None → AreKeptOf lim all kept
 kept_end lim None done kept left after row s g h clean = tt

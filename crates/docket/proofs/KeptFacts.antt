@@ -1,4 +1,4 @@
--- What rows in their short form show.
+-- What the first pass sees of a row that is stored in its short form.
 use Rattle.match_model.specs.declared.limits.Limits.{Limits}
 use Rattle.std.proofs.Common.{◌≡◌, ◌⊎◌, ◌≤◌, ◌<◌, ℕ, suc, get_or, List, [], ◌∷◌, ◌++◌, Bool, true, false, length, take, drop, map, filter, find, sym, ◌∙◌, refl, ap, arith, rules, Option, Some, None, inl, inr, subst}
 use Rattle.std.specs.Prelude.{◌&&◌, ◌||◌, ◌==◌, ◌+◌, if◌then◌else◌, bytes_eq, codes, unwrap_or}
@@ -17,7 +17,7 @@ use Rattle.docket.specs.declared.vocabulary.EventWord.TheVariants.{Close}
 use Rattle.docket.proofs.FieldFacts.{field-get_or}
 use Rattle.docket.proofs.RowsFacts.{event_kind, event_field, event_word_in}
 
--- a field at the beginning of a row
+-- field i of a row is also in the row's first `count` fields, if i is below `count`
 field_front : (row : Fields) (count i : ℕ) → i < count → field (take count row) i ≡ field row i
 field_front row count i lt = field-get_or (take count row) i ∙ get_or-take count row i [] lt ∙ sym (field-get_or row i)
 
@@ -25,7 +25,7 @@ front_kind : (row : Fields) (count : ℕ) → 2 ≤ count → kind_of (take coun
 unfolding kind_of
 front_kind row count le = rw (field_front row count 0 (omega arith)) refl
 
--- what the beginning of a row shows: its kind and its owner
+-- the beginning of a row has the kind and the owner of the row
 pub cut_kind : (row short : Fields) → IsFront row short → kind_of short ≡ kind_of row
 cut_kind row short h = let own = h.owner in ap kind_of h.front ∙ front_kind row h.count own
 
@@ -58,7 +58,7 @@ short_kind row short h = by (list_kind row h.list)
     by (inl e) = inl (cut_kind row short h ∙ e)
     by (inr e) = inr (cut_kind row short h ∙ e)
 
--- the kinds of rows that may be kept short: rows with lists, rows of a sheet, and events
+-- the kinds of rows that may be stored in a short form: rows with lists, rows of a sheet, and events
 abbrev is_list : ℕ → Bool
 is_list k = (k == PROGRAMME_LIST) || (k == RESIDENT_LIST)
 
@@ -68,7 +68,7 @@ is_mark k = (k == MATCHED) || (k == UNMATCHED) || (k == FILLED)
 abbrev is_cut : ℕ → Bool
 is_cut k = is_list k || (is_mark k || (k == EVENT))
 
--- the short form of a row shows its kind, as far as the first pass needs it, its owner and its worker
+-- the short form of a row shows what the first pass needs of the row: its kind, its owner and its worker
 pub record Shows (row short : Fields) : Type 0 where
   pub before : is_cut (kind_of row) ≡ true
   pub after : is_cut (kind_of short) ≡ true
@@ -82,7 +82,7 @@ pub record Shows (row short : Fields) : Type 0 where
 abbrev pub IsSeen : (Fields → Fields → Type 0) → Type 0
 IsSeen Is = (row short : Fields) → Is row short → Shows row short
 
--- a row of one of these kinds is of no other kind
+-- a row whose kind passes a test is not of a kind that fails this test
 pub other_kind : (some : ℕ → Bool) (k : ℕ) (row : Fields) → some k ≡ false → some (kind_of row) ≡ true → is_kind k row ≡ false
 other_kind some k row off on = by (is_kind k row) refl
   where
@@ -93,7 +93,7 @@ other_kind some k row off on = by (is_kind k row) refl
         let here : some k ≡ true = subst (λ (n : ℕ). some n ≡ true) kind on in
         absurd (cc (here, off))
 
--- the short forms for each kind of row
+-- for each kind of row, the short form shows what the first pass needs
 same_kind : (row short : Fields) → kind_of short ≡ kind_of row → is_cut (kind_of row) ≡ true → (is_list_row row ≡ true → field short 1 ≡ field row 1)
     → (is_kind EVENT row ≡ true → worker_in short ≡ worker_in row) → Shows row short
 same_kind row short kind cut owner worker = record {
@@ -164,7 +164,7 @@ close_seen row short h =
     no : kind_of row ≡ EVENT → is_list_row row ≡ false
     no e = rw e refl
 
--- rows that are alike
+-- rows are alike to themselves
 pub alike_same : (Is : Fields → Fields → Type 0) (rows : List Fields) → AreAlike Is rows rows
 unfolding AreAlike
 alike_same Is [] = tt
@@ -196,7 +196,7 @@ alike_length Is [] (y ∷ ys) h = absurd h
 alike_length Is (x ∷ xs) [] h = absurd h
 alike_length Is (x ∷ xs) (y ∷ ys) h = ap suc (alike_length Is xs ys h.1)
 
--- a test that uses only what the short form shows
+-- a test that gives the same answer for a row and for its short form
 abbrev pub IsSameOf : (Fields → Fields → Type 0) → (Fields → Bool) → Type 0
 IsSameOf Is p = (row short : Fields) → Is row short → p short ≡ p row
 
@@ -239,7 +239,7 @@ alike_find Is p off (x ∷ xs) (y ∷ ys) g = by g.0 (alike_find Is p off xs ys 
     by (inl same) e = rw (same, e) refl
     by (inr h) e = rw ((off x y h).1, (off x y h).0, e) refl
 
--- a function of the rows of a kind
+-- a function of the rows of one kind gives the same values for the short forms
 pub alike_images : {A : Type 0} (f : Fields → A) (k : ℕ) (Is : Fields → Fields → Type 0) → IsSameOf Is (is_kind k) → ((row short : Fields) → Is row short → is_kind k row ≡ true → f short ≡ f row)
     → (all kept : List Fields) → AreAlike Is all kept → map f (filter (is_kind k) kept) ≡ map f (filter (is_kind k) all)
 unfolding AreAlike
@@ -255,7 +255,7 @@ alike_images f k Is same image (x ∷ xs) (y ∷ ys) g = by g.0 (is_kind k x) re
     by (inr h) true is more = rw (same x y h, is, image x y h is, more) refl
     by (inr h) false is more = rw (same x y h, is, more) refl
 
--- the tests of the first pass, and of rows of other kinds
+-- tests for other kinds of rows pass neither a row that may be cut nor its short form
 pub off_kind : (Is : Fields → Fields → Type 0) → IsSeen Is → (k : ℕ) → is_cut k ≡ false → IsOffOf Is (is_kind k)
 off_kind Is seen k off row short h =
     let s = seen row short h in
@@ -336,7 +336,7 @@ alike_withdrawals : (Is : Fields → Fields → Type 0) → IsSeen Is → (side 
     → filter (is_row_of withdrawal_kind side) kept ≡ filter (is_row_of withdrawal_kind side) all
 alike_withdrawals Is seen side all kept h = alike_filter Is (is_row_of withdrawal_kind side) (off_row Is seen withdrawal_kind side refl) all kept h
 
--- the first pass makes the same tests of a row, after whole rows and after short forms
+-- the first pass makes the same tests of a row, whether the rows before it are stored whole or in short forms
 pub alike_reading : (lim : Limits) (Is : Fields → Fields → Type 0) → IsSeen Is → (all kept : List Fields) (row : Fields) → AreAlike Is all kept → reading_fault lim kept row ≡ reading_fault lim all row
 unfolding reading_fault repeat_fault limit_fault
 alike_reading lim Is seen all kept row h =
@@ -355,7 +355,7 @@ alike_reading lim Is seen all kept row h =
     )
     refl
 
--- the short forms declare the same as the whole rows
+-- the short forms declare what the whole rows declare
 pub alike_declared : (Is : Fields → Fields → Type 0) → IsSeen Is → (d : Declarations) (texts : List (List ℕ)) (all kept : List Fields) → AreAlike Is all kept
     → IsDeclared d texts all → IsDeclared d texts kept
 alike_declared Is seen d texts all kept s h = record {
@@ -401,7 +401,7 @@ front_event text row short h =
 pub blank_event : (text : List ℕ) → IsOffOf IsBlank (names_text text)
 blank_event text row short h = (rw (other_kind is_mark EVENT row refl h.mark) refl, rw (blank_kind row short h) refl)
 
--- neither `U,U` nor `E,close` is a row with a list, nor is the row that it replaces
+-- neither `U,U` nor `E,close` is a row with a list, and the row that it replaces isn't a row with a list
 abbrev pub IsQuiet : (Fields → Fields → Type 0) → Type 0
 IsQuiet Is = (k : ℕ) → (k ≡ PROGRAMME_LIST) ⊎ (k ≡ RESIDENT_LIST) → IsOffOf Is (is_kind k)
 
@@ -413,7 +413,7 @@ pub close_quiet : IsQuiet IsClose
 close_quiet k (inl e) row short h = rw e (rw h.event refl, rw (close_kind row short h) refl)
 close_quiet k (inr e) row short h = rw e (rw h.event refl, rw (close_kind row short h) refl)
 
--- an event is not a row of a sheet
+-- neither an event nor the short form of an event is a row of a sheet
 pub close_mark : (k : ℕ) → is_mark k ≡ true → IsOffOf IsClose (is_kind k)
 close_mark k on row short h = (no row h.event, no short (close_kind row short h))
   where

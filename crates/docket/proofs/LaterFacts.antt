@@ -1,4 +1,5 @@
--- Rows that are kept only as far as tests need them have the same faults as all rows.
+-- Some rows are stored in short forms, with only what the tests need. The stored rows have the same first fault as the
+-- whole rows.
 use Rattle.match_model.specs.declared.limits.Limits.{Limits}
 use Rattle.docket.specs.Limits.{widest}
 use Rattle.std.proofs.Common.{◌≡◌, ◌≤◌, List, [], length, ◌∙◌, None}
@@ -15,7 +16,8 @@ use Rattle.docket.proofs.SheetCutFacts.{sheet_later}
 as_good : (lim : Limits) (all noted kept : List Fields) → IsAsGood lim all noted → IsAsGood lim noted kept → IsAsGood lim all kept
 as_good lim all noted kept first second = (second.0 ∙ first.0, λ none. let same = second.1 none in same ∙ first.1 (rw same at none))
 
--- the later passes have the same first fault; without a fault the rows are whole
+-- the stored rows and the whole rows give the later passes the same first fault; if there is no fault, the stored rows
+-- are the whole rows
 pub later_kept : (lim : Limits) (all kept : List Fields) → AreKept all kept → first_from (reading_fault widest) [] kept ≡ None → length kept ≤ MAX_RECORDS → IsAsGood lim all kept
 later_kept lim all kept h sound few =
     let members = few_members kept sound few in

@@ -1,4 +1,4 @@
--- If lists have more texts than there can be members, they name somebody who is no member.
+-- If the lists have more different texts than there can be members, some list names a text that is no member's name.
 use Rattle.std.proofs.Common.{◌≡◌, ◌⊎◌, ◌≤◌, ◌+◌, ℕ, zero, suc, List, [], ◌∷◌, ◌++◌, Bool, true, false, length, take, drop, count_by, sym, ◌∙◌, refl, ap, arith, Some, None, inl, inr, append_assoc, zero-add}
 use Rattle.std.specs.Prelude.{◌&&◌, ◌||◌, if◌then◌else◌, bytes_eq, codes}
 use Rattle.std.specs.Option.{option_or}
@@ -22,7 +22,7 @@ use Rattle.docket.proofs.RankingFacts.{bytes_eq-swap}
 use Rattle.docket.proofs.RowsFacts.{lone_is}
 use Rattle.docket.proofs.SoundFacts.{both_none, unless_none}
 
--- how many of the beginning are counted, and how many of the rest
+-- how many items of two joined lists pass a test
 pub count_append : (p : List ℕ → Bool) (xs ys : List (List ℕ)) → count_by p (xs ++ ys) ≡ count_by p xs + count_by p ys
 count_append p xs ys = sum_by-append (λ (x : List ℕ). if p x then 1 else 0) xs ys
 
@@ -37,7 +37,7 @@ count_all p (x ∷ xs) h = count_cons p x xs ∙ by (p x) h (count_all p xs)
     by true e more = let rest = more e in omega (arith, rest)
     by false e more = absurd (cc e)
 
--- a weaker test counts at least as many
+-- if every item that passes one test passes a second test, the second test counts at least as many items
 pub count_wider : (p q : List ℕ → Bool) → ((x : List ℕ) → p x ≡ true → q x ≡ true) → (xs : List (List ℕ)) → count_by p xs ≤ count_by q xs
 count_wider p q h [] = omega arith
 count_wider p q h (x ∷ xs) = rw (count_cons p x xs, count_cons q x xs) (by (p x) refl (q x) refl (count_wider p q h xs))
@@ -52,7 +52,7 @@ count_none : (p : List ℕ → Bool) → ((x : List ℕ) → p x ≡ false) → 
 count_none p h [] = refl
 count_none p h (x ∷ xs) = let rest = count_none p h xs in rw (count_cons p x xs, h x, rest) refl
 
--- of different texts, at most one equals this text
+-- at most one of several different texts equals a given text
 count_same : (x k : List ℕ) → x ≡ k → (ys : List (List ℕ)) → AllByRecursion (λ y. bytes_eq x y ≡ false) ys → count_by (λ y. bytes_eq y k) ys ≡ 0
 count_same x k e [] h = refl
 count_same x k e (y ∷ ys) h =
@@ -68,7 +68,8 @@ count_one k (x ∷ xs) d = rw (count_cons (λ x. bytes_eq x k) x xs) (by (bytes_
     by true e le = let none = count_same x k (same_bytes x k e) xs (IsDistinct-head bytes_eq x xs d) in omega (arith, none)
     by false e le = omega (arith, le)
 
--- an item that passes both tests counts for each test
+-- if each item that passes one test passes one of two others, the two other counts together are at least the first
+-- count
 pub count_split : {A : Type 0} (p q r : A → Bool) → ((x : A) → p x ≡ true → (q x || r x) ≡ true) → (xs : List A) → count_by p xs ≤ count_by q xs + count_by r xs
 count_split p q r h [] = omega arith
 count_split p q r h (x ∷ xs) = rw (count_cons p x xs, count_cons q x xs, count_cons r x xs) (by (p x) refl (q x) refl (r x) refl (count_split p q r h xs))
@@ -87,7 +88,7 @@ count_split p q r h (x ∷ xs) = rw (count_cons p x xs, count_cons q x xs, count
         let off : (q x || r x) ≡ false = rw (f, g) refl in
         absurd (cc (on, off))
 
--- different texts within a list are no more than its items
+-- at most as many different texts stand in a list as the list has items
 pub few_among : (known texts : List (List ℕ)) → IsDistinct bytes_eq texts → count_by (is_among known) texts ≤ length known
 few_among [] texts d = let none = count_none (is_among []) (λ x. refl) texts in omega (arith, none)
 few_among (k ∷ ks) texts d =
@@ -96,7 +97,7 @@ few_among (k ∷ ks) texts d =
     let rest = few_among ks texts d in
     omega (arith, split, one, rest)
 
--- the texts that a list may have: the letters of its row, and the members' names
+-- the texts that a row with a list may have: the letters P and R, and the members' names
 abbrev pub known_texts : List Fields → List (List ℕ)
 known_texts rows = codes "P" ∷ codes "R" ∷ programmes_of rows ++ residents_of rows
 
@@ -116,7 +117,7 @@ known_resident rows text e =
     or_right (bytes_eq text (codes "P")) _ (or_right (bytes_eq text (codes "R")) _
     (list_any-append (bytes_eq text) (programmes_of rows) (residents_of rows) ∙ or_right (list_any (bytes_eq text) (programmes_of rows)) _ there))
 
--- a text among the declared names is declared
+-- if all texts of a list are declared names, a text of this list is declared
 among_declared : (names texts : List (List ℕ)) (text : List ℕ) → list_all (is_declared names) texts ≡ true → is_among texts text ≡ true → is_declared names text ≡ true
 among_declared names [] text all there = absurd (cc there)
 among_declared names (x ∷ xs) text all there =
@@ -128,7 +129,7 @@ among_declared names (x ∷ xs) text all there =
     by true e own more h = ap (is_declared names) (same_bytes text x e) ∙ own
     by false e own more h = more h
 
--- if the owner and the list of a row are declared, all its texts are known
+-- if the owner and all listed members of a row are declared, all texts of the row are known
 row_known : (rows : List Fields) (row : Fields) (others : List (List ℕ)) → is_among (known_texts rows) (field row 0) ≡ true → is_among (known_texts rows) (field row 1) ≡ true
     → ((text : List ℕ) → is_declared others text ≡ true → is_among (known_texts rows) text ≡ true) → list_all (is_declared others) (drop 2 row) ≡ true
     → (text : List ℕ) → is_among row text ≡ true → is_among (known_texts rows) text ≡ true
@@ -149,20 +150,20 @@ row_known rows (f ∷ g ∷ row) others first owner wide all text there =
     by false e true d kf kg h = ap (is_among (known_texts rows)) (same_bytes text g d) ∙ kg
     by false e false d kf kg h = wide text (among_declared others row text all h)
 
--- its letter is
+-- the letter of a row with a list is P or R, so it is known
 letter_known : (rows : List Fields) (row : Fields) → (kind_of row ≡ PROGRAMME_LIST) ⊎ (kind_of row ≡ RESIDENT_LIST) → is_among (known_texts rows) (field row 0) ≡ true
 unfolding kind_of
 letter_known rows row (inl k) = known_first rows (field row 0) (inl (lone_is (field row 0) PROGRAMME_LIST k (omega arith)))
 letter_known rows row (inr k) = known_first rows (field row 0) (inr (lone_is (field row 0) RESIDENT_LIST k (omega arith)))
 
--- if a row with a list is refused, it has an unknown name, or all its texts are known
+-- every text of a row with a list is known
 abbrev pub AllKnown : List Fields → Fields → Type 0
 AllKnown rows row = (text : List ℕ) → lists_text text row ≡ true → is_among (known_texts rows) text ≡ true
 
 listed_parts : (text : List ℕ) (row : Fields) → lists_text text row ≡ true → (is_list_row row ≡ true) × (is_among row text ≡ true)
 listed_parts text row h = and_parts (is_list_row row) (is_among row text) h
 
--- an R row declares its own owner
+-- an R row declares the resident in its field 1
 owner_known : (rows front rest : List Fields) (row : Fields) → rows ≡ front ++ row ∷ rest → kind_of row ≡ RESIDENT_LIST → is_declared (residents_of rows) (field row 1) ≡ true
 unfolding residents_of
 owner_known rows front rest row is kind =
@@ -170,7 +171,7 @@ owner_known rows front rest row is kind =
     ∙ list_any-append (is_row_of RESIDENT_LIST (field row 1)) front (row ∷ rest)
     ∙ or_right (list_any (is_row_of RESIDENT_LIST (field row 1)) front) _ (rw (kind, bytes_eq-same (field row 1)) refl)
 
--- a fault in the beginning of a list is a fault of the list
+-- if a name in the beginning of a list fails a test, the whole list fails the test
 take_fails : (p : List ℕ → Bool) (xs : List (List ℕ)) (n : ℕ) → list_all p (take n xs) ≡ false → list_all p xs ≡ false
 take_fails p [] zero g = absurd (cc g)
 take_fails p [] (suc n) g = absurd (cc g)
@@ -190,7 +191,8 @@ front_fails p (x ∷ []) (suc (suc n)) g = absurd (cc g)
 front_fails p (x ∷ y ∷ xs) (suc zero) g = absurd (cc g)
 front_fails p (x ∷ y ∷ xs) (suc (suc n)) g = take_fails p xs n g
 
--- a row of the second pass: its fault is an unknown name, whatever follows in its list, or all its texts are known
+-- the second pass's fault of a row with a list is an unknown name that stands in the short form too, or all texts of
+-- the short form are known
 pub row_told : (rows front after : List Fields) (row short : Fields) → rows ≡ front ++ short ∷ after → IsFront row short → kind_of short ≡ kind_of row → field short 1 ≡ field row 1
     → ((ranking_fault rows front short ≡ Some (UnknownName (next_place front))) × (ranking_fault rows front row ≡ Some (UnknownName (next_place front)))) ⊎ AllKnown rows short
 unfolding ranking_fault
@@ -241,7 +243,7 @@ clean_known rows front after row is none text there = by (list_kind row parts.0)
         row_known rows row (programmes_of rows) (letter_known rows row (inr k)) (known_resident rows (field row 1) (owner_known rows front after row is k)) (known_programme rows)
         (unless_none _ (UnknownName n) second.0) text parts.1
 
--- so have all rows before the first fault
+-- all rows before the first fault of the second pass have only known texts
 pub front_known : (rows before front after : List Fields) → rows ≡ (before ++ front) ++ after → first_from (ranking_fault rows) before front ≡ None
     → (text : List ℕ) → is_listed front text ≡ true → is_among (known_texts rows) text ≡ true
 unfolding first_from

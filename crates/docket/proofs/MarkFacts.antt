@@ -1,4 +1,4 @@
--- How the marks of a sheet change with each row.
+-- How the marks that note a sheet change with each row.
 use Rattle.docket.specs.Limits.{widest}
 use Rattle.std.proofs.Common.{◌≡◌, ◌≤◌, ◌<◌, ◌+◌, ℕ, List, [], ◌∷◌, ◌++◌, Bool, true, false, length, take, get_or, map, find, count_by, arith, sym, ◌∙◌, refl, ap, Option, Some, None, inr, add-zero, zero-add}
 use Rattle.std.specs.Prelude.{◌==◌, ◌&&◌, ◌||◌, not, if◌then◌else◌, bytes_eq, replicate, slice_set, unwrap_or, slice_index_or}
@@ -22,7 +22,7 @@ use Rattle.docket.proofs.NumberFacts.{distinct, number_below, at_number, map_at}
 use Rattle.docket_names.proofs.NameFacts.{bytes_eq-same}
 use Rattle.docket.proofs.RankingFacts.{clean_at, bytes_eq-swap, map-same, find_none, find-push, distinct_programmes, distinct_residents}
 
--- for each name whether some row passes the name's test, after one more row that passes for one name
+-- for each name, whether some row passes the name's test, after one more row that passes the test of one name
 any_at : (p : List ℕ → Fields → Bool) (names : List (List ℕ)) (done : List Fields) (row : Fields) (name : List ℕ) (i : ℕ) → distinct names ≡ true
     → number_in names name ≡ Some i → p name row ≡ true → ((x : List ℕ) → bytes_eq name x ≡ false → p x row ≡ false)
     → map (λ n. list_any (p n) (done ++ row ∷ [])) names ≡ slice_set (map (λ n. list_any (p n) done) names) i true
@@ -38,7 +38,7 @@ any_same : (p : List ℕ → Fields → Bool) (names : List (List ℕ)) (done : 
 any_same p names done row others =
     map-same (λ (n : List ℕ). list_any (p n) (done ++ row ∷ [])) (λ (n : List ℕ). list_any (p n) done) names (λ x. rw (list_any-if (p x) done row, others x) refl)
 
--- how many rows pass, after one more row
+-- how many rows pass a test, after one more row
 count_by-push : (p : Fields → Bool) (done : List Fields) (row : Fields) → count_by p (done ++ row ∷ []) ≡ count_by p done + (if p row then 1 else 0)
 count_by-push p done row = sum_by-append (λ (r : Fields). if p r then 1 else 0) done (row ∷ []) ∙ ap (λ n. count_by p done + n) (zero-add (if p row then 1 else 0))
 
@@ -57,11 +57,11 @@ count_same : (p : List ℕ → Fields → Bool) (names : List (List ℕ)) (done 
 count_same p names done row others =
     map-same (λ (n : List ℕ). count_by (p n) (done ++ row ∷ [])) (λ (n : List ℕ). count_by (p n) done) names (λ x. rw (count_by-push (p x) done row, others x) (add-zero (count_by (p x) done)))
 
--- there are at most as many passing rows as rows
+-- at most as many rows pass a test as there are rows
 pub count_few : (p : Fields → Bool) (done : List Fields) → count_by p done ≤ length done
 count_few p done = count_by-le-length p done
 
--- the places, after one more M row of a new resident, and after a row that is not an M row
+-- the programme of each resident, after one more M row, and after a row that is not an M row
 placed_at : (programmes names : List (List ℕ)) (done : List Fields) (row : Fields) (i p : ℕ) → distinct names ≡ true
     → number_in names (field row 1) ≡ Some i → kind_of row ≡ MATCHED → number_in programmes (field row 2) ≡ Some p → list_any (is_row_of MATCHED (field row 1)) done ≡ false
     → map (placed_in programmes (done ++ row ∷ [])) names ≡ slice_set (map (placed_in programmes done) names) i (Some p)
@@ -80,7 +80,7 @@ placed_same programmes names done row kind =
     map-same (placed_in programmes (done ++ row ∷ [])) (placed_in programmes done) names
     (λ x. rw (find-push (is_row_of MATCHED x) done row, kind, sym (option_or-none (find (is_row_of MATCHED x) done))) refl)
 
--- a resident without a mark has no M row
+-- a resident for whom no M or U row was read has no M row
 unmarked_unmatched : (name : List ℕ) (done : List Fields) → list_any (is_mark_of name) done ≡ false → list_any (is_row_of MATCHED name) done ≡ false
 unmarked_unmatched name [] e = refl
 unmarked_unmatched name (r ∷ done) e = by (is_row_of MATCHED name r) (is_row_of UNMATCHED name r) e (unmarked_unmatched name done)
@@ -91,7 +91,7 @@ unmarked_unmatched name (r ∷ done) e = by (is_row_of MATCHED name r) (is_row_o
     by false true e more = absurd (cc e)
     by false false e more = more e
 
--- a member's value is the value of its name
+-- the mark of a member says whether a row with the member's name was read
 pub marked_at : (marks : Marks) (rows done : List Fields) (name : List ℕ) (i : ℕ) (d : Bool) → IsMarked marks rows done → number_in (residents_of rows) name ≡ Some i
     → get_or marks.marked.items i d ≡ list_any (is_mark_of name) done
 marked_at marks rows done name i d h at = rw h.marked (at_number (λ (n : List ℕ). list_any (is_mark_of n) done) (residents_of rows) name i d at)
@@ -104,7 +104,7 @@ pub counts_at : (marks : Marks) (rows done : List Fields) (name : List ℕ) (i d
     → get_or marks.counts.items i d ≡ count_by (is_matched_with name) done
 counts_at marks rows done name i d h at = rw h.counts (at_number (λ (n : List ℕ). count_by (is_matched_with n) done) (programmes_of rows) name i d at)
 
--- a member's number is a place of the marks
+-- a member's number is an index of the marks
 pub marked_below : (marks : Marks) (rows done : List Fields) (name : List ℕ) (i : ℕ) → IsMarked marks rows done → number_in (residents_of rows) name ≡ Some i → i < length marks.marked.items
 marked_below marks rows done name i h at =
     let size = ap length h.marked ∙ length-map (residents_of rows) (λ (n : List ℕ). list_any (is_mark_of n) done) in
@@ -125,7 +125,7 @@ counts_below marks rows done name i h at =
     let size = ap length h.counts ∙ length-map (programmes_of rows) (λ (n : List ℕ). count_by (is_matched_with n) done) in
     let below = number_below (programmes_of rows) name i at in omega arith
 
--- the test of an M, U or F row
+-- the test of an M, U or F row, case by case
 pub mark_fault-unknown_resident : (rows before : List Fields) (row : Fields) (n : ℕ) → kind_of row ≡ MATCHED → number_in (residents_of rows) (field row 1) ≡ None → n ≡ next_place before
     → mark_fault rows before row ≡ Some (UnknownName n)
 unfolding mark_fault
@@ -165,14 +165,14 @@ pub mark_fault-other : (rows before : List Fields) (row : Fields) → is_kind MA
 unfolding mark_fault
 mark_fault-other rows before row m u f = rw (m, u, f) refl
 
--- a second row is refused, and a first row isn't
+-- a member's second row in the sheet is refused, and the first isn't
 pub second_row : (fault : Option DocketFault) (seen flag : Bool) (e : DocketFault) → fault ≡ unless (not seen) e → flag ≡ seen → flag ≡ true → Refuses fault e
 second_row fault seen flag e is same held = inr (rw (is, ← same, held) refl)
 
 pub first_row : (fault : Option DocketFault) (seen flag : Bool) (e : DocketFault) → fault ≡ unless (not seen) e → flag ≡ seen → flag ≡ false → fault ≡ None
 first_row fault seen flag e is same nay = rw (is, ← same, nay) refl
 
--- the places, and for each name the flags and the counts, after a row that changes none of them
+-- the marks stay as they are after a row that changes none of them
 placed_kept : (rows : List Fields) (k : ℕ) → k < length rows → is_kind MATCHED (row_at rows k) ≡ false
     → map (placed_in (programmes_of rows) (take k rows)) (residents_of rows) ≡ map (placed_in (programmes_of rows) (take (k + 1) rows)) (residents_of rows)
 placed_kept rows k lt kind = rw (take_more rows k [] lt) (sym (placed_same (programmes_of rows) (residents_of rows) (take k rows) (row_at rows k) kind))
@@ -185,14 +185,14 @@ counts_kept : (p : List ℕ → Fields → Bool) (names : List (List ℕ)) (rows
     → map (λ n. count_by (p n) (take k rows)) names ≡ map (λ n. count_by (p n) (take (k + 1) rows)) names
 counts_kept p names rows k lt others = rw (take_more rows k [] lt) (sym (count_same p names (take k rows) (row_at rows k) others))
 
--- the flags, after a row that sets the flag of one name
+-- the flags after a row that sets the flag of one name
 flags_more : (p : List ℕ → Fields → Bool) (names : List (List ℕ)) (rows : List Fields) (k i : ℕ) (name : List ℕ) (flags : List Bool) → k < length rows
     → distinct names ≡ true → number_in names name ≡ Some i → p name (row_at rows k) ≡ true → ((x : List ℕ) → bytes_eq name x ≡ false → p x (row_at rows k) ≡ false)
     → flags ≡ map (λ n. list_any (p n) (take k rows)) names → slice_set flags i true ≡ map (λ n. list_any (p n) (take (k + 1) rows)) names
 flags_more p names rows k i name flags lt d at here others h =
     rw (h, take_more rows k [] lt) (sym (any_at p names (take k rows) (row_at rows k) name i d at here others))
 
--- the marks after an M row, a U row, an F row and any other row
+-- the marks after an M row, after a U row, after an F row, and after any other row
 pub marks_matched : (m e : Marks) (rows : List Fields) (k i p d : ℕ) → first_from (reading_fault widest) [] rows ≡ None → length rows ≤ MAX_RECORDS → k < length rows
     → kind_of (row_at rows k) ≡ MATCHED → number_in (residents_of rows) (field (row_at rows k) 1) ≡ Some i → number_in (programmes_of rows) (field (row_at rows k) 2) ≡ Some p
     → list_any (is_mark_of (field (row_at rows k) 1)) (take k rows) ≡ false → IsMarked m rows (take k rows)
@@ -249,7 +249,7 @@ marks_other m rows k lt im iu ifl h = record {
   counts = h.counts ∙ counts_kept is_matched_with (programmes_of rows) rows k lt (λ x. rw im refl);
 }
 
--- a list with the same value for each name
+-- a list with the same value for every name
 pub map_const : {B : Type 0} (c : B) (names : List (List ℕ)) → replicate (length names) c ≡ map (λ (n : List ℕ). c) names
 map_const c [] = refl
 map_const c (n ∷ names) = ap (λ l. c ∷ l) (map_const c names)
@@ -258,14 +258,14 @@ list_all-map : (f : List ℕ → Bool) (names : List (List ℕ)) → list_all (�
 list_all-map f [] = refl
 list_all-map f (n ∷ names) = ap (λ b. f n && b) (list_all-map f names)
 
--- what is missing, from the marks
+-- the fault of an incomplete sheet, read from the marks
 pub missing_is : (m : Marks) (rows : List Fields) (n : ℕ) → IsMarked m rows rows → n ≡ length rows
     → missing_fault rows ≡ unless (list_all (λ flag. flag) m.marked.items && list_all (λ flag. flag) m.filled.items) (BadSheet n)
 unfolding missing_fault
 missing_is m rows n h place =
     rw (h.marked, h.filled, list_all-map (λ name. list_any (is_mark_of name) rows) (residents_of rows), list_all-map (λ name. list_any (is_row_of FILLED name) rows) (programmes_of rows), place) refl
 
--- the last test of an F row
+-- the test of the numbers in an F row, read from the marks
 pub filled_is : (rows before : List Fields) (row : Fields) (n i f c q quota : ℕ) → kind_of row ≡ FILLED → number_in (programmes_of rows) (field row 1) ≡ Some i
     → f ≡ unwrap_or (number_of (field row 2)) 0 → c ≡ count_by (is_matched_with (field row 1)) rows → q ≡ unwrap_or (number_of (field row 3)) 0
     → quota ≡ slice_index_or (quotas_of rows) i 0 → n ≡ next_place before → filled_fault rows before row ≡ unless ((f == c) && (q == quota)) (BadSheet n)
@@ -290,7 +290,7 @@ test_true a b e fault is t = rw (is, t) refl
 pub test_false : (a b : Bool) (e : DocketFault) (fault : Option DocketFault) → fault ≡ unless (a && b) e → a ≡ false → fault ≡ unless a e
 test_false a b e fault is t = rw (is, t) refl
 
--- no marks
+-- the marks before any row
 pub marks_none : (m : Marks) (rows : List Fields) → m.sheet ≡ replicate (length (residents_of rows)) None → m.marked.items ≡ replicate (length (residents_of rows)) false
     → m.filled.items ≡ replicate (length (programmes_of rows)) false → m.counts.items ≡ replicate (length (programmes_of rows)) 0 → IsMarked m rows []
 marks_none m rows s k f c = record {
@@ -300,7 +300,7 @@ marks_none m rows s k f c = record {
   counts = c ∙ map_const 0 (programmes_of rows);
 }
 
--- the sheet, after all rows
+-- after all rows the marks have the docket's sheet
 pub sheet_all : (m : Marks) (rows : List Fields) → IsMarked m rows rows → m.sheet ≡ placement_of rows
 unfolding placement_of
 sheet_all m rows h = h.sheet

@@ -1,4 +1,4 @@
--- Facts about the numbers of names, and about lists indexed by number.
+-- The numbers of names, and lists that have one entry for each name.
 use Rattle.std.proofs.Common.{◌≡◌, ◌≤◌, ◌<◌, ◌+◌, ◌-◌, ℕ, suc, List, [], ◌∷◌, ◌++◌, Bool, true, false, length, get_or, take, drop, map, arith, sym, ◌∙◌, refl, ap, Option, Some, None, cond, add-one}
 use Rattle.std.specs.Prelude.{bytes_eq, ◌&&◌, not, if◌then◌else◌, option_map, slice_set}
 use Rattle.std.specs.List.{list_any, position_from}
@@ -24,7 +24,7 @@ position_from-suc p n (x ∷ xs) = by (p x) (position_from-suc p (n + 1) xs)
     by true e = ap Some (add-one n)
     by false e = e
 
--- the number of a name, in a list with a first name and others
+-- the number of a name in a list with one name in front of others
 pub number_in-cons : (x : List ℕ) (xs : List (List ℕ)) (name : List ℕ)
     → number_in (x ∷ xs) name ≡ (if bytes_eq name x then Some 0 else option_map suc (number_in xs name))
 unfolding number_in
@@ -32,7 +32,7 @@ number_in-cons x xs name =
     position_from-zero (bytes_eq name) (x ∷ xs)
     ∙ ap (λ o. if bytes_eq name x then Some 0 else o) (position_from-suc (bytes_eq name) 0 xs ∙ ap (option_map suc) (sym (position_from-zero (bytes_eq name) xs)))
 
--- a property of a name with a number, from the first name and the others
+-- a name with a number is the first name, or has a number among the names after it
 number_cases : {P : Type 0} (x : List ℕ) (xs : List (List ℕ)) (name : List ℕ) (i : ℕ) → number_in (x ∷ xs) name ≡ Some i
     → (bytes_eq name x ≡ true → 0 ≡ i → P) → ((j : ℕ) → bytes_eq name x ≡ false → number_in xs name ≡ Some j → suc j ≡ i → P) → P
 number_cases {P} x xs name i e here there = by (bytes_eq name x) refl (number_in xs name) refl (sym (number_in-cons x xs name) ∙ e)
@@ -46,13 +46,13 @@ no_number : (name : List ℕ) (i : ℕ) → number_in [] name ≡ Some i → ⊥
 unfolding number_in
 no_number name i h = cc h
 
--- a number is below the number of names
+-- a name's number is below the number of names
 pub number_below : (names : List (List ℕ)) (name : List ℕ) (i : ℕ) → number_in names name ≡ Some i → i < length names
 number_below [] name i e = absurd (no_number name i e)
 number_below (x ∷ xs) name i e =
     number_cases x xs name i e (λ b z. omega arith) (λ j b at s. let below = number_below xs name j at in omega arith)
 
--- what a list by number has for a name
+-- in a list made from the names, the entry at a name's number is made from this name
 pub at_number : {B : Type 0} (f : List ℕ → B) (names : List (List ℕ)) (name : List ℕ) (i : ℕ) (d : B) → number_in names name ≡ Some i
     → get_or (map f names) i d ≡ f name
 at_number f [] name i d e = absurd (let below = number_below [] name i e in omega arith)
@@ -61,12 +61,12 @@ at_number f (x ∷ xs) name i d e =
     (λ b z. rw (← z, same_bytes name x b) refl)
     (λ j b at s. rw (← s) (at_number f xs name j d at))
 
--- no name stands twice
+-- whether no name stands twice
 unfoldable pub distinct : List (List ℕ) → Bool
 distinct [] = true
 distinct (x ∷ xs) = not (list_any (bytes_eq x) xs) && distinct xs
 
--- a list by number that differs only for this name is unchanged if no name equals it
+-- a list made from names stays the same if its function changes only for a name that isn't in the list
 map_same : {B : Type 0} (f g : List ℕ → B) (names : List (List ℕ)) (name : List ℕ) → list_any (bytes_eq name) names ≡ false
     → ((x : List ℕ) → bytes_eq name x ≡ false → g x ≡ f x) → map g names ≡ map f names
 map_same f g [] name e h = refl
@@ -74,7 +74,7 @@ map_same f g (x ∷ xs) name e h =
     let parts = or_parts (bytes_eq name x) (list_any (bytes_eq name) xs) e in
     rw (h x parts.0, map_same f g xs name parts.1 h) refl
 
--- a list by number that changes for one name
+-- a list made from different names changes in one entry if its function changes for one name
 pub map_at : {B : Type 0} (f g : List ℕ → B) (names : List (List ℕ)) (name : List ℕ) (i : ℕ) → distinct names ≡ true → number_in names name ≡ Some i
     → ((x : List ℕ) → bytes_eq name x ≡ false → g x ≡ f x) → map g names ≡ slice_set (map f names) i (g name)
 unfolding distinct
@@ -92,7 +92,7 @@ map_at f g (x ∷ xs) name i d e h =
     off true h = cc h
     off false h = refl
 
--- there are at most as many names as rows
+-- rows of a kind declare at most as many names as there are rows
 pub names_few : (kind : ℕ) (rows : List Fields) → length (names_of kind rows) ≤ length rows
 names_few kind [] = omega arith
 names_few kind (r ∷ rows) = by (is_kind kind r) (names_few kind rows)
@@ -110,11 +110,11 @@ pub residents_few : (rows : List Fields) → length (residents_of rows) ≤ leng
 unfolding residents_of
 residents_few rows = names_few RESIDENT_LIST rows
 
--- field i + 2 of a record is item i of its list
+-- field i + 2 of a record is item i of the record's list
 pub listed_field : (row : Fields) (i : ℕ) → field row (i + 2) ≡ get_or (drop 2 row) i []
 listed_field row i = let two : i + 2 ≡ 2 + i = omega arith in rw two (field-get_or row (2 + i) ∙ sym (get_or-drop 2 row i []))
 
--- one more member that a record lists
+-- the numbers of the first i + 1 members on a record's list
 pub listed_step : (others : List (List ℕ)) (row : Fields) (i n : ℕ) (items next : List ℕ) → i < length row - 2
     → items ≡ map (member_in others) (take i (drop 2 row)) → list_all (is_declared others) (take i (drop 2 row)) ≡ true
     → number_in others (field row (i + 2)) ≡ Some n → next ≡ items ++ n ∷ []
@@ -128,7 +128,7 @@ listed_step others row i n items next lt was all at is =
       rw (list_all_more (is_declared others) (drop 2 row) i [] (omega arith), all, at2) refl,
     )
 
--- a name in a record's list that isn't declared
+-- if a name on a record's list isn't declared, not all its names are declared
 pub listed_fail : (others : List (List ℕ)) (row : Fields) (i : ℕ) → i < length row - 2 → number_in others (field row (i + 2)) ≡ None
     → list_all (is_declared others) (drop 2 row) ≡ false
 listed_fail others row i lt none =
@@ -136,7 +136,7 @@ listed_fail others row i lt none =
     let here : is_declared others (get_or (drop 2 row) i []) ≡ false = rw (← (listed_field row i), none) refl in
     list_all_at (is_declared others) (drop 2 row) i [] (omega arith) here
 
--- all members that a record lists
+-- the numbers of all members on a record's list
 pub listed_all : (others : List (List ℕ)) (row : Fields) (i : ℕ) (items : List ℕ) → length row - 2 ≤ i
     → items ≡ map (member_in others) (take i (drop 2 row)) → items ≡ listed_in others row
 unfolding listed_in

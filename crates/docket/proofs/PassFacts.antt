@@ -1,4 +1,4 @@
--- The first record with a fault, while records are added one by one.
+-- The first fault of a pass over the rows, as the rows are read one by one.
 use Rattle.docket.specs.Limits.{most_records}
 use Rattle.match_model.specs.declared.limits.Limits.{Limits}
 use Rattle.std.proofs.Common.{◌≡◌, ◌⊎◌, ◌≤◌, ◌<◌, ◌+◌, ◌-◌, ℕ, zero, suc, List, [], ◌∷◌, ◌++◌, Bool, true, false, length, take, drop, sym, ◌∙◌, refl, ap, Option, Some, None, inl, inr, append_assoc, append-nil, rules, subst, arith}
@@ -14,12 +14,12 @@ use Rattle.docket.specs.Passes.{first_from, reading_fault, repeat_fault, limit_f
 use Rattle.docket.specs.declared.fault.DocketFault.{DocketFault}
 use Rattle.docket.specs.declared.fault.DocketFault.TheVariants.{TooManyRecords}
 
--- three tests, combined in pairs
+-- three tests in a row give the same first fault, whichever two are taken together
 pub option_or-assoc : (a b c : Option DocketFault) → option_or a (option_or b c) ≡ option_or (option_or a b) c
 option_or-assoc None b c = refl
 option_or-assoc (Some f) b c = refl
 
--- the first fault of rows followed by more rows
+-- the first fault of two lists of rows, one after the other
 pub first_from-append : (f : List Fields → Fields → Option DocketFault) (before xs ys : List Fields)
     → first_from f before (xs ++ ys) ≡ option_or (first_from f before xs) (first_from f (before ++ xs) ys)
 unfolding first_from
@@ -29,19 +29,19 @@ first_from-append f before (x ∷ xs) ys =
     ∙ option_or-assoc (f before x) (first_from f (before ++ x ∷ []) xs) (first_from f ((before ++ x ∷ []) ++ xs) ys)
     ∙ ap (λ (b : List Fields). option_or (option_or (f before x) (first_from f (before ++ x ∷ []) xs)) (first_from f b ys)) (append_assoc before (x ∷ []) xs)
 
--- one more row without a fault
+-- if the rows so far have no fault and the next row has none, the rows with the next row have none
 pub first_from-push : (f : List Fields → Fields → Option DocketFault) (kept : List Fields) (row : Fields)
     → first_from f [] kept ≡ None → f kept row ≡ None → first_from f [] (kept ++ row ∷ []) ≡ None
 unfolding first_from
 first_from-push f kept row none here = rw (first_from-append f [] kept (row ∷ []), none, here) refl
 
--- the first row with a fault, whatever follows
+-- if the rows so far have no fault and the next row has one, this fault is the first, whatever rows follow
 pub first_from-found : (f : List Fields → Fields → Option DocketFault) (kept rest : List Fields) (row : Fields) (e : DocketFault)
     → first_from f [] kept ≡ None → f kept row ≡ Some e → first_from f [] (kept ++ row ∷ rest) ≡ Some e
 unfolding first_from
 first_from-found f kept rest row e none here = rw (first_from-append f [] kept (row ∷ rest), none, here) refl
 
--- the known rows, after the next one is kept
+-- the rows of the docket, after the next row was read
 pub split_more : (all : Option (List Fields)) (kept : List Fields) (left after : Option (List Fields)) (row : Fields)
     → IsSplit all kept left → GivesRow left after true row → IsSplit all (kept ++ row ∷ []) after
 split_more None kept left after row s g = tt
@@ -50,7 +50,7 @@ split_more (Some rows) kept (Some l) after row s g =
     let same : l ≡ s.0 = cc s.1 in
     (g.0, g.1, s.2 ∙ ap (λ (r : List Fields). kept ++ r) (sym same ∙ g.2) ∙ sym (append_assoc kept (row ∷ []) g.0))
 
--- no row is left
+-- at the end of the records, the rows read are all rows of the docket
 pub split_end : (all : Option (List Fields)) (kept : List Fields) (left after : Option (List Fields)) (row : Fields)
     → IsSplit all kept left → GivesRow left after false row → AreAll all kept
 split_end None kept left after row s g = tt
@@ -59,7 +59,7 @@ split_end (Some rows) kept (Some l) after row s g =
     let same : l ≡ s.0 = cc s.1 in
     s.2 ∙ ap (λ (r : List Fields). kept ++ r) (sym same ∙ g) ∙ append-nil kept
 
--- the case that the next row has the first fault
+-- if the next row has a fault and no earlier row has one, this is the docket's first fault
 pub split_fault : (f : List Fields → Fields → Option DocketFault) (all : Option (List Fields)) (kept : List Fields) (left after : Option (List Fields)) (row : Fields) (e : DocketFault)
     → IsSplit all kept left → GivesRow left after true row → first_from f [] kept ≡ None → Refuses (f kept row) e → Explains all (first_from f []) e
 split_fault f None kept left after row e s g none here = tt
@@ -70,19 +70,19 @@ split_fault f (Some rows) kept (Some l) after row e s g none (inr here) =
     let all : rows ≡ kept ++ row ∷ g.0 = s.2 ∙ ap (λ (r : List Fields). kept ++ r) (sym same ∙ g.2) in
     inr (rw all (first_from-found f kept g.0 row e none here))
 
--- a fault that isn't the docket's needs no reason
+-- a fault of the reader or of memory needs no reason in the docket's rows
 pub outside_fault : (all : Option (List Fields)) (f : List Fields → Option DocketFault) (place : ℕ) (e : DocketFault)
     → IsOutside place e → IsReadFault e ⊎ Explains all f e
 outside_fault None f place e (inl memory) = inr tt
 outside_fault (Some rows) f place e (inl memory) = inr (inl memory)
 outside_fault all f place e (inr read) = inl (place, read)
 
--- at the start all rows remain
+-- before the first record is read, all rows remain
 pub split_start : (all : Option (List Fields)) → IsSplit all [] all
 split_start None = tt
 split_start (Some rows) = (rows, refl, refl)
 
--- the first pass at a row below the limit, and after this row
+-- below the limit on records, the first pass's test of a row, and the rows after this row
 pub reading_fault-few : (lim : Limits) (before : List Fields) (row : Fields) → length before < most_records lim
     → reading_fault lim before row ≡ option_or (row_fault (next_place before) (workers_in before) row) (option_or (repeat_fault before row) (limit_fault lim before row))
 unfolding reading_fault
@@ -104,7 +104,7 @@ reading_fault-many lim before row many = by (nat_le (most_records lim) (length b
     by true e = rw many refl
     by false e = let less : length before < most_records lim = search (rules, e) in absurd (omega (arith, less, many))
 
--- no rows have no fault
+-- an empty list of rows has no fault
 pub first_from-none : (f : List Fields → Fields → Option DocketFault) → first_from f [] [] ≡ None
 unfolding first_from
 first_from-none f = refl
@@ -112,7 +112,7 @@ first_from-none f = refl
 pub length-push : {A : Type 0} (xs : List A) (x : A) → length (xs ++ x ∷ []) ≡ length xs + 1
 length-push xs x = length-append xs (x ∷ [])
 
--- the first fault of a pass over kept rows, after each row
+-- the first fault of a pass over stored rows, after each row
 pub pass_start : (f : List Fields → Fields → Option DocketFault) (rows : List Fields) → first_from f [] (take 0 rows) ≡ None
 unfolding first_from
 pass_start f rows = refl
@@ -131,7 +131,7 @@ pass_fault f rows k e lt none (inr here) =
 pub pass_end : (f : List Fields → Fields → Option DocketFault) (rows : List Fields) (k : ℕ) → length rows ≤ k → first_from f [] (take k rows) ≡ None → first_from f [] rows ≡ None
 pass_end f rows k end none = ap (first_from f []) (sym (take_all k rows end)) ∙ none
 
--- a property of the first rows that each further row keeps holds for all rows
+-- a property that holds after the first n rows, and still holds after each further row, holds after all rows
 pub pass_rest : (P : List Fields → Type 0) (rows : List Fields) (n : ℕ) → n ≤ length rows
     → ((k : ℕ) → n ≤ k → k < length rows → P (take k rows) → P (take (k + 1) rows)) → P (take n rows) → P rows
 pass_rest P rows n low step here = over (length rows - n) n (omega arith) (omega arith) here

@@ -1,4 +1,5 @@
--- If only rows of a sheet or of a journal are cut, the second pass is the same as for all rows.
+-- If only rows of a sheet or of a journal are stored in short forms, the second pass finds the same as for the whole
+-- rows.
 use Rattle.match_model.specs.declared.limits.Limits.{Limits}
 use Rattle.std.proofs.Common.{◌≡◌, ◌⊎◌, ℕ, List, [], ◌∷◌, ◌++◌, find, sym, ◌∙◌, refl, ap, Option, None, inl, inr}
 use Rattle.std.specs.Prelude.{codes, option_map, nat_le}
@@ -17,7 +18,7 @@ use Rattle.docket.specs.declared.fault.DocketFault.TheVariants.{Model}
 use Rattle.docket.proofs.KeptFacts.{IsSeen, IsQuiet, IsOffOf, off_same, off_kind, off_withdrawn, alike_append, alike_one, alike_length, alike_any, alike_find, alike_programmes, alike_residents, alike_quotas}
 use Rattle.docket.proofs.RankingFacts.{map-same, same_draft, ranking_fault-other}
 
--- a pass that makes the same tests of rows that are alike
+-- two passes that make the same tests of a whole row and of its short form
 abbrev pub AsksSame : (Fields → Fields → Type 0) → (List Fields → Fields → Option DocketFault) → (List Fields → Fields → Option DocketFault) → Type 0
 AsksSame Is f g = (before done : List Fields) (row short : Fields) → AreAlike Is before done → (short ≡ row) ⊎ Is row short → g done short ≡ f before row
 
@@ -34,7 +35,7 @@ pub alike_none : (Is : Fields → Fields → Type 0) → AreAlike Is [] []
 unfolding AreAlike
 alike_none Is = tt
 
--- the second pass
+-- the second pass finds no fault in a short form, nor in the row that it stands for
 ranking_quiet : (Is : Fields → Fields → Type 0) → IsSeen Is → IsQuiet Is → (rows done : List Fields) (row short : Fields) → Is row short
     → (before : List Fields) → (ranking_fault done before short ≡ None) × (ranking_fault rows before row ≡ None)
 ranking_quiet Is seen quiet rows done row short h before =
@@ -54,7 +55,7 @@ pub alike_ranking : (Is : Fields → Fields → Type 0) → IsSeen Is → IsQuie
     → first_from (ranking_fault kept) [] kept ≡ first_from (ranking_fault all) [] all
 alike_ranking Is seen quiet all kept h = first_alike Is (ranking_fault all) (ranking_fault kept) (ranking_asks Is seen quiet all kept h) [] [] all kept (alike_none Is) h
 
--- the pairs
+-- the acceptable pairs are the same for the short forms as for the whole rows
 off_owner : (Is : Fields → Fields → Type 0) (k : ℕ) → IsOffOf Is (is_kind k) → (name : List ℕ) → IsOffOf Is (is_row_of k name)
 off_owner Is k off name row short h = let o = off row short h in (rw o.0 refl, rw o.1 refl)
 

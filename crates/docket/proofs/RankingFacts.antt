@@ -1,4 +1,4 @@
--- How the lists by number grow with each row.
+-- How the members' lists of numbers grow with each row of the second pass.
 use Rattle.docket.specs.Limits.{widest}
 use Rattle.std.proofs.Common.{◌≡◌, ◌≤◌, ◌<◌, ◌+◌, ℕ, zero, suc, List, [], ◌∷◌, ◌++◌, Bool, true, false, length, take, drop, map, find, arith, sym, ◌∙◌, refl, ap, Option, Some, None, inl, inr, rules, is_some}
 use Rattle.std.specs.Prelude.{◌||◌, not, if◌then◌else◌, option_map, bytes_eq, codes, slice_set, nat_lt, nat_le, unwrap_or, Result, Err}
@@ -34,7 +34,7 @@ pub off : (b : Bool) → not b ≡ true → b ≡ false
 off true h = cc h
 off false h = refl
 
--- if no row has a fault, the row at a place has none
+-- if no row has a fault in a pass, row k has none
 pub clean_at : (f : List Fields → Fields → Option DocketFault) (rows : List Fields) (k : ℕ) → first_from f [] rows ≡ None → k < length rows
     → f (take k rows) (row_at rows k) ≡ None
 unfolding first_from
@@ -45,12 +45,12 @@ clean_at f rows k none lt =
     let last = (both_none (first_from f [] (take k rows)) (first_from f (take k rows) (row_at rows k ∷ [])) (sym (first_from-append f [] (take k rows) (row_at rows k ∷ [])) ∙ split)).1 in
     (both_none (f (take k rows) (row_at rows k)) None last).0
 
--- there are as many quotas as programmes
+-- there is one quota for each programme
 pub length-quotas_of : (rows : List Fields) → length (quotas_of rows) ≡ length (programmes_of rows)
 unfolding quotas_of programmes_of
 length-quotas_of rows = length-map (rows_of QUOTA rows) (λ (r : Fields). unwrap_or (number_of (field r 2)) 0) ∙ sym (length-map (rows_of QUOTA rows) (λ (r : Fields). field r 1))
 
--- what the first pass says about a row
+-- what the first pass says about row k, if it accepted all rows
 pub sound_row : (rows : List Fields) (k : ℕ) → first_from (reading_fault widest) [] rows ≡ None → length rows ≤ MAX_RECORDS → k < length rows
     → (row_fault (k + 1) (workers_in (take k rows)) (row_at rows k) ≡ None) × (repeat_fault (take k rows) (row_at rows k) ≡ None)
 sound_row rows k none few lt =
@@ -61,7 +61,7 @@ sound_row rows k none few lt =
     let own = both_none (row_fault (next_place (take k rows)) (workers_in (take k rows)) (row_at rows k)) (option_or (repeat_fault (take k rows) (row_at rows k)) (limit_fault widest (take k rows) (row_at rows k))) all in
     (ap (λ (n : ℕ). row_fault (n + 1) (workers_in (take k rows)) (row_at rows k)) (sym here) ∙ own.0, (both_none (repeat_fault (take k rows) (row_at rows k)) (limit_fault widest (take k rows) (row_at rows k)) own.1).0)
 
--- no earlier row of this kind has the name
+-- no earlier row of the same kind has the same name
 pub quota_free : (before : List Fields) (row : Fields) → repeat_fault before row ≡ None → kind_of row ≡ QUOTA → list_any (is_row_of QUOTA (field row 1)) before ≡ false
 unfolding repeat_fault
 quota_free before row none kind =
@@ -77,7 +77,7 @@ unfolding repeat_fault
 resident_list_free before row none kind =
     off _ (unless_none (not (list_any (is_row_of RESIDENT_LIST (field row 1)) before)) (DeclaredTwice (next_place before)) (rw kind at none))
 
--- equality of bytes holds in both directions
+-- two texts are different, whichever is compared with the other
 pub bytes_eq-swap : (xs ys : List ℕ) → bytes_eq xs ys ≡ false → bytes_eq ys xs ≡ false
 bytes_eq-swap xs ys e = by (bytes_eq ys xs) refl
   where
@@ -88,7 +88,7 @@ bytes_eq-swap xs ys e = by (bytes_eq ys xs) refl
         let yes : bytes_eq xs ys ≡ true = rw same (bytes_eq-same xs) in
         absurd (cc (yes, e))
 
--- a new name more
+-- names stay different when a new name is added
 distinct_push : (names : List (List ℕ)) (name : List ℕ) → distinct names ≡ true → list_any (bytes_eq name) names ≡ false → distinct (names ++ name ∷ []) ≡ true
 unfolding distinct
 distinct_push [] name d e = refl
@@ -133,7 +133,7 @@ distinct_residents rows none few =
     let all = distinct_names RESIDENT_LIST resident_list_free rows none few (length rows) (omega arith) in
     rw (take_all (length rows) rows (omega arith)) at all
 
--- if no row passes a test, none is found
+-- if no row passes a test, the search for such a row finds nothing
 pub find_none : (p : Fields → Bool) (rows : List Fields) → list_any p rows ≡ false → find p rows ≡ None
 find_none p [] e = refl
 find_none p (r ∷ rows) e = by (p r) e (find_none p rows)
@@ -142,11 +142,11 @@ find_none p (r ∷ rows) e = by (p r) e (find_none p rows)
     by true e more = absurd (cc e)
     by false e more = more e
 
--- the first row that passes, after one more row
+-- the first row that passes a test, after one more row
 pub find-push : (p : Fields → Bool) (rows : List Fields) (row : Fields) → find p (rows ++ row ∷ []) ≡ option_or (find p rows) (if p row then Some row else None)
 find-push p rows row = find-append p rows (row ∷ [])
 
--- the lists, after the row of one more owner
+-- the members' lists, after the row with one member's list
 pub lists_of-owner : (kind : ℕ) (owners others : List (List ℕ)) (before : List Fields) (row : Fields) (i : ℕ) → distinct owners ≡ true
     → number_in owners (field row 1) ≡ Some i → is_kind kind row ≡ true → list_any (is_row_of kind (field row 1)) before ≡ false
     → lists_of kind owners others (before ++ row ∷ []) ≡ slice_set (lists_of kind owners others before) i (Some (listed_in others row))
@@ -168,7 +168,7 @@ pub map-same : {A B : Type 0} (f g : A → B) (xs : List A) → ((x : A) → f x
 map-same f g [] h = refl
 map-same f g (x ∷ xs) h = rw (h x, map-same f g xs h) refl
 
--- a row of another kind does not change the lists
+-- a row of another kind does not change the members' lists
 pub lists_of-other : (kind : ℕ) (owners others : List (List ℕ)) (before : List Fields) (row : Fields) → is_kind kind row ≡ false
     → lists_of kind owners others (before ++ row ∷ []) ≡ lists_of kind owners others before
 unfolding lists_of
@@ -176,17 +176,17 @@ lists_of-other kind owners others before row k =
     map-same (λ (name : List ℕ). option_map (listed_in others) (find (is_row_of kind name) (before ++ row ∷ []))) (λ (name : List ℕ). option_map (listed_in others) (find (is_row_of kind name) before)) owners
     (λ x. rw (find-push (is_row_of kind x) before row, k, sym (option_or-none (find (is_row_of kind x) before))) refl)
 
--- before the first row nobody has a list
+-- before the first row no member has a list
 pub lists_of-none : (kind : ℕ) (owners others : List (List ℕ)) → lists_of kind owners others [] ≡ map (λ name. None) owners
 unfolding lists_of
 lists_of-none kind owners others = refl
 
--- there are as many lists as owners
+-- there is one entry for each owner of a list
 pub length-lists_of : (kind : ℕ) (owners others : List (List ℕ)) (rows : List Fields) → length (lists_of kind owners others rows) ≡ length owners
 unfolding lists_of
 length-lists_of kind owners others rows = length-map owners (λ (name : List ℕ). option_map (listed_in others) (find (is_row_of kind name) rows))
 
--- the owner of the first row of its kind has no list yet
+-- before the row with an owner's list, this owner has no list
 pub owner_unlisted : (kind : ℕ) (owners others : List (List ℕ)) (before : List Fields) (name : List ℕ) (i : ℕ) → number_in owners name ≡ Some i
     → list_any (is_row_of kind name) before ≡ false → owner_fault (lists_of kind owners others before) i ≡ None
 unfolding lists_of
@@ -197,7 +197,7 @@ owner_unlisted kind owners others before name i at free =
     let there : nat_le (length (map (λ (n : List ℕ). option_map (listed_in others) (find (is_row_of kind n) before)) owners)) i ≡ false = rw size (search (rules, below)) in
     rw (there, list, find_none (is_row_of kind name) before free) refl
 
--- the numbers of declared members are below the count
+-- the number of a declared member is below the number of members
 pub items_below : (others : List (List ℕ)) (names : List (List ℕ)) → list_all (is_declared others) names ≡ true
     → list_all (λ x. nat_lt x (length others)) (map (member_in others) names) ≡ true
 items_below others [] h = refl
@@ -209,7 +209,7 @@ items_below others (n ∷ names) h =
     by None e s = absurd (cc s)
     by (Some i) e s = rw e (search (rules, number_below others n i e))
 
--- the builder's fault for a listed row of declared members: a member twice
+-- the builder refuses a list of declared members exactly if a member stands on it twice
 pub list_fault-row : (kind : ℕ) (owners others : List (List ℕ)) (before : List Fields) (row : Fields) (i : ℕ) → number_in owners (field row 1) ≡ Some i
     → list_any (is_row_of kind (field row 1)) before ≡ false → list_all (is_declared others) (drop 2 row) ≡ true
     → list_fault (lists_of kind owners others before) i (length others) (listed_in others row)
@@ -218,7 +218,7 @@ unfolding listed_in
 list_fault-row kind owners others before row i at free known =
     rw (owner_unlisted kind owners others before (field row 1) i at free, items_below others (drop 2 row) known) refl
 
--- the same fault, with its record
+-- the builder's refusal of a list, as a fault at the list's record
 pub listed_answer : (T : Type 0) (n : ℕ) (twice : Bool) (r : Result T ModelFault) (f : Option ModelFault) → f ≡ (if not twice then Some model.ListedTwice else None)
     → AnswersOrWantsMemory f r → (fault : ModelFault) → r ≡ Err fault → Refuses (unless twice (Model n model.ListedTwice)) (at_record n fault)
 listed_answer T n twice r f is h fault e = by twice f is (rw e at h)
@@ -233,11 +233,11 @@ pub listed_fine : (n : ℕ) (twice : Bool) (f : Option ModelFault) → f ≡ (if
 listed_fine n true f is none = refl
 listed_fine n false f is none = absurd (cc (is, none))
 
--- the number of the next record
+-- row k, counted from 0, is record k + 1
 pub place_at : (rows : List Fields) (k : ℕ) → k < length rows → k + 1 ≡ next_place (take k rows)
 place_at rows k lt = let size = length-take k rows in omega arith
 
--- the second pass's test of a P row, with a declared owner and without
+-- the second pass's test of a P row, with a declared owner and with an undeclared owner
 pub ranking_fault-owned : (rows before : List Fields) (row : Fields) (n i : ℕ) → kind_of row ≡ PROGRAMME_LIST → number_in (programmes_of rows) (field row 1) ≡ Some i
     → n ≡ next_place before → ranking_fault rows before row ≡ listing_fault n (residents_of rows) row
 unfolding ranking_fault
@@ -259,7 +259,7 @@ pub ranking_fault-other : (rows before : List Fields) (row : Fields) → is_kind
 unfolding ranking_fault
 ranking_fault-other rows before row p r w = rw (p, r, w) refl
 
--- some row passes a test if one of these rows does
+-- if row k passes a test, some row passes this test
 list_any_true_at : (p : Fields → Bool) (rows : List Fields) (k : ℕ) → k < length rows → p (row_at rows k) ≡ true → list_any p rows ≡ true
 list_any_true_at p [] k lt e = absurd (omega arith)
 list_any_true_at p (r ∷ rows) zero lt e = rw e refl
@@ -279,7 +279,7 @@ resident_declared rows k lt kind none =
     let absent : is_declared (names_of RESIDENT_LIST rows) (field (row_at rows k) 1) ≡ false = ap is_some none in
     cc (known, absent)
 
--- the builder after a P row, and after an R row
+-- what the builder has after a P row, and after an R row
 pub ranked_programme : (b e : Draft) (rows : List Fields) (k i : ℕ) → first_from (reading_fault widest) [] rows ≡ None → length rows ≤ MAX_RECORDS → k < length rows
     → kind_of (row_at rows k) ≡ PROGRAMME_LIST → number_in (programmes_of rows) (field (row_at rows k) 1) ≡ Some i → IsRanked b rows (take k rows)
     → e ≡ with_programme_list b i (listed_in (residents_of rows) (row_at rows k)) → IsRanked e rows (take (k + 1) rows)
@@ -330,7 +330,7 @@ ranked_resident b e rows k i sound few lt kind at h is =
           ∙ ap (withdrawn_of (codes "R") (residents_of rows)) (sym next);
     }
 
--- a row of another kind does not change the builder
+-- a row that is neither a list nor a withdrawal does not change the builder
 pub ranked_other : (b : Draft) (rows : List Fields) (k : ℕ) → k < length rows → is_kind PROGRAMME_LIST (row_at rows k) ≡ false → is_kind RESIDENT_LIST (row_at rows k) ≡ false
     → is_kind withdrawal_kind (row_at rows k) ≡ false → IsRanked b rows (take k rows) → IsRanked b rows (take (k + 1) rows)
 ranked_other b rows k lt p r w h =
@@ -351,7 +351,7 @@ ranked_other b rows k lt p r w h =
           ∙ ap (withdrawn_of (codes "R") (residents_of rows)) (sym next);
     }
 
--- the builder's fault for the list of a P row, and of an R row
+-- the builder's fault for the list in a P row, and for the list in an R row
 pub programme_list_fault : (b : Draft) (rows : List Fields) (k i : ℕ) (items : List ℕ) → first_from (reading_fault widest) [] rows ≡ None → length rows ≤ MAX_RECORDS → k < length rows
     → kind_of (row_at rows k) ≡ PROGRAMME_LIST → number_in (programmes_of rows) (field (row_at rows k) 1) ≡ Some i → IsRanked b rows (take k rows)
     → items ≡ listed_in (residents_of rows) (row_at rows k) → list_all (is_declared (residents_of rows)) (drop 2 (row_at rows k)) ≡ true
@@ -370,7 +370,7 @@ resident_list_fault b rows k i items sound few lt kind at h is known =
     rw (is, h.resident_lists, h.quotas, length-quotas_of rows)
     (list_fault-row RESIDENT_LIST (residents_of rows) (programmes_of rows) (take k rows) (row_at rows k) i at free known)
 
--- a row with another kind
+-- a row whose kind differs from k is not of kind k
 pub not_kind : (row : Fields) (k n : ℕ) → n ≡ kind_of row → (n ≡ k → ⊥) → is_kind k row ≡ false
 not_kind row k n e isnt = rw (← e) (search (rules, isnt))
 
@@ -379,11 +379,11 @@ pub same_draft : {b c : Draft} → b.limits ≡ c.limits → b.quotas ≡ c.quot
     → b.programmes_withdrawn ≡ c.programmes_withdrawn → b.residents_withdrawn ≡ c.residents_withdrawn → b ≡ c
 same_draft l q p r pg rg = λ i. record { limits = l i; quotas = q i; programme_lists = p i; resident_lists = r i; programmes_withdrawn = pg i; residents_withdrawn = rg i }
 
--- with every row done the builder has what the rows hand in, and its limits
+-- after all rows the builder has the quotas, lists and withdrawals of the rows, and its own limits
 ranked_all : (b : Draft) (rows : List Fields) → IsRanked b rows rows → b ≡ record (draft_of rows) { limits = b.limits }
 ranked_all b rows h = same_draft refl h.quotas h.programme_lists h.resident_lists h.programmes_withdrawn h.residents_withdrawn
 
--- so it makes as many pairs
+-- the instance of the builder has as many acceptable pairs as the instance of the rows
 same_pairs : (b : Draft) (rows : List Fields) → IsRanked b rows rows → pair_count (instance_of b) ≡ pair_count (instance_of (draft_of rows))
 same_pairs b rows h = ap (λ (d : Draft). pair_count (instance_of d)) (ranked_all b rows h)
 

@@ -1,4 +1,4 @@
--- The walks over rows other than events end when only events are left.
+-- The walks for lists and for the sheet may end where only events follow.
 use Rattle.std.proofs.Common.{◌≡◌, ◌≤◌, ◌<◌, ℕ, List, [], false, length, take, arith, sym, None}
 use Rattle.match_model.specs.Draft.{Draft}
 use Rattle.docket.specs.Fields.{Fields, is_kind, withdrawal_kind}
@@ -12,11 +12,11 @@ use Rattle.docket.proofs.PassFacts.{pass_more, pass_rest}
 use Rattle.docket.proofs.RankingFacts.{not_kind, ranked_other, ranking_fault-other}
 use Rattle.docket.proofs.MarkFacts.{marks_other, mark_fault-other, filled_other}
 
--- an event is of no other kind
+-- if all rows from row n on are events, row k from there on is of no other kind
 other_kind : (rows : List Fields) (n k : ℕ) (kind : ℕ) → AreEventsFrom n rows → n ≤ k → k < length rows → (EVENT ≡ kind → ⊥) → is_kind kind (row_at rows k) ≡ false
 other_kind rows n k kind events up lt isnt = not_kind (row_at rows k) kind EVENT (sym (events.event k up lt)) isnt
 
--- the lists
+-- the second pass is complete once only events follow
 pub ranked_rest : (b : Draft) (rows : List Fields) (n : ℕ) → n ≤ length rows → AreEventsFrom n rows → IsRanked b rows (take n rows)
     → first_from (ranking_fault rows) [] (take n rows) ≡ None → IsRanked b rows rows × (first_from (ranking_fault rows) [] rows ≡ None)
 ranked_rest b rows n low events ranked none =
@@ -28,7 +28,7 @@ ranked_rest b rows n low events ranked none =
     (ranked_other b rows k lt p r w h.0, pass_more (ranking_fault rows) rows k lt h.1 (ranking_fault-other rows (take k rows) (row_at rows k) p r w)))
     (ranked, none)
 
--- the sheet
+-- the walk for the sheet is complete once only events follow
 pub marked_rest : (m : Marks) (rows : List Fields) (n : ℕ) → n ≤ length rows → AreEventsFrom n rows → IsMarked m rows (take n rows)
     → first_from (mark_fault rows) [] (take n rows) ≡ None → IsMarked m rows rows × (first_from (mark_fault rows) [] rows ≡ None)
 marked_rest m rows n low events marked none =

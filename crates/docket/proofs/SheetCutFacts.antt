@@ -1,4 +1,4 @@
--- If a sheet's rows are not kept whole, the third pass has a fault, and it is the same for all rows.
+-- If a row of a sheet is stored only in its short form, the third pass has a fault. The whole rows have the same fault.
 use Rattle.match_model.specs.declared.limits.Limits.{Limits}
 use Rattle.std.proofs.Common.{◌≡◌, ◌⊎◌, ◌≤◌, ◌<◌, ℕ, List, [], ◌∷◌, ◌++◌, Bool, true, false, length, map, filter, sym, ◌∙◌, refl, ap, arith, rules, Option, Some, None, inl, inr, count_by}
 use Rattle.std.specs.Prelude.{◌&&◌, ◌||◌, not, if◌then◌else◌, bytes_eq}
@@ -27,17 +27,18 @@ use Rattle.docket.proofs.QuietFacts.{alike_ranking, alike_pairs}
 use Rattle.docket.proofs.RankingFacts.{bytes_eq-swap}
 use Rattle.docket.proofs.SoundFacts.{both_none, unless_none}
 
--- the names in field 1 of some rows
+-- the names in field 1 of those rows that pass a test
 abbrev names_in : (Fields → Bool) → List Fields → List (List ℕ)
 names_in p rows = map (λ (r : Fields). field r 1) (filter p rows)
 
--- a pass that tests such a row's name: it has to be known, and new among such rows
+-- a pass over the rows of one kind that tests the name in field 1: the name has to be known, and in no earlier row of
+-- this kind
 record Asks (p : Fields → Bool) (marks : List ℕ → Fields → Bool) (known : List (List ℕ)) (f : List Fields → Fields → Option DocketFault) : Type 0 where
   own : (name : List ℕ) (row : Fields) → p row ≡ true → bytes_eq name (field row 1) ≡ true → marks name row ≡ true
   there : (before : List Fields) (row : Fields) → p row ≡ true → f before row ≡ None → is_among known (field row 1) ≡ true
   first : (before : List Fields) (row : Fields) → p row ≡ true → f before row ≡ None → list_any (marks (field row 1)) before ≡ false
 
--- such rows without a fault have known names, all different
+-- if rows of one kind pass this test, their names are known and all different
 names_known : (p : Fields → Bool) (marks : List ℕ → Fields → Bool) (known : List (List ℕ)) (f : List Fields → Fields → Option DocketFault) → Asks p marks known f
     → (before rows : List Fields) → first_from f before rows ≡ None → list_all (is_among known) (names_in p rows) ≡ true
 unfolding first_from
@@ -91,7 +92,7 @@ names_differ p marks known f asks before (row ∷ rows) none =
     by true e none more = (names_apart p marks known f asks (field row 1) (before ++ row ∷ []) rows (seen e) none, more)
     by false e none more = more
 
--- these names are no more than the known names
+-- rows of one kind that pass this test are at most as many as the known names
 few_rows : (p : Fields → Bool) (marks : List ℕ → Fields → Bool) (known : List (List ℕ)) (f : List Fields → Fields → Option DocketFault) → Asks p marks known f
     → (rows : List Fields) → first_from f [] rows ≡ None → count_by p rows ≤ length known
 few_rows p marks known f asks rows none =
@@ -101,7 +102,7 @@ few_rows p marks known f asks rows none =
     let count = length-filter p rows in
     omega (arith, few, all, names, count)
 
--- the first walk makes this test of M and U rows, and of F rows
+-- the walk over a sheet tests the names of M and U rows in this way, and the names of F rows
 abbrev is_mark_row : Fields → Bool
 is_mark_row row = is_kind MATCHED row || is_kind UNMATCHED row
 
@@ -171,7 +172,7 @@ filled_asks rows = record {
   first = λ before row e none. (filled_told rows before row e none).1;
 }
 
--- a sheet's rows without a fault are no more than there can be members
+-- the rows of a sheet without a fault are at most as many as there can be members
 few_marks : (rows front : List Fields) → AreFew rows → first_from (mark_fault rows) [] front ≡ None → count_by is_sheet_row front ≤ MOST_MEMBERS
 few_marks rows front few none =
     let marks = few_rows is_mark_row is_mark_of (residents_of rows) (mark_fault rows) (marks_ask rows) front none in
@@ -181,7 +182,7 @@ few_marks rows front few none =
     let r = few.residents in
     omega (arith, marks, filled, split, p, r)
 
--- many rows are some
+-- if the number of rows that pass a test is above 0, some row passes it
 any_of_many : (p : Fields → Bool) (rows : List Fields) → 0 < count_by p rows → list_any p rows ≡ true
 any_of_many p rows lt = by (list_any p rows) refl
   where
@@ -201,7 +202,7 @@ mark_same : (all kept : List Fields) → AreAlike IsBlank all kept → (before :
 unfolding mark_fault
 mark_same all kept h before row = rw (alike_programmes IsBlank blank_seen all kept h, alike_residents IsBlank blank_seen all kept h) refl
 
--- the case that a sheet is cut
+-- if a row of the sheet is cut, the third pass has a fault, and the stored rows and the whole rows give the same fault
 sheet_told : (all kept : List Fields) (h : AreCutFrom IsBlank AreManyMarks all kept) → AreFew kept → (e : DocketFault) × (sheet_fault kept ≡ Some e) × (sheet_fault all ≡ Some e)
 unfolding sheet_fault has_sheet
 sheet_told all kept h few = by (first_from (mark_fault kept) [] h.front) refl

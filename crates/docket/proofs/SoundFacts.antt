@@ -1,4 +1,4 @@
--- What a record without an own fault has.
+-- What the fields of a record without a fault of its own have.
 use Rattle.match_model.specs.declared.limits.Limits.{Limits}
 use Rattle.std.proofs.Common.{◌≡◌, ◌<◌, ℕ, List, [], ◌∷◌, ◌++◌, Bool, true, false, length, drop, arith, refl, Option, Some, None, inl, inr, rules}
 use Rattle.std.specs.Prelude.{◌==◌, ◌⊎◌, ◌&&◌, ◌||◌, is_some, nat_lt, unwrap_or, IsSome}
@@ -20,7 +20,7 @@ use Rattle.docket.proofs.DeclarationFacts.{declared_push, by_other, option_or-no
 use Rattle.docket_names.proofs.WordFacts.{list_all_true_at}
 use Rattle.docket.proofs.FieldFacts.{field-get_or}
 
--- neither of two tests has a fault
+-- if two tests together have no fault, neither test has a fault
 pub both_none : (first second : Option DocketFault) → option_or first second ≡ None → (first ≡ None) × (second ≡ None)
 both_none None second e = (refl, e)
 both_none (Some f) second e = absurd (cc e)
@@ -29,12 +29,12 @@ pub unless_none : (test : Bool) (fault : DocketFault) → unless test fault ≡ 
 unless_none true fault e = refl
 unless_none false fault e = absurd (cc e)
 
--- if a test passed, its value is there
+-- an option that passes the test for a value has a value
 pub is_some-some : {A : Type 0} (o : Option A) → is_some o ≡ true → IsSome o
 is_some-some (Some x) e = search rules
 is_some-some None e = absurd (cc e)
 
--- an F row has two numbers
+-- an F row without a fault of its own has two numbers
 pub filled_row_sound : (n : ℕ) (by : Option ℕ) (row : Fields) → row_fault n by row ≡ None → kind_of row ≡ FILLED
     → (is_number (field row 2) ≡ true) × (is_number (field row 3) ≡ true)
 unfolding row_fault
@@ -49,7 +49,7 @@ filled_row_sound n by row h kind =
     both_true true b h = (refl, h)
     both_true false b h = absurd (cc h)
 
--- an answer that is sent or heard has a kind of answer
+-- an answer that is sent or heard has a kind of answer in field 4
 pub answer_row_sound : (n : ℕ) (by : Option ℕ) (row : Fields) → row_fault n by row ≡ None → kind_of row ≡ EVENT
     → (word_in row ≡ Answer) ⊎ (word_in row ≡ Hear) → is_some (answer_of (field row 4)) ≡ true
 unfolding row_fault word_in
@@ -76,7 +76,7 @@ answer_row_sound n by row h kind word =
     of (Some Close) e (inl w) = absurd (cc w)
     of (Some Close) e (inr w) = absurd (cc w)
 
--- a P or R row has a name in field 1
+-- a P or R row without a fault of its own has a name in field 1
 pub list_row_sound : (n : ℕ) (row : Fields) → list_row_fault n row ≡ None → is_name (field row 1) ≡ true
 unfolding lists_names
 list_row_sound n row own =
@@ -90,14 +90,14 @@ list_row_sound n row own =
     first (k ∷ []) lt all = absurd (omega arith)
     first (k ∷ name ∷ rest) lt all = rw (field-get_or (k ∷ name ∷ rest) 1) (list_all_true_at is_name (name ∷ rest) 0 [] (omega arith) all)
 
--- a row of a sheet needs no test here
+-- the first pass makes no test of a row of a sheet besides the row's own
 pub sheet_row_free : (lim : Limits) (before : List Fields) (row : Fields) (k : ℕ) → kind_of row ≡ k → (k == QUOTA) ≡ false → (k == PROGRAMME_LIST) ≡ false
     → (k == RESIDENT_LIST) ≡ false → (k == CAPACITY) ≡ false → (k == EVENT) ≡ false → (k == version_kind) ≡ false → (k == withdrawal_kind) ≡ false
     → option_or (repeat_fault before row) (limit_fault lim before row) ≡ None
 unfolding repeat_fault limit_fault
 sheet_row_free lim before row k kind q p r c e v w = rw (kind, q, p, r, c, e, v, w) refl
 
--- one more row of a sheet
+-- after one more row of a sheet, the docket has a sheet, and nothing else is declared
 pub sheet_row_declared : (d : Declarations) (texts : List (List ℕ)) (rows : List Fields) (row : Fields) → is_sheet_row row ≡ true → IsDeclared d texts rows
     → IsDeclared (record d { has_sheet_row = true }) texts (rows ++ row ∷ []) × (option_or (repeat_fault rows row) (limit_fault d.builder.limits rows row) ≡ None)
 sheet_row_declared d texts rows row is h = of (is_kind MATCHED row) refl (is_kind UNMATCHED row) refl (is_kind FILLED row) refl is

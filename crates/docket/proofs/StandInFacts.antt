@@ -1,4 +1,4 @@
--- The short form of a row without a fault has no fault.
+-- The short form that stands for a row without a fault has no fault.
 use Rattle.docket.specs.Limits.{most_records}
 use Rattle.match_model.specs.declared.limits.Limits.{Limits}
 use Rattle.std.proofs.Common.{◌≡◌, ◌⊎◌, ◌≤◌, ◌<◌, ◌+◌, ℕ, zero, suc, List, [], ◌∷◌, Bool, true, false, length, take, drop, sym, ◌∙◌, refl, ap, arith, rules, Option, Some, None, is_some, inl, inr}
@@ -26,7 +26,7 @@ use Rattle.docket.proofs.RowsFacts.{event_second, event_word_of, event_field}
 use Rattle.docket.proofs.SoundFacts.{both_none, unless_none}
 use Rattle.docket.proofs.VersionFacts.{own_clean}
 
--- the beginning of a row without a fault has none
+-- if all fields of a row are names, all fields of its beginning are names
 take_names : (row : Fields) (count : ℕ) → list_all is_name row ≡ true → list_all is_name (take count row) ≡ true
 take_names [] zero h = refl
 take_names [] (suc c) h = refl
@@ -55,7 +55,7 @@ front_own n row short h own =
     wide : 1 < length short
     wide = let size = length-take h.count row in rw h.front (omega (arith, size, h.owner, h.few))
 
--- the first pass's test of a row with a list
+-- the first pass's test of a row with a list looks at the names in its fields
 asked_list : (n : ℕ) (by : Option ℕ) (row : Fields) → (kind_of row ≡ PROGRAMME_LIST) ⊎ (kind_of row ≡ RESIDENT_LIST) → row_fault n by row ≡ list_row_fault n row
 unfolding row_fault
 asked_list n by row (inl k) = rw k refl
@@ -81,7 +81,7 @@ pub blank_sound : (lim : Limits) (before : List Fields) → length before < most
 unfolding row_fault repeat_fault limit_fault kind_of field field_at is_name
 blank_sound lim before few = reading_fault-few lim before (codes "U" ∷ codes "U" ∷ []) few ∙ no_fault _ _ refl refl
 
--- `E,close` has no fault if the event has none
+-- if an event has no fault of its own, `E,close` with this event's worker has none
 close_own : (n : ℕ) (by : Option ℕ) (row : Fields) (word : EventWord) → event_row_fault n by row ≡ None → word_in row ≡ word
     → event_row_fault n by (worded_row Close (drop (width_of word) row)) ≡ None
 unfolding word_in
@@ -143,7 +143,7 @@ close_sound lim before row short few h e =
     reading_fault-few lim before short few
     ∙ no_fault _ _ (asked_event n by short event ∙ rw h.close own) (close_context lim before row short h.event event ∙ parts.1)
 
--- a row with a list and without an own fault has an owner
+-- a row with a list and without a fault of its own names an owner in field 1
 pub owner_there : (n : ℕ) (by : Option ℕ) (second : Bool) (row : Fields) → own_fault n by second row ≡ None → is_list_row row ≡ true → 2 ≤ length row
 owner_there n by second row own list = of (list_kind row list)
   where

@@ -1,4 +1,4 @@
--- Facts about rows that are kept by the numbers of their texts.
+-- Rows whose fields are stored as numbers of texts.
 use Rattle.std.proofs.Common.{◌≡◌, ◌<◌, ℕ, List, [], ◌∷◌, ◌++◌, length, sym, ◌∙◌, ap, Some, append-nil, append_assoc}
 use Rattle.std.specs.Prelude.{slice_get}
 use Rattle.std.proofs.lemmas.List.Elements.{All-nil, All-push}
@@ -8,11 +8,11 @@ use Rattle.docket_names.proofs.TextFacts.{length-texts_at, starts_same, starts_m
 use Rattle.docket.specs.FlatRows.{cut, AreFlat, AddsTexts}
 use Rattle.docket.proofs.FlatRowsFacts.{AreCuts-none, AreCuts-push, cut-push}
 
--- none joins
+-- no text is added to the texts of a row
 pub adds_none : (texts : List (List ℕ)) (numbers : List ℕ) → AreNumbersOf texts numbers → AddsTexts texts numbers texts numbers []
 adds_none texts numbers h = record { kept = starts_same texts; within = h; joined = sym (append-nil (texts_at texts numbers)) }
 
--- one text is added, and some texts after others
+-- one text is added to the texts, or several texts after others
 pub adds_text : (texts : List (List ℕ)) (numbers : List ℕ) (more : List (List ℕ)) (n : ℕ) (text : List ℕ) → AreNumbersOf texts numbers → StartsWith texts more
     → slice_get more n ≡ Some text → AddsTexts texts numbers more (numbers ++ n ∷ []) (text ∷ [])
 adds_text texts numbers more n text h s at = record {
@@ -29,12 +29,12 @@ adds_more {texts} {numbers} {more} {all} {most} {whole} first second h i = recor
   joined = i.joined ∙ ap (λ l. l ++ second) h.joined ∙ append_assoc (texts_at texts numbers) first second;
 }
 
--- no rows
+-- an empty list of rows
 pub flat_none : (texts : List (List ℕ)) → AreFlat texts [] []
 unfolding texts_at
 flat_none texts = record { within = All-nil (λ n. n < length texts); cuts = AreCuts-none }
 
--- the fields of one more row
+-- the numbers of one more row's fields stand after those of all other rows
 flat_ends : (texts : List (List ℕ)) (numbers : List ℕ) (more : List (List ℕ)) (all : List ℕ) (row : List (List ℕ)) → AddsTexts texts numbers more all row
     → length (texts_at texts numbers ++ row) ≡ length all
 flat_ends texts numbers more all row h = ap length (sym h.joined) ∙ length-texts_at more all
@@ -51,7 +51,7 @@ pub flat_rows_push : (texts : List (List ℕ)) (numbers ends : List ℕ) (more :
 flat_rows_push texts numbers ends more all row h a =
     rw (a.joined, ← flat_ends texts numbers more all row a) (cut-push ends (texts_at texts numbers) row h.cuts)
 
--- the rows stay the same when texts are added
+-- texts that are added do not change the stored rows
 pub flat_kept : (texts more : List (List ℕ)) (numbers ends : List ℕ) → StartsWith texts more → AreFlat texts numbers ends → AreFlat more numbers ends
 flat_kept texts more numbers ends s h = record {
   within = numbers_kept texts more numbers s h.within;

@@ -1,4 +1,4 @@
--- What keeps within any limits keeps within the widest.
+-- Rows without a fault within any limits have no fault within the widest limits.
 use Rattle.std.proofs.Common.{◌≡◌, ◌≤◌, ℕ, List, [], ◌∷◌, ◌++◌, Bool, true, false, length, arith, rules, refl, Option, None}
 use Rattle.std.specs.Prelude.{nat_le, nat_lt, if◌then◌else◌, unwrap_or, Some}
 use Rattle.std.specs.Option.{option_or}
@@ -18,7 +18,7 @@ use Rattle.docket.specs.declared.fault.DocketFault.TheVariants.{TooManyRecords, 
 use Rattle.docket.proofs.SoundFacts.{both_none}
 use Rattle.docket.proofs.DeclarationFacts.{no_fault}
 
--- the numbers
+-- a number of records within any limits is within the widest limits
 pub few_widest : (lim : Limits) (n : ℕ) → n ≤ most_records lim → n ≤ MAX_RECORDS
 few_widest Standard n h = omega (arith, h)
 few_widest National n h = h
@@ -31,7 +31,7 @@ residents_widest : (lim : Limits) (n : ℕ) → nat_le (most_residents lim) n �
 residents_widest Standard n h = search (rules, h)
 residents_widest National n h = h
 
--- a row within the limits
+-- a row within any limits is within the widest limits
 limit_widest : (lim : Limits) (before : List Fields) (row : Fields) → limit_fault lim before row ≡ None → limit_fault widest before row ≡ None
 unfolding limit_fault
 limit_widest lim before row none = by (is_kind QUOTA row) (is_kind RESIDENT_LIST row) none
@@ -66,7 +66,7 @@ limit_widest lim before row none = by (is_kind QUOTA row) (is_kind RESIDENT_LIST
     by false true h = residents (nat_le (most_residents lim) m) refl h
     by false false h = refl
 
--- the first pass, at one row
+-- a row that the first pass accepts within any limits is accepted within the widest limits
 row_widest : (lim : Limits) (before : List Fields) (row : Fields) → reading_fault lim before row ≡ None → reading_fault widest before row ≡ None
 unfolding reading_fault
 row_widest lim before row none = by (nat_le (most_records lim) (length before)) refl none
@@ -93,7 +93,7 @@ row_widest lim before row none = by (nat_le (most_records lim) (length before)) 
     by true e h = absurd (cc h)
     by false e h = rw (room e) (fine h)
 
--- and so at all rows
+-- if the first pass accepts all rows within any limits, it accepts them within the widest limits
 rows_widest : (lim : Limits) (before rows : List Fields) → first_from (reading_fault lim) before rows ≡ None → first_from (reading_fault widest) before rows ≡ None
 unfolding first_from
 rows_widest lim before [] none = refl

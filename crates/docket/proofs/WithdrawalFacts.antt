@@ -1,4 +1,4 @@
--- Rows of version 2: what they declare, and which members they withdraw.
+-- What the V and W rows of a version 2 docket declare, and which members they withdraw.
 use Rattle.std.proofs.Common.{◌≡◌, ℕ, List, [], ◌∷◌, ◌++◌, Bool, true, false, map, filter, ◌∙◌, refl, ap, append-nil}
 use Rattle.std.specs.Prelude.{◌&&◌, ◌||◌, if◌then◌else◌, bytes_eq}
 use Rattle.std.specs.List.{list_any}
@@ -12,7 +12,7 @@ use Rattle.docket.specs.Passes.{is_version_2}
 use Rattle.docket.specs.Declarations.{names_withdrawn}
 use Rattle.docket_names.proofs.NameFacts.{is_declared-map}
 
--- the names that a side's W rows withdraw, after one more row
+-- the names that the W rows of one side withdraw, after one more row
 pub names_withdrawn-if : (side : List ℕ) (rows : List Fields) (row : Fields)
     → names_withdrawn side (rows ++ row ∷ []) ≡ (if is_row_of withdrawal_kind side row then names_withdrawn side rows ++ field row 2 ∷ [] else names_withdrawn side rows)
 names_withdrawn-if side rows row =
@@ -28,7 +28,7 @@ names_withdrawn-if side rows row =
     by true = refl
     by false = append-nil (map second kept)
 
--- a name is withdrawn on a side exactly if some W row says so
+-- a name is withdrawn on a side exactly if some W row of this side has the name
 pub is_declared-withdrawn : (side : List ℕ) (rows : List Fields) (name : List ℕ) → is_declared (names_withdrawn side rows) name ≡ list_any (is_withdrawal_of side name) rows
 is_declared-withdrawn side rows name = is_declared-map (λ (r : Fields). field r 2) (filter (is_row_of withdrawal_kind side) rows) name ∙ kept rows
   where
@@ -48,7 +48,7 @@ unfolding is_version_2
 is_version_2-other [] row other = rw other refl
 is_version_2-other (r ∷ rows) row other = refl
 
--- which members are withdrawn, after one more row that is no withdrawal on this side
+-- which members of a side are withdrawn, after one more row that is no withdrawal on this side
 pub withdrawn_of-other : (side : List ℕ) (names : List (List ℕ)) (before : List Fields) (row : Fields) → is_row_of withdrawal_kind side row ≡ false
     → withdrawn_of side names (before ++ row ∷ []) ≡ withdrawn_of side names before
 unfolding withdrawn_of

@@ -25,14 +25,14 @@ abbrev pub who_if : Option ℕ → List Fields → List ℕ
 who_if None rows = []
 who_if (Some workers) rows = who_of rows
 
--- if the journal is by worker, its number of workers and the worker of each event
+-- the number of workers and the worker of each event, as the rows have them; none if the journal is not by worker
 pub record AreByWorker (workers : Option ℕ) (who : List ℕ) (rows : List Fields) : Type 0 where
   pub workers_are : workers ≡ workers_in rows
   pub who_are : who ≡ who_if workers rows
   pub within : IfSome workers (λ n. AreWorkers n who)
 
--- The builder has no list and no withdrawal yet. No event stands before the capacity. All else is as the rows
--- declare; a name is kept as the number of its text.
+-- Everything is as the rows declare; a name is kept as the number of its text. The builder has no list and no
+-- withdrawal yet. No event stands before the capacity.
 pub record IsDeclared (d : Declarations) (texts : Fields) (rows : List Fields) : Type 0 where
   pub quotas : d.builder.quotas ≡ quotas_of rows
   pub programme_lists : d.builder.programme_lists ≡ map (λ name. None) (programmes_of rows)

@@ -69,8 +69,8 @@ abbrev pub worker_at : Option ℕ → EventWord → Fields → Option ℕ
 worker_at None word row = Some 0
 worker_at (Some workers) word row = worker_of workers (field row (width_of word))
 
--- The definitions from here on give the faults of record n that need no other record. This one checks the number of
--- fields.
+-- The definitions from here on give the faults that a record has without a look at any other record. `counted` gives
+-- the fault of a wrong number of fields.
 abbrev pub counted : ℕ → ℕ → Fields → Option DocketFault
 counted n width row = unless (length row == width) (FieldCount n)
 
@@ -162,9 +162,9 @@ withdrawal_row_fault n row =
     option_or (counted n 3 row)
     (option_or (unless (is_side (field row 1)) (BadWithdrawal n)) (unless (is_name (field row 2)) (BadName n)))
 
--- The first fault of record n that needs no other record. It is of the kind, of the number of fields, of the names,
--- or of numbers and words. A journal may be by this many workers. A V or W row has none here: whether such a row is
--- known depends on the records before it.
+-- The first fault that record n has by itself: in its kind, its number of fields, its names, or its numbers and words.
+-- A journal may be by this many workers. A V or W row has no fault by itself: whether the row is known depends on the
+-- records before it.
 unfoldable pub row_fault : ℕ → Option ℕ → Fields → Option DocketFault
 row_fault n workers row =
     if is_kind QUOTA row then quota_row_fault n row

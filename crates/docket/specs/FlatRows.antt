@@ -6,7 +6,7 @@ use Rattle.docket_names.specs.Texts.{texts_at, AreNumbersOf, StartsWith}
 use Rattle.docket_names.specs.Words.{is_name}
 use Rattle.docket.specs.Fields.{Fields}
 
--- the parts of a list, from this start, with these ends
+-- the parts into which these ends cut a list, from this start
 unfoldable pub cut : {A : Type 0} → ℕ → List ℕ → List A → List (List A)
 cut start [] items = []
 cut start (end ∷ ends) items = take (end - start) (drop start items) ∷ cut end ends items
@@ -20,7 +20,7 @@ pub record AreCuts {A : Type 0} (ends : List ℕ) (items : List A) : Type 0 wher
 pub record AreNamed (texts : List (List ℕ)) : Type 0 where
   pub named : list_all is_name texts ≡ true
 
--- the numbers gain these texts, and every known text stays
+-- the numbers of these texts are added at the end, and every known text keeps its number
 pub record AddsTexts (texts : List (List ℕ)) (numbers : List ℕ) (more : List (List ℕ)) (all : List ℕ) (added : List (List ℕ)) : Type 0 where
   pub kept : StartsWith texts more
   pub within : AreNumbersOf more all
@@ -31,7 +31,7 @@ pub record NumberedRows : Type 0 where
   pub rows : List Fields
   pub texts : Fields
 
--- the numbers of texts in all rows, with the place where each row ends
+-- the numbers of the texts in all rows, one row after another, with the ends of the rows
 pub record AreFlat (texts : List (List ℕ)) (numbers ends : List ℕ) : Type 0 where
   pub within : AreNumbersOf texts numbers
   pub cuts : AreCuts ends (texts_at texts numbers)

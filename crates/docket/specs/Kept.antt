@@ -16,7 +16,7 @@ is_list_row row = is_kind PROGRAMME_LIST row || is_kind RESIDENT_LIST row
 abbrev pub is_among : List (List ℕ) → List ℕ → Bool
 is_among texts text = list_any (bytes_eq text) texts
 
--- whether the row is a rank list with this text as a field; and whether some row is
+-- whether a row is a rank list with this text as a field; whether some row of these is such a list
 abbrev pub lists_text : List ℕ → Fields → Bool
 lists_text text row = is_list_row row && is_among row text
 
@@ -37,21 +37,21 @@ pub record IsFront (row short : Fields) : Type 0 where
   pub owner : 2 ≤ count
   pub few : count ≤ length row
 
--- `U,U` is kept for a row of a sheet
+-- `U,U` is kept in place of a row of a sheet
 pub record IsBlank (row short : Fields) : Type 0 where
   pub mark : is_sheet_row row ≡ true
   pub blank : short ≡ codes "U" ∷ codes "U" ∷ []
 
--- `E,close` is kept for an event, with its worker
+-- `E,close` is kept in place of an event, with the event's worker
 pub record IsClose (row short : Fields) : Type 0 where
   pub event : kind_of row ≡ EVENT
   pub close : short ≡ worded_row Close (drop (width_of (word_in row)) row)
 
--- these rows have more rows of a sheet than there can be members
+-- more of these rows belong to a sheet than there can be members
 abbrev pub AreManyMarks : List Fields → Type 0
 AreManyMarks rows = MOST_MEMBERS < count_by is_sheet_row rows
 
--- whether the row is an event with this text as a name; and whether some row is
+-- whether a row is an event with this text as a name; whether some row of these is such an event
 abbrev pub names_text : List ℕ → Fields → Bool
 names_text text row = is_kind EVENT row && nat_lt 2 (width_of (word_in row)) && (bytes_eq text (field row 2) || bytes_eq text (field row 3))
 
@@ -71,8 +71,8 @@ AreAlike Is [] (short ∷ kept) = ⊥
 AreAlike Is (row ∷ rows) [] = ⊥
 AreAlike Is (row ∷ rows) (short ∷ kept) = ((short ≡ row) ⊎ Is row short) × AreAlike Is rows kept
 
--- A row is kept whole, or as its short form. The short form needs too many texts in lists, rows of a sheet or names
--- in events by then.
+-- A row is kept whole, or as its short form. The short form is used only if the rows have too many texts in lists, too
+-- many rows of a sheet, or too many names in events by then.
 abbrev pub IsKeptAs : List Fields → List Fields → Fields → Fields → Type 0
 IsKeptAs old new row short =
     (short ≡ row) ⊎ ((IsFront row short × AreMany new) ⊎ ((IsBlank row short × AreManyMarks old) ⊎ (IsClose row short × AreManyNames old)))
@@ -82,7 +82,7 @@ pub record Keeps (old new : List Fields) (row : Fields) : Type 0 where
   pub rows : new ≡ old ++ short ∷ []
   pub shown : IsKeptAs old new row short
 
--- the rows are kept whole until there are too many; after that each row is kept whole or as its short form
+-- the rows are kept whole, at least until there are too many; every row after those is kept whole or as its short form
 pub record AreCutFrom (Is : Fields → Fields → Type 0) (Many : List Fields → Type 0) (all kept : List Fields) : Type 0 where
   pub front : List Fields
   pub rest : List Fields
@@ -95,7 +95,7 @@ pub record AreCutFrom (Is : Fields → Fields → Type 0) (Many : List Fields �
 abbrev pub AreCut : (Fields → Fields → Type 0) → (List Fields → Type 0) → List Fields → List Fields → Type 0
 AreCut Is Many all kept = (kept ≡ all) ⊎ AreCutFrom Is Many all kept
 
--- the rows are kept whole up to the list that brings too many texts
+-- the rows are kept whole, at least up to the rank list that brings too many texts
 pub record AreCutAt (all kept : List Fields) : Type 0 where
   pub front : List Fields
   pub row : Fields
@@ -111,8 +111,8 @@ pub record AreCutAt (all kept : List Fields) : Type 0 where
 abbrev pub AreListsCut : List Fields → List Fields → Type 0
 AreListsCut all kept = (kept ≡ all) ⊎ AreCutAt all kept
 
--- The rows are kept whole, or as far as any later test needs them. First events are cut, then rows of the sheet, then
--- lists.
+-- The rows are kept whole, or in short forms that are enough for every later test. First events are shortened, then
+-- rows of the sheet, then rank lists.
 pub record AreKept (all kept : List Fields) : Type 0 where
   pub noted : List Fields
   pub marked : List Fields
@@ -120,25 +120,25 @@ pub record AreKept (all kept : List Fields) : Type 0 where
   pub sheet : AreCut IsBlank AreManyMarks noted marked
   pub lists : AreListsCut marked kept
 
--- the new texts are among those added
+-- each text that is new in the list is one of the added texts
 pub record HaveJoined (texts more added : List (List ℕ)) : Type 0 where
   pub extra : List (List ℕ)
   pub more_are : more ≡ texts ++ extra
   pub among : list_all (is_among added) extra ≡ true
 
--- the text has this number or a later one
+-- the text has this number or a higher number
 pub record IsBrought (texts : List (List ℕ)) (start : ℕ) (text : List ℕ) : Type 0 where
   pub number : ℕ
   pub late : start ≤ number
   pub there : slice_get texts number ≡ Some text
 
--- a name of this event is a text with this number or a later one
+-- a name of this event is a text with this number or a higher number
 pub record HasNew (texts : List (List ℕ)) (start : ℕ) (row : Fields) : Type 0 where
   pub text : List ℕ
   pub name : names_text text row ≡ true
   pub brought : IsBrought texts start text
 
--- Each count is at most the true one: texts in rank lists, rows of a sheet, and names in events.
+-- each count is at most the true number: of texts in rank lists, of rows of a sheet, and of names in events
 abbrev pub AreCounted : ℕ → ℕ → ℕ → List Fields → List (List ℕ) → Type 0
 AreCounted listed marked named rows texts =
     (listed ≤ count_by (is_listed rows) texts) × (marked ≤ count_by is_sheet_row rows) × (named ≤ count_by (is_named rows) texts)

@@ -8,6 +8,6 @@ abbrev pub most_records : Limits → ℕ
 most_records Standard = 2000000
 most_records National = 20000000
 
--- the limits that let through whatever any others do
+-- the widest limits: they accept every docket that some limits accept
 abbrev pub widest : Limits
 widest = National

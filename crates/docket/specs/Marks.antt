@@ -1,4 +1,4 @@
--- What the code keeps during the first walk of the third pass.
+-- What the code keeps during the first walk of the third pass, which checks the sheet.
 use Rattle.std.specs.Prelude.{◌≡◌, ℕ, List, map, find, count_by, Option, option_and_then}
 use Rattle.std.specs.List.{list_any}
 use Rattle.docket.specs.Fields.{Fields, field, is_row_of}
@@ -11,7 +11,7 @@ use Rattle.docket.specs.declared.vocabulary.TheConstants.{MATCHED, FILLED}
 abbrev pub placed_in : List (List ℕ) → List Fields → List ℕ → Option ℕ
 placed_in programmes done resident = option_and_then (λ row. number_in programmes (field row 2)) (find (is_row_of MATCHED resident) done)
 
--- for each member, what the finished rows say
+-- what the finished rows of a sheet say about each member
 pub record IsMarked (marks : Marks) (rows done : List Fields) : Type 0 where
   pub sheet : marks.sheet ≡ map (placed_in (programmes_of rows) done) (residents_of rows)
   pub marked : marks.marked.items ≡ map (λ name. list_any (is_mark_of name) done) (residents_of rows)

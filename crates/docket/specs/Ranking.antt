@@ -1,4 +1,4 @@
--- What the builder keeps during the second pass, while the lists are added.
+-- What the builder keeps during the second pass over the records, while the lists are added.
 use Rattle.std.specs.Prelude.{◌≡◌, List, codes}
 use Rattle.match_model.specs.Draft.{Draft}
 use Rattle.docket.specs.Fields.{Fields}

@@ -32,15 +32,14 @@ kept_of (Withdrawal side) = kept.Withdrawal side
 unfoldable pub side_of : List ℕ → Option Side
 side_of text = if bytes_eq text (codes "P") then Some Programmes else if bytes_eq text (codes "R") then Some Residents else None
 
--- the faults of record n on its own, if it is a V row, and if it is a W row; `second` says that the docket is of
--- version 2
+-- the fault that record n has by itself, as a V row and as a W row; `second` says that the docket is of version 2
 abbrev pub version_fault : ℕ → Fields → Option DocketFault
 version_fault n row = option_or (unless (nat_eq n 1) (UnknownKind n)) (version_row_fault n row)
 
 abbrev pub withdrawal_fault : ℕ → Bool → Fields → Option DocketFault
 withdrawal_fault n second row = option_or (unless second (UnknownKind n)) (withdrawal_row_fault n row)
 
--- the fault of record n on its own; `second` says that the docket is of version 2
+-- the fault that record n has by itself; `second` says that the docket is of version 2
 abbrev pub own_fault : ℕ → Option ℕ → Bool → Fields → Option DocketFault
 own_fault n workers second row =
     if is_kind version_kind row then version_fault n row
@@ -61,12 +60,12 @@ IsReadAs by (Event word worker) row = IsEventOf (Some word) row × (worker_at by
 IsReadAs by Version row = kind_of row ≡ version_kind
 IsReadAs by (Withdrawal side) row = (kind_of row ≡ withdrawal_kind) × (field row 1 ≡ side_text side) × (is_name (field row 2) ≡ true)
 
--- the kind if there is no fault, else the fault
+-- the kind of a record without a fault, else the fault
 abbrev pub read_as : RowKind → Option DocketFault → Result RowKind DocketFault
 read_as kind None = Ok kind
 read_as kind (Some e) = Err e
 
--- the answer is the fault; without a fault it is what the record says
+-- if the record has a fault, the answer is the fault; else the answer is what the record says
 abbrev pub Reads : Option DocketFault → Option ℕ → Fields → Result RowKind DocketFault → Type 0
 Reads fault by row (Ok kind) = (fault ≡ None) × IsReadAs by kind row
 Reads fault by row (Err e) = fault ≡ Some e

@@ -1,4 +1,4 @@
--- What later passes rely on after the first pass.
+-- What the later passes over the records rely on after the first pass.
 use Rattle.std.specs.Prelude.{◌≡◌, ◌≤◌, ℕ, List, [], length, None, bytes_eq}
 use Rattle.std.specs.List.{IsDistinct}
 use Rattle.docket.specs.Contents.{programmes_of, residents_of}

@@ -21,8 +21,8 @@ abbrev pub lists_if : Bool → List Fields → Option Written
 lists_if true rows = Some (written_of (draft_of rows))
 lists_if false rows = None
 
--- The docket of these records, which have no fault within these limits, and their lists if these are kept. If the bytes are
--- known, the records are all of theirs.
+-- The docket of these records, which have no fault within these limits, and their lists if lists are kept. If the bytes
+-- are known, the records are all records in the bytes.
 pub record IsReadAs (limits : Limits) (bytes : Option (List ℕ)) (keeps : Bool) (docket : Contents) (written : Option Written) : Type 0 where
   pub rows : List Fields
   pub all : AreAll (option_map rows_in bytes) rows
@@ -30,8 +30,9 @@ pub record IsReadAs (limits : Limits) (bytes : Option (List ℕ)) (keeps : Bool)
   pub docket_is : docket ≡ contents_of rows
   pub lists_are : written ≡ lists_if keeps rows
 
--- The docket of these records, which have no fault within these limits, and their lists. If the bytes are known, the records
--- are all of theirs. The instance is made of the lists. Each resident's list names the programmes of that resident's R record.
+-- The docket of these records, which have no fault within these limits, and their lists. If the bytes are known, the
+-- records are all records in the bytes. The instance is made of the lists. Each resident's list names the programmes of
+-- that resident's R record.
 pub record IsReadWithin (limits : Limits) (bytes : Option (List ℕ)) (docket : Contents) (written : Written) : Type 0 where
   pub rows : List Fields
   pub all : AreAll (option_map rows_in bytes) rows
@@ -42,6 +43,6 @@ pub record IsReadWithin (limits : Limits) (bytes : Option (List ℕ)) (docket : 
       map (programme_name docket) (list_at written.resident_lists r) ≡ fields_after RESIDENT_LIST (resident_name docket r) rows
   pub members : (r : ℕ) → r < length docket.residents → list_all (λ p. nat_lt p (length docket.programmes)) (list_at written.resident_lists r) ≡ true
 
--- the docket that is read so within the standard limits, and its lists
+-- the docket that is read within the standard limits, and its lists
 abbrev pub IsReadWithLists : Option (List ℕ) → Contents → Written → Type 0
 IsReadWithLists bytes docket written = IsReadWithin Standard bytes docket written

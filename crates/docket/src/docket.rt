@@ -9,12 +9,13 @@ use exchange_core::{Capacity, Event};
 use match_model::{Assignment, Instance, ProgrammeNo, ResidentNo};
 use std::marker::Model;
 
-/// Which workers made the events of a journal.
+/// Which worker made which event of a journal.
 #[derive(Drop)]
 pub struct ByWorker {
     /// How many workers there were, from 1 to 8.
     pub workers: u32,
-    /// The worker of each event, in order. Each number is below the number of workers.
+    /// For each event, in order, the number of the worker that made the event. Each number is below the number of
+    /// workers.
     pub who: Vec<u8>,
 }
 
@@ -26,15 +27,15 @@ impl Model for ByWorker {
     ghost view = { λ b. record { workers = b.workers; who = b.who.items } };
 }
 
-/// The journal of an exchange: the capacity of its mailboxes, and its events in order. A journal by worker also has
-/// their workers.
+/// The journal of an exchange: the capacity of its mailboxes, and its events in order. A journal by worker also says
+/// which worker made each event.
 #[derive(Drop)]
 pub struct Journal {
     /// The capacity of the mailboxes.
     pub capacity: Capacity,
     /// The events, in order.
     pub events: Vec<Event>,
-    /// The workers of the events, if the journal has them.
+    /// Which worker made each event, if the journal says so.
     pub by: Option<ByWorker>,
 }
 
@@ -65,7 +66,7 @@ impl Model for Docket {
     ghost invariant = { λ d. IsWhole (record { programmes = d.names.programmes; residents = d.names.residents; instance = d.instance; sheet = d.sheet; journal = d.journal }) };
 }
 
-// A single call. So a caller that drops a docket need not prove anything about its parts.
+// One function drops the whole docket. So a caller that drops a docket need not prove anything about its parts.
 impl Drop for Docket {
     fn drop(self) {
         let Docket {
@@ -78,7 +79,7 @@ impl Drop for Docket {
 }
 
 impl Docket {
-    /// The quotas and the rankings.
+    /// The docket's instance: the quotas and the rankings.
     pub fn instance(&self) -> &Instance
         ensures instance { result.now ≡ self.now.instance }
         ensures whole { IsWhole self.now }

@@ -14,25 +14,26 @@ use thiserror::Error;
 pub enum DocketFault {
     /// The reader failed, other than by an interruption.
     Read { place: u32 },
-    /// There are more records than the limits allow.
+    /// The docket has more records than the limits allow.
     TooManyRecords { place: u32 },
     /// The first field is no known kind of row.
     UnknownKind { place: u32 },
-    /// The row has a wrong number of fields for its kind.
+    /// The number of fields in the row is wrong for a row of its kind.
     FieldCount { place: u32 },
-    /// A name is not 1 to 32 letters, digits, `-`, `_` or `.`.
+    /// A name is empty, or is longer than 32 characters, or has a character other than a letter, a digit, `-`, `_` or
+    /// `.`.
     BadName { place: u32 },
     /// A quota is not 1 to 9 digits.
     BadQuota { place: u32 },
-    /// An earlier row of the same kind declared the name.
+    /// An earlier row of the same kind declared the same name.
     DeclaredTwice { place: u32 },
     /// A name isn't declared.
     UnknownName { place: u32 },
-    /// The instance can't be built.
+    /// The model refuses the docket's members or lists, for this reason.
     Model { place: u32, fault: ModelFault },
-    /// A row of the journal is bad, or out of order.
+    /// A row of the journal has a bad field, or stands in a wrong order.
     BadEvent { place: u32 },
-    /// The sheet is incomplete, or doesn't add up.
+    /// The sheet lacks a row, or its numbers contradict one another.
     BadSheet { place: u32 },
     /// The memory could not grow.
     Memory,
@@ -45,7 +46,7 @@ pub enum DocketFault {
 }
 
 impl DocketFault {
-    /// The fault as a text by these limits.
+    /// The fault as a text. The text names the limits under which the docket was read.
     pub fn within(self, limits: Limits) -> FaultWithin {
         FaultWithin {
             fault: self,
@@ -73,7 +74,7 @@ impl DocketFault {
         }
     }
 
-    // Writes what is wrong, without its place, by these limits.
+    // Writes what is wrong, without the number of the record. The text names these limits.
     fn write_cause<W: fmt::Write>(&self, limits: Limits, f: &mut fmt::Formatter<W>) -> fmt::Result {
         f.write_str(match self {
             DocketFault::Read { .. } => "the input could not be read",
@@ -97,14 +98,14 @@ impl DocketFault {
     }
 }
 
-/// By the standard limits.
+/// Writes the fault as a text. The text names the standard limits.
 impl fmt::Display for DocketFault {
     fn fmt<W: fmt::Write>(&self, f: &mut fmt::Formatter<W>) -> fmt::Result {
         write!(f, "{}", self.within(Limits::Standard))
     }
 }
 
-/// A fault of a docket that was read within these limits. Its text names the number that is passed.
+/// A fault of a docket that was read within these limits. Where a limit was exceeded, the text names this limit.
 #[derive(Clone, Copy, Debug)]
 pub struct FaultWithin {
     fault: DocketFault,

@@ -1,10 +1,10 @@
-//! The kind of a record: as it is read, and as it is kept.
+//! The kind of a record, as it is read and as it is stored.
 ghost use Rattle.std.specs.Prelude.{◌≡◌};
 
 use crate::vocabulary::{EventWord, Side};
 use exchange_core::Capacity;
 
-/// The kind of a kept row. Later passes look at this kind.
+/// The kind of a stored row. The later passes over the rows look at this kind.
 #[derive(Clone, Copy)]
 pub(crate) enum KeptKind {
     /// A Q row
@@ -44,7 +44,7 @@ impl KeptKind {
     }
 }
 
-/// What a record without a fault of its own says: its kind, and the values in its fields.
+/// What a record says, if it has no fault of its own: its kind, and the values in its fields.
 #[derive(Clone, Copy)]
 pub(crate) enum RowKind {
     /// `Q,programme,quota`
@@ -61,12 +61,12 @@ pub(crate) enum RowKind {
     Unmatched,
     /// `F,programme,filled,quota`
     Filled,
-    /// `C,full` or `C,n`; a journal by worker adds the number of workers
+    /// `C,full` or `C,n`; in a journal by worker the number of workers follows
     Capacity {
         capacity: Capacity,
         workers: Option<u32>,
     },
-    /// `E,word,..`; a journal by worker adds the worker's number, else this is 0
+    /// `E,word,..`; in a journal by worker the worker's number follows, and in any other journal the number here is 0
     Event {
         word: EventWord,
         worker: u8,
@@ -82,7 +82,7 @@ pub(crate) enum RowKind {
 impl RowKind {
     ghost use Rattle.docket.specs.RowKind.{kept_of};
 
-    /// The kind that is kept with the row.
+    /// The kind that is stored with the row.
     #[inline(always)]
     pub(crate) fn kept(self) -> KeptKind
         ensures { result ≡ kept_of self }

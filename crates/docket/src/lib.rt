@@ -1,11 +1,12 @@
-//! Dockets: CSV rows to names, an instance, a sheet and a journal, and back.
+//! Dockets: CSV rows are read as names, an instance, a sheet and a journal, and written back.
 //!
-//! A docket is read exactly: it means what its rows say, and its fault is the first of its faults.
+//! A docket is read exactly: the result means what the rows say, and the reported fault is the docket's first fault.
 //!
-//! What only tests refuse: a body that only answers `Memory`, or a device's fault (`Read`, `Write`); one that tells an
-//! interrupted read as a fault, or csv's want of memory as a device's; one whose reading goes on past the record after the
-//! last that there may be;
-//! other texts of faults. What nothing refuses: an `events_from` that names a later row, with which some walks are longer.
+//! Only tests refuse the following wrong bodies: a body that always answers `Memory` or a device's fault (`Read`,
+//! `Write`); a body that reports an interrupted read as a fault; a body that reports that csv is out of memory as a
+//! device's fault; a body that reads on past the limit on records; and a body with other texts of faults. Nothing
+//! refuses an `events_from` that names a later row than the first of the last events. With such an `events_from` some
+//! walks over the rows take more steps.
 #![tactic(auto)]
 
 mod docket;

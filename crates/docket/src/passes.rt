@@ -1,4 +1,4 @@
-//! The passes over the kept rows: the lists, the sheet, the journal.
+//! The passes over the stored rows: the first of them reads the lists, the next the sheet, and the last the journal.
 
 pub(crate) mod journal;
 pub(crate) mod ranking;

@@ -16,7 +16,7 @@ fn is_interrupted(error: &io::Error) -> bool
     error.kind() == ErrorKind::Interrupted
 }
 
-// One read. It is made again after an interruption, up to 2^64 - 1 times.
+// Reads once. After an interruption the reading is tried again, up to 2^64 - 1 times.
 fn read_again<R: Read>(reader: &mut R, buf: &mut [u8]) -> io::Result<usize>
     ensures bound { ReadsAtMost result buf.new }
     ensures ok { IfOk result (λ n. Consumes (R.remaining reader.old) (R.remaining reader.new) (take n buf.new)) }
@@ -37,7 +37,7 @@ fn read_again<R: Read>(reader: &mut R, buf: &mut [u8]) -> io::Result<usize>
     Err(io::Error::from(ErrorKind::TimedOut))
 }
 
-/// Reads again after an interruption, as the standard library's own readers do.
+/// A reader that tries again after an interruption, as the standard library's own readers do.
 #[derive(Drop)]
 pub(crate) struct Retrying<R> {
     inner: R,

@@ -1,4 +1,5 @@
-//! What is kept of a docket's records: each different text once; rows and names are numbers of texts.
+//! What is stored of a docket's records. Each different text is stored once; the rows and the members' names are
+//! numbers of these texts.
 
 pub(crate) mod declarations;
 pub(crate) mod flat_rows;

@@ -1,4 +1,4 @@
--- Facts about texts that have a place as members.
+-- The texts that are members' names, and the members' numbers.
 use Rattle.std.proofs.Common.{◌≡◌, ◌≢◌, ◌≤◌, ◌<◌, ◌+◌, ℕ, zero, suc, List, [], ◌∷◌, ◌++◌, Bool, true, false, cond, length, get_or, take, replicate, arith, rules, sym, ◌∙◌, refl, ap, Option, Some, None, is_some, position}
 use Rattle.std.specs.Prelude.{bytes_eq, nat_eq, slice_get, slice_set, ◌||◌}
 use Rattle.std.specs.List.{IsDistinct, list_any, position_from}
@@ -13,7 +13,7 @@ use Rattle.docket_names.specs.Texts.{number_in, is_declared, texts_at, AreNumber
 use Rattle.docket_names.proofs.NameFacts.{is_some-position, number_in-map, number_there, same_bytes}
 use Rattle.docket_names.proofs.TextFacts.{names_none, names_grown, names_more, number_found, number_text}
 
--- one more first item that passes a test, and one that doesn't
+-- the search for an item that passes a test, after one more item that passes, and after one that fails
 from_hit : {A : Type 0} (p : A → Bool) (n : ℕ) (xs : List A) (x : A) → position_from p n xs ≡ None → p x ≡ true → position_from p n (xs ++ x ∷ []) ≡ Some (n + length xs)
 from_hit p n [] x none hit = let count : n ≡ n + 0 = omega arith in rw hit (ap Some count)
 from_hit p n (y ∷ ys) x none hit = by (p y) none (λ e. from_hit p (n + 1) ys x e hit)
@@ -35,11 +35,11 @@ position_hit p xs x none hit =
 position_miss : {A : Type 0} (p : A → Bool) (xs : List A) (x : A) → p x ≡ false → position p (xs ++ x ∷ []) ≡ position p xs
 position_miss p xs x miss = position_from-zero p (xs ++ x ∷ []) ∙ from_miss p 0 xs x miss ∙ sym (position_from-zero p xs)
 
--- nobody has a place
+-- without members no text is a member's name
 pub found_none : AreFoundBy [] []
 found_none = record { found = λ text. refl }
 
--- more room gives no text a place
+-- a list that is filled up at its end has the same item at every index
 pub padded : {A : Type 0} (none : A) (xs : List A) (n m i : ℕ) → length xs ≤ n → get_or (take n xs ++ replicate m none) i none ≡ get_or xs i none
 padded {A} none xs n m i low = rw (take_all n xs low) (after xs i)
   where
@@ -57,7 +57,7 @@ pub found_wider : (by_text : List (Option ℕ)) (texts : List ℕ) (n m : ℕ) �
     → AreFoundBy (take n by_text ++ replicate m None) texts
 found_wider by_text texts n m h low = record { found = λ text. padded None by_text n m text low ∙ h.found text }
 
--- a new text gets the next place
+-- a new member gets the next number
 pub found_more : (by_text : List (Option ℕ)) (texts : List ℕ) (text member : ℕ) → AreFoundBy by_text texts → text < length by_text → position (nat_eq text) texts ≡ None
     → member ≡ length texts → AreFoundBy (slice_set by_text text (Some member)) (texts ++ text ∷ [])
 found_more by_text texts text member h lt none next = rw next (record { found = λ n. at n (nat_eq n text) refl })
@@ -71,7 +71,7 @@ found_more by_text texts text member h lt none next = rw next (record { found = 
         let differs : n ≢ text = search (rules, e) in
         get_or-set_other by_text text n (Some (length texts)) None differs ∙ h.found n ∙ sym (position_miss (nat_eq n) texts text e)
 
--- the place of a text's number is the place of the text
+-- the member with a text's number is the member with this text as its name
 pub member_named : (texts : List (List ℕ)) (members : List ℕ) (n : ℕ) (text : List ℕ) → IsDistinct bytes_eq texts → AreNumbersOf texts members
     → slice_get texts n ≡ Some text → position (nat_eq n) members ≡ number_in (texts_at texts members) text
 unfolding texts_at
@@ -101,7 +101,7 @@ member_named texts members n text d all at =
         let head = by m (All-head (λ k. k < length texts) m ms h) (nat_eq n m) refl (bytes_eq text (get_or texts m [])) refl in
         rw (head, alike (i + 1) ms (All-tail (λ k. k < length texts) m ms h)) refl
 
--- a text that is not known has no place
+-- a text that is not among the docket's texts is no member's name
 pub nowhere_named : (texts : List (List ℕ)) (members : List ℕ) (text : List ℕ) → IsDistinct bytes_eq texts → AreNumbersOf texts members
     → number_in texts text ≡ None → number_in (texts_at texts members) text ≡ None
 nowhere_named texts members text d all none = by (number_in (texts_at texts members) text) refl
@@ -115,17 +115,17 @@ nowhere_named texts members text d all none = by (number_in (texts_at texts memb
         let has = number_there texts (get_or members i 0) text d (own ∙ ap Some is) in
         absurd (cc (has, none))
 
--- a name is declared exactly if its text has a place
+-- a name is declared exactly if its text belongs to a member
 pub name_asked : (texts : List (List ℕ)) (numbers : List ℕ) (names : List (List ℕ)) (n : ℕ) (name : List ℕ) → IsDistinct bytes_eq texts → AreNames texts numbers names
     → slice_get texts n ≡ Some name → is_some (position (nat_eq n) numbers) ≡ is_declared names name
 name_asked texts numbers names n name d h at =
     ap is_some (member_named texts numbers n name d h.within at ∙ ap (λ l. number_in l name) h.texts_are)
 
--- no name is noted
+-- in an empty set no name is noted
 pub noted_none : (texts : List (List ℕ)) → AreNoted texts [] []
 noted_none texts = record { numbers = []; names_are = names_none texts; noted_are = λ text. refl }
 
--- more texts keep the notes of the earlier ones
+-- a set of noted names stays right if texts are added to the docket's texts
 pub noted_grown : (texts more : List (List ℕ)) (noted : List Bool) (names : List (List ℕ)) → StartsWith texts more → AreNoted texts noted names → AreNoted more noted names
 noted_grown texts more noted names s h = record {
   numbers = h.numbers;
@@ -133,7 +133,7 @@ noted_grown texts more noted names s h = record {
   noted_are = h.noted_are;
 }
 
--- one more name is noted
+-- a set of noted names after one more name
 pub noted_more : (texts : List (List ℕ)) (noted all : List Bool) (names : List (List ℕ)) (n : ℕ) (name : List ℕ) → AreNoted texts noted names
     → slice_get texts n ≡ Some name → is_name name ≡ true → ((k : ℕ) → get_or all k false ≡ (nat_eq k n || get_or noted k false)) → AreNoted texts all (names ++ name ∷ [])
 noted_more texts noted all names n name h at is more = record {
@@ -149,12 +149,12 @@ noted_more texts noted all names n name h at is more = record {
     swapped false true = refl
     swapped false false = refl
 
--- a name is noted exactly if it is among the names
+-- a name is noted exactly if it is among the noted names
 pub noted_asked : (texts : List (List ℕ)) (noted : List Bool) (names : List (List ℕ)) (n : ℕ) (name : List ℕ) → IsDistinct bytes_eq texts → AreNoted texts noted names
     → slice_get texts n ≡ Some name → get_or noted n false ≡ is_declared names name
 noted_asked texts noted names n name d h at = h.noted_are n ∙ name_asked texts h.numbers names n name d h.names_are at
 
--- a flag is set
+-- after the flag of a text is set, this flag is true and all others are as before
 pub noted_set : (noted : List Bool) (text n : ℕ) → text < length noted → get_or (slice_set noted text true) n false ≡ (nat_eq n text || get_or noted n false)
 noted_set noted text n lt = by (nat_eq n text) refl
   where

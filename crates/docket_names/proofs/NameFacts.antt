@@ -1,4 +1,4 @@
--- Facts about lists of names.
+-- Lists of names, and what it means that a text has the form of a name.
 use Rattle.std.proofs.Common.{◌≡◌, ◌<◌, ◌≤◌, ◌+◌, ℕ, zero, suc, List, [], ◌∷◌, Bool, true, false, length, get_or, map, arith, sym, ◌∙◌, refl, ap, Some, None, Option, is_some, position, rules, cond}
 use Rattle.std.specs.Prelude.{bytes_eq, slice_get, IsUtf8, ◌&&◌, ◌||◌, nat_le, nat_lt, ◌==◌}
 use Rattle.std.specs.List.{list_all, list_any, position_from, AllByRecursion, IsDistinct}
@@ -14,20 +14,20 @@ use Rattle.docket_names.specs.Texts.{number_in, is_declared}
 use Rattle.docket_names.specs.declared.name_key.TheConstants.{MAX_NAME}
 use Rattle.docket_names.proofs.WordFacts.{list_all_true_at}
 
--- bytes that are equal, and bytes that are not
+-- the comparison of bytes says true for equal texts only, and false for different texts only
 pub same_bytes : (xs ys : List ℕ) → bytes_eq xs ys ≡ true → xs ≡ ys
 same_bytes xs ys e = (bytes_eq-Decides xs ys).0 e
 
 pub bytes_eq-same : (xs : List ℕ) → bytes_eq xs xs ≡ true
 bytes_eq-same xs = (bytes_eq-Decides xs xs).1 refl
 
--- two tests
+-- if two tests pass, both together pass
 pub and_both : (a b : Bool) → a ≡ true → b ≡ true → (a && b) ≡ true
 and_both true true e f = refl
 and_both true false e f = absurd (cc f)
 and_both false b e f = absurd (cc e)
 
--- a position among images
+-- the position of an item in a mapped list is its position in the list before
 position_from-map : {A B : Type 0} (p : B → Bool) (f : A → B) (n : ℕ) (xs : List A) → position_from p n (map f xs) ≡ position_from (λ x. p (f x)) n xs
 position_from-map p f n [] = refl
 position_from-map p f n (x ∷ xs) = ap (λ o. cond (p (f x)) (Some n) o) (position_from-map p f (n + 1) xs)
@@ -35,7 +35,7 @@ position_from-map p f n (x ∷ xs) = ap (λ o. cond (p (f x)) (Some n) o) (posit
 pub position-map : {A B : Type 0} (p : B → Bool) (f : A → B) (xs : List A) → position p (map f xs) ≡ position (λ x. p (f x)) xs
 position-map p f xs = position_from-zero p (map f xs) ∙ position_from-map p f 0 xs ∙ sym (position_from-zero (λ x. p (f x)) xs)
 
--- there is a position exactly if the test passes somewhere
+-- a search finds a position exactly if some item passes the test
 is_some-position_from : {A : Type 0} (p : A → Bool) (n : ℕ) (xs : List A) → is_some (position_from p n xs) ≡ list_any p xs
 is_some-position_from p n [] = refl
 is_some-position_from p n (x ∷ xs) = by (p x) (is_some-position_from p (n + 1) xs)
@@ -48,22 +48,22 @@ is_some-position_from p n (x ∷ xs) = by (p x) (is_some-position_from p (n + 1)
 pub is_some-position : {A : Type 0} (p : A → Bool) (xs : List A) → is_some (position p xs) ≡ list_any p xs
 is_some-position p xs = ap is_some (position_from-zero p xs) ∙ is_some-position_from p 0 xs
 
--- a test among images
+-- some item of a mapped list passes a test exactly if the test of a mapped item passes in the list before
 pub list_any-map : {A B : Type 0} (p : B → Bool) (f : A → B) (xs : List A) → list_any p (map f xs) ≡ list_any (λ x. p (f x)) xs
 list_any-map p f [] = refl
 list_any-map p f (x ∷ xs) = ap (λ b. p (f x) || b) (list_any-map p f xs)
 
--- a name is declared exactly if it equals some name of the list
+-- a name is declared exactly if it equals some name in the list of names
 pub is_declared-any : (names : List (List ℕ)) (name : List ℕ) → is_declared names name ≡ list_any (bytes_eq name) names
 unfolding number_in
 is_declared-any names name = is_some-position (bytes_eq name) names
 
--- the number of a text, from the keys of the texts
+-- the number of a text in the list of the keys' texts
 pub number_in-map : {K : Type 0} (f : K → List ℕ) (keys : List K) (text : List ℕ) → number_in (map f keys) text ≡ position (λ k. bytes_eq text (f k)) keys
 unfolding number_in
 number_in-map f keys text = position-map (bytes_eq text) f keys
 
--- each byte of a name is ASCII
+-- each byte that may stand in a name is ASCII
 pub ascii_byte : (c : ℕ) → is_name_byte c ≡ true → c < 128
 ascii_byte c h = by (nat_le 97 c && nat_le c 122) (nat_le 65 c && nat_le c 90) (nat_le 48 c && nat_le c 57) (c == 45) (c == 95) (c == 46) refl refl refl refl refl refl h
   where
@@ -86,7 +86,7 @@ ascii_byte c h = by (nat_le 97 c && nat_le c 122) (nat_le 65 c && nat_le c 90) (
     by false false false false false true el eu ed em ew ep e = search (rules, ep)
     by false false false false false false el eu ed em ew ep e = absurd (cc e)
 
--- a name is text
+-- the bytes of a name are valid text
 pub IsUtf8-is_name : (name : List ℕ) → is_name name ≡ true → IsUtf8 name
 unfolding is_name
 IsUtf8-is_name name h = IsUtf8-from_ascii name (λ i. at i (nat_lt i (length name)) refl)
@@ -98,13 +98,13 @@ IsUtf8-is_name name h = IsUtf8-from_ascii name (λ i. at i (nat_lt i (length nam
     at i true e = ascii_byte (get_or name i 0) (list_all_true_at is_name_byte name i 0 (search (rules, e)) bytes)
     at i false e = rw (get_or_past name i 0 (search (rules, e))) (omega arith)
 
--- a name in a list of names is a name
+-- each item in a list of names has the form of a name
 pub name_at : (names : List (List ℕ)) (i : ℕ) (name : List ℕ) → list_all is_name names ≡ true → slice_get names i ≡ Some name → is_name name ≡ true
 name_at [] i name all at = absurd (cc at)
 name_at (x ∷ xs) zero name all at = let same : x ≡ name = cc at in rw (← same) (and_parts (is_name x) (list_all is_name xs) all).0
 name_at (x ∷ xs) (suc i) name all at = name_at xs i name (and_parts (is_name x) (list_all is_name xs) all).1 at
 
--- a name may have each digit
+-- a digit may stand in a name
 digit_named : (l u d m w p : Bool) → d ≡ true → (l || u || d || m || w || p) ≡ true
 digit_named true u d m w p e = refl
 digit_named false true d m w p e = refl
@@ -118,7 +118,7 @@ digits_named (c ∷ text) h =
     let first : is_name_byte c ≡ true = digit_named (is_between 97 122 c) (is_between 65 90 c) (is_digit c) (c == 45) (c == 95) (c == 46) parts.0 in
     and_both (is_name_byte c) (list_all is_name_byte text) first (digits_named text parts.1)
 
--- a number is a name
+-- a text of 1 to 9 digits has the form of a name
 pub number_is_name : (text : List ℕ) → is_number text ≡ true → is_name text ≡ true
 unfolding is_number is_name
 number_is_name text h =
@@ -130,12 +130,12 @@ number_is_name text h =
     and_both (nat_le 1 (length text) && nat_le (length text) 32) (list_all is_name_byte text)
     (and_both (nat_le 1 (length text)) (nat_le (length text) 32) sized.0 few) (digits_named text parts.1)
 
--- a letter is a name
+-- one letter has the form of a name
 pub letter_is_name : (c : ℕ) → is_name_byte c ≡ true → is_name (c ∷ []) ≡ true
 unfolding is_name
 letter_is_name c h = and_both (is_name_byte c) true h refl
 
--- a name is no longer than 32 bytes
+-- a name has at most 32 bytes
 pub name_length : (name : List ℕ) → is_name name ≡ true → length name ≤ 32
 unfolding is_name
 name_length name h =
@@ -143,7 +143,7 @@ name_length name h =
     let few = (and_parts (nat_le 1 (length name)) (nat_le (length name) 32) sized.0).1 in
     search (rules, few)
 
--- a text that is too long for a name has no number
+-- a text of more than 32 bytes is not among the docket's texts
 pub longer_unnumbered : (texts : List (List ℕ)) (text : List ℕ) → list_all is_name texts ≡ true → MAX_NAME < length text → number_in texts text ≡ None
 unfolding number_in
 longer_unnumbered texts text all h = by (position (bytes_eq text) texts) refl
@@ -157,11 +157,11 @@ longer_unnumbered texts text all h = by (position (bytes_eq text) texts) refl
         let size = ap length is in
         absurd (omega arith)
 
--- whether a name is declared, from the keys of the names
+-- whether a name is declared, tested by the keys of the names
 pub is_declared-map : {K : Type 0} (f : K → List ℕ) (keys : List K) (name : List ℕ) → is_declared (map f keys) name ≡ list_any (λ k. bytes_eq name (f k)) keys
 is_declared-map f keys name = is_declared-any (map f keys) name ∙ list_any-map (bytes_eq name) f keys
 
--- the number of a name that equals a name of the list, if no later name equals that one
+-- the number of a name in a list of different names
 apart : (x name : List ℕ) (names : List (List ℕ)) (i : ℕ) → AllByRecursion (λ y. bytes_eq x y ≡ false) names → slice_get names i ≡ Some name → bytes_eq x name ≡ false
 apart x name [] i all at = absurd (cc at)
 apart x name (y ∷ ys) zero all at = let same : y ≡ name = cc at in rw (← same) all.0

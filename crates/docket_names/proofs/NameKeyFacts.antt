@@ -1,4 +1,4 @@
--- Facts about the keys of names.
+-- The keys of names: texts that are filled up with zeros to 32 bytes.
 use Rattle.std.proofs.Common.{◌≡◌, ◌≤◌, ◌<◌, ◌-◌, ◌+◌, ℕ, zero, suc, List, [], ◌∷◌, ◌++◌, length, take, drop, replicate, get_or, arith, rules, Bool, true, false, refl, sym, ap, ◌∙◌}
 use Rattle.std.proofs.lemmas.List.{length-drop, get_or-drop, take_all, take-append-drop}
 use Rattle.std.specs.Prelude.{bytes_eq, ◌&&◌, nat_eq}
@@ -7,17 +7,17 @@ use Rattle.std.proofs.lemmas.Slice.Eq.{bytes_eq-Decides}
 use Rattle.docket_names.specs.NameKeys.{filled, IsFilled}
 use Rattle.docket_names.specs.declared.name_key.TheConstants.{MAX_NAME}
 
--- the beginning of two joined lists
+-- as many items of two joined lists as the first list has are the first list
 take_front : (xs ys : List ℕ) → take (length xs) (xs ++ ys) ≡ xs
 take_front [] ys = refl
 take_front (x ∷ xs) ys = ap (λ (l : List ℕ). x ∷ l) (take_front xs ys)
 
--- a text followed by zeros is filled up
+-- a text followed by zeros up to 32 bytes is filled up
 pub filled_by : (text rest : List ℕ) → length text ≤ MAX_NAME → rest ≡ replicate (MAX_NAME - length text) 0 → IsFilled (length text) (text ++ rest)
 unfolding filled
 filled_by text rest few zeros = record { fits = few; filled_up = rw (take_front text rest) (ap (λ (l : List ℕ). text ++ l) zeros) }
 
--- the first eight of at least eight items
+-- the first eight items of a list with at least eight items
 pub first_eight : (b : List ℕ) → 8 ≤ length b
     → take 8 b ≡ get_or b 0 0 ∷ get_or b 1 0 ∷ get_or b 2 0 ∷ get_or b 3 0 ∷ get_or b 4 0 ∷ get_or b 5 0 ∷ get_or b 6 0 ∷ get_or b 7 0 ∷ []
 first_eight [] h = absurd (omega arith)
@@ -30,14 +30,14 @@ first_eight (a ∷ b ∷ c ∷ d ∷ e ∷ f ∷ []) h = absurd (omega arith)
 first_eight (a ∷ b ∷ c ∷ d ∷ e ∷ f ∷ g ∷ []) h = absurd (omega arith)
 first_eight (a ∷ b ∷ c ∷ d ∷ e ∷ f ∷ g ∷ i ∷ rest) h = refl
 
--- a beginning of a list has no greater items
+-- if all items of a list are below 256, so are the items of its beginning
 pub bounded_front : (b : List ℕ) (n i : ℕ) → ((k : ℕ) → get_or b k 0 < 256) → get_or (take n b) i 0 < 256
 bounded_front b zero i f = omega arith
 bounded_front [] (suc n) i f = omega arith
 bounded_front (x ∷ xs) (suc n) zero f = f 0
 bounded_front (x ∷ xs) (suc n) (suc i) f = bounded_front xs n i (λ k. f (suc k))
 
--- a beginning of a beginning
+-- the first m items of the first n items are the first m items of the list
 pub take_twice : (m n : ℕ) (xs : List ℕ) → m ≤ n → take m (take n xs) ≡ take m xs
 take_twice zero n xs h = refl
 take_twice (suc m) zero xs h = absurd (omega arith)
@@ -49,7 +49,7 @@ pub short_same : (m n : ℕ) (b c : List ℕ) → m ≡ n → m ≤ 8 → take 8
 short_same m n b c sized few alike =
     sym (take_twice m 8 b few) ∙ ap (λ (l : List ℕ). take m l) alike ∙ take_twice m 8 c few ∙ ap (λ k. take k c) sized
 
--- the first eight bytes of a short text, filled up
+-- the first eight bytes of a short text that is filled up
 pub filled_eight : (b : List ℕ) → length b ≤ 8
     → take 8 (filled b) ≡ get_or b 0 0 ∷ get_or b 1 0 ∷ get_or b 2 0 ∷ get_or b 3 0 ∷ get_or b 4 0 ∷ get_or b 5 0 ∷ get_or b 6 0 ∷ get_or b 7 0 ∷ []
 unfolding filled
@@ -64,23 +64,23 @@ filled_eight (a ∷ b ∷ c ∷ d ∷ e ∷ f ∷ g ∷ []) h = refl
 filled_eight (a ∷ b ∷ c ∷ d ∷ e ∷ f ∷ g ∷ i ∷ []) h = refl
 filled_eight (a ∷ b ∷ c ∷ d ∷ e ∷ f ∷ g ∷ i ∷ j ∷ rest) h = absurd (omega arith)
 
--- the first eight bytes, filled up, have the whole of a short text
+-- the first eight bytes of a short text that is filled up begin with the whole text
 pub filled_front : (b : List ℕ) → length b ≤ 8 → take (length b) (take 8 (filled b)) ≡ b
 unfolding filled
 filled_front b h = take_twice (length b) 8 (filled b) h ∙ take_front b (replicate (MAX_NAME - length b) 0)
 
--- a filled text with the length and the first eight bytes of a short text is that text
+-- a key with the length and the first eight bytes of a short text is the key of this text
 pub short_is : (m : ℕ) (bytes text : List ℕ) → m ≡ length text → length text ≤ 8 → take 8 bytes ≡ take 8 (filled text) → take m bytes ≡ text
 short_is m bytes text sized few alike =
     ap (λ k. take k bytes) sized ∙ sym (take_twice (length text) 8 bytes few) ∙ ap (λ (l : List ℕ). take (length text) l) alike ∙ filled_front text few
 
--- the empty text has no bytes
+-- the first eight bytes of an empty text that is filled up are zeros
 pub no_bytes : (text : List ℕ) → length text ≡ 0 → take 8 (filled text) ≡ replicate 8 0
 unfolding filled
 no_bytes [] h = refl
 no_bytes (b ∷ text) h = absurd (omega (arith, h))
 
--- the eight items from a place on
+-- the eight items of a list from item i on
 pub eight_from : (b : List ℕ) (i : ℕ) → i + 8 ≤ length b
     → take 8 (drop i b) ≡ get_or b i 0 ∷ get_or b (i + 1) 0 ∷ get_or b (i + 2) 0 ∷ get_or b (i + 3) 0 ∷ get_or b (i + 4) 0 ∷ get_or b (i + 5) 0 ∷ get_or b (i + 6) 0 ∷ get_or b (i + 7) 0 ∷ []
 eight_from b i h =
@@ -89,11 +89,11 @@ eight_from b i h =
     let eight = first_eight (drop i b) (omega arith) in
     eight ∙ simp (get_or-drop, none)
 
--- a part of a list has no greater items
+-- if all items of a list are below 256, so are the items of any part
 pub bounded_part : (b : List ℕ) (i n k : ℕ) → ((j : ℕ) → get_or b j 0 < 256) → get_or (take n (drop i b)) k 0 < 256
 bounded_part b i n k f = bounded_front (drop i b) n k (λ j. rw (get_or-drop i b j 0) (f (i + j)))
 
--- two parts, one after the other
+-- dropping m items and then n items drops m + n items
 drop_more : (m n : ℕ) (b : List ℕ) → drop n (drop m b) ≡ drop (m + n) b
 drop_more zero n b = ap (λ k. drop k b) (zero_more n)
   where
@@ -109,11 +109,11 @@ drop_more (suc m) n (x ∷ xs) = drop_more m n xs ∙ ap (λ k. drop k (x ∷ xs
     one_more : (k l : ℕ) → suc (k + l) ≡ suc k + l
     one_more k l = omega arith
 
--- the items from a place on are eight items and the items after them
+-- the items from item i on are eight items and the items after these
 eight_more : (b : List ℕ) (i : ℕ) → drop i b ≡ take 8 (drop i b) ++ drop (i + 8) b
 eight_more b i = sym (take-append-drop 8 (drop i b)) ∙ ap (λ (l : List ℕ). take 8 (drop i b) ++ l) (drop_more i 8 b)
 
--- thirty-two items are four times eight items
+-- a list of thirty-two items is four groups of eight items
 four_eights : (b : List ℕ) → length b ≡ 32 → b ≡ take 8 (drop 0 b) ++ (take 8 (drop 8 b) ++ (take 8 (drop 16 b) ++ take 8 (drop 24 b)))
 four_eights b h =
     let size = length-drop 24 b in
@@ -123,12 +123,13 @@ four_eights b h =
     ∙ ap (λ (l : List ℕ). take 8 (drop 0 b) ++ (take 8 (drop 8 b) ++ l)) (eight_more b 16)
     ∙ ap (λ (l : List ℕ). take 8 (drop 0 b) ++ (take 8 (drop 8 b) ++ (take 8 (drop 16 b) ++ l))) (sym last)
 
--- two lists are equal if their four parts are
+-- two lists of thirty-two items are equal if their four groups are equal
 pub by_eights : (a b : List ℕ) → length a ≡ 32 → length b ≡ 32 → take 8 (drop 0 a) ≡ take 8 (drop 0 b) → take 8 (drop 8 a) ≡ take 8 (drop 8 b)
     → take 8 (drop 16 a) ≡ take 8 (drop 16 b) → take 8 (drop 24 a) ≡ take 8 (drop 24 b) → a ≡ b
 by_eights a b m n e f g h = four_eights a m ∙ rw (e, f, g, h) (sym (four_eights b n))
 
--- two lists are equal exactly if four pairs of numbers are, when these numbers determine them
+-- two lists are equal exactly if the four numbers of one equal the four numbers of the other, when these numbers
+-- determine the lists
 pub words_tell : (a b : List ℕ) (p q r s t u v w : ℕ) → (a ≡ b → (p ≡ t) × (q ≡ u) × (r ≡ v) × (s ≡ w))
     → (p ≡ t → q ≡ u → r ≡ v → s ≡ w → a ≡ b) → (((nat_eq p t && nat_eq q u) && nat_eq r v) && nat_eq s w) ≡ bytes_eq a b
 words_tell a b p q r s t u v w apart together = by (((nat_eq p t && nat_eq q u) && nat_eq r v) && nat_eq s w) refl (bytes_eq a b) refl

@@ -6,7 +6,7 @@ use Rattle.docket_names.specs.declared.name_key.TheConstants.{MAX_NAME}
 unfoldable pub filled : List ℕ → List ℕ
 filled text = text ++ replicate (MAX_NAME - length text) 0
 
--- the first bytes are a text, and zeros follow
+-- the first bytes are the text, and all bytes after the text are zeros
 pub record IsFilled (len : ℕ) (bytes : List ℕ) : Type 0 where
   pub fits : len ≤ MAX_NAME
   pub filled_up : bytes ≡ filled (take len bytes)

@@ -15,15 +15,15 @@ is_declared names name = is_some (number_in names name)
 unfoldable pub texts_at : List (List ℕ) → List ℕ → List (List ℕ)
 texts_at texts numbers = map (λ n. slice_index_or texts n []) numbers
 
--- each number belongs to a text
+-- each of these numbers belongs to a text of the list
 abbrev pub AreNumbersOf : List (List ℕ) → List ℕ → Type 0
 AreNumbersOf texts numbers = All (λ n. n < length texts) numbers
 
--- the list of texts begins with these
+-- the list of texts begins with these texts
 abbrev pub StartsWith : List (List ℕ) → List (List ℕ) → Type 0
 StartsWith first texts = take (length first) texts ≡ first
 
--- the texts after this one was looked up: it was known, or it was added
+-- the list of texts after one text was looked up: unchanged, or with this text added at the end
 abbrev pub IsJoined : List (List ℕ) → List (List ℕ) → List ℕ → Type 0
 IsJoined texts more text = (more ≡ texts) ⊎ (more ≡ texts ++ text ∷ [])
 
@@ -33,11 +33,11 @@ pub record AreNames (texts : List (List ℕ)) (numbers : List ℕ) (names : List
   pub texts_are : texts_at texts numbers ≡ names
   pub named : list_all is_name names ≡ true
 
--- for each text its place in this list, if it has one
+-- for each text, its position in this list of names, if the text is in the list
 pub record AreFoundBy (by_text : List (Option ℕ)) (texts : List ℕ) : Type 0 where
   pub found : (text : ℕ) → slice_index_or by_text text None ≡ position (nat_eq text) texts
 
--- for each text whether it is one of these names
+-- for each text, whether the text is one of these names
 pub record AreNoted (texts : List (List ℕ)) (noted : List Bool) (names : List (List ℕ)) : Type 0 where
   pub numbers : List ℕ
   pub names_are : AreNames texts numbers names

@@ -1,7 +1,8 @@
-//! Names and numbers, as they are written in a docket; and its different texts, each kept once with a number.
+//! Names and numbers, as they are written in a docket; and the docket's different texts, each stored once with a
+//! number.
 //!
-//! Only tests refuse a body that always answers out of memory. Nothing refuses a guess that is never right: then each
-//! text is found by its hash.
+//! Only tests refuse a body that always answers out of memory. Nothing refuses guesses that are never right. With such
+//! guesses each text is found by its hash.
 #![tactic(auto)]
 
 mod members;

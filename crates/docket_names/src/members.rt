@@ -5,12 +5,12 @@ ghost use Rattle.docket_names.specs.Texts.{AreFoundBy};
 use std::alloc::{AllocError, Global};
 use std::marker::Model;
 
-/// Some of the texts of a docket, each once, in the order in which they were added. A text is kept as its number. A
-/// member's own number is its place in this order.
+/// The members of one side, in the order in which they were added. A member's number counts from 0 in this order. Each
+/// member is stored as the number of its name among the docket's texts.
 #[derive(Drop)]
 pub struct Members {
     texts: Vec<usize>,
-    // For each text its member, if it is one. Texts past the end are no members.
+    // For each text the member whose name it is, or none. A text past the end of this list is no member's name.
     by_text: Vec<Option<u32>>,
 }
 
@@ -25,7 +25,7 @@ impl Model for Members {
     ghost invariant = { λ m. AreFoundBy m.by_text.items m.texts.items };
 }
 
-// Makes room up to a text. This makes no text a member.
+// Makes the list long enough for this text. No text becomes a member's name by this.
 fn reach(by_text: &mut Vec<Option<u32>>, text: usize) -> Result<(), AllocError>
     ensures kept { (texts : List ℕ) → AreFoundBy by_text.old.items texts → AreFoundBy by_text.new.items texts }
     ensures within { OnOk result (text < length by_text.new.items) }
@@ -41,7 +41,7 @@ fn reach(by_text: &mut Vec<Option<u32>>, text: usize) -> Result<(), AllocError>
 }
 
 impl Members {
-    /// No members yet.
+    /// A list without members.
     pub fn new(alloc: Global) -> Members
         ensures { result ≡ [] }
     {
@@ -58,7 +58,7 @@ impl Members {
         self.texts.len()
     }
 
-    /// The text of a member.
+    /// The number of the text that is this member's name.
     pub fn text(&self, member: usize) -> usize
         requires { member < length self.now }
         ensures { result ≡ slice_index_or self.now member 0 }
@@ -66,7 +66,7 @@ impl Members {
         self.texts[member]
     }
 
-    /// The member with this text, if there is one.
+    /// The member whose name is this text, if there is such a member.
     #[inline(always)]
     pub fn member(&self, text: usize) -> Option<u32>
         ensures { result ≡ position (nat_eq text) self.now }
@@ -77,7 +77,7 @@ impl Members {
         }
     }
 
-    /// Adds a text, and says whether it is new.
+    /// Adds the member with this text, unless there is such a member, and says whether the member is new.
     pub fn add(&mut self, text: usize) -> Result<bool, AllocError>
         ensures fresh { IfOk result (λ fresh. fresh ≡ not (is_some (position (nat_eq text) self.old))) }
         ensures added { IfOk result (λ fresh. self.new ≡ (if fresh then self.old ++ text ∷ [] else self.old)) }
@@ -89,7 +89,7 @@ impl Members {
         Ok(true)
     }
 
-    // Adds a text that is not a member yet.
+    // Adds the member with this text. No member has this text yet.
     fn give_place(&mut self, text: usize) -> Result<(), AllocError>
         requires { position (nat_eq text) self.old ≡ None }
         ensures { OnOk result (self.new ≡ self.old ++ text ∷ []) }

@@ -13,11 +13,11 @@ use std::marker::Model;
 /// The greatest length of a name, in bytes.
 pub(crate) const MAX_NAME: usize = 32;
 
-/// How many places a table of guesses has.
+/// How many entries a table of guesses has.
 pub(crate) const PLACES: usize = 65_536;
 
-/// A text, not longer than a name may be, followed by zeros. It is hashed and compared by whole words, and most names
-/// are one word.
+/// A text of at most 32 bytes, filled up with zeros. Keys are hashed and compared by whole words of eight bytes, and
+/// most names are one word long.
 #[derive(Drop)]
 pub(crate) struct NameKey {
     bytes: [u8; MAX_NAME],
@@ -49,14 +49,14 @@ impl NameKey {
         }
     }
 
-    /// The text.
+    /// The text of this key, without the zeros.
     pub(crate) fn text(&self) -> &[u8]
         ensures { result.now ≡ self.now }
     {
         &self.bytes[..self.len as usize]
     }
 
-    /// Whether the key is that of this text, which has at most eight bytes and this word.
+    /// Whether this is the key of this text. The text has at most eight bytes, and `word` is the number of these bytes.
     #[inline(always)]
     pub(crate) fn is_short(&self, text: &[u8], word: u64) -> bool
         requires short { length text.now ≤ 8 }
@@ -66,7 +66,8 @@ impl NameKey {
         self.len as usize == text.len() && first_word(&self.bytes) == word
     }
 
-    /// The place of the text in a table of guesses. If texts share a place, a guess may fail; nothing else happens.
+    /// The entry of the text in a table of guesses. If several texts have the same entry, a guess may fail, and has no
+    /// other effect.
     #[inline(always)]
     pub(crate) fn place(&self) -> usize {
         let first = first_word(&self.bytes);
@@ -87,7 +88,7 @@ fn word_of(bytes: &[u8; 8]) -> u64
     ])
 }
 
-/// The bytes of a text of at most eight bytes, followed by zeros, as a single number.
+/// The bytes of a text of at most eight bytes, filled up with zeros, as a single number.
 #[inline(always)]
 pub(crate) fn short_word(text: &[u8]) -> u64
     requires { length text.now ≤ 8 }
@@ -110,8 +111,8 @@ pub(crate) fn short_word(text: &[u8]) -> u64
     }
 }
 
-/// The place of a text in a table of guesses, from its word. A text of more than eight bytes has all its words mixed
-/// into one.
+/// The entry of a text in a table of guesses, computed from one word. For a text of more than eight bytes, `word` is a
+/// mixture of all its words.
 #[inline(always)]
 pub(crate) fn place_of(word: u64) -> usize {
     (word.wrapping_mul(0x9E37_79B9_7F4A_7C15) >> 48) as usize
@@ -127,7 +128,7 @@ fn first_word(bytes: &[u8; MAX_NAME]) -> u64
     ])
 }
 
-// The eight bytes from place `i` on, as a single number.
+// The eight bytes from byte `i` on, as a single number.
 #[inline(always)]
 fn word_at(bytes: &[u8; MAX_NAME], i: usize) -> u64
     requires { i + 8 ≤ MAX_NAME }
@@ -146,7 +147,7 @@ fn word_at(bytes: &[u8; MAX_NAME], i: usize) -> u64
     ])
 }
 
-// Whether the bytes are equal, word by word.
+// Whether two keys' bytes are equal, compared word by word.
 fn same_words(a: &[u8; MAX_NAME], b: &[u8; MAX_NAME]) -> bool
     ensures { result ≡ bytes_eq a.now b.now }
 {
@@ -157,7 +158,7 @@ fn same_words(a: &[u8; MAX_NAME], b: &[u8; MAX_NAME]) -> bool
     first & second & third & fourth
 }
 
-// How many bytes are hashed for a text of this length: one word, two words, or all four.
+// How many bytes of the key are hashed for a text of this length: one word, two words, or all four words.
 fn hashed_width(len: u8) -> usize
     requires { len ≤ MAX_NAME }
     ensures width { result ≡ width_hashed len }

@@ -4,10 +4,10 @@ ghost use Rattle.std.specs.Prelude.{◌≡◌, ◌<◌, ◌||◌, [], ℕ, false
 use std::alloc::{AllocError, Global};
 use std::marker::Model;
 
-/// Some of a docket's names, by the numbers of their texts.
+/// A set of names from a docket. Each name is stored by the number of its text.
 #[derive(Drop)]
 pub struct NameSet {
-    // For each text whether it is in the set. Texts past the end are not.
+    // For each text whether it is in the set. A text past the end of this list is not in the set.
     by_text: Vec<bool>,
 }
 
@@ -19,7 +19,7 @@ impl Model for NameSet {
     ghost view = { λ s. s.by_text.items };
 }
 
-// Makes room up to a text. This adds no text to the set.
+// Makes the list long enough for this text. No text comes into the set by this.
 fn reach(by_text: &mut Vec<bool>, text: usize) -> Result<(), AllocError>
     ensures kept { (n : ℕ) → slice_index_or by_text.new.items n false ≡ slice_index_or by_text.old.items n false }
     ensures within { OnOk result (text < length by_text.new.items) }
@@ -35,7 +35,7 @@ fn reach(by_text: &mut Vec<bool>, text: usize) -> Result<(), AllocError>
 }
 
 impl NameSet {
-    /// No name yet.
+    /// A set without names.
     pub fn new(alloc: Global) -> NameSet
         ensures { result ≡ [] }
     {
@@ -44,7 +44,7 @@ impl NameSet {
         }
     }
 
-    /// Adds a text, and says whether it is new.
+    /// Adds a text to the set, and says whether the text is new in the set.
     pub fn add(&mut self, text: usize) -> Result<bool, AllocError>
         ensures fresh { IfOk result (λ fresh. fresh ≡ not (slice_index_or self.old text false)) }
         ensures added { OnOk result ((n : ℕ) → slice_index_or self.new n false ≡ (nat_eq n text || slice_index_or self.old n false)) }

@@ -7,7 +7,7 @@ use crate::texts::Texts;
 use std::marker::Model;
 use std::str;
 
-/// The names of the members of both sides. A name is kept as the number of its text among the docket's different
+/// The names of the members of both sides. A name is stored as the number of its text among the docket's different
 /// texts.
 pub struct Names {
     texts: Texts,
@@ -26,7 +26,7 @@ impl Model for Names {
     ghost invariant = { λ a. AreNames a.texts a.programmes (texts_at a.texts a.programmes) × AreNames a.texts a.residents (texts_at a.texts a.residents) };
 }
 
-// A single call. So a caller that drops names need not prove anything about their parts.
+// One function drops all names. So a caller that drops names need not prove anything about their parts.
 impl Drop for Names {
     fn drop(self) {
         let Names {
@@ -37,7 +37,7 @@ impl Drop for Names {
     }
 }
 
-// The name of a member of a side.
+// The name of the member with this number.
 fn name_of<'a>(texts: &'a Texts, members: &Members, number: usize) -> &'a str
     requires names { AreNames texts.now members.now (texts_at texts.now members.now) }
     requires member { number < length members.now }
@@ -50,7 +50,7 @@ fn name_of<'a>(texts: &'a Texts, members: &Members, number: usize) -> &'a str
 }
 
 impl Names {
-    /// The names of these members, from their texts.
+    /// The names of these programmes and residents, among these texts.
     pub fn new(texts: Texts, programmes: Members, residents: Members) -> Names
         requires programmes { AreNames texts programmes (texts_at texts programmes) }
         requires residents { AreNames texts residents (texts_at texts residents) }

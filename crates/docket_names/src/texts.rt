@@ -1,4 +1,4 @@
-//! The different texts of a docket, each kept once.
+//! The different texts of a docket, each stored once.
 ghost use Rattle.std.specs.Prelude.{◌≡◌, ◌≤◌, ◌<◌, [], Some, true, is_some, bytes_eq, length, slice_get, take, IfOk, IfSome};
 ghost use Rattle.std.specs.Int.{w64, to_le_bytes};
 ghost use Rattle.std.specs.List.{IsDistinct, list_all};
@@ -13,17 +13,18 @@ use std::alloc::{AllocError, Global};
 use std::hash::RandomState;
 use std::marker::Model;
 
-// From how many different texts on numbers are guessed. A small docket needs no table.
+// With fewer different texts than this, no number is guessed, so that a small docket needs no table of guesses.
 const FEW: usize = 64;
 
-/// The different texts, numbered from 0, in the order in which they were first seen. Each text is a name.
+/// The different texts, numbered from 0, in the order in which they were first seen. Each text has the form of a name.
 ///
-/// If texts come in the order of their numbers, the next number is tried. Otherwise the two guesses of the text in
-/// the table are tried. A guess is always compared. If no guess is right, the text is looked up by its hash.
+/// To find a text, its number is guessed first. If texts come in the order of their numbers, the guess is the number
+/// after the last one. Otherwise the two entries for the text in the table of guesses are tried. The text with a
+/// guessed number is always compared with the text looked for. If no guess is right, the text is found by its hash.
 pub struct Texts {
     alloc: Global,
     seen: IndexSet<NameKey, RandomState>,
-    // The number after the last one found, and whether the last one came in order.
+    // The number after the number found last, and whether the last text came in the order of numbers.
     next: usize,
     in_order: bool,
     guesses: Vec<u32>,
@@ -41,7 +42,7 @@ impl Model for Texts {
     ghost invariant = { λ a. list_all is_name a.seen.keys ≡ true };
 }
 
-// A single call. So a caller that drops texts need not prove anything about their parts.
+// One function drops all texts. So a caller that drops texts need not prove anything about their parts.
 impl Drop for Texts {
     fn drop(self) {
         let Texts {
@@ -55,7 +56,7 @@ impl Drop for Texts {
 }
 
 impl Texts {
-    /// No texts yet. They will be hashed with these keys.
+    /// An object without texts. Texts that are added later are hashed with these keys.
     pub fn new(alloc: Global, keys: RandomState) -> Texts
         ensures { result ≡ [] }
     {
@@ -87,7 +88,7 @@ impl Texts {
         }
     }
 
-    /// The number of a text, if it was seen.
+    /// The number of this text, if it is one of the texts.
     pub fn find(&self, text: &[u8]) -> Option<usize>
         ensures { result ≡ number_in self.now text.now }
     {
@@ -98,7 +99,7 @@ impl Texts {
         seen.get_index_of(&NameKey::new(text))
     }
 
-    // Whether this text, which has at most eight bytes and this word, has this number.
+    // Whether this text has this number. The text has at most eight bytes, and `word` is the number of these bytes.
     #[inline(always)]
     fn is_short(&self, number: usize, text: &[u8], word: u64) -> bool
         requires short { length text.now ≤ 8 }
@@ -122,7 +123,7 @@ impl Texts {
         }
     }
 
-    // The guess in a place. Without a table the guess is no text's number.
+    // The guessed number in an entry of the table. Without a table the guess is a number that no text has.
     #[inline(always)]
     fn guess(&self, place: usize) -> usize {
         match self.guesses.get(place) {
@@ -131,7 +132,7 @@ impl Texts {
         }
     }
 
-    // The number of a text that has at most eight bytes and this word, if a guess finds it.
+    // The number of this text, if a guess finds it. The text has at most eight bytes, and `word` is their number.
     #[inline(always)]
     fn guess_short(&self, text: &[u8], word: u64) -> Option<usize>
         requires short { length text.now ≤ 8 }
@@ -154,7 +155,7 @@ impl Texts {
         None
     }
 
-    // The number of a text, if a guess finds it.
+    // The number of this text, if a guess finds the text.
     #[inline(always)]
     fn guess_text(&self, text: &NameKey) -> Option<usize>
         ensures { IfSome result (λ n. slice_get self.now n ≡ Some text.now) }
@@ -175,7 +176,7 @@ impl Texts {
         None
     }
 
-    // The number of a text of any length, if a guess finds it. A short text is compared by one word.
+    // The number of a text, if a guess finds the text. A text of at most eight bytes is compared as one word.
     #[inline(always)]
     fn guessed(&self, text: &[u8]) -> Option<usize>
         ensures { IfSome result (λ n. slice_get self.now n ≡ Some text.now) }
@@ -190,7 +191,7 @@ impl Texts {
         }
     }
 
-    // Notes which text was found last.
+    // Notes the number that was found last.
     #[inline(always)]
     fn note(&mut self, number: usize)
         ensures { self.new ≡ self.old }
@@ -199,21 +200,21 @@ impl Texts {
         self.next = number.saturating_add(1);
     }
 
-    /// The number of a known text, if a guess finds it. So the text is a name.
+    /// The number of this text, if a guess finds the text. A text that a guess finds has the form of a name.
     #[inline(always)]
     pub fn known(&mut self, text: &[u8]) -> Option<usize>
         ensures kept { self.new ≡ self.old }
         ensures number { IfSome result (λ n. slice_get self.new n ≡ Some text.now) }
         ensures named { is_some result ≡ true → words.is_name text.now ≡ true }
     {
-        // Only for the proof: each text is a name.
+        // For the proof alone: each text has the form of a name.
         let _seen = &self.seen;
         let number = self.guessed(text)?;
         self.note(number);
         Some(number)
     }
 
-    /// The number of a name. A new name is added. No text is removed.
+    /// The number of this name. If the name is new, it is added to the texts. No text is removed.
     #[inline(always)]
     pub fn number(&mut self, name: &[u8]) -> Result<usize, AllocError>
         requires { words.is_name name.now ≡ true }
@@ -227,7 +228,8 @@ impl Texts {
         }
     }
 
-    /// The number of a text; none if it is not a name. A new name is added. A known text needs no test.
+    /// The number of this text, or none if the text does not have the form of a name. If a name is new, it is added to
+    /// the texts. A text that is among the texts already needs no test of its form.
     #[inline(always)]
     pub fn name(&mut self, text: &[u8]) -> Result<Option<usize>, AllocError>
         ensures named { IfOk result (λ n. is_some n ≡ words.is_name text.now) }
@@ -245,7 +247,7 @@ impl Texts {
         Ok(Some(number))
     }
 
-    // The number of a name, found by its hash. A new name is added. It becomes the next guess for its place.
+    // The number of this name, found by its hash. A new name is added, and its number becomes the name's next guess.
     #[inline(never)]
     fn join(&mut self, name: &[u8]) -> Result<usize, AllocError>
         requires { words.is_name name.now ≡ true }
@@ -265,7 +267,7 @@ impl Texts {
     }
 }
 
-// The number of a text in this set. A new text is added.
+// The number of this key in the set. If the key is new, it is added to the set.
 fn insert(seen: &mut IndexSet<NameKey, RandomState>, name: NameKey) -> Result<usize, AllocError>
     requires names { list_all words.is_name seen.old.keys ≡ true }
     requires name { words.is_name name ≡ true }
@@ -278,7 +280,7 @@ fn insert(seen: &mut IndexSet<NameKey, RandomState>, name: NameKey) -> Result<us
     Ok(number)
 }
 
-// Makes the table of guesses, if there is none yet.
+// Makes the table of guesses, if it was not made yet.
 fn make_room(alloc: Global, guesses: &mut Vec<u32>) -> Result<(), AllocError> {
     if guesses.is_empty() {
         *guesses = Vec::from_elem(alloc, 0, PLACES)?;
@@ -286,7 +288,7 @@ fn make_room(alloc: Global, guesses: &mut Vec<u32>) -> Result<(), AllocError> {
     Ok(())
 }
 
-// The guess in a place, or 0.
+// The guess in an entry of the table, or 0 past the table's end.
 fn guess_at(guesses: &Vec<u32>, place: usize) -> u32 {
     match guesses.get(place) {
         Some(guess) => *guess,
@@ -294,7 +296,8 @@ fn guess_at(guesses: &Vec<u32>, place: usize) -> u32 {
     }
 }
 
-// Sets the next guess for a place, or for the other place of its pair if that is free.
+// Sets the next guess in an entry of the table. If this entry has a guess and the neighbouring entry has none, the
+// neighbouring entry gets the new guess.
 fn set_guess(guesses: &mut Vec<u32>, place: usize, number: usize) {
     let other = place ^ 1;
     let is_taken = guess_at(guesses, place) != 0;

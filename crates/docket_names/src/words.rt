@@ -3,7 +3,7 @@ ghost use Rattle.std.specs.Prelude.{◌≡◌, ◌≤◌, ◌+◌, length, take,
 ghost use Rattle.std.specs.List.{list_all};
 ghost use Rattle.docket_names.specs.Words as words;
 
-// Each byte that a name may have stands at its own place. A comma stands at every other place.
+// Each byte that may stand in a name stands in this table at the index of its own value. Every other index has a comma.
 static NAME_BYTES: [u8; 256] = *b"\
     ,,,,,,,,,,,,,,,,,,,,,,,,,,,,,,,,\
     ,,,,,,,,,,,,,-.,0123456789,,,,,,\
@@ -21,7 +21,7 @@ fn is_name_byte(c: u8) -> bool
     NAME_BYTES[c as usize] != b','
 }
 
-// Whether a name may have the four bytes from place `i` on.
+// Whether the four bytes of the text from byte `i` on may all stand in a name.
 #[inline(always)]
 fn has_four_at(text: &[u8], i: usize) -> bool
     requires { i + 4 ≤ length text.now }
@@ -34,14 +34,14 @@ fn has_four_at(text: &[u8], i: usize) -> bool
     first & second & third & fourth
 }
 
-// Whether a name may have each of the bytes, tested one by one.
+// Whether each byte of the text may stand in a name, tested one byte after another.
 fn has_name_bytes_by_one(text: &[u8]) -> bool
     ensures { result ≡ list_all words.is_name_byte text.now }
 {
     text.iter().all(|c| is_name_byte(*c))
 }
 
-// Whether a name may have each of the bytes. They are tested four at a time.
+// Whether each byte of the text may stand in a name, tested four bytes at a time.
 fn has_name_bytes(text: &[u8]) -> bool
     ensures { result ≡ list_all words.is_name_byte text.now }
 {
@@ -54,7 +54,7 @@ fn has_name_bytes(text: &[u8]) -> bool
     has_name_bytes_by_one(&text[fours * 4..])
 }
 
-/// Whether the text is a name: 1 to 32 letters, digits, `-`, `_` or `.`.
+/// Whether the text has the form of a name: 1 to 32 characters, each a letter, a digit, `-`, `_` or `.`.
 #[tactic(auto, unfolding(crate::specs::Words::is_name))]
 pub fn is_name(text: &[u8]) -> bool
     ensures { result ≡ words.is_name text.now }

@@ -11,12 +11,12 @@ use Rattle.docket_parts.specs.declared.fault.PartFault.{PartFault}
 use Rattle.docket_parts.proofs.LineFacts.{grows_none, grows_both}
 use Rattle.docket_parts.proofs.RoundFacts.{or_none, all_have_parts, both_have_parts, lines_round, lines-append}
 
--- at the start all records remain
+-- before the first record is read, all records remain
 pub split_start : (all : Option (List Fields)) → IsSplit all [] all
 split_start None = tt
 split_start (Some rows) = (rows, refl, refl)
 
--- one record more
+-- the records read so far, after one more record is read
 pub split_more : (all : Option (List Fields)) (done : List Fields) (left after : Option (List Fields)) (row : Fields)
     → IsSplit all done left → GivesRow left after true row → IsSplit all (done ++ row ∷ []) after
 split_more None done left after row s g = tt
@@ -25,12 +25,12 @@ split_more (Some rows) done (Some l) after row s g =
     let same : l ≡ s.0 = cc s.1 in
     (g.0, g.1, s.2 ∙ ap (λ (r : List Fields). done ++ r) (sym same ∙ g.2) ∙ sym (append_assoc done (row ∷ []) g.0))
 
--- no record before the first has a fault
+-- an empty list of records has no fault
 pub own_none : (file : Part) → fault_from file 0 [] ≡ None
 unfolding fault_from
 own_none file = refl
 
--- the fault of some records followed by others
+-- if the first records have no fault, the fault of all records is the fault of the records after them
 own_after : (file : Part) (n : ℕ) (done rest : List Fields) → fault_from file n done ≡ None → fault_from file n (done ++ rest) ≡ fault_from file (n + length done) rest
 unfolding fault_from
 own_after file n [] rest h = let e : n ≡ n + 0 = omega arith in ap (λ k. fault_from file k rest) e
@@ -39,7 +39,7 @@ own_after file n (row ∷ more) rest h =
     let e : n + 1 + length more ≡ n + length (row ∷ more) = omega arith in
     rw both.0 (own_after file (n + 1) more rest both.1 ∙ ap (λ k. fault_from file k rest) e)
 
--- the record after this many
+-- if the first records have no fault, the next record's fault comes first
 own_next : (file : Part) (done rest : List Fields) (row : Fields) (count : ℕ) → fault_from file 0 done ≡ None → length done ≡ count
     → fault_from file 0 (done ++ row ∷ rest) ≡ option_or (record_fault file (count + 1) row) (fault_from file (count + 1) rest)
 unfolding fault_from
@@ -47,7 +47,7 @@ own_next file done rest row count h e =
     let there : 0 + length done ≡ count = omega (arith, e) in
     own_after file 0 done (row ∷ rest) h ∙ ap (λ k. fault_from file k (row ∷ rest)) there
 
--- one more record of the file's part
+-- if the first records and the next record belong to the file's part, the records with the next one have no fault
 pub own_more : (file : Part) (done : List Fields) (row : Fields) (count : ℕ) → fault_from file 0 done ≡ None → length done ≡ count
     → record_fault file (count + 1) row ≡ None → fault_from file 0 (done ++ row ∷ []) ≡ None
 unfolding fault_from
@@ -64,7 +64,7 @@ refused file (Some rows) done (Some l) after row count e s g h n here =
     let all : rows ≡ done ++ row ∷ g.0 = s.2 ∙ ap (λ (r : List Fields). done ++ r) (sym same ∙ g.2) in
     inr (rw all (own_next file done g.0 row count h n ∙ rw here refl))
 
--- no record is left
+-- if no record remains, all records of the file were gathered
 pub gathered : (file : Part) (all : Option (List Fields)) (done : List Fields) (left after : Option (List Fields)) (row : Fields) (count : ℕ) (old new : Vec ℕ)
     → IsSplit all done left → GivesRow left after false row → fault_from file 0 done ≡ None → length done ≡ count → Grows old new (lines done)
     → Gathers file all count old new
@@ -75,17 +75,17 @@ gathered file (Some rows) done (Some l) after row count old new s g h n t =
     let all : rows ≡ done = s.2 ∙ ap (λ (r : List Fields). done ++ r) (sym same ∙ g) ∙ append-nil done in
     rw all (record { own = h; counted = sym n; grown = t })
 
--- no line
+-- no record adds no line
 pub lines_none : (a : Vec ℕ) → Grows a a (lines [])
 unfolding lines
 lines_none a = grows_none a
 
--- a line more
+-- one more record adds one more line
 pub lines_more : (a b c : Vec ℕ) (done : List Fields) (row : Fields) → Grows a b (lines done) → Grows b c (line row) → Grows a c (lines (done ++ row ∷ []))
 unfolding lines
 lines_more a b c done row h k = rw (lines-append done (row ∷ []), append-nil (line row)) (grows_both a b c (lines done) (line row) h k)
 
--- the records of three files, one file after another, read back
+-- the text of the joined records is read back as the records of the three files, one file after another
 pub joined_rows : (t0 t1 t2 t3 : Vec ℕ) (d s j : List Fields) (cd cs cj : ℕ) → t0.items ≡ [] → GathersAll Docket d cd t0 t1 → GathersAll Sheet s cs t1 t2
     → GathersAll Journal j cj t2 t3 → rows_of t3.items ≡ d ++ s ++ j
 joined_rows t0 t1 t2 t3 d s j cd cs cj none a b c =

@@ -1,4 +1,4 @@
--- What holds after each record that was gathered.
+-- What is true after each record that was gathered.
 use Rattle.std.proofs.Common.{◌≡◌, ℕ, List, length, Option, None}
 use Rattle.std.specs.Global.{Vec}
 use Rattle.csv.specs.declared.reader.Reader.{Reader}

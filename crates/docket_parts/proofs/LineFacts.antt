@@ -8,11 +8,11 @@ use Rattle.csv.specs.Writing.{escaped, field_text, next_sep, row_body, quote_mar
 use Rattle.csv.proofs.WriteFacts.{quoted-step, row-step}
 use Rattle.docket_parts.specs.Lines.{Grows}
 
--- nothing was added
+-- the text after nothing was added
 pub grows_none : (a : Vec ℕ) → Grows a a []
 grows_none a = sym (append-nil a.items)
 
--- one text was added after another
+-- the text after two texts were added, one after the other
 pub grows_both : (a b c : Vec ℕ) (first second : List ℕ) → Grows a b first → Grows b c second → Grows a c (first ++ second)
 grows_both a b c first second h k = k ∙ ap (λ (t : List ℕ). t ++ second) h ∙ append_assoc a.items first second
 
@@ -24,14 +24,14 @@ pub escaped_other : (b : ℕ) → b ≢ quote_mark → escaped default_writer (b
 unfolding escaped
 escaped_other b n = let e = ne_eqb b quote_mark n in rw e refl
 
--- one more byte of a quoted field
+-- the text of a quoted field after one more byte
 pub quoted_next : (a b c : Vec ℕ) (field : List ℕ) (i : ℕ) → i < length field
     → Grows a b (quote_mark ∷ escaped default_writer (take i field)) → Grows b c (escaped default_writer (get_or field i 0 ∷ []))
     → Grows a c (quote_mark ∷ escaped default_writer (take (i + 1) field))
 quoted_next a b c field i lt h k =
     subst (Grows a c) (quoted-step default_writer quote_mark field i lt) (grows_both a b c _ _ h k)
 
--- one more field of a record
+-- the text of a record after one more field
 pub fields_next : (a b c d : Vec ℕ) (fields : List (List ℕ)) (field : List ℕ) (i : ℕ) →
     i < length fields → Grows a b (row_body default_writer (take i fields)) → Grows b c (next_sep default_writer i)
     → Grows c d (field_text default_writer field) → field ≡ get_or fields i [] → Grows a d (row_body default_writer (take (i + 1) fields))
@@ -39,7 +39,7 @@ fields_next a b c d fields field i lt h k l e =
     subst (Grows a d) (sym (row-step default_writer fields i lt))
     (grows_both a b d _ _ h (grows_both b c d _ _ k (rw e at l)))
 
--- the field at a place is the item at that place
+-- field i of a record is item i of its list of fields
 pub field_there : (fields : List (List ℕ)) (i : ℕ) (field : List ℕ) → field_at fields i ≡ Some field → field ≡ get_or fields i []
 unfolding field_at
 field_there [] i field h = cc h

@@ -1,4 +1,4 @@
--- Records that are written line by line read back as the same records.
+-- Records that are written line by line are read back as the same records.
 use Rattle.std.proofs.Common.{◌≡◌, ◌==◌, ◌+◌, ◌∷◌, [], ℕ, List, false, length, ◌++◌, refl, sym, ap, ◌∙◌, append_assoc, Option, Some, None, inl, inr, arith}
 use Rattle.std.specs.Option.{option_or}
 use Rattle.std.specs.Prelude.{⊤}
@@ -16,11 +16,11 @@ use Rattle.docket_parts.specs.declared.part.Part.{Part}
 use Rattle.docket_parts.specs.declared.fault.PartFault.{PartFault}
 use Rattle.docket_parts.proofs.ReadFacts.{rows_from-next, rows_from-none, no_bytes}
 
--- the record has a kind of some part
+-- the record's kind belongs to some part
 abbrev pub HasPart : Fields → Type 0
 HasPart row = (part : Part) × (part_of (letter_of row) ≡ Some part)
 
--- each record is
+-- the kind of each record belongs to some part
 unfoldable pub AllHaveParts : List Fields → Type 0
 AllHaveParts [] = ⊤
 AllHaveParts (row ∷ rest) = HasPart row × AllHaveParts rest
@@ -33,7 +33,7 @@ kind_known : (file : Part) (place : ℕ) (kind : Option Part) → kind_fault fil
 kind_known file place None h = absurd (cc h)
 kind_known file place (Some part) h = (part, refl)
 
--- records without a fault have parts
+-- the kinds of records without a fault belong to parts
 pub all_have_parts : (file : Part) (before : ℕ) (rows : List Fields) → fault_from file before rows ≡ None → AllHaveParts rows
 unfolding fault_from AllHaveParts
 all_have_parts file before [] h = tt
@@ -46,7 +46,7 @@ unfolding AllHaveParts
 both_have_parts [] b h k = k
 both_have_parts (row ∷ rest) b h k = (h.0, both_have_parts rest b h.1 k)
 
--- a byte order mark is no part's kind
+-- a byte order mark is not the letter of a kind that belongs to a part
 not_mark : (c : ℕ) (part : Part) → part_of c ≡ Some part → (c == 239) ≡ false
 unfolding part_of
 not_mark c part h = elim (cases_Bool (c == 239)) [
@@ -54,7 +54,7 @@ not_mark c part h = elim (cases_Bool (c == 239)) [
   | inr not ↦ not
 ]
 
--- the first field of a record with a part is one byte long
+-- if a record's kind belongs to a part, its first field is one byte long and is no byte order mark
 record Lettered (row : Fields) : Type 0 where
   letter : ℕ
   rest : Fields
@@ -65,7 +65,7 @@ no_letter : part_of 0 ≡ None
 unfolding part_of
 no_letter = refl
 
--- a kind without a letter belongs to no part
+-- a record whose kind is no letter belongs to no part
 letterless : (row : Fields) → letter_of row ≡ 0 → HasPart row → ⊥
 letterless row none h = let has = h.1 in cc (rw (none, no_letter) at has)
 
@@ -87,19 +87,19 @@ not_blank c [] = elim (cases_Bool (needs_quotes default_writer (c ∷ []))) [
 ]
 not_blank c (next ∷ rest) = refl
 
--- a line is what csv writes
+-- the line of a record is the text that csv writes for it
 line_is : (row : Fields) → HasPart row → row_text default_writer row ≡ line row
 unfolding line
 line_is row h = let l = lettered row h in rw (l.is, not_blank l.letter l.rest) refl
 
--- a line reads back, whatever follows it
+-- the line of a record is read back as the record, whatever follows the line
 line_reads : (row : Fields) (tail : List ℕ) → HasPart row
     → next_record default_config st.StartRecord [] [] (line row ++ tail) ≡ Some (row, st.StartRecord, tail)
 line_reads row tail h =
     let l = lettered row h in
     rw (← line_is row h) (read-write row tail ∙ rw l.is refl)
 
--- lines read back
+-- the lines of several records are read back as these records
 lines_read : (rows : List Fields) → AllHaveParts rows → rows_from st.StartRecord (lines rows) ≡ rows
 unfolding lines AllHaveParts
 lines_read [] h = rows_from-none st.StartRecord [] (no_bytes st.StartRecord refl)

@@ -1,4 +1,4 @@
--- Records that are written one after another.
+-- How records are written, one line for each.
 use Rattle.std.specs.Prelude.{◌≡◌, ℕ, List, [], ◌∷◌, ◌++◌}
 use Rattle.std.specs.Global.{Vec}
 use Rattle.csv.specs.Writing.{row_body, default_writer}

@@ -43,7 +43,7 @@ part_of letter =
     else if is_of (codes "CE") letter then Some Journal
     else None
 
--- whether the two parts are the same
+-- whether two parts are equal
 abbrev pub is_part : Part → Part → Bool
 is_part Docket Docket = true
 is_part Docket Sheet = false
@@ -64,16 +64,16 @@ kind_fault file place (Some part) = if is_part part file then None else Some (An
 abbrev pub record_fault : Part → ℕ → Fields → Option PartFault
 record_fault file place row = kind_fault file place (part_of (letter_of row))
 
--- the first fault among some records of a file, with the number of records before them
+-- the first fault among these records of a file; a number says how many records come before them
 unfoldable pub fault_from : Part → ℕ → List Fields → Option PartFault
 fault_from file before [] = None
 fault_from file before (row ∷ rest) = option_or (record_fault file (before + 1) row) (fault_from file (before + 1) rest)
 
--- the fault of the first record in the file that belongs to another part or to none
+-- the fault of the first record in the file that belongs to another file or to no file
 abbrev pub fault_in : Part → List ℕ → Option PartFault
 fault_in file bytes = fault_from file 0 (rows_of bytes)
 
--- the first such fault in three files, in this order
+-- the fault of the first record, in three files in this order, that belongs to another file or to no file
 abbrev pub fault_of_all : List ℕ → List ℕ → List ℕ → Option PartFault
 fault_of_all docket sheet journal =
     option_or (fault_in Docket docket) (option_or (fault_in Sheet sheet) (fault_in Journal journal))
@@ -82,11 +82,11 @@ fault_of_all docket sheet journal =
 abbrev pub rows_of_all : List ℕ → List ℕ → List ℕ → List Fields
 rows_of_all docket sheet journal = rows_of docket ++ rows_of sheet ++ rows_of journal
 
--- the fault is this one, or out of memory
+-- the error is this fault, or out of memory
 abbrev pub IsFaultOrMemory : Option PartFault → PartFault → Type 0
 IsFaultOrMemory first fault = (fault ≡ Memory) ⊎ (first ≡ Some fault)
 
--- if the records of a file are known, the fault is their first, or out of memory
+-- if the records of a file are known, the error is the first fault of these records, or out of memory
 abbrev pub Refuses : Part → Option (List Fields) → PartFault → Type 0
 Refuses file None fault = Unit {0}
 Refuses file (Some rows) fault = IsFaultOrMemory (fault_from file 0 rows) fault

@@ -25,7 +25,7 @@ place_of Write = None
 place_of (BadVersion place) = Some place
 place_of (BadWithdrawal place) = Some place
 
--- the same fault, at another record
+-- this kind of fault, at the record with this number
 abbrev pub at_place : DocketFault → ℕ → DocketFault
 at_place (Read other) place = Read place
 at_place (TooManyRecords other) place = TooManyRecords place
@@ -49,8 +49,9 @@ last_file (Model place fault) = part.Docket
 last_file (BadSheet place) = part.Sheet
 last_file fault = part.Journal
 
--- The file of a record, and its number in that file, from its number among all records. The docket and the sheet have
--- these numbers of records. A number past the last file that can have the fault means the last record of that file.
+-- The file of a record, and the record's number in that file, from its number among all records. The numbers of records
+-- in the docket and in the sheet are given. A number past the last file that can have the fault means the last record
+-- of that file.
 abbrev pub in_file : ℕ → ℕ → Part → ℕ → Part × ℕ
 in_file docket sheet last place =
     if nat_le place docket then (part.Docket, place)
@@ -59,11 +60,11 @@ in_file docket sheet last place =
     else if is_part last part.Sheet then (part.Sheet, sheet)
     else (part.Journal, place - docket - sheet)
 
--- the same fault, at that record of that file
+-- this kind of fault, at this record of this file
 abbrev pub fault_there : DocketFault → Part × ℕ → FileFault
 fault_there fault there = record { file = there.0; fault = at_place fault there.1 }
 
--- A fault of the joined records, with its file and its number there, if the fault has a record. The docket and the
--- sheet have these numbers of records.
+-- A fault of the joined records. If the fault has a record, the fault is reported with the record's file and its number
+-- in that file. The numbers of records in the docket and in the sheet are given.
 abbrev pub file_fault : ℕ → ℕ → DocketFault → Option FileFault
 file_fault docket sheet fault = option_map (λ place. fault_there fault (in_file docket sheet (last_file fault) place)) (place_of fault)

@@ -1,4 +1,4 @@
-//! Why a file is not the part that it should be.
+//! Why a file is not the part of a docket that it should be.
 ghost use Rattle.std.specs.Prelude.{◌≡◌};
 ghost use Rattle.docket_parts.specs.declared.fault.PartFault.TheVariants.{Memory};
 
@@ -6,13 +6,13 @@ use crate::part::Part;
 use std::alloc::AllocError;
 use thiserror::Error;
 
-/// Why a file is not the part that it should be. `place` is the number of a record in its own file, from 1.
+/// Why a file is not the part of a docket that it should be. `place` is the number of a record in its own file, from 1.
 #[derive(Clone, Copy, Debug, PartialEq, Eq, Error)]
 pub enum PartFault {
-    /// A record of this file has a kind of another part.
+    /// A record of this file has a kind that belongs to another part.
     #[error("record {place}: belongs to another part")]
     AnotherPart { file: Part, place: u64 },
-    /// A record of this file has an unknown kind.
+    /// A record of this file has a kind that belongs to no part.
     #[error("record {place}: unknown kind of row")]
     UnknownKind { file: Part, place: u64 },
     /// The memory could not grow.

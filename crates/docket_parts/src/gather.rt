@@ -1,4 +1,4 @@
-//! The records of one file. Each has to belong to the file's part.
+//! The records of one file, each of which has to belong to the file's part.
 ghost use Rattle.std.specs.Prelude.{◌≡◌, ◌+◌, ◌<◌, ◌^◌, None, true, Some, option_map, IfOk, IfErr, OnOk, length};
 ghost use Rattle.csv.specs.Records.{fields_of};
 ghost use Rattle.docket_parts.specs.Reading.{IsReading, GivesRow, Gathers, rows_left};
@@ -13,7 +13,7 @@ use csv::{ByteRecord, Reader, ReaderBuilder};
 use std::alloc::Global;
 use std::io::Read;
 
-// Reads the next record, and says whether there was one. A reader of bytes in memory can only fail if memory runs
+// Reads the next record, and says whether there was a record. A reader of bytes in memory can only fail if memory runs
 // out.
 fn next_row<R: Read>(reader: &mut Reader<R>, row: &mut ByteRecord) -> Result<bool, PartFault>
     requires reading { IsReading reader.old }
@@ -40,7 +40,7 @@ fn check_row(file: Part, place: u64, row: &ByteRecord) -> Result<(), PartFault>
     }
 }
 
-// Adds the remaining records of a reader, and returns their number.
+// Adds all records that a reader still has, and returns their number.
 fn gather_rows<R: Read>(
     alloc: Global,
     file: Part,
@@ -62,8 +62,8 @@ fn gather_rows<R: Read>(
     Err(PartFault::Memory)
 }
 
-/// Adds the records of a file to a text, one on each line, and returns their number. Each has to belong to the file's
-/// part.
+/// Adds the records of a file to a text, one record on each line, and returns the number of records. Each record has to
+/// belong to the file's part.
 pub(crate) fn gather(
     alloc: Global,
     file: Part,

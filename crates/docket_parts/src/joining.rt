@@ -1,4 +1,4 @@
-//! The records of all files, one after another.
+//! The records of all three files, one file after another.
 ghost use Rattle.std.specs.Prelude.{◌≡◌, ◌++◌, None, length, IfOk, IfErr};
 ghost use Rattle.docket_parts.specs.Parts.{rows_of, rows_of_all, fault_of_all, IsFaultOrMemory};
 ghost use Rattle.docket_parts.specs.Joined.{IsJoined};
@@ -8,24 +8,24 @@ use crate::gather::gather;
 use crate::part::Part;
 use std::alloc::Global;
 
-/// The records of a docket's file, then those of a sheet's, then those of a journal's.
+/// The records of a docket's file, followed by those of a sheet's file and those of a journal's file.
 #[derive(Drop)]
 pub struct Joined {
-    /// The text of all records, one on each line.
+    /// The text of all records, one record on each line.
     pub text: Vec<u8>,
-    /// How many records belong to the docket.
+    /// How many records are in the docket's file.
     pub docket: u64,
-    /// How many records belong to the sheet.
+    /// How many records are in the sheet's file.
     pub sheet: u64,
-    /// How many records belong to the journal.
+    /// How many records are in the journal's file.
     pub journal: u64,
 }
 
-/// The records of three files, each read by itself. The fault is the first record that belongs to another part or to
-/// none. A missing file counts as empty.
+/// Joins the records of three files. Each file is read by itself. The fault is the first record that belongs to another
+/// file's part or to no part. A missing file counts as empty.
 ///
 /// The text reads as the records of the three files, one file after another. An open quote, a byte order mark or an
-/// unfinished last line changes no record of another file.
+/// unfinished last line in one file changes no record of another file.
 pub fn join(alloc: Global, docket: &[u8], sheet: &[u8], journal: &[u8]) -> Result<Joined, PartFault>
     ensures joined { IfOk result (IsJoined docket.now sheet.now journal.now) }
     ensures own { IfOk result (λ _. fault_of_all docket.now sheet.now journal.now ≡ None) }

@@ -1,4 +1,4 @@
-//! Records that are written one after another.
+//! How records are written one after another, each on its own line.
 ghost use Rattle.std.specs.Prelude.{◌≡◌, ◌<◌, ◌∷◌, [], OnOk, get_or, length};
 ghost use Rattle.csv.specs.Records.{fields_of};
 ghost use Rattle.csv.specs.Writing.{needs_byte, needs_quotes, escaped, quoted, field_text, next_sep, default_writer};
@@ -7,21 +7,21 @@ ghost use Rattle.docket_parts.specs.Lines.{Grows, line};
 use csv::ByteRecord;
 use std::alloc::AllocError;
 
-// Whether a field with this byte needs quotes.
+// Whether a field with this byte has to be written between quotes.
 fn is_marked(b: u8) -> bool
     ensures { result ≡ needs_byte default_writer b }
 {
     b == b',' || b == b'"' || b == b'\r' || b == b'\n'
 }
 
-// Whether a field needs quotes.
+// Whether a field has to be written between quotes.
 fn is_quoted(field: &[u8]) -> bool
     ensures { result ≡ needs_quotes default_writer field.now }
 {
     field.iter().any(|b| is_marked(*b))
 }
 
-// Adds bytes.
+// Adds these bytes to the text.
 #[inline]
 fn put(text: &mut Vec<u8>, bytes: &[u8]) -> Result<(), AllocError>
     ensures { OnOk result (Grows text.old text.new bytes.now) }
@@ -65,7 +65,7 @@ fn put_field(text: &mut Vec<u8>, field: &[u8]) -> Result<(), AllocError>
     }
 }
 
-// Adds a comma before the field at this place, unless it is the first.
+// Adds a comma in front of field `place`, unless the field is the first.
 #[inline]
 fn put_comma(text: &mut Vec<u8>, place: usize) -> Result<(), AllocError>
     ensures { OnOk result (Grows text.old text.new (next_sep default_writer place)) }
@@ -76,7 +76,7 @@ fn put_comma(text: &mut Vec<u8>, place: usize) -> Result<(), AllocError>
     }
 }
 
-// A field of a record, from 0.
+// Field `i` of a record, counted from 0.
 fn field(row: &ByteRecord, i: usize) -> &[u8]
     requires { i < length (fields_of row.now) }
     ensures { result.now ≡ get_or (fields_of row.now) i [] }
@@ -87,7 +87,7 @@ fn field(row: &ByteRecord, i: usize) -> &[u8]
     }
 }
 
-/// Adds a record, with quotes where they are needed, and a line feed.
+/// Adds a record and a line feed to the text. Fields that need quotes get them.
 pub fn put_line(text: &mut Vec<u8>, row: &ByteRecord) -> Result<(), AllocError>
     ensures { OnOk result (Grows text.old text.new (line (fields_of row.now))) }
 {

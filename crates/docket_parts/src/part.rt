@@ -1,4 +1,4 @@
-//! The parts of a market's files, and the part of each kind of record.
+//! The parts of a market's files, and the kinds of record that belong to each part.
 ghost use Rattle.std.specs.Prelude.{◌≡◌};
 ghost use Rattle.csv.specs.Records.{fields_of};
 ghost use Rattle.docket_parts.specs.Parts as parts;
@@ -16,14 +16,14 @@ pub enum Part {
     Journal,
 }
 
-// The byte, if the text is one byte long; else 0.
+// The byte of a text that is one byte long, else 0.
 fn lone_byte(text: &[u8]) -> u8
     ensures { result ≡ parts.lone_byte text.now }
 {
     if text.len() == 1 { text[0] } else { 0 }
 }
 
-// The first field of a record, or an empty field if it has none.
+// The first field of a record, or an empty field if the record has no field.
 fn first_field(row: &ByteRecord) -> &[u8]
     ensures { result.now ≡ parts.first_field (fields_of row.now) }
 {
@@ -33,14 +33,14 @@ fn first_field(row: &ByteRecord) -> &[u8]
     }
 }
 
-// Whether a letter is in this list.
+// Whether this letter is one of the letters.
 fn is_of(letters: &[u8], letter: u8) -> bool
     ensures { result ≡ parts.is_of letters.now letter }
 {
     letters.iter().any(|c| letter == *c)
 }
 
-/// The part to which a record's kind belongs, or none for an unknown kind.
+/// The part to which a record belongs by its kind, or none for an unknown kind.
 #[tactic(auto, unfolding(crate::specs::Parts::part_of, crate::specs::Parts::letter_of))]
 pub(crate) fn part_of(row: &ByteRecord) -> Option<Part>
     ensures { result ≡ parts.part_of (parts.letter_of (fields_of row.now)) }

@@ -1,4 +1,4 @@
-//! Where a fault of the joined records is: in which file, and at which of that file's records.
+//! In which file a fault of the joined records is, and at which record of this file.
 ghost use Rattle.std.specs.Prelude.{◌≡◌};
 ghost use Rattle.docket_parts.specs.Place as spec;
 
@@ -6,16 +6,16 @@ use crate::joining::Joined;
 use crate::part::Part;
 use docket::DocketFault;
 
-/// A fault of the joined records, with its file and its record there.
+/// A fault of the joined records, with the file in which it is.
 #[derive(Clone, Copy, Debug, PartialEq, Eq)]
 pub struct FileFault {
-    /// The file.
+    /// The file in which the fault is.
     pub file: Part,
-    /// The fault, with the record's number in the file.
+    /// The fault. The number in the fault is the record's number in the file.
     pub fault: DocketFault,
 }
 
-// The number of the record at fault, if the fault has one.
+// The number of the record at fault, if the fault names a record.
 fn place_of(fault: DocketFault) -> Option<u32>
     ensures { result ≡ spec.place_of fault }
 {
@@ -37,7 +37,7 @@ fn place_of(fault: DocketFault) -> Option<u32>
     }
 }
 
-// The same fault, at another record.
+// The same fault, at the record with the number `place`.
 fn at_place(fault: DocketFault, place: u32) -> DocketFault
     ensures { result ≡ spec.at_place fault place }
 {
@@ -60,8 +60,8 @@ fn at_place(fault: DocketFault, place: u32) -> DocketFault
     }
 }
 
-// The last file that can have such a fault. If something is missing in a list or in a sheet, the fault names the last
-// record of all.
+// The last file in which such a fault can be. If a list or a sheet lacks something, the fault names the last of all
+// records.
 fn last_file(fault: DocketFault) -> Part
     ensures { result ≡ spec.last_file fault }
 {
@@ -72,8 +72,8 @@ fn last_file(fault: DocketFault) -> Part
     }
 }
 
-// The file of a record, and its number there, from its number among all records. The files have these numbers of
-// records.
+// The file of a record, and the record's number in this file. `place` is the record's number among the records of all
+// files; `docket` and `sheet` are the numbers of records in these files.
 fn in_file(docket: u64, sheet: u64, last: Part, place: u32) -> (Part, u32)
     ensures { result ≡ spec.in_file docket sheet last place }
 {
@@ -94,7 +94,7 @@ fn in_file(docket: u64, sheet: u64, last: Part, place: u32) -> (Part, u32)
     (Part::Journal, (left - sheet) as u32)
 }
 
-/// A fault of the joined records, with its file and its record there; none for a fault without a record.
+/// A fault of the joined records, with the file in which it is. The result is none if the fault names no record.
 pub fn file_fault(joined: &Joined, fault: DocketFault) -> Option<FileFault>
     ensures { result ≡ spec.file_fault joined.now.docket joined.now.sheet fault }
 {

@@ -25,7 +25,7 @@ use Rattle.exchange_core.proofs.InOrder.{offers_match, offers_in_order, takes_in
 use Rattle.exchange_core.proofs.Rejections.{rejections_of, rejections_of-cons, rejections_of-calls-le}
 use Rattle.exchange_core.proofs.Totals.{over_residents, sum_below-flat_map, sum_below-where_same}
 
--- a list without repeats is no longer than a list that has all its items
+-- list xs has no repeats and all its items stand in list ys, so xs is at most as long as ys
 within_listed : (xs ys : List ℕ) (n : ℕ) → HasNoRepeats xs → ((i x : ℕ) → slice_get xs i ≡ Some x → x < n) → ((x : ℕ) → IsListed xs x → IsListed ys x) → length xs ≤ length ys
 within_listed xs ys n once below listed =
     let one = sum_by_same mark (λ x. 1) xs (λ i x g. ap (λ (b : Bool). cond b 1 0) (is_listed_from xs x (listed_item xs i x g))) in
@@ -40,13 +40,13 @@ within_listed xs ys n once below listed =
     each true k e = let c = count_of_listed ys k (listed k (is_listed-true xs k e)) in omega (arith, c)
     each false k e = omega arith
 
--- ---- answers to one programme
+-- ---- the answers sent to one programme
 
--- how many of the answers are to p
+-- how many of the answers go to programme p
 abbrev pub told : ℕ → List Answered → ℕ
 told p answers = count_by (λ a. eqb a.0 p) answers
 
--- how many of them are holds
+-- whether an answer is a hold and goes to programme p
 abbrev is_hold_to : ℕ → Answered → Bool
 is_hold_to p a = not (is_rejection a) && eqb a.0 p
 
@@ -62,7 +62,7 @@ holds_to-append p xs ys = sum_by-append (λ a. cond (is_hold_to p a) 1 0) xs ys
 prefix_told : (p : ℕ) (xs ys : List Answered) → IsPrefix xs ys → told p xs ≤ told p ys
 prefix_told p xs ys h = omega (arith, told-append p xs h.0, ap (told p) h.1)
 
--- each answer holds or rejects
+-- the answers to programme p are the holds and the rejections of p together
 told_parts : (p : ℕ) (xs : List Answered) → told p xs ≡ holds_to p xs + rejections_of p xs
 told_parts p [] = refl
 told_parts p (a ∷ xs) =
@@ -74,7 +74,7 @@ told_parts p (a ∷ xs) =
     one false true = refl
     one false false = refl
 
--- the answers to these offers hold p no more often than p offers
+-- the answers due for the offers in list l hold programme p at most as often as p stands in l
 holds_called : (a l : List ℕ) (p : ℕ) → holds_to p (calls a l) ≤ count_of p l
 holds_called a l p = push_induction Within nothing (λ l x ih. step l x (beats_all a l x) refl ih) l
   where
@@ -104,7 +104,7 @@ length-flat_map f [] = refl
 length-flat_map f (x ∷ xs) = length-append (f x) (flat_map f xs) ∙ ap (λ (t : ℕ). length (f x) + t) (length-flat_map f xs) ∙ sym (sum_by-cons (λ y. length (f y)) x xs)
 
 module _ (inst : Instance) (cap : Capacity) where
-  -- the answers to p are the answers of each resident to p
+  -- the answers to programme p, counted over all residents
   told_total : (j : List Event) → IsLegal inst cap j → (p : ℕ) → length (answers_to p j) ≡ over_residents inst (λ r. told p (answers_of r j))
   unfolding answers_to answers_of
   told_total j legal p =
@@ -133,14 +133,14 @@ module _ (inst : Instance) (cap : Capacity) where
       let taken = prefix_count (takes r j) (offers_to r j) p (takes_in_order inst cap j legal r) in
       omega (arith, answered, told_parts p called, holds_called (list_of_resident inst r) (takes r j) p, rejections_of-calls-le (list_of_resident inst r) (takes r j) p, taken, offers_match p r j)
 
-  -- each resident on p's list answers p at most twice
+  -- each resident on programme p's list answers p at most twice
   pub answers_within : (j : List Event) → IsLegal inst cap j → (p : ℕ) → length (answers_to p j) ≤ 2 * length (list_of_programme inst p)
   answers_within j legal p =
       let each = sum_below-le (λ r. told p (answers_of r j)) (λ r. count_of r (offers_of p j) + count_of r (offers_of p j)) (length inst.resident_lists) (λ r l. told_by j legal p r) in
       let twice = sum_below-add (λ r. count_of r (offers_of p j)) (λ r. count_of r (offers_of p j)) (length inst.resident_lists) in
       omega (arith, told_total j legal p, each, twice, sum_below_counts (offers_of p j) (length inst.resident_lists), prefix_length (offers_of p j) (list_of_programme inst p) (offers_in_order inst cap j legal p))
 
-  -- each programme on r's list offers to r at most once
+  -- each programme on resident r's list offers to r at most once
   pub offers_within : IsInstance inst → (j : List Event) → IsLegal inst cap j → (r : ℕ) → length (offers_to r j) ≤ length (list_of_resident inst r)
   offers_within is_instance j legal r =
       within_listed (offers_to r j) (list_of_resident inst r) (length inst.quotas) (offers_to_no_repeats inst cap is_instance j legal r)

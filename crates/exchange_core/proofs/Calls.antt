@@ -1,4 +1,4 @@
--- The answers that a longer list of offers needs, and the last hold among answers.
+-- The answers due after one more offer, and the last hold in a list of answers.
 use Rattle.std.proofs.Common.{◌≡◌, ℕ, ◌*◌, ◌<◌, ◌≤◌, Bool, true, false, List, [], ◌∷◌, ◌++◌, length, Option, Some, None, refl, ap, sym, ◌∙◌, append_assoc, append-nil, arith, length-append, fold}
 use Rattle.std.proofs.lemmas.List.Sums.{fold-append, fold_push}
 use Rattle.exchange_core.specs.declared.event.AnswerKind.TheVariants.{Hold, Decline}
@@ -21,7 +21,7 @@ pub calls-append : (a xs ys : List ℕ) → calls a (xs ++ ys) ≡ calls a xs ++
 unfolding calls
 calls-append a xs ys = calls_after-append a [] xs ys
 
--- one more offer needs one more answer, or two
+-- one offer more adds the answers to this offer at the end
 pub calls_push : (a xs : List ℕ) (y : ℕ) → calls a (xs ++ y ∷ []) ≡ calls a xs ++ called_by a xs y
 calls_push a xs y = calls-append a xs (y ∷ []) ∙ ap (λ t. calls a xs ++ t) (append-nil _)
 
@@ -55,7 +55,7 @@ length-calls-le a = push_induction (λ xs. length (calls a xs) ≤ 2 * length xs
     step : (xs : List ℕ) (x : ℕ) → length (calls a xs) ≤ 2 * length xs → length (calls a (xs ++ x ∷ [])) ≤ 2 * length (xs ++ x ∷ [])
     step xs x h = rw calls_push (omega (arith, length-append (calls a xs) (called_by a xs x), length-append xs (x ∷ []), length-called_by-le a xs x))
 
--- ---- the last hold
+-- ---- the last hold in a list of answers
 
 pub last_hold-append : (xs ys : List Answered) → last_hold (xs ++ ys) ≡ fold held_after (last_hold xs) ys
 last_hold-append xs ys = fold-append held_after None xs ys
@@ -71,7 +71,7 @@ pub best_of_nothing : (a : List ℕ) → best_of a [] ≡ None
 best_of_nothing [] = refl
 best_of_nothing (z ∷ zs) = best_of_nothing zs
 
--- once all answers due were given, the best offer is held
+-- once all answers due are given, the best of the offers is held
 pub last_hold-calls : (a xs : List ℕ) → last_hold (calls a xs) ≡ best_of a xs
 last_hold-calls a = push_induction (λ xs. last_hold (calls a xs) ≡ best_of a xs) (rw calls_nil (sym (best_of_nothing a))) step
   where

@@ -1,4 +1,4 @@
--- At each desk at most one event may follow: the event for the front message.
+-- At each desk at most one event may follow: the event for the first waiting message or the first due answer.
 use Rattle.std.proofs.Common.{◌≡◌, ◌≢◌, ℕ, Bool, true, false, not, ltb, Option, Some, None, List, [], ◌∷◌, length, refl, sym, ap, ◌∙◌, subst}
 use Rattle.std.specs.Prelude.{is_none, slice_get, if◌then◌else◌}
 use Rattle.std.proofs.lemmas.Bool.{not-false}
@@ -18,7 +18,7 @@ use Rattle.exchange_core.proofs.Refusal.{three_none, four_none, head_none, rest_
 use Rattle.exchange_core.proofs.Left.{no_fault_from}
 use Rattle.exchange_core.proofs.NoJam.{next_event}
 
--- the event of this desk for its front message, if there is one
+-- the event that gives a resident's first due answer
 abbrev answering : ℕ → Option Answered → Event
 answering r None = Close
 answering r (Some a) = Answer r a.0 a.1
@@ -74,7 +74,7 @@ module _ (inst : Instance) (left : Left) where
       pick false true o e f g = g
       pick false false o e f g = cc
 
-  -- an event for another message may not follow
+  -- if the event that gives the first due answer may not follow, no other answer of this resident may follow
   pub answer_only : (r q : ℕ) (m : AnswerKind) → slice_get (resident_at left r).due 0 ≡ Some (q, m) → fault_left inst left (Answer r q m) ≢ None → (p : ℕ) (k : AnswerKind) → fault_left inst left (Answer r p k) ≢ None
   answer_only r q m first fault p k h = fault (subst (λ (o : Option Answered). fault_left inst left (answering r o) ≡ None) (sym (answer_front r p k h) ∙ first) h)
 
@@ -99,12 +99,12 @@ module _ (inst : Instance) (left : Left) where
   pub offer_none : (p : ℕ) → next_offer_left inst left p ≡ None → (r : ℕ) → fault_left inst left (Offer p r) ≢ None
   offer_none p none r h = some_none r (sym (offer_next p r h) ∙ none)
 
--- if nothing is pending, there is no cause against a close
+-- if nothing is pending and the exchange is open, there is no cause against a close
 pub close_at_rest : (inst : Instance) (left : Left) → left.closed ≡ false → pending_left inst left ≡ None → fault_left inst left Close ≡ None
 unfolding fault_left
 close_at_rest inst left still_open rest = first_none (cause left.closed Closed) (still_pending (pending_left inst left) ∷ []) (cause_from left.closed Closed still_open) (first_none (still_pending (pending_left inst left)) [] (ap still_pending rest) refl)
 
--- if no desk has an event and the list has no close, a close may follow
+-- if no desk has an event and the list of events has no close, a close may follow
 module _ (inst : Instance) (cap : Capacity) (j : List Event) (left : Left) (is_instance : IsInstance inst) (is_capacity : IsCapacity cap) (shows : Shows inst cap j left)
     (residents : (r : ℕ) → IsResident inst r → HasNoResidentEvent inst left r) (programmes : (p : ℕ) → IsProgramme inst p → HasNoProgrammeEvent inst left p) where
   it_is_close : (e : Event) → MayFollow inst cap j e → MayFollow inst cap j Close

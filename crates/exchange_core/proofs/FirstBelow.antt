@@ -1,10 +1,10 @@
--- The first answer among the numbers below a bound.
+-- The search for the first number below a bound at which a function has a value.
 use Rattle.std.specs.Prelude.{is_some, true}
 use Rattle.std.proofs.Common.{◌≡◌, ℕ, suc, zero, ◌+◌, ◌<◌, ◌≤◌, Option, Some, None, [], ◌∷◌, refl, sym, subst, arith, add-one, ◌⊎◌, ⊎_elim}
 use Rattle.std.proofs.lemmas.Bool.{cases_lt}
 use Rattle.exchange_core.specs.Refusal.{first_of, first_below}
 
--- the first of two
+-- if the first option is none, the first value is the second option's
 pub first_of_second : {X : Type 0} (a b : Option X) (x : X) → a ≡ None → b ≡ Some x → first_of (a ∷ b ∷ []) ≡ Some x
 first_of_second None None x e h = cc
 first_of_second None (Some y) x e h = h
@@ -19,7 +19,7 @@ first_of_none None None e h = refl
 first_of_none None (Some y) e h = cc
 first_of_none (Some z) b e h = cc
 
--- if nothing is found below i, and x is found at i, then x is the first
+-- if nothing is found below number i, and value x is found at i, then x is the first value found
 pub first_below_found : {X : Type 0} (f : ℕ → Option X) (n i : ℕ) (x : X) → i < n → first_below f i ≡ None → f i ≡ Some x → first_below f n ≡ Some x
 first_below_found f zero i x h none here = absurd (omega arith)
 first_below_found {X} f (suc n) i x h none here = split (cases_lt i n) (λ l. first_below_found f n i x l none here)
@@ -29,16 +29,16 @@ first_below_found {X} f (suc n) i x h none here = split (cases_lt i n) (λ l. fi
         (λ (l : n ≤ i). let e : i ≡ n = omega arith in
         first_of_second (first_below f n) (f n) x (subst (λ (k : ℕ). first_below f k ≡ None) e none) (subst (λ (k : ℕ). f k ≡ Some x) e here)) c
 
--- what is found at i is the answer
+-- if nothing is found below number i, the value found at i is the answer of the whole search
 pub first_below_is : {X : Type 0} (f : ℕ → Option X) (n i : ℕ) (o : Option X) → i < n → first_below f i ≡ None → o ≡ f i → is_some o ≡ true → o ≡ first_below f n
 first_below_is f n i None h none here some = cc
 first_below_is f n i (Some x) h none here some = sym (first_below_found f n i x h none (sym here))
 
--- one more number
+-- if nothing is found below n or at n, nothing is found below n + 1
 pub first_below_more : {X : Type 0} (f : ℕ → Option X) (n : ℕ) → first_below f n ≡ None → f n ≡ None → first_below f (n + 1) ≡ None
 first_below_more f n none here = subst (λ (k : ℕ). first_below f k ≡ None) (sym (add-one n)) (first_of_none (first_below f n) (f n) none here)
 
--- nothing is found if no number has an answer
+-- if the function has no value at any number, the search finds nothing
 pub none_below : {X : Type 0} (f : ℕ → Option X) (n : ℕ) → ((k : ℕ) → k < n → f k ≡ None) → first_below f n ≡ None
 none_below f zero none = refl
 none_below f (suc n) none = first_of_none (first_below f n) (f n) (none_below f n (λ k h. none k (omega arith))) (none n (omega arith))

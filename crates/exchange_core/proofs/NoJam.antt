@@ -1,4 +1,4 @@
--- Until a legal list is closed, some event may follow.
+-- After a legal list of events without a close, some event may follow.
 use Rattle.std.proofs.Common.{◌≡◌, ℕ, zero, suc, ◌*◌, ◌<◌, ◌≤◌, Bool, true, false, ◌&&◌, ◌⊎◌, inl, inr, List, [], length, ltb, refl, ap, ◌∙◌, arith, eq-or-lt_of_le, le_of_suc-le-suc, le_antisymm}
 use Rattle.std.proofs.lemmas.Bool.{ltb-true, ltb-false, and_parts, and_cases}
 use Rattle.std.proofs.lemmas.List.{nil_from_length}
@@ -20,7 +20,7 @@ use Rattle.exchange_core.proofs.InOrder.{next_call, offers_in_order, takes_in_or
 use Rattle.exchange_core.proofs.Rejections.{calls_item_listed, out_within_quota}
 use Rattle.exchange_core.specs.Shown.{IsCapacity}
 
--- some number below n passes the test, or none does
+-- some number below n passes the test, or no number below n passes it
 abbrev FoundOrNot : (ℕ → Bool) → ℕ → Type 0
 FoundOrNot test n = ((k : ℕ) × (k < n) × (test k ≡ true)) ⊎ ((k : ℕ) → k < n → test k ≡ false)
 
@@ -37,13 +37,13 @@ find_below test (suc n) = step (test n) refl (find_below test n)
         case k (inl w) = ap test w ∙ e
         case k (inr m) = h k m
 
--- an empty mailbox has room if it can hold any message at all
+-- an empty mailbox has room, if the mailbox can ever get a message
 room_some : (cap : Capacity) (most : ℕ) → IsCapacity cap → 0 < room_for cap most
 room_some Full most h = omega arith
 room_some (Each n) most h = ltb-true 0 n (and_parts (ltb 0 n) (nat_le n 1024) h).0
 
 module _ (inst : Instance) (cap : Capacity) (j : List Event) (is_instance : IsInstance inst) (is_capacity : IsCapacity cap) (legal : IsLegal inst cap j) (still_open : is_closed j ≡ false) where
-  -- no answer waits at p; nothing is due at r; no offer waits at r
+  -- programme p has heard every answer sent to p; resident r owes no answer; resident r has taken every offer to r
   abbrev Heard : ℕ → Type 0
   Heard p = length (answers_to p j) ≤ length (hears p j)
 
@@ -53,7 +53,7 @@ module _ (inst : Instance) (cap : Capacity) (j : List Event) (is_instance : IsIn
   abbrev Taken : ℕ → Type 0
   Taken r = length (offers_to r j) ≤ length (takes r j)
 
-  -- p has no free place, or no resident left
+  -- programme p has no free place, or has offered to every resident on its list
   abbrev Content : ℕ → Type 0
   Content p = (quota inst p ≤ out p j) ⊎ (length (list_of_programme inst p) ≤ length (offers_of p j))
 
@@ -66,7 +66,7 @@ module _ (inst : Instance) (cap : Capacity) (j : List Event) (is_instance : IsIn
   abbrev Next : Type 0
   Next = (e : Event) × MayFollow inst cap j e
 
-  -- an answer waits at p
+  -- if an answer waits at programme p, then p may hear this answer
   hear : (p : ℕ) → IsProgramme inst p → length (hears p j) < length (answers_to p j) → Next
   hear p m l =
       let first = item_at (answers_to p j) (length (hears p j)) l in
@@ -78,7 +78,7 @@ module _ (inst : Instance) (cap : Capacity) (j : List Event) (is_instance : IsIn
       } in
       (Hear p first.0.0 first.0.1, record { still_open = still_open; allowed = allowed })
 
-  -- no answer waits anywhere, and r owes an answer
+  -- if no answer waits anywhere and resident r owes an answer, then r may send this answer
   answer : (r : ℕ) → IsResident inst r → 0 < length (due inst r j) → AtProgrammes Heard → Next
   answer r m l heard =
       let first = item_at (due inst r j) 0 l in
@@ -96,7 +96,7 @@ module _ (inst : Instance) (cap : Capacity) (j : List Event) (is_instance : IsIn
       } in
       (Answer r p first.0.1, record { still_open = still_open; allowed = allowed })
 
-  -- nothing is due at r, and an offer waits there
+  -- if no answer is due at resident r and an offer waits there, then r may take this offer
   take_offer : (r : ℕ) → IsResident inst r → length (takes r j) < length (offers_to r j) → Answered r → Next
   take_offer r m l none =
       let first = item_at (offers_to r j) (length (takes r j)) l in
@@ -109,7 +109,7 @@ module _ (inst : Instance) (cap : Capacity) (j : List Event) (is_instance : IsIn
       } in
       (Take r first.0, record { still_open = still_open; allowed = allowed })
 
-  -- no offer waits anywhere, and p has a free place and a next resident
+  -- if no offer waits anywhere, and programme p has a free place and a next resident, then p may offer to this resident
   offer : (p : ℕ) → IsProgramme inst p → out p j < quota inst p → length (offers_of p j) < length (list_of_programme inst p) → AtResidents Taken → Next
   offer p m free l taken =
       let next = item_at (list_of_programme inst p) (length (offers_of p j)) l in
@@ -127,7 +127,7 @@ module _ (inst : Instance) (cap : Capacity) (j : List Event) (is_instance : IsIn
       } in
       (Offer p r, record { still_open = still_open; allowed = allowed })
 
-  -- nothing waits, nothing is due, and no programme has a wish
+  -- if nothing waits, nothing is due and no programme has a wish, the exchange may close
   close : AtProgrammes Heard → AtResidents Answered → AtResidents Taken → AtProgrammes Content → Next
   close heard none taken content = (Close, record { still_open = still_open; allowed = rest })
     where
@@ -143,7 +143,7 @@ module _ (inst : Instance) (cap : Capacity) (j : List Event) (is_instance : IsIn
         no_wish = λ p m. wish p (content p m);
       }
 
-  -- ---- whether there is such a desk
+  -- ---- whether some desk has an event that may follow
 
   abbrev answer_waits : ℕ → Bool
   answer_waits p = ltb (length (hears p j)) (length (answers_to p j))

@@ -1,4 +1,4 @@
--- The note of an answer gives the answer back.
+-- An answer is stored as a number, its note. The resident and the kind can be read back from the note.
 use Rattle.std.proofs.Common.{◌≡◌, ℕ, ◌+◌, ◌*◌, arith}
 use Rattle.std.specs.Prelude.{◌/◌, ◌%◌}
 use Rattle.exchange_core.specs.declared.event.AnswerKind.{AnswerKind}

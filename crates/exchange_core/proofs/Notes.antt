@@ -1,4 +1,4 @@
--- What a row of notes shows after one note is added to a part, or removed from it.
+-- Which notes a part of the row has after a note is added to it or removed from it.
 use Rattle.std.proofs.Common.{◌≡◌, ◌≢◌, ℕ, zero, suc, ◌+◌, ◌-◌, ◌<◌, ◌≤◌, Bool, ◌⊎◌, inl, inr, List, [], ◌∷◌, ◌++◌, Some, None, length, drop, map, get_or, slice_get, refl, sym, ap, ◌∙◌, subst, arith, zero-add, ⊎_elim}
 use Rattle.std.specs.Prelude.{slice_set, if◌then◌else◌}
 use Rattle.std.specs.List.{range_with_len}
@@ -8,7 +8,7 @@ use Rattle.std.proofs.lemmas.List.FromFn.{length-map-range_with_len, get_or-map-
 use Rattle.exchange_core.specs.declared.part.Part.{Part}
 use Rattle.exchange_core.specs.Notes.{wrapped, place_in, waiting_in, IsRing, opened, pushed, popped, span, AreLaid}
 
--- ---- places
+-- ---- where notes stand in the row
 
 wrapped_low : (room k : ℕ) → k < room → wrapped room k ≡ k
 wrapped_low room k h = ap (λ (b : Bool). if b then k else k - room) (lt-ltb k room h)
@@ -16,14 +16,14 @@ wrapped_low room k h = ap (λ (b : Bool). if b then k else k - room) (lt-ltb k r
 wrapped_high : (room k : ℕ) → room ≤ k → wrapped room k ≡ k - room
 wrapped_high room k h = ap (λ (b : Bool). if b then k else k - room) (le-ltb k room h)
 
--- a note stands within its part
+-- a note stands between its part's start and its part's end
 pub place_within : (part : Part) (k : ℕ) → IsRing part → k < part.room → (part.start ≤ place_in part k) × (place_in part k < part.start + part.room)
 place_within part k ring h =
     ⊎_elim (λ (l : part.front + k < part.room). let e = wrapped_low part.room (part.front + k) l in (omega (arith, e, l), omega (arith, e, l)))
     (λ (l : part.room ≤ part.front + k). let e = wrapped_high part.room (part.front + k) l in (omega (arith, e, l), omega (arith, e, l, ring.front_within, h)))
     (cases_lt (part.front + k) part.room)
 
--- two different notes of a part stand at different places
+-- two different notes of a part stand at different entries of the row
 pub places_apart : (part : Part) (k m : ℕ) → IsRing part → k < m → m < part.room → place_in part k ≢ place_in part m
 places_apart part k m ring h l e = go (cases_lt (part.front + k) part.room) (cases_lt (part.front + m) part.room)
   where
@@ -33,12 +33,12 @@ places_apart part k m ring h l e = go (cases_lt (part.front + k) part.room) (cas
     go (inr a) (inl b) = omega (arith, a, b, h)
     go (inr a) (inr b) = let f = wrapped_high part.room (part.front + k) a in let g = wrapped_high part.room (part.front + m) b in omega (arith, e, f, g, h, a, b)
 
--- ---- lists made by a function of the place
+-- ---- two lists made by functions with equal values
 
 same_made : {X : Type 0} (f g : ℕ → X) (n : ℕ) (d : X) → ((k : ℕ) → k < n → f k ≡ g k) → map f (range_with_len 0 n) ≡ map g (range_with_len 0 n)
 same_made f g n d same = fill_by_all g (map f (range_with_len 0 n)) n d (length-map-range_with_len f 0 n) (λ k l. get_or-map-range_with_len f 0 n k k d l (zero-add k) ∙ same k l)
 
--- ---- what waits
+-- ---- the notes that wait in a part
 
 pub length-waiting : (notes : List ℕ) (part : Part) → length (waiting_in notes part) ≡ part.len
 length-waiting notes part = length-map-range_with_len (λ k. get_or notes (place_in part k) 0) 0 part.len
@@ -46,7 +46,7 @@ length-waiting notes part = length-map-range_with_len (λ k. get_or notes (place
 pub waiting_opened : (notes : List ℕ) (start room : ℕ) → waiting_in notes (opened start room) ≡ []
 waiting_opened notes start room = refl
 
--- the note in front
+-- the note at the front of a part
 pub first_waiting : (notes : List ℕ) (part : Part) → part.len ≢ 0 → slice_get (waiting_in notes part) 0 ≡ Some (get_or notes (place_in part 0) 0)
 first_waiting notes part some = go part.len some
   where
@@ -57,14 +57,14 @@ first_waiting notes part some = go part.len some
 pub none_waiting : (notes : List ℕ) (part : Part) → part.len ≡ 0 → slice_get (waiting_in notes part) 0 ≡ None
 none_waiting notes part none = ap (λ n. slice_get (map (λ k. get_or notes (place_in part k) 0) (range_with_len 0 n)) 0) none
 
--- a write elsewhere
+-- a write outside a part leaves the notes of this part as they are
 pub waiting_elsewhere : (notes : List ℕ) (part : Part) (at x : ℕ) → IsRing part → (at < part.start) ⊎ (part.start + part.room ≤ at) → waiting_in (slice_set notes at x) part ≡ waiting_in notes part
 waiting_elsewhere notes part at x ring out =
     same_made (λ k. get_or (slice_set notes at x) (place_in part k) 0) (λ k. get_or notes (place_in part k) 0) part.len 0 (λ k l.
     let here = place_within part k ring (omega (arith, l, ring.len_within)) in
     get_or-set_other notes at (place_in part k) x 0 (λ e. ⊎_elim (λ (b : at < part.start). omega (arith, e, b, here.0)) (λ (b : part.start + part.room ≤ at). omega (arith, e, b, here.1)) out))
 
--- one note more
+-- one note is added at the end of a part
 pub waiting_pushed : (notes : List ℕ) (part : Part) (x : ℕ) → IsRing part → part.len < part.room → part.start + part.room ≤ length notes →
     waiting_in (slice_set notes (place_in part part.len) x) (pushed part) ≡ waiting_in notes part ++ x ∷ []
 waiting_pushed notes part x ring more within =
@@ -76,7 +76,7 @@ waiting_pushed notes part x ring more within =
     ∙ ap (λ (ys : List ℕ). ys ++ x ∷ []) (same_made after before part.len 0 (λ k l.
     get_or-set_other notes (place_in part part.len) (place_in part k) x 0 (λ e. places_apart part k part.len ring l more e)))
 
--- one note less
+-- the front note of a part is removed
 pub waiting_popped : (notes : List ℕ) (part : Part) → IsRing part → waiting_in notes (popped part) ≡ drop 1 (waiting_in notes part)
 waiting_popped notes part ring = ⊎_elim none some (cases_eq part.len 0)
   where
@@ -115,7 +115,7 @@ waiting_popped notes part ring = ⊎_elim none some (cases_eq part.len 0)
         let same : popped part ≡ next = ap (λ (b : Bool). if b then part else next) (ne_eqb part.len 0 h) in
         ap (λ (p : Part). waiting_in notes p) same ∙ split part.len (part.len - 1) refl h refl
 
--- ---- parts stay rings, and stay where they are
+-- ---- a changed part is still a ring at the same entries of the row
 
 pub ring_opened : (start room : ℕ) → IsRing (opened start room)
 ring_opened start room = record { front_within = omega arith; len_within = omega arith }
@@ -144,9 +144,9 @@ ring_popped part ring = go (popped_parts part)
 pub span_popped : (part : Part) → span (popped part) ≡ span part
 span_popped part = ⊎_elim (λ (e : popped part ≡ part). ap span e) (λ (e : (part.len ≢ 0) × (popped part ≡ record part { front = wrapped part.room (part.front + 1); len = part.len - 1 })). ap span e.1) (popped_parts part)
 
--- ---- all parts of a row
+-- ---- the parts of all desks in one row
 
--- a note of one part stands in no other part
+-- an entry of one part lies outside each other part
 pub outside : (spans : List (ℕ × ℕ)) (total i k at : ℕ) → AreLaid spans total → i < length spans → k < length spans → k ≢ i →
     (get_or spans i (0, 0)).0 ≤ at → at < (get_or spans i (0, 0)).0 + (get_or spans i (0, 0)).1 →
     (at < (get_or spans k (0, 0)).0) ⊎ ((get_or spans k (0, 0)).0 + (get_or spans k (0, 0)).1 ≤ at)
@@ -155,7 +155,7 @@ outside spans total i k at laid hi hk ne from to =
     (λ (l : k ≤ i). inr (let a = laid.apart k i (omega (arith, l, ne)) hi in omega (arith, a, from)))
     (cases_lt i k)
 
--- one more part, after all others
+-- one more part is laid after all parts of the row
 pub laid_more : (spans : List (ℕ × ℕ)) (total room : ℕ) → AreLaid spans total → AreLaid (spans ++ (total, room) ∷ []) (total + room)
 laid_more spans total room laid = record {
   within = λ k h. ⊎_elim (λ (l : k < length spans). let a = laid.within k l in omega (arith, a, ap (λ (s : ℕ × ℕ). s.0 + s.1) (before k l)))
@@ -178,7 +178,7 @@ laid_more spans total room laid = record {
 pub laid_none : (total : ℕ) → AreLaid [] total
 laid_none total = record { within = λ k h. absurd (omega (arith, h)); apart = λ i k l h. absurd (omega (arith, h)) }
 
--- ---- a list of seats over the row, after one seat and the row change
+-- ---- what the seats show after one seat and the row of notes change
 
 pub shown_set : {X Y : Type 0} (f g : X → Y) (xs : List X) (i : ℕ) (x d : X) (y : Y) → i < length xs → g x ≡ y → ((k : ℕ) → k < length xs → k ≢ i → g (get_or xs k d) ≡ f (get_or xs k d)) →
     map g (slice_set xs i x) ≡ slice_set (map f xs) i y

@@ -1,4 +1,4 @@
--- Lemmas about the best of the listed items.
+-- The best-ranked item among the items of a list.
 use Rattle.std.proofs.Common.{◌≡◌, ℕ, ◌+◌, ◌<◌, ◌≤◌, Bool, true, false, cond, ltb, ◌⊎◌, inl, inr, List, [], ◌∷◌, ◌++◌, Option, Some, None, refl, ap, sym, ◌∙◌, subst, arith, le_of_eq}
 use Rattle.std.specs.List.{list_all}
 use Rattle.std.proofs.lemmas.Bool.{eq-eqb, ltb-true, ltb-false, lt-ltb, and_parts, and_cases, and_from}
@@ -8,7 +8,7 @@ use Rattle.match_model.proofs.Rankings.{is_listed-true, is_listed-false, is_list
 use Rattle.match_model.proofs.Listed.{same_from_place, place-tail, listed_push_parts, listed_push_before, listed_push_last, list_all_listed, list_all_from_listed, list_all_fails}
 use Rattle.exchange_core.specs.Calls.{beats_all, best_of}
 
--- b is ranked and listed, and no listed item stands before it
+-- item b is ranked in a and stands in list l, and no item of l is ranked before b
 abbrev pub IsFirstListed : List ℕ → List ℕ → ℕ → Type 0
 IsFirstListed a l b = IsListed a b × IsListed l b × ((q : ℕ) → IsListed l q → place a b ≤ place a q)
 
@@ -65,7 +65,7 @@ beats_all-true a l p e =
 pub beats_all_from : (a l : List ℕ) (p : ℕ) → IsListed a p → ((q : ℕ) → IsListed l q → place a p < place a q) → beats_all a l p ≡ true
 beats_all_from a l p h least = and_from _ _ (is_listed_from a p h) (list_all_from_listed (λ v. ltb (place a p) (place a v)) l (λ q k. lt-ltb _ _ (least q k)))
 
--- an item that isn't before every earlier item: it isn't ranked, or some earlier item is at least as good
+-- an item that does not beat all earlier items isn't ranked, or some earlier item is ranked at least as high
 pub beats_all-false : (a l : List ℕ) (p : ℕ) → beats_all a l p ≡ false → (IsListed a p → ⊥) ⊎ ((q : ℕ) × IsListed l q × (place a q ≤ place a p))
 beats_all-false a l p e = step (and_cases _ _ e)
   where
@@ -73,7 +73,7 @@ beats_all-false a l p e = step (and_cases _ _ e)
     step (inl u) = inl (is_listed-false a p u)
     step (inr u) = let w = list_all_fails (λ v. ltb (place a p) (place a v)) l u in inr (w.0, w.1, ltb-false _ _ w.2)
 
--- the best after one more item
+-- an item that beats all earlier items is the best once it is added
 pub best_of_push_better : (a l : List ℕ) (p : ℕ) → beats_all a l p ≡ true → best_of a (l ++ p ∷ []) ≡ Some p
 best_of_push_better a l p e =
     let r = beats_all-true a l p e in

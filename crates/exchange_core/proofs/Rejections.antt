@@ -1,4 +1,4 @@
--- How often a programme is rejected, counted by answers due and by answers given.
+-- How often a programme is rejected, counted by the answers that are due and by the answers that were given.
 use mathlib.Core.List.{IsPrefix}
 use Rattle.std.proofs.Common.{◌≡◌, ℕ, zero, suc, ◌+◌, ◌≤◌, Bool, true, false, cond, eqb, ◌&&◌, ◌⊎◌, inl, inr, List, [], ◌∷◌, ◌++◌, length, slice_get, Option, Some, None, refl, ap, sym, ◌∙◌, subst, arith, sum_by, count_by}
 use Rattle.std.proofs.lemmas.Bool.{cases_eq, cases_Bool, eq-eqb, ne_eqb, false_from_ne_true}
@@ -31,11 +31,11 @@ use Rattle.exchange_core.proofs.Members.{offers_of_members, HasMembers, members_
 use Rattle.exchange_core.proofs.InOrder.{offers_match, next_call, takes_in_order, answers_in_order, hears_in_order, listed_offer_of, offers_of_no_repeats, takes_no_repeats}
 use Rattle.exchange_core.proofs.Refusal.{number_from, number_to}
 
--- whether the answer frees the place of x
+-- whether the answer rejects programme x and so frees a place of x
 abbrev pub is_rejection_of : ℕ → Answered → Bool
 is_rejection_of x a = is_rejection a && eqb a.0 x
 
--- how many of the answers free the place of x
+-- how many of the answers reject programme x
 abbrev pub rejections_of : ℕ → List Answered → ℕ
 rejections_of x answers = count_by (is_rejection_of x) answers
 
@@ -57,7 +57,7 @@ prefix_rejections_of x xs ys h = omega (arith, rejections_of-append x xs h.0, ap
 pub prefix_rejections : (xs ys : List Answered) → IsPrefix xs ys → rejections xs ≤ rejections ys
 prefix_rejections xs ys h = omega (arith, rejections-append xs h.0, ap rejections h.1)
 
--- ---- what calls reject
+-- ---- how many rejections are among the answers due
 
 rejections_of-release : (p : ℕ) (o : Option ℕ) → rejections_of p (release_of o) ≡ cond (is_number o p) 1 0
 rejections_of-release p None = refl
@@ -79,11 +79,12 @@ rejections_of-other a l x p e = rw (called_by_other a l x e) (step (eqb x p) ref
     step true e = rw e refl
     step false e = rw e refl
 
--- whether p is held, as a number
+-- 1 if programme p is held, else 0
 abbrev pub holds_one : Option ℕ → ℕ → ℕ
 holds_one o p = cond (is_number o p) 1 0
 
--- Each offer is held or rejected once. So the rejections due and the held offer are as many as the offers.
+-- Each time that programme p offers, p is rejected once or is held at the end. So the rejections of p, plus 1 if p is
+-- held, are the offers of p.
 pub held_or_rejected : (a l : List ℕ) (p : ℕ) → rejections_of p (calls a l) + holds_one (best_of a l) p ≡ count_of p l
 held_or_rejected a l p = push_induction Settles nothing (λ l x ih. step l x (beats_all a l x) refl ih) l
   where
@@ -104,8 +105,8 @@ held_or_rejected a l p = push_induction Settles nothing (λ l x ih. step l x (be
         let held : holds_one (best_of a (l ++ x ∷ [])) p ≡ holds_one (best_of a l) p = ap (λ o. holds_one o p) (best_of_push_same a l x e) in
         omega (arith, more l x, rejections_of-other a l x p e, held, ih, count_of_push p l x)
 
--- In a list without repeats, the best is never rejected and every other item once. A programme outside the list is
--- never rejected.
+-- In a list of offers without repeats, the best programme is never rejected and every other programme once. A programme
+-- outside the list is never rejected.
 pub rejections_of-calls : (a l : List ℕ) → HasNoRepeats l → (p : ℕ) → rejections_of p (calls a l) ≡ cond (is_listed l p) (cond (is_number (best_of a l) p) 0 1) 0
 rejections_of-calls a l h p = step (is_listed l p) (is_number (best_of a l) p) refl refl (held_or_rejected a l p)
   where
@@ -114,20 +115,20 @@ rejections_of-calls a l h p = step (is_listed l p) (is_number (best_of a l) p) r
     step true false e f k = omega (arith, k, count_from_no_repeats l h p, count_of_listed l p (is_listed-true l p e))
     step false t e f k = omega (arith, k, count_of_unlisted l p e)
 
--- the best of the list is never rejected
+-- the best programme in a list of offers is never rejected
 pub held_not_rejected : (a l : List ℕ) (p : ℕ) → HasNoRepeats l → best_of a l ≡ Some p → rejections_of p (calls a l) ≡ 0
 held_not_rejected a l p h e =
     let held : holds_one (best_of a l) p ≡ 1 = ap (λ b. cond b 1 0) (number_to (best_of a l) p e) in
     omega (arith, held_or_rejected a l p, held, count_from_no_repeats l h p)
 
--- every other item is rejected once
+-- every programme in a list of offers that isn't the best is rejected once
 pub others_rejected : (a l : List ℕ) (p : ℕ) → HasNoRepeats l → IsListed l p → (best_of a l ≡ Some p → ⊥) → rejections_of p (calls a l) ≡ 1
 others_rejected a l p h k n =
     let other = false_from_ne_true (is_number (best_of a l) p) (λ e. n (number_from (best_of a l) p e)) in
     let held : holds_one (best_of a l) p ≡ 0 = ap (λ b. cond b 1 0) other in
     omega (arith, held_or_rejected a l p, held, count_from_no_repeats l h p, count_of_listed l p k)
 
--- a programme outside the list is never rejected
+-- a programme that isn't in the list of offers is never rejected
 pub strangers_not_rejected : (a l : List ℕ) (p : ℕ) → is_listed l p ≡ false → rejections_of p (calls a l) ≡ 0
 strangers_not_rejected a l p u = omega (arith, held_or_rejected a l p, count_of_unlisted l p u)
 
@@ -137,7 +138,7 @@ rejections_of-calls-le a l p = omega (arith, held_or_rejected a l p)
 pub rejected_at_most_once : (a l : List ℕ) (p : ℕ) → HasNoRepeats l → rejections_of p (calls a l) ≤ 1
 rejected_at_most_once a l p h = omega (arith, rejections_of-calls-le a l p, count_from_no_repeats l h p)
 
--- an item that wasn't rejected is the best
+-- a programme in the list of offers that wasn't rejected is the best
 pub not_rejected_is_best : (a l : List ℕ) (p : ℕ) → HasNoRepeats l → IsListed l p → rejections_of p (calls a l) ≡ 0 → best_of a l ≡ Some p
 not_rejected_is_best a l p h k none = step (cases_Bool (is_number (best_of a l) p))
   where
@@ -147,7 +148,7 @@ not_rejected_is_best a l p h k none = step (cases_Bool (is_number (best_of a l) 
         let held : holds_one (best_of a l) p ≡ 0 = ap (λ b. cond b 1 0) e in
         absurd (omega (arith, held_or_rejected a l p, held, none, count_of_listed l p k))
 
--- an answer is only due for an item of the list
+-- an answer is only due to a programme in the list of offers
 pub calls_item_listed : (a l : List ℕ) (i : ℕ) (c : Answered) → slice_get (calls a l) i ≡ Some c → IsListed l c.0
 calls_item_listed a = push_induction Only nothing (λ l x ih i c h. step l x i c ih (slice_get-append_parts (calls a l) (called_by a l x) i c (rw calls_push at h)))
   where
@@ -181,7 +182,7 @@ calls_item_listed a = push_induction Only nothing (λ l x ih i c h. step l x i c
     step l x i c ih (inl h) = listed_push_before l x c.0 (ih i c h)
     step l x i c ih (inr h) = last l x (beats_all a l x) refl h.0 c h.1
 
--- ---- what p was told
+-- ---- the rejections that programme p was sent
 
 rejection_at : (p : ℕ) (k : AnswerKind) (r : ℕ) → is_rejection_of p (p, k) ≡ is_rejection (r, k)
 rejection_at p Hold r = refl
@@ -200,22 +201,22 @@ rejections-flat_map f (x ∷ xs) =
     ∙ ap (λ t. rejections (f x) + t) (rejections-flat_map f xs)
     ∙ sym (sum_by-cons (λ y. rejections (f y)) x xs)
 
--- all answers that r owed
+-- all answers that resident r's taken offers need
 abbrev pub called_of : Instance → ℕ → List Event → List Answered
 called_of inst r j = calls (list_of_resident inst r) (takes r j)
 
 module _ (inst : Instance) (cap : Capacity) where
-  -- r rejects p no more often than r's answers due did
+  -- resident r's answers reject programme p at most as often as all answers that r's taken offers need
   pub answers_reject_within : (j : List Event) → IsLegal inst cap j → (r p : ℕ) → rejections_of p (answers_of r j) ≤ rejections_of p (called_of inst r j)
   answers_reject_within j legal r p = prefix_rejections_of p (answers_of r j) (called_of inst r j) (answers_in_order inst cap j legal r)
 
-  -- an answer goes to a programme that offered
+  -- an answer goes to a programme that offered to this resident
   pub answer_offered : (j : List Event) → IsLegal inst cap j → (r p : ℕ) (k : AnswerKind) → slice_get (due inst r j) 0 ≡ Some (p, k) → IsListed (offers_of p j) r
   answer_offered j legal r p k h =
       let taken = calls_item_listed (list_of_resident inst r) (takes r j) (length (answers_of r j)) (p, k) (next_call inst j r (p, k) h) in
       listed_offer_of p r j (prefix_listed (takes r j) (offers_to r j) p (takes_in_order inst cap j legal r) taken)
 
-  -- no resident rejects p more often than p offered
+  -- resident r rejects programme p at most as often as p offered to r
   pub rejects_within_offers : (j : List Event) → IsLegal inst cap j → (p r : ℕ) → rejections_of p (answers_of r j) ≤ count_of r (offers_of p j)
   rejects_within_offers j legal p r =
       let answered = answers_reject_within j legal r p in
@@ -223,7 +224,7 @@ module _ (inst : Instance) (cap : Capacity) where
       let taken = prefix_count (takes r j) (offers_to r j) p (takes_in_order inst cap j legal r) in
       omega (arith, answered, called, taken, offers_match p r j)
 
-  -- the rejections sent to p are those by each resident
+  -- the rejections sent to programme p are the sum of each resident's rejections of p
   pub rejections_total : (j : List Event) → IsLegal inst cap j → (p : ℕ) → rejections (answers_to p j) ≡ over_residents inst (λ r. rejections_of p (answers_of r j))
   unfolding answers_to answers_of
   rejections_total j legal p =
@@ -249,7 +250,7 @@ module _ (inst : Instance) (cap : Capacity) where
       one (Hear q s k) m = sym (sum_below_zero (length inst.resident_lists))
       one Close m = sym (sum_below_zero (length inst.resident_lists))
 
-  -- p heard no more rejections than it made offers
+  -- programme p heard at most as many rejections as it made offers
   pub heard_rejections_offered : (j : List Event) → IsLegal inst cap j → (p : ℕ) → rejections (hears p j) ≤ length (offers_of p j)
   heard_rejections_offered j legal p =
       let heard = prefix_rejections (hears p j) (answers_to p j) (hears_in_order inst cap j legal p) in
@@ -257,7 +258,7 @@ module _ (inst : Instance) (cap : Capacity) where
       omega (arith, heard, rejections_total j legal p, each, sum_below_counts (offers_of p j) (length inst.resident_lists))
 
 module _ (inst : Instance) (cap : Capacity) (is_instance : IsInstance inst) where
-  -- the rejections sent to p are those by each resident to whom p offered
+  -- the rejections sent to programme p all come from residents to whom p offered
   pub rejections_match : (j : List Event) → IsLegal inst cap j → (p : ℕ) → rejections (answers_to p j) ≡ sum_by (λ r. rejections_of p (answers_of r j)) (offers_of p j)
   rejections_match j legal p =
       rejections_total inst cap j legal p
@@ -272,7 +273,7 @@ module _ (inst : Instance) (cap : Capacity) (is_instance : IsInstance inst) wher
       others : (r : ℕ) → is_listed (offers_of p j) r ≡ false → by_each r ≡ 0
       others r u = let l = rejects_within_offers inst cap j legal p r in omega (arith, l, count_of_unlisted (offers_of p j) r u)
 
-  -- p heard at most as many rejections as offers whose resident owed a rejection
+  -- programme p heard at most as many rejections as the residents to whom p offered owed
   pub heard_rejections_within : (j : List Event) → IsLegal inst cap j → (p : ℕ) → rejections (hears p j) ≤ sum_by (λ r. rejections_of p (called_of inst r j)) (offers_of p j)
   heard_rejections_within j legal p =
       let heard = prefix_rejections (hears p j) (answers_to p j) (hears_in_order inst cap j legal p) in
@@ -287,12 +288,12 @@ module _ (inst : Instance) (cap : Capacity) (is_instance : IsInstance inst) wher
       once : (r : ℕ) → rejections_of p (called_of inst r j) ≤ 1
       once r = rejected_at_most_once (list_of_resident inst r) (takes r j) p (takes_no_repeats inst cap is_instance j legal r)
 
-  -- an offer is out or was given back
+  -- the offers of programme p are its offers out plus the rejections that it heard
   pub out_and_rejections : (j : List Event) → IsLegal inst cap j → (p : ℕ) → out p j + rejections (hears p j) ≡ length (offers_of p j)
   unfolding out
   out_and_rejections j legal p = let l = heard_rejections_offered inst cap j legal p in omega (arith, l)
 
--- the number of offers out is within the quota
+-- the number of a programme's offers out is within its quota
 pub out_within_quota : (inst : Instance) (cap : Capacity) (j : List Event) → IsLegal inst cap j → (p : ℕ) → out p j ≤ quota inst p
 out_within_quota inst cap = legal_induction inst cap (λ j. (p : ℕ) → out p j ≤ quota inst p) (λ p. rw (out_nil p) (omega arith)) (λ j e legal may ih. step j e may ih)
   where

@@ -1,4 +1,5 @@
--- What the seats of one side show over the row of notes, when one seat is read or changed.
+-- A side's seats and its row of notes show a list of desks. These lemmas say what is shown after one seat is read or
+-- changed.
 use Rattle.std.proofs.Common.{◌≡◌, ◌≢◌, ℕ, zero, suc, ◌+◌, ◌<◌, ◌≤◌, not, ◌⊎◌, List, [], ◌∷◌, ◌++◌, Option, Some, None, ⊎_elim, length, map, get_or, slice_get, refl, sym, ap, ◌∙◌, subst, arith}
 use Rattle.std.specs.Prelude.{slice_set, nat_lt}
 use Rattle.std.specs.List.{All}
@@ -20,18 +21,18 @@ any_default [] i d e h = absurd (omega (arith, h))
 any_default (x ∷ xs) zero d e h = refl
 any_default (x ∷ xs) (suc i) d e h = any_default xs i d e (omega (arith, h))
 
--- the same seat, read twice
+-- a seat that is read twice is the same seat
 pub same_seat : {X : Type 0} (xs : List X) (i : ℕ) (a b : X) → i < length xs → a ≡ get_or xs i a → b ≡ get_or xs i b → a ≡ b
 same_seat xs i a b h e f = e ∙ any_default xs i a b h ∙ sym f
 
 pub index_within : {X Y : Type 0} (f : X → Y) (seats : List X) (now : List Y) (i r : ℕ) → map f seats ≡ now → i ≡ r → r < length now → i < length seats
 index_within f seats now i r e q h = omega (arith, h, q, ap (λ ys. length ys) e, length-map seats f)
 
--- the shown list, with one item changed
+-- the shown list of desks, with one desk changed
 pub updated : {Y : Type 0} (v now : List Y) (i r : ℕ) (g : Y → Y) (d : Y) → v ≡ now → i ≡ r → slice_set v i (g (get_or v i d)) ≡ slice_set now r (g (get_or now r d))
 updated v now i r g d e f = λ k. slice_set (e k) (f k) (g (get_or (e k) (f k) d))
 
--- one seat changed, and no note changed
+-- one seat is changed, while all notes stay the same
 pub changed : {X Y : Type 0} (f : X → Y) (seats : List X) (now : List Y) (i r : ℕ) (seat new : X) (g : Y → Y) (d : Y) → map f seats ≡ now → i ≡ r → r < length now → seat ≡ get_or seats i seat → f new ≡ g (f seat) →
     map f (slice_set seats i new) ≡ slice_set now r (g (get_or now r d))
 changed f seats now i r seat new g d e q h is here =
@@ -39,14 +40,14 @@ changed f seats now i r seat new g d e q h is here =
     ∙ ap (λ y. slice_set (map f seats) i y) (here ∙ sym (ap g (get_or-map f seats i seat d (index_within f seats now i r e q h) ∙ ap f (sym is))))
     ∙ updated (map f seats) now i r g d e q
 
--- one more item that passes
+-- if all items have a property and one more item has it, all items of the longer list have it
 pub all_more : {X : Type 0} (P : X → Type 0) (xs : List X) (x : X) → All P xs → P x → All P (xs ++ x ∷ [])
 all_more P xs x all one = λ k d h.
     ⊎_elim (λ (l : k < length xs). subst P (sym (get_or_append_left xs (x ∷ []) d k l)) (all k d l))
     (λ (l : length xs ≤ k). subst P (sym (get_or_at xs x [] d k (omega (arith, h, l, length_push xs x)))) one)
     (cases_lt k (length xs))
 
--- the first item of a list of functions' results
+-- the first item of a mapped list is the function of the first item
 pub front_some : {X Y : Type 0} (f : X → Y) (xs : List X) (x : X) → slice_get xs 0 ≡ Some x → slice_get (map f xs) 0 ≡ Some (f x)
 front_some f [] x e = cc
 front_some {X} {Y} f (y ∷ ys) x e = ap mapped e
@@ -59,7 +60,7 @@ pub front_none : {X Y : Type 0} (f : X → Y) (xs : List X) → slice_get xs 0 �
 front_none f [] e = refl
 front_none f (y ∷ ys) e = cc
 
--- what a changed side shows at each place
+-- what the desk of a changed seat shows
 pub now_at : {X Y : Type 0} (f : X → Y) (seats : List X) (now : List Y) (i r : ℕ) (seat : X) (d : Y) → map f seats ≡ now → i ≡ r → r < length now → seat ≡ get_or seats i seat → get_or now r d ≡ f seat
 now_at f seats now i r seat d e q h is =
     sym (λ k. get_or (e k) (q k) d) ∙ get_or-map f seats i seat d (index_within f seats now i r e q h) ∙ ap f (sym is)
@@ -76,7 +77,7 @@ module _ {X Y : Type 0} (part : X → Part) (shown : List ℕ → X → Y) where
       let w = laid.within i (omega (arith, h, length-map seats (λ x. span (part x)))) in
       omega (arith, w, ap (λ (s : ℕ × ℕ). s.0 + s.1) (span_at seats i seat h is))
 
-  -- one seat changed, and its part stayed in place
+  -- one seat is changed, and its part stays at the same entries of the row
   pub laid_set : (seats : List X) (total i : ℕ) (seat new : X) → seat ≡ get_or seats i seat → span (part new) ≡ span (part seat) → AreLaid (map (λ x. span (part x)) seats) total → AreLaid (map (λ x. span (part x)) (slice_set seats i new)) total
   laid_set seats total i seat new is same laid =
       subst (λ (spans : List (ℕ × ℕ)). AreLaid spans total) (sym (map-set_same (λ x. span (part x)) seats i new seat (same ∙ ap (λ x. span (part x)) is))) laid
@@ -84,7 +85,7 @@ module _ {X Y : Type 0} (part : X → Part) (shown : List ℕ → X → Y) where
   pub rings_set : (seats : List X) (i : ℕ) (new : X) → IsRing (part new) → All (λ x. IsRing (part x)) seats → All (λ x. IsRing (part x)) (slice_set seats i new)
   rings_set seats i new ring rings = All-set (λ x. IsRing (part x)) seats i new ring rings
 
-  -- one seat changed, and a note was written at its next place
+  -- one seat is changed, and a note is written behind its waiting notes
   pub shown_pushed : ((s : X) (notes notes' : List ℕ) → waiting_in notes (part s) ≡ waiting_in notes' (part s) → shown notes s ≡ shown notes' s) →
       (seats : List X) (notes : List ℕ) (i note : ℕ) (seat new : X) (y : Y) → i < length seats → seat ≡ get_or seats i seat → AreLaid (map (λ x. span (part x)) seats) (length notes) → All (λ x. IsRing (part x)) seats →
       (part seat).len < (part seat).room → shown (slice_set notes (place_in (part seat) (part seat).len) note) new ≡ y →

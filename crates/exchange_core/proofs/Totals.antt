@@ -1,4 +1,4 @@
--- Sums over all desks: what every desk sent or took adds up to the events.
+-- Sums over all desks: what the desks sent and took adds up to the events of each kind.
 use Rattle.std.proofs.Common.{◌≡◌, ℕ, ◌+◌, ◌<◌, ◌≤◌, Bool, true, false, cond, eqb, ◌⊎◌, inl, inr, List, [], ◌∷◌, ◌++◌, length, refl, ap, sym, ◌∙◌, arith, length-append, sum_by, count_by, ◌||◌, zero-add}
 use Rattle.std.specs.List.{flat_map}
 use Rattle.std.proofs.lemmas.Bool.{cases_eq, eq-eqb, ne_eqb}
@@ -14,7 +14,7 @@ use Rattle.exchange_core.proofs.Mail.{is_closed_nil, is_closed_push}
 use Rattle.match_model.proofs.Counts.{sum_below, sum_below_zero, sum_below_same, sum_below-add, sum_below_one, sum_by_same}
 use Rattle.exchange_core.proofs.Members.{HasMembers, members_at}
 
--- a sum over desks and then over the list is a sum over the list and then over the desks
+-- the sum over all desks of a whole list of events is the sum of each event's share over all desks
 pub sum_below-flat_map : {X A : Type 0} (w : List A → ℕ) → w [] ≡ 0 → ((xs ys : List A) → w (xs ++ ys) ≡ w xs + w ys) → (f : ℕ → X → List A) (n : ℕ) (xs : List X) → sum_below (λ k. w (flat_map (f k) xs)) n ≡ sum_by (λ x. sum_below (λ k. w (f k x)) n) xs
 sum_below-flat_map w z a f n [] = sum_below_same (λ k. w []) (λ k. 0) n (λ k l. z) ∙ sum_below_zero n
 sum_below-flat_map w z a f n (x ∷ xs) =
@@ -23,7 +23,7 @@ sum_below-flat_map w z a f n (x ∷ xs) =
     ∙ ap (λ t. sum_below (λ k. w (f k x)) n + t) (sum_below-flat_map w z a f n xs)
     ∙ sym (sum_by-cons (λ y. sum_below (λ k. w (f k y)) n) x xs)
 
--- an item for one of the desks counts once
+-- an item that belongs to one of the desks counts once in the sum over all desks
 pub sum_below-where_same : {X : Type 0} (w : List X → ℕ) → w [] ≡ 0 → (a n : ℕ) (x : X) → a < n → sum_below (λ k. w (where_same a k x)) n ≡ w (x ∷ [])
 sum_below-where_same w z a n x l =
     sum_below_one (λ k. 0) (λ k. w (where_same a k x)) n a (w (x ∷ [])) l each ∙ (let s = sum_below_zero n in omega (arith, s))
@@ -43,7 +43,7 @@ over_programmes inst f = sum_below f (length inst.quotas)
 abbrev pub over_residents : Instance → (ℕ → ℕ) → ℕ
 over_residents inst f = sum_below f (length inst.resident_lists)
 
--- ---- the events of each kind
+-- ---- how many events there are of each kind
 
 abbrev pub one_offer : Event → ℕ
 one_offer (Offer p r) = 1
@@ -163,7 +163,7 @@ module _ (inst : Instance) (cap : Capacity) where
       one (Hear p r k) m = sum_below-where_same length refl p (length inst.quotas) (r, k) m.0
       one Close m = sum_below_zero (length inst.quotas)
 
--- ---- at most one close
+-- ---- a legal list of events has at most one close
 
 pub closes_within_one : (inst : Instance) (cap : Capacity) (j : List Event) → IsLegal inst cap j → count_by is_close j ≤ 1
 closes_within_one inst cap j legal = omega (arith, legal_induction inst cap Counted nothing (λ j e legal may ih. step j e may ih) j legal, bound (is_closed j))

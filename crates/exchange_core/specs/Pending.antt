@@ -15,14 +15,14 @@ has_due seat = not (is_nil seat.due)
 abbrev pub has_answers : ProgrammeLeft → Bool
 has_answers seat = not (is_nil seat.waiting)
 
--- no offer waits at the desk, and it owes no answer
+-- no offer waits at the desk, and the desk owes no answer
 abbrev pub IsQuiet : ResidentLeft → Type 0
 IsQuiet seat = (seat.waiting ≡ []) × (seat.due ≡ [])
 
--- whether the desk has a free place and a next resident to offer it to
+-- whether the desk has a free quota place, and a next resident for an offer
 abbrev pub has_wish : ProgrammeLeft → Bool
 has_wish seat = nat_lt seat.out seat.places && nat_lt seat.offered seat.listed
 
--- no answer waits at the desk, and it has no offer to make
+-- no answer waits at the desk, and the desk has no offer to make
 abbrev pub IsContent : ProgrammeLeft → Type 0
 IsContent seat = (seat.waiting ≡ []) × (has_wish seat ≡ false)

@@ -1,4 +1,4 @@
--- What the seats of one side show, with the row of notes.
+-- What the seats of one side show, together with the row of notes. A seat is what the core keeps of one desk.
 use Rattle.std.specs.Prelude.{ℕ, ◌+◌, ◌*◌, ◌/◌, ◌%◌, nat_eq, if◌then◌else◌, List, map}
 use Rattle.exchange_core.specs.declared.event.AnswerKind.{AnswerKind}
 use Rattle.exchange_core.specs.declared.event.AnswerKind.TheVariants.{Hold, Decline, Release}
@@ -10,7 +10,7 @@ use Rattle.exchange_core.specs.Left.{ResidentLeft, ProgrammeLeft}
 use Rattle.exchange_core.specs.Notes.{waiting_in, span, IsRing}
 use Rattle.exchange_core.specs.Seats.{due_of}
 
--- the programme of an offer's note; the note's lower part has the rank
+-- the programme in the note of an offer; the rank is the note's lower part
 abbrev pub programme_of : ℕ → ℕ
 programme_of note = note / RANKS
 
@@ -18,7 +18,7 @@ programme_of note = note / RANKS
 abbrev pub rank_of : ℕ → ℕ
 rank_of note = note % RANKS
 
--- the rank of the held offer, after one more answer to the offer that was taken
+-- the rank of the held offer after one more answer to an offer that was taken
 abbrev pub rank_after : ℕ → ℕ → AnswerKind → ℕ
 rank_after held taken Hold = taken
 rank_after held taken Decline = held
@@ -28,11 +28,11 @@ rank_after held taken Release = held
 abbrev pub shown_resident : List ℕ → ResidentSeat → ResidentLeft
 shown_resident notes seat = record { waiting = map programme_of (waiting_in notes seat.part); due = due_of seat.first_due seat.second_due; held = seat.held; room = seat.part.room }
 
--- where the seat's part starts, and how many places it has
+-- where the part of a resident's seat starts, and for how many notes the part has room
 abbrev pub resident_span : ResidentSeat → ℕ × ℕ
 resident_span seat = span seat.part
 
--- the seat's part is a ring
+-- the part of a resident's seat is a ring
 abbrev pub IsResidentRing : ResidentSeat → Type 0
 IsResidentRing seat = IsRing seat.part
 
@@ -65,10 +65,10 @@ shown_programme notes seat = record {
   listed = seat.listed;
 }
 
--- where the seat's part starts, and how many places it has
+-- where the part of a programme's seat starts, and for how many notes the part has room
 abbrev pub programme_span : ProgrammeSeat → ℕ × ℕ
 programme_span seat = span seat.part
 
--- the seat's part is a ring
+-- the part of a programme's seat is a ring
 abbrev pub IsProgrammeRing : ProgrammeSeat → Type 0
 IsProgrammeRing seat = IsRing seat.part

@@ -1,7 +1,7 @@
 //! Counts of the desks at which something is pending.
 ghost use Rattle.std.specs.Prelude.{◌≡◌, ◌+◌, ◌^◌, ◌<◌, true, if◌then◌else◌};
 
-/// The count after one desk's test changed from `was` to `is`.
+/// The new count of desks that pass a test. One desk's answer to the test was `was` and now is `is`.
 #[inline(always)]
 pub(crate) fn recounted(count: usize, was: bool, is: bool) -> usize
     requires counted { was ≡ true → 0 < count }

@@ -1,4 +1,5 @@
-//! The pure core of the exchange of offers: which event may follow, and what a list of events leaves.
+//! The pure core of the exchange of offers: which event may follow the earlier events, and what a list of events
+//! leaves.
 //!
 //! Contracts say nothing about the text of a `CoreFault`. A test compares this text.
 #![tactic(auto)]

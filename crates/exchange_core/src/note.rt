@@ -1,4 +1,4 @@
-//! The notes that stand in mailboxes.
+//! The notes that stand for messages in mailboxes.
 ghost use Rattle.std.specs.Prelude.{ℕ};
 
 use crate::event::AnswerKind;
@@ -40,10 +40,10 @@ impl Model for AnswerNote {
     ghost inverse = { λ n. record { resident = n.0; kind = n.1 } };
 }
 
-/// What an event leaves in the mailboxes of its two desks.
+/// What an event leaves in the mailbox of its sender and in the mailbox of its receiver.
 #[derive(Clone, Copy, Debug, PartialEq, Eq)]
 pub struct MailLeft {
-    /// Whether the message that was sent waits alone, so its mailbox was empty before.
+    /// Whether the message that was sent is the only message in its mailbox.
     pub receiver_was_empty: bool,
     /// Whether messages wait in the mailbox of the event's own desk.
     pub sender_has_more: bool,

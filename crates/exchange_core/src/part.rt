@@ -1,4 +1,5 @@
-//! One desk's part of a row of notes, and the notes that wait there.
+//! The notes of all desks of one side stand in one row. Each desk has a part of this row, where its waiting notes
+//! stand.
 ghost use Rattle.std.specs.Prelude.{◌≡◌, ◌+◌, ◌*◌, ◌^◌, ◌<◌, ◌≤◌, length, slice_get, slice_set};
 ghost use Rattle.exchange_core.specs.Left.{room_within};
 ghost use Rattle.exchange_core.specs.Notes.{IsRing, place_in, opened, pushed, popped, waiting_in};
@@ -6,8 +7,8 @@ ghost use Rattle.exchange_core.specs.Notes.{IsRing, place_in, opened, pushed, po
 use crate::event::Capacity;
 use match_model::MAX_PAIRS;
 
-/// Where a desk's notes stand in the row: a ring of `room` places from `start`. It has the place of the front note
-/// and the number of notes that wait.
+/// One desk's part of the row of notes: a ring of `room` entries from `start`. The part says where its front note
+/// stands and how many notes wait.
 #[derive(Clone, Copy)]
 pub(crate) struct Part {
     pub(crate) start: usize,
@@ -17,7 +18,7 @@ pub(crate) struct Part {
 }
 
 impl Part {
-    /// An empty part with this many places.
+    /// An empty part with `room` entries from `start`.
     pub(crate) fn open(start: usize, room: u32) -> Part
         ensures { result ≡ opened start room }
     {
@@ -29,7 +30,7 @@ impl Part {
         }
     }
 
-    /// The place of a note by its number, counted from the front.
+    /// The entry of the row at which the note with this number stands. The front note has number 0.
     #[inline(always)]
     fn place(self, number: u32) -> usize
         requires ring { IsRing self }
@@ -58,7 +59,7 @@ impl Part {
         Some(notes[self.place(0)])
     }
 
-    /// Appends a note after those that wait.
+    /// Appends a note behind the waiting notes of this part.
     #[inline(always)]
     pub(crate) fn push(&mut self, notes: &mut Vec<u32>, note: u32)
         requires ring { IsRing self.old }
@@ -72,7 +73,7 @@ impl Part {
         self.len += 1;
     }
 
-    /// Drops the front note, if a note waits.
+    /// Drops the front note of this part, if a note waits.
     #[inline(always)]
     pub(crate) fn pop(&mut self)
         requires { IsRing self.old }
@@ -91,7 +92,7 @@ impl Part {
     }
 }
 
-/// How many messages can wait in a mailbox at once, from the most that can ever be sent there.
+/// How many messages a mailbox has room for. `most` is the number of messages that can ever be sent to the mailbox.
 pub(crate) fn room(cap: Capacity, most: usize) -> u32
     requires { most ≤ 2 * MAX_PAIRS }
     ensures { result ≡ room_within cap most }

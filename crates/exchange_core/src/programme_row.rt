@@ -1,4 +1,4 @@
-//! What the core keeps of each programme's desk, and one row of notes for all their mailboxes.
+//! What the core stores for each programme's desk, with one row of notes for the mailboxes of all programmes.
 ghost use Rattle.std.specs.Prelude.{◌≡◌, ◌+◌, ◌-◌, if◌then◌else◌, ◌*◌, ◌^◌, ◌<◌, ◌&&◌, [], true, length, map, slice_get, slice_set, IfOk, not, nat_lt};
 ghost use Rattle.std.specs.List.{All};
 ghost use Rattle.exchange_core.specs.Calls.{is_rejection};
@@ -13,8 +13,8 @@ use match_model::{Instance, ProgrammeNo, ResidentNo};
 use std::alloc::{AllocError, Global};
 use std::marker::Model;
 
-/// A programme's desk: its part of the row, with the answers that wait; its offers made and out; its quota; and its
-/// list's length.
+/// A programme's desk: its part of the row of notes, with the waiting answers; the number of offers made; the number of
+/// offers out; the quota; and the length of the programme's list.
 #[derive(Clone, Copy)]
 pub(crate) struct ProgrammeSeat {
     part: Part,
@@ -25,7 +25,7 @@ pub(crate) struct ProgrammeSeat {
 }
 
 impl ProgrammeSeat {
-    /// Whether the programme has a free place and a next resident.
+    /// Whether the programme has a wish: a free place and a next resident on the list.
     #[inline(always)]
     fn has_wish(self) -> bool
         ensures { result ≡ (nat_lt self.out self.places && nat_lt self.offered self.listed) }
@@ -34,8 +34,8 @@ impl ProgrammeSeat {
     }
 }
 
-/// A seat for each programme, the notes of all answers that wait, and two counts: the programmes with answers
-/// waiting, and those with a wish.
+/// A seat for each programme, and the notes of all waiting answers. The row also counts the programmes with waiting
+/// answers, and the programmes with a wish.
 #[derive(Drop)]
 pub(crate) struct ProgrammeRow {
     seats: Vec<ProgrammeSeat>,
@@ -155,7 +155,7 @@ impl ProgrammeRow {
         seat.out < seat.places
     }
 
-    /// Whether a programme has a free place and a next resident.
+    /// Whether the programme has a wish: a free place and a next resident on the list.
     #[inline(always)]
     pub(crate) fn has_wish(&self, programme: ProgrammeNo) -> bool
         requires { programme < length self.now }
@@ -164,7 +164,7 @@ impl ProgrammeRow {
         self.seats[programme.0 as usize].has_wish()
     }
 
-    /// Makes one more offer; it is then out.
+    /// Makes the programme's next offer, which is then out.
     #[inline(always)]
     pub(crate) fn offer(&mut self, programme: ProgrammeNo)
         requires member { programme < length self.old }
@@ -193,7 +193,8 @@ impl ProgrammeRow {
         self.with_answers = recounted(self.with_answers, waited, true);
     }
 
-    /// Hears the front answer, which is this one. A rejection frees its place.
+    /// Removes the front answer from the programme's mailbox: the answer of this resident, of this kind. A rejection
+    /// frees a place of the programme.
     #[inline(always)]
     pub(crate) fn hear(&mut self, programme: ProgrammeNo, resident: ResidentNo, kind: AnswerKind)
         requires { programme < length self.old }
@@ -209,7 +210,7 @@ impl ProgrammeRow {
     }
 }
 
-/// How many offers are out after one more, if a place was free.
+/// The number of offers out after the next offer is made. The programme has a free place.
 #[inline(always)]
 fn one_more(out: u32, places: u32) -> u32
     requires { out < places }
@@ -218,7 +219,7 @@ fn one_more(out: u32, places: u32) -> u32
     out + 1
 }
 
-/// How many offers are out after this answer. A rejection frees its place.
+/// The number of offers out after this answer is heard. A rejection frees a place.
 #[inline(always)]
 fn out_after(out: u32, _resident: ResidentNo, kind: AnswerKind) -> u32
     ensures { result ≡ out - (if is_rejection (_resident, kind) then 1 else 0) }

@@ -1,4 +1,4 @@
-//! What the core keeps of each resident's desk, and one row of notes for all their mailboxes.
+//! What the core stores for each resident's desk, with one row of notes for the mailboxes of all residents.
 ghost use Rattle.std.specs.Prelude.{◌≡◌, ◌<◌, ◌%◌, ◌^◌, [], true, length, map, slice_get, slice_set, IfOk, not, nat_lt, drop, None};
 ghost use Rattle.std.specs.List.{All};
 ghost use Rattle.std.specs.Option.{option_to_list};
@@ -14,8 +14,8 @@ use match_model::{Instance, MAX_PROGRAMMES, ProgrammeNo, ResidentNo};
 use std::alloc::{AllocError, Global};
 use std::marker::Model;
 
-/// A resident's desk: its part of the row, with the offers that wait; the answers due, at most two; and the programme
-/// held. It also has the guessed ranks of the taken and of the held offer.
+/// A resident's desk: its part of the row of notes, with the waiting offers; at most two due answers; and the programme
+/// held. The desk also has guesses of two ranks: the rank of the offer taken last, and the rank of the held offer.
 #[derive(Clone, Copy)]
 pub(crate) struct ResidentSeat {
     part: Part,
@@ -26,8 +26,8 @@ pub(crate) struct ResidentSeat {
     held_rank: u32,
 }
 
-/// A seat for each resident, the notes of all offers that wait, and two counts: the residents with offers waiting,
-/// and those that owe an answer.
+/// A seat for each resident, and the notes of all waiting offers. The row also counts the residents with waiting
+/// offers, and the residents who owe an answer.
 #[derive(Drop)]
 pub(crate) struct ResidentRow {
     seats: Vec<ResidentSeat>,
@@ -135,7 +135,7 @@ impl ResidentRow {
         self.seats[resident.0 as usize].first_due
     }
 
-    /// The programme of the last hold that the resident gave.
+    /// The programme whose offer the resident holds.
     #[inline(always)]
     pub(crate) fn held(&self, resident: ResidentNo) -> Option<ProgrammeNo>
         requires { resident < length self.now }
@@ -171,7 +171,8 @@ impl ResidentRow {
         self.with_offers = recounted(self.with_offers, waited, true);
     }
 
-    /// Takes the front offer, which is this programme's and has this rank. Then its answers are due.
+    /// Removes the front offer from the resident's mailbox: the offer of this programme, with this guess of its rank.
+    /// Then the answers to the offer are due.
     #[inline(always)]
     pub(crate) fn take(
         &mut self,
@@ -196,7 +197,7 @@ impl ResidentRow {
         self.with_due = recounted(self.with_due, false, true);
     }
 
-    /// Gives the first answer due, which is this one.
+    /// Removes the first due answer: an answer to this programme, of this kind.
     #[inline(always)]
     pub(crate) fn answer(&mut self, resident: ResidentNo, programme: ProgrammeNo, kind: AnswerKind)
         requires { resident < length self.old }
@@ -213,7 +214,8 @@ impl ResidentRow {
     }
 }
 
-/// A note is this many times its programme's number, and the rank: no list is longer.
+/// A note is the programme's number times this constant, plus the rank of the offer. A rank is below this constant,
+/// since no list has more programmes than there are.
 pub(crate) const RANKS: u32 = MAX_PROGRAMMES as u32;
 
 #[inline(always)]
@@ -239,7 +241,7 @@ fn rank_of(note: u32) -> u32
     note % RANKS
 }
 
-/// The rank of the held offer after one more answer.
+/// The guessed rank of the held offer after an answer of this kind.
 #[inline(always)]
 fn rank_after(held: u32, taken: u32, kind: AnswerKind) -> u32
     ensures { result ≡ rank_after held taken kind }
@@ -250,7 +252,8 @@ fn rank_after(held: u32, taken: u32, kind: AnswerKind) -> u32
     }
 }
 
-/// The answers to an offer: for a better offer a hold and then a release of the held one, else a decline.
+/// The answers to an offer. A better offer gets a hold, and then the offer held until now gets a release. An offer that
+/// isn't better gets a decline.
 #[inline(always)]
 fn called_for(
     better: bool,
@@ -268,7 +271,7 @@ fn called_for(
     (Some((programme, AnswerKind::Decline)), None)
 }
 
-/// The programme held after one more answer.
+/// The programme held after an answer of this kind to this programme.
 #[inline(always)]
 fn held_after(
     held: Option<ProgrammeNo>,
@@ -283,7 +286,7 @@ fn held_after(
     }
 }
 
-/// The answers due once the first of these was given.
+/// The answers that remain due after the first due answer was given.
 #[tactic(auto, using(crate::proofs::Seats::due_after_first))]
 #[inline(always)]
 fn due_next(
@@ -298,7 +301,7 @@ fn due_next(
     }
 }
 
-/// The release of a programme, if there is a programme.
+/// The answer that releases the held programme, if a programme is held.
 #[inline(always)]
 fn release_of(held: Option<ProgrammeNo>) -> Option<(ProgrammeNo, AnswerKind)>
     ensures { option_to_list result ≡ released held }

@@ -1,4 +1,4 @@
-//! How to find an event that may follow.
+//! How to find some event that may follow the earlier events.
 ghost use Rattle.std.specs.Prelude.{◌≡◌, ℕ, true, IfSome, IfNone, ◌≢◌, None};
 ghost use Rattle.match_model.specs.Instance.{IsInstance, IsProgramme, IsResident};
 ghost use Rattle.exchange_core.specs.Shown.{EnabledExactly};
@@ -11,7 +11,8 @@ use crate::exchange::{Core, is_strange};
 use match_model::{Instance, ProgrammeNo, ResidentNo};
 
 impl Core {
-    /// Some event that may follow. None only if a close was accepted. The instance is that of `new`.
+    /// Some event that may follow the earlier events. The result is none only if the exchange is closed. The instance
+    /// is the instance that was given to `new`.
     pub fn some_enabled(&self, inst: &Instance) -> Option<Event>
         requires { IsCoreOf inst.now self.now }
         ensures { EnabledExactly inst.now self.now result }
@@ -19,7 +20,7 @@ impl Core {
         if self.closed {
             return None;
         }
-        // Only for the proof: an instance keeps its limits.
+        // For the proof alone: the number of programmes is within the limits.
         let _members = inst.programmes();
         if self.is_at_rest(inst) {
             return Some(Event::Close);
@@ -37,7 +38,7 @@ impl Core {
         Some(Event::Close)
     }
 
-    /// The programme and the resident of the last event. Most work is left at their desks.
+    /// The programme and the resident of the last event. Most pending work is at these two desks.
     fn recent_desks(&self, inst: &Instance) -> Option<(u32, u32)>
         ensures { IfSome result (AreMembers inst.now) }
     {
@@ -48,7 +49,7 @@ impl Core {
         Some((programme.0, resident.0))
     }
 
-    /// An event of these two desks that may follow, if there is one.
+    /// An event that may follow at one of these two desks, if there is such an event.
     fn event_at(&self, inst: &Instance, desks: Option<(u32, u32)>) -> Option<Event>
         requires core { IsCoreOf inst.now self.now }
         requires members { IfSome desks (AreMembers inst.now) }
@@ -62,7 +63,8 @@ impl Core {
         self.event_of_programme(inst, ProgrammeNo(programme))
     }
 
-    /// An event of some resident's desk that may follow, if the two desks already looked at have none.
+    /// An event that may follow at some resident's desk. The desks in `looked_at` were searched before and have no such
+    /// event.
     #[tactic(auto, using(crate::proofs::Quiet::quiet_events))]
     fn event_of_residents(&self, inst: &Instance, looked_at: Option<(u32, u32)>) -> Option<Event>
         requires core { IsCoreOf inst.now self.now }
@@ -84,7 +86,8 @@ impl Core {
         None
     }
 
-    /// An event of some programme's desk that may follow, if the two desks already looked at have none.
+    /// An event that may follow at some programme's desk. The desks in `looked_at` were searched before and have no
+    /// such event.
     fn event_of_programmes(&self, inst: &Instance, looked_at: Option<(u32, u32)>) -> Option<Event>
         requires core { IsCoreOf inst.now self.now }
         requires none { IfSome looked_at (HaveNoEvent inst.now self.now) }
@@ -103,7 +106,7 @@ impl Core {
         None
     }
 
-    /// An event of a resident's desk that may follow, if there is one.
+    /// An event that may follow at this resident's desk, if there is such an event.
     fn event_of_resident(&self, inst: &Instance, resident: ResidentNo) -> Option<Event>
         requires core { IsCoreOf inst.now self.now }
         requires member { IsResident inst.now resident }
@@ -155,7 +158,7 @@ impl Core {
         }
     }
 
-    /// An event of a programme's desk that may follow, if there is one.
+    /// An event that may follow at this programme's desk, if there is such an event.
     fn event_of_programme(&self, inst: &Instance, programme: ProgrammeNo) -> Option<Event>
         requires core { IsCoreOf inst.now self.now }
         requires member { IsProgramme inst.now programme }
@@ -207,7 +210,7 @@ impl Core {
         }
     }
 
-    /// The event, if there is no cause against it.
+    /// The event itself if there is no cause against it, else none.
     fn allowed(&self, inst: &Instance, event: Event) -> Option<Event>
         requires { IsCoreOf inst.now self.now }
         ensures free { IfSome result (λ e. (e ≡ event) × (fault_left inst.now self.now event ≡ None)) }
@@ -222,7 +225,7 @@ impl Core {
     }
 }
 
-/// Whether this resident's desk is one of the two, if there are two.
+/// Whether `desks` has two desks and one of them is this resident's.
 fn is_looked_at_resident(desks: Option<(u32, u32)>, r: u32) -> bool
     ensures { result ≡ true → IfSome desks (λ d. d.1 ≡ r) × (desks ≢ None) }
 {
@@ -232,7 +235,7 @@ fn is_looked_at_resident(desks: Option<(u32, u32)>, r: u32) -> bool
     }
 }
 
-/// Whether this programme's desk is one of the two, if there are two.
+/// Whether `desks` has two desks and one of them is this programme's.
 fn is_looked_at_programme(desks: Option<(u32, u32)>, p: u32) -> bool
     ensures { result ≡ true → IfSome desks (λ d. d.0 ≡ p) × (desks ≢ None) }
 {

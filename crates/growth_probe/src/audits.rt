@@ -1,4 +1,4 @@
-//! The calls of the audit and of the replay, and how their answers are written.
+//! The calls of the audit and of the replay, and the calls that write their answers.
 ghost use Rattle.std.specs.Prelude.{◌≡◌, length, IfOk, IfSome};
 ghost use Rattle.docket.specs.Whole.{IsByWorker};
 ghost use Rattle.audit_text.specs.Report.{IsReportOf};
@@ -13,20 +13,20 @@ use std::alloc::{AllocError, Global};
 use std::io::Write;
 use test_support::events::{A, B, X, Y};
 
-// The other stable sheet of the small docket, which is not its result.
+// The other stable sheet of the small docket, which is not the match's result.
 const OTHER_SHEET: &str = "M,x,b\nM,y,a\nF,a,1,1\nF,b,1,1\n";
 
 // The small docket's journal of nine events.
 const JOURNAL: &str =
     "C,full\nE,offer,a,x\nE,offer,b,y\nE,take,x,a\nE,take,y,b\nE,answer,x,a,hold\nE,answer,y,b,hold\nE,hear,a,x,hold\nE,hear,b,y,hold\nE,close\n";
 
-// The rows of the report about that sheet.
+// The rows of the report about the sheet in `BLOCKED`.
 const UNSTABLE: &str = "S,unstable\nB,y,a\n";
 
 // A docket whose sheet has a blocking pair.
 const BLOCKED: &str = "Q,a,2\nP,a,x,y\nR,x,a\nR,y,a\nM,x,a\nU,y\nF,a,1,2\n";
 
-// Whether the second resident and the only programme block, and the report has nothing else.
+// Whether the second resident and the only programme form a blocking pair, and the report finds nothing else.
 fn is_blocked(report: &AuditReport) -> bool {
     report.unacceptable.is_empty()
         && report.over.is_empty()
@@ -55,7 +55,7 @@ pub(super) fn audited<W: Write>(alloc: Global, out: &mut W) -> Seen {
     }
 }
 
-// The report about that sheet: the second resident and the only programme block.
+// The report about the sheet in `BLOCKED`: the second resident and the only programme form a blocking pair.
 fn blocked_report(alloc: Global, docket: &Docket) -> Result<AuditReport, AllocError>
     requires residents { length docket.now.instance.resident_lists ≡ 2 }
     requires programmes { length docket.now.instance.quotas ≡ 1 }
@@ -94,7 +94,7 @@ pub(super) fn report<W: Write>(alloc: Global, out: &mut W) -> Seen {
     Seen::at_once(answer == Ok(()) && room.as_slice() == UNSTABLE.as_bytes())
 }
 
-// Whether nine events were good, and gave the result of the small docket.
+// Whether a replay found nine good events, which lead to the result of the small docket.
 fn is_good(answer: &Result<Replayed, ReplayFault>) -> bool {
     match answer {
         Ok(replayed) => {
@@ -107,7 +107,7 @@ fn is_good(answer: &Result<Replayed, ReplayFault>) -> bool {
     }
 }
 
-// The answer of a replay of the docket's journal; `NotClosed` without a journal.
+// The answer of a replay of the docket's journal, or `NotClosed` if there is no journal.
 fn replay_of(alloc: Global, docket: &Docket) -> Result<Replayed, ReplayFault> {
     let Some(journal) = docket.journal() else {
         return Err(ReplayFault::NotClosed);
@@ -116,7 +116,7 @@ fn replay_of(alloc: Global, docket: &Docket) -> Result<Replayed, ReplayFault> {
     replay(alloc, docket.instance(), journal.capacity, events)
 }
 
-/// A journal is replayed.
+/// Replays a journal.
 pub(super) fn replayed<W: Write>(alloc: Global, out: &mut W) -> Seen {
     let Some(docket) = docket_of(alloc, &[SMALL, JOURNAL]) else {
         return Seen::Wrong;
@@ -151,7 +151,7 @@ pub(super) fn answer<W: Write>(alloc: Global, out: &mut W) -> Seen {
     Seen::at_once(answer == Ok(()) && room.as_slice() == b"G,9\n".as_slice())
 }
 
-// The answer of a check of the docket's journal and sheet; `NotClosed` if one of them is missing.
+// The answer of a check of the docket's journal against its sheet, or `NotClosed` if one of them is missing.
 fn check_of(alloc: Global, docket: &Docket) -> Result<Replayed, ReplayFault> {
     let (Some(journal), Some(sheet)) = (docket.journal(), docket.sheet()) else {
         return Err(ReplayFault::NotClosed);
@@ -160,12 +160,12 @@ fn check_of(alloc: Global, docket: &Docket) -> Result<Replayed, ReplayFault> {
     check(alloc, docket.instance(), journal.capacity, events, sheet)
 }
 
-// Whether the sheet differs for the first resident.
+// Whether the answer is that the sheet differs for the first resident.
 fn differs(answer: &Result<Replayed, ReplayFault>) -> bool {
     matches!(answer, Err(ReplayFault::SheetDiffers(X)))
 }
 
-/// Checks a journal with another sheet, and with its own.
+/// Checks a journal against another sheet, and against its own sheet.
 pub(super) fn checked<W: Write>(alloc: Global, out: &mut W) -> Seen {
     let (Some(other), Some(own)) = (
         docket_of(alloc, &[SMALL, JOURNAL, OTHER_SHEET]),
@@ -183,7 +183,7 @@ pub(super) fn checked<W: Write>(alloc: Global, out: &mut W) -> Seen {
     Seen::at_once(is_own_good && differs(&answer))
 }
 
-// The same journal, with the worker of each event; there are two workers.
+// The small docket's journal with the worker of each event. There are two workers.
 const WORKED: &str =
     "C,full,2\nE,offer,a,x,0\nE,offer,b,y,1\nE,take,x,a,0\nE,take,y,b,1\nE,answer,x,a,hold,0\nE,answer,y,b,hold,1\nE,hear,a,x,hold,0\nE,hear,b,y,hold,1\nE,close,0\n";
 

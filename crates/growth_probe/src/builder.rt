@@ -1,11 +1,11 @@
-//! The calls of the model.
+//! The calls of `match_model`.
 use crate::seen::{Seen, begin, end};
 use match_model::{Assignment, InstanceBuilder, ModelFault, ResidentNo};
 use std::alloc::Global;
 use std::io::Write;
 use test_support::events::{A, X};
 
-// Whether the finished instance has these numbers of members, and this many pairs.
+// Whether the builder's instance has these numbers of members and of acceptable pairs.
 fn has(builder: InstanceBuilder, programmes: u32, residents: u32, pairs: u32) -> bool {
     match builder.finish() {
         Ok(instance) => {
@@ -17,7 +17,7 @@ fn has(builder: InstanceBuilder, programmes: u32, residents: u32, pairs: u32) ->
     }
 }
 
-// A programme with one place, and a resident.
+// A builder with one programme, which has one place, and with one resident.
 fn one_of_each(alloc: Global) -> Result<InstanceBuilder, ModelFault> {
     let mut builder = InstanceBuilder::new(alloc);
     builder.add_programme(1)?;
@@ -25,7 +25,7 @@ fn one_of_each(alloc: Global) -> Result<InstanceBuilder, ModelFault> {
     Ok(builder)
 }
 
-/// A programme is added.
+/// Adds a programme.
 pub(super) fn add_programme<W: Write>(alloc: Global, out: &mut W) -> Seen {
     let mut builder = InstanceBuilder::new(alloc);
     begin(out);
@@ -38,7 +38,7 @@ pub(super) fn add_programme<W: Write>(alloc: Global, out: &mut W) -> Seen {
     Seen::at_once(answer == Ok(A) && has(builder, 1, 0, 0))
 }
 
-/// A resident is added.
+/// Adds a resident.
 pub(super) fn add_resident<W: Write>(alloc: Global, out: &mut W) -> Seen {
     let mut builder = InstanceBuilder::new(alloc);
     begin(out);
@@ -51,7 +51,7 @@ pub(super) fn add_resident<W: Write>(alloc: Global, out: &mut W) -> Seen {
     Seen::at_once(answer == Ok(X) && has(builder, 0, 1, 0))
 }
 
-// Whether the resident's list may be given, so that the two are a pair.
+// Whether the resident's list can be given, so that the programme and the resident are an acceptable pair.
 fn pairs_with_resident(mut builder: InstanceBuilder) -> bool {
     builder.resident_list(X, &[A]) == Ok(()) && has(builder, 1, 1, 1)
 }
@@ -71,7 +71,7 @@ pub(super) fn programme_list<W: Write>(alloc: Global, out: &mut W) -> Seen {
     Seen::at_once(answer == Ok(()) && pairs_with_resident(builder))
 }
 
-// Whether the programme's list may be given, so that the two are a pair.
+// Whether the programme's list can be given, so that the programme and the resident are an acceptable pair.
 fn pairs_with_programme(mut builder: InstanceBuilder) -> bool {
     builder.programme_list(A, &[X]) == Ok(()) && has(builder, 1, 1, 1)
 }
@@ -91,7 +91,7 @@ pub(super) fn resident_list<W: Write>(alloc: Global, out: &mut W) -> Seen {
     Seen::at_once(answer == Ok(()) && pairs_with_programme(builder))
 }
 
-// A programme and a resident who rank each other.
+// A builder with a programme and a resident who rank each other.
 fn one_pair(alloc: Global) -> Result<InstanceBuilder, ModelFault> {
     let mut builder = one_of_each(alloc)?;
     builder.programme_list(A, &[X])?;
@@ -99,7 +99,7 @@ fn one_pair(alloc: Global) -> Result<InstanceBuilder, ModelFault> {
     Ok(builder)
 }
 
-/// A builder is finished.
+/// Finishes a builder.
 pub(super) fn finish<W: Write>(alloc: Global, out: &mut W) -> Seen {
     let Ok(builder) = one_pair(alloc) else {
         return Seen::Wrong;

@@ -1,4 +1,4 @@
-//! The calls of the docket.
+//! The calls of `docket`.
 use crate::seen::{Seen, begin, end};
 use docket::{
     Docket, DocketFault, read_docket, read_docket_with_lists, write_journal, write_sheet,
@@ -9,14 +9,14 @@ use std::io::Write;
 use test_support::events::{B, Y};
 use test_support::randomness::OneByte;
 
-/// Two programmes with one place each, and two residents. The residents' rankings are the opposite of the
-/// programmes'.
+/// Two programmes with one place each, and two residents. The residents rank the programmes in the opposite order to
+/// the programmes' own rankings.
 pub(super) const SMALL: &str = "Q,a,1\nQ,b,1\nP,a,x,y\nP,b,y,x\nR,x,b,a\nR,y,a,b\n";
 
-/// The sheet of a match of this docket.
+/// The sheet that a match of `SMALL` writes.
 pub(super) const SHEET: &str = "M,x,a\nM,y,b\nF,a,1,1\nF,b,1,1\n";
 
-/// Room for the output, made before the first mark.
+/// Memory for the output, reserved before growths of memory are counted.
 pub(super) fn room(alloc: Global) -> Result<Vec<u8>, AllocError> {
     Vec::with_capacity(alloc, 4_096)
 }
@@ -36,7 +36,7 @@ pub(super) fn docket_of(alloc: Global, texts: &[&str]) -> Option<Docket> {
     read_docket(&OneByte(7), alloc, text.as_slice()).ok()
 }
 
-// Whether this is the small docket.
+// Whether this is the docket of `SMALL`.
 fn is_small(docket: &Docket) -> bool {
     let inst = docket.instance();
     inst.programmes() == 2
@@ -46,7 +46,7 @@ fn is_small(docket: &Docket) -> bool {
         && docket.resident_name(Y) == "y"
 }
 
-/// A docket is read.
+/// Reads a docket.
 pub(super) fn read<W: Write>(alloc: Global, out: &mut W) -> Seen {
     begin(out);
     let answer = read_docket(&OneByte(7), alloc, SMALL.as_bytes());
@@ -61,7 +61,7 @@ pub(super) fn read<W: Write>(alloc: Global, out: &mut W) -> Seen {
     }
 }
 
-// Whether this is the small docket with its lists.
+// Whether this is the docket of `SMALL` with its lists.
 fn is_small_with_lists(docket: &Docket, lists: &WrittenLists) -> bool {
     is_small(docket) && lists.choice(Y, 1) == Some(B) && lists.rank_of_resident(B, Y) == Some(0)
 }
@@ -83,7 +83,7 @@ pub(super) fn read_with_lists<W: Write>(alloc: Global, out: &mut W) -> Seen {
     }
 }
 
-/// A sheet is written.
+/// Writes a sheet.
 pub(super) fn sheet<W: Write>(alloc: Global, out: &mut W) -> Seen {
     let (Some(docket), Ok(mut room)) = (docket_of(alloc, &[SMALL, SHEET]), room(alloc)) else {
         return Seen::Wrong;
@@ -105,7 +105,7 @@ pub(super) fn sheet<W: Write>(alloc: Global, out: &mut W) -> Seen {
 
 const CLOSED: &str = "C,full\nE,close\n";
 
-/// A journal is written.
+/// Writes a journal.
 pub(super) fn journal<W: Write>(alloc: Global, out: &mut W) -> Seen {
     let (Some(docket), Ok(mut room)) = (docket_of(alloc, &[CLOSED]), room(alloc)) else {
         return Seen::Wrong;

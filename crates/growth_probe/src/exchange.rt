@@ -25,7 +25,7 @@ fn refuses_a_stranger(mut core: Core, inst: &Instance) -> bool
     core.step(inst, take(ResidentNo(7), A)) == Err(Refused::NoSuchDesk)
 }
 
-/// A core is opened.
+/// Opens a core.
 pub(super) fn core<W: Write>(alloc: Global, out: &mut W) -> Seen {
     let Some(docket) = docket_of(alloc, &[SMALL]) else {
         return Seen::Wrong;
@@ -44,7 +44,7 @@ pub(super) fn core<W: Write>(alloc: Global, out: &mut W) -> Seen {
     }
 }
 
-// Whether a mailbox with two places takes two messages and gives the first.
+// Whether a mailbox with room for two messages accepts two messages and returns the first.
 fn has_two_places<R: Wait + Copy>(mut put: RuledPut<u32, R>, mut take: RuledTake<u32, R>) -> bool {
     put.put(5) == PutReply::Done
         && put.put(6) == PutReply::Done
@@ -54,7 +54,7 @@ fn has_two_places<R: Wait + Copy>(mut put: RuledPut<u32, R>, mut take: RuledTake
         && take.take() == TakeReply::Nothing
 }
 
-/// Opens a mailbox with two places.
+/// Opens a mailbox with room for two messages.
 pub(super) fn mailbox_of_two<R: Wait + Copy + Drop, W: Write>(
     rt: R,
     alloc: Global,
@@ -73,7 +73,7 @@ pub(super) fn mailbox_of_two<R: Wait + Copy + Drop, W: Write>(
     }
 }
 
-// Whether a list takes one message and no more.
+// Whether a list with room for one message accepts one message and refuses a second.
 fn has_one_place(mut list: ListPut<u32>) -> bool {
     list.put(5) == PutReply::Done && list.put(6) == PutReply::Full(6)
 }
@@ -152,7 +152,7 @@ fn offers(alloc: Global) -> Result<ListTake<OfferNote>, AllocError>
     Ok(ListTake::of(Vec::from_array(alloc, notes)?))
 }
 
-// Whether the resident takes its first offer.
+// Whether the resident takes the first of the offers that wait.
 fn takes_one<T: TakeEnd<OfferNote>>(agent: &mut ResidentAgent<T>) -> bool {
     agent.taken_log().is_empty()
         && agent.ready()
@@ -180,7 +180,7 @@ pub(super) fn resident_agent<W: Write>(alloc: Global, out: &mut W) -> Seen {
     }
 }
 
-// How a run of the three residents ends: whether it is closed with each resident matched as expected, or its fault.
+// How a run with the three residents ends: whether it closed with each resident matched as expected, or its fault.
 fn closes<R: Threads + Wait + Sync + Send + Copy>(
     rt: R,
     alloc: Global,

@@ -15,7 +15,7 @@ use std::marker::Brand;
 use std::sync::ledger::Blank;
 use test_support::events::{A, X};
 
-// Two ends in memory, without room.
+// Two ends in memory that have no room.
 #[tactic(auto, using(match_model::proofs::Prefixes::slice_get_push_parts))]
 fn lists<M: Drop>(alloc: Global) -> Result<Vec<ListPut<M>>, MailFault>
     ensures { IfOk result (λ ends. (i : ℕ) (end : PutList M) → slice_get ends.items i ≡ Some end → end.puts ≡ []) }
@@ -43,7 +43,7 @@ fn enters_nothing<J: ExchangeIdentity, P: PutEnd<OfferNote>, Q: PutEnd<AnswerNot
     ledger.enter_offer(inst, tally, A, X) == full && ledger.journal().is_empty()
 }
 
-// Opens a ledger over these ends. Returns whether it is empty and accepts nothing, or its fault with the ends.
+// Opens a ledger over these ends. Returns whether the ledger is empty and accepts no event, or its fault with the ends.
 fn opened_as<J: ExchangeIdentity>(
     alloc: Global,
     blank: Blank,
@@ -69,7 +69,7 @@ fn opened_as<J: ExchangeIdentity>(
     }
 }
 
-// The same, for an exchange with its own name.
+// Opens a ledger as `opened_as` does, for an exchange with a name of its own.
 fn opened_anew(alloc: Global, inst: &Instance, ends: Ends) -> Result<bool, (LedgerFault, Ends)>
     requires offer_ends { (i : ℕ) (end : PutList ℕ) → slice_get ends.0.items i ≡ Some end → end.puts ≡ [] }
     requires answer_ends { (i : ℕ) (end : PutList Answered) → slice_get ends.1.items i ≡ Some end → end.puts ≡ [] }

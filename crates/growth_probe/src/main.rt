@@ -1,6 +1,6 @@
-//! Makes one call of the libraries, and prints what it did. Without a name it makes each call in turn. If a growth of
-//! memory is refused meanwhile, the call has to answer Memory and leave borrowed values unchanged. When it is made
-//! again, it has to give its right answer.
+//! Makes one call of the libraries, and prints what the call did. Without a name on the command line, the program makes
+//! all calls, one after another. If a growth of memory is refused during a call, the call has to answer Memory and
+//! leave borrowed values unchanged. When the call is made again, it has to give its right answer.
 #![tactic(auto)]
 
 mod audits;
@@ -20,7 +20,7 @@ use std::sync::Wait;
 use std::thread::Threads;
 use std::{env, io};
 
-// The calls, by name.
+// The names of the calls.
 const CALLS: [&str; 28] = [
     "add_programme",
     "add_resident",
@@ -52,7 +52,7 @@ const CALLS: [&str; 28] = [
     "read_line",
 ];
 
-// Makes the call with this name, with marks on `out` before and after it.
+// Makes the call with this name, and writes marks to `out` before and after the call.
 fn made<H: Threads + Wait + RandomSource + Sync + Send + Copy + Drop, W: Write>(
     rt: H,
     alloc: Global,
@@ -93,7 +93,7 @@ fn words(rt: &HostRuntime) -> io::Result<Vec<String>> {
     Ok(env::args(rt)?.skip(1).collect(rt.alloc())?)
 }
 
-// Makes the call with this name, and prints what it did. Returns whether this was right.
+// Makes the call with this name, and prints what the call did. Returns whether this was right.
 fn told<H: Threads + Wait + RandomSource + Sync + Send + Copy + Drop, W: Write>(
     rt: H,
     alloc: Global,

@@ -1,7 +1,7 @@
-//! What was seen of a call, and the marks around the call.
+//! What a call was seen to do, and the marks before and after the call.
 use std::io::Write;
 
-/// What was seen of a call.
+/// What a call was seen to do.
 #[derive(Clone, Copy, Debug, PartialEq, Eq)]
 pub(super) enum Seen {
     /// The call gave its right answer.
@@ -10,12 +10,12 @@ pub(super) enum Seen {
     WantedMemory,
     /// The call answered that a worker could not be started. When it was made again, it gave its right answer.
     WantedThread,
-    /// It did anything else.
+    /// The call did anything else.
     Wrong,
 }
 
 impl Seen {
-    /// The call answered at once, rightly or wrongly.
+    /// The call answered without a fault, rightly or wrongly.
     pub(super) fn at_once(is_right: bool) -> Seen {
         if is_right {
             Seen::Answered
@@ -24,7 +24,7 @@ impl Seen {
         }
     }
 
-    /// The first answer was Memory, and the second was right or wrong.
+    /// The call answered Memory first, and then rightly or wrongly.
     pub(super) fn after_memory(is_right: bool) -> Seen {
         if is_right {
             Seen::WantedMemory
@@ -33,7 +33,7 @@ impl Seen {
         }
     }
 
-    /// The first answer was that a worker could not be started, and the second was right or wrong.
+    /// The call first answered that a worker could not be started, and then answered rightly or wrongly.
     pub(super) fn after_thread(is_right: bool) -> Seen {
         if is_right {
             Seen::WantedThread
@@ -42,7 +42,7 @@ impl Seen {
         }
     }
 
-    /// As one word.
+    /// The variant as one word.
     pub(super) fn text(self) -> &'static str {
         match self {
             Seen::Answered => "answered",
@@ -53,12 +53,12 @@ impl Seen {
     }
 }
 
-/// From here on growths of memory are counted.
+/// Writes the mark after which growths of memory are counted.
 pub(super) fn begin<W: Write>(out: &mut W) {
     let _ = out.write_all(b"call\n");
 }
 
-/// From here on no growth is counted.
+/// Writes the mark after which no growth of memory is counted.
 pub(super) fn end<W: Write>(out: &mut W) {
     let _ = out.write_all(b"done\n");
 }

@@ -1,4 +1,4 @@
-//! The calls of the program.
+//! The calls of `residency`.
 use crate::dockets::{SHEET, SMALL, joined, room};
 use crate::seen::{Seen, begin, end};
 use docket::DocketFault;
@@ -23,7 +23,7 @@ const NINETEEN: [&str; 3] = [
     "E,hear,a,x,hold\nE,hear,b,x,hold\nE,hear,a,x,release\nE,offer,a,z\nE,take,z,a\nE,answer,z,a,hold\nE,hear,a,z,hold\nE,close\n",
 ];
 
-// Whether this is out of memory.
+// Whether the answer is that memory ran out.
 fn is_memory(answer: &Result<Status, ServeFault>) -> bool {
     matches!(
         answer,
@@ -35,7 +35,7 @@ fn is_memory(answer: &Result<Status, ServeFault>) -> bool {
     )
 }
 
-// One trial: an order with its input, the status, and the output.
+// One trial: what the program is asked to do, its input, the expected status, and the expected output.
 #[derive(Drop)]
 struct Trial<'a> {
     order: Order,
@@ -108,7 +108,7 @@ fn line<W: Write>(alloc: Global, out: &mut W) -> Seen {
     }
 }
 
-// A match of the small docket.
+// Matches the small docket.
 fn matched<H: Threads + Wait + RandomSource + Sync + Send + Copy, W: Write>(
     rt: H,
     alloc: Global,
@@ -123,7 +123,7 @@ fn matched<H: Threads + Wait + RandomSource + Sync + Send + Copy, W: Write>(
     trial.seen(rt, alloc, out)
 }
 
-// An audit of a sheet with a blocking pair.
+// Audits a sheet with a blocking pair.
 fn audited<H: Threads + Wait + RandomSource + Sync + Send + Copy, W: Write>(
     rt: H,
     alloc: Global,
@@ -138,7 +138,7 @@ fn audited<H: Threads + Wait + RandomSource + Sync + Send + Copy, W: Write>(
     trial.seen(rt, alloc, out)
 }
 
-// A replay of nineteen events, in these bytes.
+// Replays nineteen events from these bytes.
 fn replayed<H: Threads + Wait + RandomSource + Sync + Send + Copy, W: Write>(
     rt: H,
     alloc: Global,
@@ -154,7 +154,7 @@ fn replayed<H: Threads + Wait + RandomSource + Sync + Send + Copy, W: Write>(
     trial.seen(rt, alloc, out)
 }
 
-/// Makes the call with this name; without such a call, the result is never right.
+/// Makes the call with this name. If no call has this name, the result is never right.
 pub(super) fn made<H: Threads + Wait + RandomSource + Sync + Send + Copy, W: Write>(
     rt: H,
     alloc: Global,

@@ -9,7 +9,7 @@ use test_support::events::{
     A, B, X, Y, Z, answer, hear, nine_events, nineteen_events, offer, take,
 };
 
-// For each resident its place.
+// The sheet that matches each resident with the programme of this number, or with none.
 fn sheet(alloc: Global, places: &[Option<u32>]) -> Result<Assignment, ModelFault> {
     let Ok(residents) = u32::try_from(places.len()) else {
         return Err(ModelFault::TooManyResidents);
@@ -35,10 +35,10 @@ fn refused(place: usize, refused: Refused) -> Result<usize, ReplayFault> {
     Err(ReplayFault::At { place, refused })
 }
 
-// The three lists of a report, by number.
+// The three lists of a report, with members as numbers.
 type Findings<'a> = (&'a [(u32, u32)], &'a [(u32, u32)], &'a [(u32, u32)]);
 
-// Whether these are the pairs of a resident and a programme.
+// Whether the found pairs of a resident and a programme are the expected pairs.
 fn are_pairs(found: &[(ResidentNo, ProgrammeNo)], wanted: &[(u32, u32)]) -> bool {
     found.len() == wanted.len()
         && found
@@ -47,7 +47,7 @@ fn are_pairs(found: &[(ResidentNo, ProgrammeNo)], wanted: &[(u32, u32)]) -> bool
             .all(|((r, p), wanted)| (r.0, p.0) == *wanted)
 }
 
-// Whether these are the programmes over their quota, with how many residents they have.
+// Whether the programmes found over their quota, with their numbers of residents, are the expected ones.
 fn are_over(found: &[(ProgrammeNo, u32)], wanted: &[(u32, u32)]) -> bool {
     found.len() == wanted.len()
         && found
@@ -56,7 +56,7 @@ fn are_over(found: &[(ProgrammeNo, u32)], wanted: &[(u32, u32)]) -> bool {
             .all(|((p, count), wanted)| (p.0, *count) == *wanted)
 }
 
-// Whether the report has these lists, and is stable exactly where all are empty.
+// Whether the report has the expected lists, and is stable exactly if all of them are empty.
 fn has_found(report: &AuditReport, lists: Findings) -> bool {
     let (unacceptable, over, blocking) = lists;
     let nothing = unacceptable.is_empty() && over.is_empty() && blocking.is_empty();
@@ -66,7 +66,7 @@ fn has_found(report: &AuditReport, lists: Findings) -> bool {
         && report.is_stable() == nothing
 }
 
-// Whether the audit of this sheet has these lists.
+// Whether the audit of this sheet finds the expected lists.
 fn finds(
     alloc: Global,
     members: Members,
@@ -108,7 +108,7 @@ fn audits_no_sheet_of_another_size(rt: HostRuntime) -> Result<(), Fail> {
     Ok(())
 }
 
-// How many events are replayed.
+// How many events a replay enters, or its fault.
 fn replayed(
     alloc: Global,
     members: Members,
@@ -124,7 +124,7 @@ fn replayed(
     }
 }
 
-// How many of the nineteen events and then these are replayed.
+// How many events a replay enters, or its fault, for the first of the nineteen events followed by these events.
 fn replayed_after(alloc: Global, count: usize, more: &[Event]) -> Result<usize, ReplayFault> {
     let events = nineteen_events();
     let Ok(events) = joined(alloc, &[&events[..count.min(19)], more]) else {
@@ -189,7 +189,7 @@ fn replays_under_a_capacity(rt: HostRuntime) {
     }
 }
 
-// The events at these places, in this order.
+// The events with these indices, in this order.
 fn chosen(alloc: Global, events: &[Event], places: &[usize]) -> Result<Vec<Event>, AllocError> {
     let mut chosen = Vec::new(alloc);
     for place in places {
@@ -201,7 +201,7 @@ fn chosen(alloc: Global, events: &[Event], places: &[usize]) -> Result<Vec<Event
 }
 
 const FORGED: [(&[usize], Result<usize, ReplayFault>); 6] = [
-    // an answer that isn't heard
+    // the answer is not heard
     (
         &[0, 1, 2, 3, 4, 5, 6, 8],
         Err(ReplayFault::At {
@@ -209,7 +209,7 @@ const FORGED: [(&[usize], Result<usize, ReplayFault>); 6] = [
             refused: Refused::StillPending(Pending::Answers(B)),
         }),
     ),
-    // an offer that isn't answered
+    // the offer is not answered
     (
         &[0, 1, 2, 3, 5, 6, 7, 8],
         Err(ReplayFault::At {
@@ -217,7 +217,7 @@ const FORGED: [(&[usize], Result<usize, ReplayFault>); 6] = [
             refused: Refused::NothingWaiting,
         }),
     ),
-    // one taken twice
+    // the offer is taken twice
     (
         &[0, 1, 2, 2, 3, 4, 5, 6, 7, 8],
         Err(ReplayFault::At {
@@ -225,7 +225,7 @@ const FORGED: [(&[usize], Result<usize, ReplayFault>); 6] = [
             refused: Refused::AnswerDue,
         }),
     ),
-    // one answered before it is taken
+    // the offer is answered before it is taken
     (
         &[0, 1, 4, 3, 2, 5, 6, 7, 8],
         Err(ReplayFault::At {
@@ -256,7 +256,7 @@ fn sees_forged_lists(rt: HostRuntime) -> Result<(), Fail> {
     Ok(())
 }
 
-// How many events are replayed to this sheet.
+// How many events a replay enters that is checked against this sheet, or its fault.
 fn checked(
     alloc: Global,
     members: Members,
@@ -291,7 +291,7 @@ fn checks_sheets(rt: HostRuntime) {
     assert!(rt; checked(rt.alloc(), TWO_PLACES, &nineteen_events(), &settled) == Ok(19));
 }
 
-// Whether these workers made so many events each. There are as many workers as wanted counts.
+// Whether the workers made these numbers of events. There are as many workers as numbers.
 fn counts_are(alloc: Global, who: &[u8], wanted: &[u64]) -> bool {
     let Ok(workers) = u32::try_from(wanted.len()) else {
         return false;

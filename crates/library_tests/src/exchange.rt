@@ -1,4 +1,4 @@
-//! The core on two dockets, event by event, and on random walks.
+//! The core on two dockets, tested event by event, and on random walks.
 mod mail;
 pub(super) mod run;
 mod slow;
@@ -14,7 +14,7 @@ use test_support::events::{
     A, B, DECLINE, HOLD, RELEASE, X, Y, Z, answer, hear, nine_events, nineteen_events, offer, take,
 };
 
-// A core at the beginning of an exchange of these members.
+// A core with its instance, before any event between these members.
 fn begin(alloc: Global, members: Members, cap: Capacity) -> Result<Run, CoreFault> {
     match made(alloc, members) {
         Ok(inst) => Run::new(alloc, inst, cap),
@@ -42,7 +42,7 @@ fn prints_its_faults(rt: HostRuntime) -> Result<(), Fail> {
     Ok(())
 }
 
-// Whether the first events are accepted, and the last is refused as said.
+// Whether the core accepts the first events, and refuses the last event for this cause.
 fn refuses_last(run: &mut Run, events: &[Event], last: Event, why: Refused) -> bool {
     for event in events {
         if run.step(*event).is_err() {
@@ -53,7 +53,7 @@ fn refuses_last(run: &mut Run, events: &[Event], last: Event, why: Refused) -> b
     run.may(last) == Err(why) && run.step(again) == Err(cause)
 }
 
-// Whether a core at the beginning accepts and refuses so.
+// Whether a new core accepts the first events, and refuses the last event for this cause.
 fn refuses(
     alloc: Global,
     start: (Members, Capacity),
@@ -116,7 +116,8 @@ const NO_PLACE: Option<Refused> = Some(Refused::NoPlace);
 
 const WRONG_FRONT: Option<Refused> = Some(Refused::WrongFront);
 
-// After each of the nineteen events another one, and why it may not follow, if it may not.
+// For each of the nineteen events a further event that is tried after it, and why that further event may not follow, if
+// it may not.
 fn others() -> [(Event, Option<Refused>); 19] {
     [
         (offer(A, Y), None),
@@ -141,7 +142,7 @@ fn others() -> [(Event, Option<Refused>); 19] {
     ]
 }
 
-// What the core shows of a and x after each of the nineteen events.
+// What the core shows of programme a and resident x after each of the nineteen events.
 const SEEN: [Seen; 19] = [
     (Some(Pending::Offers(X)), Some(Y), None, None),
     (Some(Pending::Offers(X)), None, None, None),
@@ -164,14 +165,16 @@ const SEEN: [Seen; 19] = [
     (None, None, Some(B), None),
 ];
 
-// Whether the core tells so of another event, shows this of a and x, and is closed or not.
+// Whether the core answers as expected to the further event, shows what is expected of a and x, and is closed as
+// expected.
 fn shows(run: &Run, other: &(Event, Option<Refused>), seen: &Seen, is_closed: bool) -> bool {
     run.may(other.0).err() == other.1
         && run.seen(A, X) == *seen
         && run.core.is_closed() == is_closed
 }
 
-// The first of the nineteen events that isn't accepted, or after which the core doesn't show what it should.
+// The index of the first of the nineteen events that the core doesn't accept, or after which it doesn't show what is
+// expected.
 fn first_wrong(run: &mut Run) -> Option<usize> {
     let (events, others) = (nineteen_events(), others());
     for at in 0..19_usize {
@@ -193,7 +196,8 @@ fn shows_what_is_left(rt: HostRuntime) {
     assert!(rt; is_right);
 }
 
-// How many turns an exchange takes that does any event that may follow, if each is accepted and the last closes it.
+// Enters some event that may follow, again and again, and returns how many events there are up to the close. The result
+// is none if one of these events is refused, or if the exchange does not close.
 fn turns(run: &mut Run) -> Option<u32> {
     for turn in 0..=25 {
         let Some(event) = run.some_enabled() else {
@@ -219,7 +223,7 @@ fn always_finds_an_event(rt: HostRuntime) {
     assert!(rt; taken == Some(17) || taken == Some(19));
 }
 
-// Every event over the members.
+// Every event between members of the instance.
 fn events(alloc: Global, inst: &Instance) -> Result<Vec<Event>, AllocError> {
     let mut events = Vec::new(alloc);
     for p in 0..inst.programmes() {
@@ -237,14 +241,14 @@ fn events(alloc: Global, inst: &Instance) -> Result<Vec<Event>, AllocError> {
     Ok(events)
 }
 
-// Whether the core and the filters over the list agree on an event after these.
+// Whether the core and the slow definitions agree whether this event may follow the earlier events.
 fn agrees_on_one(run: &Run, cap: Capacity, earlier: &[Event], event: Event) -> bool {
     let again = event;
     let slow = slow::refusal(&run.inst, cap, earlier, event);
     slow::is_same(run.may(again), slow)
 }
 
-// Whether they agree on each event.
+// Whether the core and the slow definitions agree on each of these events after the earlier events.
 fn agrees_after(run: &Run, cap: Capacity, earlier: &[Event], events: &[Event]) -> bool {
     for event in events {
         if !agrees_on_one(run, cap, earlier, *event) {
@@ -254,7 +258,8 @@ fn agrees_after(run: &Run, cap: Capacity, earlier: &[Event], events: &[Event]) -
     true
 }
 
-// Whether they agree at every front of the list, from none of it up to the whole.
+// Whether the core and the slow definitions agree after each beginning of the list of events, from the empty list to
+// the whole list.
 fn agrees(run: &mut Run, cap: Capacity, events: &[Event], list: &[Event]) -> bool {
     for place in 0..=list.len() {
         let (earlier, later) = list.split_at(place);
@@ -270,7 +275,7 @@ fn agrees(run: &mut Run, cap: Capacity, events: &[Event], list: &[Event]) -> boo
     true
 }
 
-// Whether they do so in an exchange of these members.
+// Whether the core and the slow definitions agree in an exchange between these members.
 fn agrees_on(
     alloc: Global,
     members: Members,

@@ -17,7 +17,7 @@ use std::sync::ledger::Blank;
 use std::test::Fail;
 use test_support::events::{A, X, nine_events, nineteen_events};
 
-// Ends in memory, with room for so many notes each.
+// Ends in memory, each with room for `room` notes.
 #[tactic(auto, using(match_model::proofs::Prefixes::slice_get_push_parts))]
 fn lists<M: Drop>(alloc: Global, count: u32, room: u32) -> Result<Vec<ListPut<M>>, MailFault>
     ensures { IfOk result (λ ends. (i : ℕ) (end : PutList M) → slice_get ends.items i ≡ Some end → end.puts ≡ []) }
@@ -31,7 +31,7 @@ fn lists<M: Drop>(alloc: Global, count: u32, room: u32) -> Result<Vec<ListPut<M>
     Ok(ends)
 }
 
-// Mailboxes with room for so many notes each.
+// Mailboxes, each with room for `room` notes.
 #[tactic(auto, using(match_model::proofs::Prefixes::slice_get_push_parts))]
 fn mailboxes<M: Copy + Eq + Drop, R: Wait + Copy + Drop>(
     alloc: Global,
@@ -52,7 +52,7 @@ fn mailboxes<M: Copy + Eq + Drop, R: Wait + Copy + Drop>(
     Ok((puts, takes))
 }
 
-// Enters an event by the call of its kind.
+// Enters an event by the ledger's call for events of its kind.
 fn enter<J: ExchangeIdentity, P: PutEnd<OfferNote>, Q: PutEnd<AnswerNote>>(
     ledger: &mut Ledger<J, P, Q>,
     inst: &Instance,
@@ -84,7 +84,7 @@ fn enter<J: ExchangeIdentity, P: PutEnd<OfferNote>, Q: PutEnd<AnswerNote>>(
     }
 }
 
-// Whether each event is answered so.
+// Whether the ledger answers each event as expected.
 fn answers_each<J: ExchangeIdentity, P: PutEnd<OfferNote>, Q: PutEnd<AnswerNote>>(
     ledger: &mut Ledger<J, P, Q>,
     inst: &Instance,
@@ -101,7 +101,7 @@ fn answers_each<J: ExchangeIdentity, P: PutEnd<OfferNote>, Q: PutEnd<AnswerNote>
     are_right
 }
 
-// Whether the journal is these events, and the tally of all parts counts them.
+// Whether the journal has exactly these events, and the tally with all parts counts them.
 fn shows<J: ExchangeIdentity, P: PutEnd<OfferNote>, Q: PutEnd<AnswerNote>>(
     ledger: &mut Ledger<J, P, Q>,
     tally: &mut Tally<J>,
@@ -112,7 +112,8 @@ fn shows<J: ExchangeIdentity, P: PutEnd<OfferNote>, Q: PutEnd<AnswerNote>>(
         && tally.entered() == events.len() as u64
 }
 
-// Whether the ledger enters the events one after another, refuses a second close, and has them as its journal.
+// Whether the ledger enters all events one after another, refuses a second close, and then has these events as its
+// journal.
 fn enters_all<J: ExchangeIdentity, P: PutEnd<OfferNote> + Drop, Q: PutEnd<AnswerNote> + Drop>(
     mut ledger: Ledger<J, P, Q>,
     inst: &Instance,
@@ -130,7 +131,7 @@ fn enters_all<J: ExchangeIdentity, P: PutEnd<OfferNote> + Drop, Q: PutEnd<Answer
     are_right && journal.as_slice() == events && who.iter().all(|worker| *worker == 0)
 }
 
-// Whether nothing is entered where the ends have no room.
+// Whether the ledger enters no event, since the ends have no room.
 fn enters_nothing<J: ExchangeIdentity, P: PutEnd<OfferNote>, Q: PutEnd<AnswerNote>>(
     ledger: &mut Ledger<J, P, Q>,
     inst: &Instance,
@@ -145,13 +146,14 @@ fn enters_nothing<J: ExchangeIdentity, P: PutEnd<OfferNote>, Q: PutEnd<AnswerNot
         && ledger.close(inst, tally) == Err(pending)
 }
 
-// Whether the first of two tallies has all parts but the other's one.
+// Whether the first of two tallies has all parts of the count except one, and the other has this one part.
 fn are_cut<J: ExchangeIdentity>(first: &Tally<J>, other: &Tally<J>) -> bool {
     (first.worker(), first.parts(), first.entered()) == (0, PARTS - 1, 0)
         && (other.worker(), other.parts(), other.entered()) == (1, 1, 0)
 }
 
-// Whether two workers' tallies count their own entries, and together all, and each event's worker is noted.
+// Whether the tallies of two workers count each worker's own entries, together count all entries, and the worker of
+// each event is noted.
 fn counts_apart<J: ExchangeIdentity, P: PutEnd<OfferNote>, Q: PutEnd<AnswerNote>>(
     ledger: &mut Ledger<J, P, Q>,
     inst: &Instance,
@@ -176,7 +178,7 @@ fn counts_apart<J: ExchangeIdentity, P: PutEnd<OfferNote>, Q: PutEnd<AnswerNote>
         && tally.parts() == PARTS
 }
 
-// Whether a spoiled ledger keeps its journal, and takes no more.
+// Whether a spoiled ledger still has its journal, and enters no further event.
 fn keeps_its_journal<J: ExchangeIdentity, P: PutEnd<OfferNote>, Q: PutEnd<AnswerNote>>(
     ledger: &mut Ledger<J, P, Q>,
     inst: &Instance,
@@ -203,7 +205,8 @@ enum Trial {
     Spoiled,
 }
 
-// Whether a ledger does as tried, over two ends in memory for each side, with room for so many notes each.
+// Whether a ledger does what this trial expects, over two ends in memory for each side, each with room for `room`
+// notes.
 fn does<J: ExchangeIdentity>(
     alloc: Global,
     blank: Blank,
@@ -246,7 +249,8 @@ fn does<J: ExchangeIdentity>(
     }
 }
 
-// Whether a ledger of two by two does as tried, over ends with room for so many notes.
+// Whether a ledger of two programmes and two residents does what this trial expects, over ends with room for `room`
+// notes.
 fn small_does(alloc: Global, workers: u32, room: u32, trial: Trial) -> Result<bool, MailFault> {
     let Ok(inst) = made(alloc, TWO_BY_TWO) else {
         return Err(MailFault::Memory);
@@ -276,7 +280,7 @@ fn over_lists(rt: HostRuntime) -> Result<(), Fail> {
     Ok(())
 }
 
-// Whether the nineteen events are entered over mailboxes with four places.
+// Whether a ledger enters the nineteen events over mailboxes with room for four messages each.
 fn enters_posted<J: ExchangeIdentity, R: Wait + Copy + Drop>(
     rt: R,
     alloc: Global,
@@ -323,7 +327,7 @@ fn over_mailboxes(rt: HostRuntime) -> Result<(), Fail> {
     Ok(())
 }
 
-// Why a ledger over so many ends for residents and two for programmes isn't opened, and how many ends come back.
+// Why a ledger over these ends isn't opened, and how many ends come back. The programmes have two ends.
 fn not_opened<J: ExchangeIdentity>(
     alloc: Global,
     blank: Blank,

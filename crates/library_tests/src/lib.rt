@@ -1,10 +1,10 @@
-//! Worked instances and lists of events, and what the libraries answer to them.
+//! Small instances and lists of events with known results, and what the libraries answer to them.
 //!
-//! Each library has a module: `model`, `exchange`, `mailbox`, `ledger`, `agents`, `pool` and `audit` test `match_model`,
-//! `exchange_core`, `mailbox_rule`, `offer_ledger`, `match_agents`, `match_pool` and `match_audit`.
+//! Each library has a module: `model`, `exchange`, `mailbox`, `ledger`, `agents`, `pool` and `audit` test
+//! `match_model`, `exchange_core`, `mailbox_rule`, `offer_ledger`, `match_agents`, `match_pool` and `match_audit`.
 //!
-//! A crate with tests is proved twice, with them and without. So the tests of several crates stand in this one, which
-//! has nothing else. Those that go by the bytes of a docket stand in `program_tests`.
+//! A crate with tests is proved twice: with its tests and without them. So the tests of several libraries stand in this
+//! crate, which has nothing else. The tests that use the bytes of a docket stand in `program_tests`.
 #![tactic(auto)]
 
 #[cfg(test)]

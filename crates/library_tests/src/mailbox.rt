@@ -15,7 +15,7 @@ use std::thread::Threads;
 
 const TURNS: u32 = 10_000_000;
 
-// Puts 5, 6 and 7, and then takes three times.
+// Puts the numbers 5, 6 and 7, and then takes three messages out of the mailbox.
 fn three_each<P: PutEnd<u32>, T: TakeEnd<u32>>(
     mut put: P,
     mut take: T,
@@ -55,7 +55,7 @@ fn two_places_in_memory(rt: HostRuntime) -> Result<(), Fail> {
 
 #[test]
 fn capacities(rt: HostRuntime) {
-    // at most twice as many messages as there are pairs can be sent to one desk
+    // a desk can be sent at most twice as many messages as there are acceptable pairs
     for (capacity, wanted) in [(0, Some(MailFault::NoCapacity)), (1, None), (400_000, None)] {
         let fault = mailbox::<u32, HostRuntime>(rt.alloc(), rt, capacity).err();
         assert!(rt; fault == wanted, "{capacity}");
@@ -101,7 +101,7 @@ fn nobody_puts(rt: HostRuntime) -> Result<(), Fail> {
     Ok(())
 }
 
-// A message that contracts see as a number.
+// A message. Contracts see the message as a number.
 #[derive(Clone, Copy, PartialEq, Eq, Debug)]
 struct Note {
     number: u32,
@@ -134,7 +134,7 @@ fn notes(rt: HostRuntime) -> Result<(), Fail> {
     Ok(())
 }
 
-// Puts the numbers below `count`, in order.
+// Puts all numbers below `count`, in order.
 fn put_all<R: Wait + Copy>(mut put: RuledPut<u32, R>, count: u32) -> RuledPut<u32, R>
     ensures { result.mailbox ≡ put.mailbox }
 {
@@ -151,7 +151,7 @@ fn put_all<R: Wait + Copy>(mut put: RuledPut<u32, R>, count: u32) -> RuledPut<u3
     put
 }
 
-// Takes until `into` has `count` numbers.
+// Takes numbers until `into` has `count` numbers.
 fn take_all<R: Wait + Copy>(
     mut take: RuledTake<u32, R>,
     mut into: Vec<u32>,
@@ -175,7 +175,7 @@ fn take_all<R: Wait + Copy>(
     (take, into)
 }
 
-// Puts the numbers below `count`, in order, and takes as many.
+// Puts all numbers below `count`, in order, and takes `count` numbers.
 fn exchange<R: Wait + Copy>(
     mut put: RuledPut<u32, R>,
     mut take: RuledTake<u32, R>,
@@ -204,7 +204,7 @@ fn exchange<R: Wait + Copy>(
     (put, take, into)
 }
 
-// Puts each of `count` numbers that it takes into the other mailbox.
+// Takes `count` numbers, and puts each of them into the other mailbox.
 fn pass_on<R: Wait + Copy>(
     mut take: RuledTake<u32, R>,
     mut put: RuledPut<u32, R>,
@@ -252,7 +252,7 @@ fn relayed<R: Threads + Wait + Sync + Send + Copy>(
     Ok(numbers)
 }
 
-// Whether the numbers are those below `count`, in order.
+// Whether these are all numbers below `count`, in order.
 fn is_counted(numbers: &[u32], count: u32) -> bool {
     numbers.len() == count as usize
         && numbers
@@ -275,7 +275,7 @@ fn relay_one_by_one(rt: HostRuntime) -> Result<(), Fail> {
     Ok(())
 }
 
-// The numbers that went to another thread through one mailbox, and came back through another.
+// The numbers that one mailbox brought to another thread, and that a second mailbox brought back.
 fn returned<R: Threads + Wait + Sync + Send + Copy>(
     rt: R,
     alloc: Global,

@@ -1,8 +1,8 @@
-//! Large instances, pairs and chains.
+//! Large instances, instances of pairs, and chains.
 use match_model::{Instance, InstanceBuilder, ModelFault, ProgrammeNo, ResidentNo};
 use std::alloc::Global;
 
-/// The residents below 20,000.
+/// All residents with numbers below 20,000.
 pub(super) fn all_residents(alloc: Global) -> Result<Vec<ResidentNo>, ModelFault> {
     let mut residents = Vec::new(alloc);
     for r in 0..20_000 {
@@ -13,7 +13,7 @@ pub(super) fn all_residents(alloc: Global) -> Result<Vec<ResidentNo>, ModelFault
     Ok(residents)
 }
 
-/// The programmes below ten.
+/// All programmes with numbers below ten.
 pub(super) const TEN: [ProgrammeNo; 10] = [
     ProgrammeNo(0),
     ProgrammeNo(1),
@@ -44,7 +44,8 @@ fn add_in_one_order(
     Ok(())
 }
 
-/// Ten programmes with 2,000 places each, and 20,000 residents, all ranked by number on both sides.
+/// Ten programmes with 2,000 places each, and 20,000 residents. Each member ranks the other side in the order of
+/// numbers.
 pub(super) fn made_in_one_order(alloc: Global) -> Result<Instance, ModelFault> {
     let mut builder = InstanceBuilder::new(alloc);
     let residents = all_residents(alloc)?;
@@ -52,7 +53,7 @@ pub(super) fn made_in_one_order(alloc: Global) -> Result<Instance, ModelFault> {
     builder.finish().map_err(|refused| refused.fault)
 }
 
-// Adds so many residents, and so many programmes with one place.
+// Adds these numbers of residents and of programmes. Each programme has one place.
 fn add_ones(
     builder: &mut InstanceBuilder,
     residents: u32,
@@ -67,7 +68,7 @@ fn add_ones(
     Ok(())
 }
 
-/// Pairs of a programme with one place and a resident, who rank one another alone.
+/// Pairs of a programme with one place and a resident, who rank only each other.
 pub(super) fn made_pairs(alloc: Global, pairs: u32) -> Result<Instance, ModelFault> {
     let mut builder = InstanceBuilder::new(alloc);
     add_ones(&mut builder, pairs, pairs)?;
@@ -78,7 +79,8 @@ pub(super) fn made_pairs(alloc: Global, pairs: u32) -> Result<Instance, ModelFau
     builder.finish().map_err(|refused| refused.fault)
 }
 
-/// A chain: the last programme displaces the first resident, which lets its programme displace the second, and so on.
+/// A chain. The last programme displaces the first resident, whose programme then offers to the second resident and
+/// displaces that one, and so on.
 pub(super) fn made_chain(alloc: Global, links: u32) -> Result<Instance, ModelFault> {
     let mut builder = InstanceBuilder::new(alloc);
     add_ones(&mut builder, links, links.saturating_add(1))?;

@@ -1,4 +1,4 @@
-//! Instances and assignments by hand.
+//! Small instances and assignments, made by hand.
 use crate::markets::{TEN, all_residents, made_in_one_order};
 use match_model::{
     Assignment, Instance, InstanceBuilder, Limits, ModelFault, ProgrammeNo, ResidentNo,
@@ -8,7 +8,7 @@ use std::test::Fail;
 use test_support::events::{A, B, X, Y, Z};
 use test_support::members::{is_programme, is_resident};
 
-// One programme with one place, and one resident.
+// A builder with one programme, which has one place, and with one resident.
 fn one_of_each(alloc: Global) -> Result<InstanceBuilder, ModelFault> {
     let mut builder = InstanceBuilder::new(alloc);
     builder.add_programme(1)?;
@@ -48,7 +48,7 @@ fn refuses_in_order(rt: HostRuntime) -> Result<(), Fail> {
     Ok(())
 }
 
-// Whether what is finished has so many pairs.
+// Whether the builder's instance has this number of acceptable pairs.
 fn has_pairs(builder: InstanceBuilder, pairs: u32) -> bool {
     match builder.finish() {
         Ok(instance) => instance.pairs() == pairs,
@@ -56,7 +56,7 @@ fn has_pairs(builder: InstanceBuilder, pairs: u32) -> bool {
     }
 }
 
-// Two programmes, with 2 places and 1, and three residents.
+// A builder with two programmes, which have 2 places and 1 place, and with three residents.
 fn two_and_three(alloc: Global) -> Result<InstanceBuilder, ModelFault> {
     let mut builder = InstanceBuilder::new(alloc);
     for quota in [2, 1] {
@@ -68,7 +68,7 @@ fn two_and_three(alloc: Global) -> Result<InstanceBuilder, ModelFault> {
     Ok(builder)
 }
 
-// The mutual parts of one list of a programme and those of two residents.
+// An instance with the mutual parts of a programme's list and of the lists of two residents.
 fn mutual_parts(alloc: Global) -> Result<Instance, ModelFault> {
     let mut builder = two_and_three(alloc)?;
     builder.programme_list(A, &[Z, X, Y])?;
@@ -77,7 +77,7 @@ fn mutual_parts(alloc: Global) -> Result<Instance, ModelFault> {
     builder.finish().map_err(|refused| refused.fault)
 }
 
-// Whether the two have these places in one another's lists.
+// Whether the programme and the resident stand at these places of each other's lists.
 fn are_ranked(
     instance: &Instance,
     programme: ProgrammeNo,
@@ -112,7 +112,7 @@ fn keeps_the_mutual_parts(rt: HostRuntime) -> Result<(), Fail> {
     Ok(())
 }
 
-// Whom a programme lists at this place, with its own place in that resident's list.
+// The resident whom a programme lists at this place, with the programme's place on that resident's list.
 fn offer(instance: &Instance, programme: ProgrammeNo, place: u32) -> Option<(u32, u32)> {
     if programme.0 >= instance.programmes() {
         return None;
@@ -177,7 +177,8 @@ fn reads_the_list_of_whoever_is_withdrawn(rt: HostRuntime) -> Result<(), Fail> {
     Ok(())
 }
 
-// Two programmes and three residents with all their lists, some of them withdrawn before or after the lists.
+// Two programmes and three residents with all their lists. Some of them are withdrawn, before or after the lists are
+// given.
 fn without(
     alloc: Global,
     first: bool,
@@ -200,8 +201,8 @@ fn without(
     builder.finish().map_err(|refused| refused.fault)
 }
 
-// The first programme and all three residents rank one another. The second ranks two residents, and only one of them
-// ranks it.
+// Gives the lists. The first programme and all three residents rank each other. The second programme ranks two
+// residents, and only one of these ranks it.
 fn add_lists(builder: &mut InstanceBuilder) -> Result<(), ModelFault> {
     builder.programme_list(A, &[X, Y, Z])?;
     builder.programme_list(B, &[Z, X])?;
@@ -210,7 +211,8 @@ fn add_lists(builder: &mut InstanceBuilder) -> Result<(), ModelFault> {
     builder.resident_list(Z, &[A])
 }
 
-// Whether, of two programmes and three residents, these are withdrawn, and so many pairs are left.
+// Whether exactly these of two programmes and three residents are withdrawn, and this number of acceptable pairs
+// remains.
 fn is_left(instance: &Instance, pairs: u32, programmes: [bool; 2], residents: [bool; 3]) -> bool {
     if instance.programmes() != 2 || instance.residents() != 3 {
         return false;
@@ -277,7 +279,8 @@ fn takes_as_many_pairs_as_there_may_be(rt: HostRuntime) -> Result<(), Fail> {
     Ok(())
 }
 
-// Adds a resident and as many programmes as there may be, each of which ranks it.
+// Adds a resident, and the greatest number of programmes that there may be. Each programme added here ranks this
+// resident.
 fn add_most(alloc: Global, builder: &mut InstanceBuilder) -> Result<Vec<ProgrammeNo>, ModelFault> {
     builder.add_resident()?;
     let mut programmes = Vec::new(alloc);

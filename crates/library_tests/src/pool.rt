@@ -1,4 +1,4 @@
-//! The pool: what it does in runs, by its workers, at stops, through gates and in faults.
+//! The pool: its runs, its workers, its stops, its gates and its faults.
 mod alone;
 mod faults;
 mod gates;

@@ -1,4 +1,4 @@
--- What clauses see of the ends of a mailbox in memory.
+-- What contracts see of the two ends of a mailbox in memory.
 use Rattle.std.specs.Prelude.{ℕ, List}
 
 -- how many messages the sending end accepts, and the messages that it has put
@@ -6,7 +6,7 @@ pub record PutList (M : Type 0) : Type 0 where
   pub room : ℕ
   pub puts : List M
 
--- the messages that the receiving end has given, and those that it still has to give
+-- the messages that were taken from the receiving end, and the messages that can still be taken from it
 pub record TakeList (M : Type 0) : Type 0 where
   pub taken : List M
   pub left : List M

@@ -1,4 +1,4 @@
--- What clauses see of the ends of a mailbox.
+-- What contracts see of the two ends of a mailbox.
 use Rattle.std.specs.Prelude.{ℕ, List}
 use Rattle.atomic_table.specs.Seated.{TableId}
 use Rattle.atomic_table.specs.declared.badge.Badge.{Badge}
@@ -11,11 +11,11 @@ pub record Mailbox (M : Type 0) : Type 0 where
   pub table : TableId
   pub keys : Badge (Key M)
 
--- the mailbox to which a pass belongs
+-- the mailbox to which a pass gives access
 abbrev pub mailbox_of : {M V : Type 0} → Pass M V → Mailbox M
 mailbox_of pass = record { table = pass.table_id; keys = pass.me.0.of }
 
--- what the pass knows of the mailbox
+-- what the owner of the pass knows of the mailbox
 abbrev pub hand_of : {M : Type 0} → Pass M (Known M) → Known M
 hand_of pass = pass.me.0.client
 

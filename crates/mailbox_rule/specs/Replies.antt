@@ -1,4 +1,4 @@
--- What a clause says for each reply of a mailbox.
+-- What a contract says for each reply of a mailbox.
 use Rattle.mailbox_rule.specs.declared.ends.PutReply.{PutReply}
 use Rattle.mailbox_rule.specs.declared.ends.PutReply.TheVariants as put
 use Rattle.mailbox_rule.specs.declared.ends.TakeReply.{TakeReply}

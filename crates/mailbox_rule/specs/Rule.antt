@@ -1,4 +1,4 @@
--- The rule of a mailbox. It speaks of the mailbox's queue, oldest first, and of what each pass knows.
+-- The rule of a mailbox, about the mailbox's queue, oldest message first, and about what the owner of each pass knows.
 use Rattle.std.specs.Prelude.{◌≡◌, ℕ, ◌≤◌, Bool, true, List, ◌++◌, length}
 use mathlib.Core.Option.{some}
 use lib.ListN.{get_elem?}

@@ -1,41 +1,41 @@
-//! The two ends of a mailbox, as the higher crates know them.
+//! The two ends of a mailbox, in the form in which the other crates use them.
 ghost use Rattle.std.specs.Prelude.{◌≡◌, List, [], ◌∷◌, ◌++◌};
 ghost use Rattle.mailbox_rule.specs.Replies.{MatchPut, MatchTake};
 
-/// The answer of a put. `Full` and `Gone` hand the message back.
+/// The answer of a call that puts a message. `Full` and `Gone` return the message.
 #[derive(Clone, Copy, PartialEq, Eq, Debug, Drop)]
 pub enum PutReply<M> {
     /// The message is in the mailbox.
     Done,
-    /// There is no room.
+    /// The mailbox has no room for the message.
     Full(M),
-    /// The message came back: nobody can take any more.
+    /// The mailbox's receiving end is gone, so nobody can take the message.
     Gone(M),
 }
 
-/// The answer of a take.
+/// The answer of a call that takes a message.
 #[derive(Clone, Copy, PartialEq, Eq, Debug, Drop)]
 pub enum TakeReply<M> {
-    /// The oldest message, which has now left the mailbox.
+    /// The oldest message of the mailbox. This message is no longer in the mailbox.
     Got(M),
-    /// No message waits.
+    /// No message waits in the mailbox.
     Nothing,
-    /// No message waits, and nobody can put any more.
+    /// No message waits, and the sending end is gone, so no message can come.
     Gone,
 }
 
-/// The end of a mailbox that messages are put into.
+/// The sending end of a mailbox.
 pub trait PutEnd<M> {
-    // The messages that the end has put, first to last.
+    // The messages that were put into this end, first to last.
     ghost puts: { Self → List M };
 
-    // When a put may find no room.
+    // What is true if a put finds no room.
     ghost may_fill: { Self → Type 0 };
 
-    // When a put may find that nobody can take any more.
+    // What is true if a put finds that the receiving end is gone.
     ghost may_go: { Self → Type 0 };
 
-    /// Puts a message, or hands it back and changes nothing.
+    /// Puts a message into the mailbox, or returns the message and changes nothing.
     fn put(&mut self, m: M) -> PutReply<M>
         ensures { MatchPut result
             (puts self.new ≡ puts self.old ++ m ∷ [])
@@ -43,18 +43,18 @@ pub trait PutEnd<M> {
             (λ back. (back ≡ m) × (self.new ≡ self.old) × may_go self.old) };
 }
 
-/// The end of a mailbox that messages are taken from.
+/// The receiving end of a mailbox.
 pub trait TakeEnd<M> {
-    // The messages that the end has taken, first to last.
+    // The messages that were taken from this end, first to last.
     ghost taken: { Self → List M };
 
-    // When a take may find no message.
+    // What is true if a take finds no message.
     ghost may_lack: { Self → Type 0 };
 
-    // When a take may find that nobody can put any more.
+    // What is true if a take finds that the sending end is gone.
     ghost may_go: { Self → Type 0 };
 
-    /// Takes the oldest message, or changes nothing.
+    /// Takes the oldest message from the mailbox, or changes nothing.
     fn take(&mut self) -> TakeReply<M>
         ensures { MatchTake result
             (λ m. taken self.new ≡ taken self.old ++ m ∷ [])

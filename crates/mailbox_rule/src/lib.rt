@@ -1,4 +1,4 @@
-//! Bounded mailboxes under a rule: the messages taken are a prefix of the messages put.
+//! Bounded mailboxes under this rule: the messages taken out of a mailbox are a beginning of the messages put into it.
 #![tactic(auto)]
 
 mod ends;

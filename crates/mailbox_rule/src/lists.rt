@@ -1,4 +1,4 @@
-//! Ends in memory that replace the ends of a mailbox in tests.
+//! Ends that are plain lists in memory. In tests these lists stand in for the ends of a mailbox.
 ghost use Rattle.std.specs.Prelude.{◌≡◌, ◌<◌, List, [], ◌∷◌, ◌++◌, length, IfOk, IfErr};
 ghost use Rattle.mailbox_rule.specs.Replies.{MatchPut, MatchTake};
 
@@ -7,7 +7,7 @@ use crate::fault::MailFault;
 use std::alloc::Global;
 use std::marker::Model;
 
-/// A sending end that accepts as many messages as it has room for, and then answers `Full`. It never answers `Gone`.
+/// A sending end that accepts messages until its room is full, and then answers `Full`. It never answers `Gone`.
 #[derive(Drop)]
 pub struct ListPut<M> {
     messages: Vec<M>,
@@ -26,7 +26,7 @@ impl<M> Model for ListPut<M> {
 }
 
 impl<M> ListPut<M> {
-    /// An end with room for `n` messages; `n` may be 0. The only fault is `Memory`.
+    /// A sending end with room for `n` messages, where `n` may be 0. The only fault is `Memory`.
     pub fn with_room(alloc: Global, n: u32) -> Result<ListPut<M>, MailFault>
         ensures made { IfOk result (λ end. (end.room ≡ n) × (end.puts ≡ [])) }
         ensures memory { IfErr result (λ fault. fault ≡ MailFault.Memory) }
@@ -58,7 +58,7 @@ impl<M> PutEnd<M> for ListPut<M> {
     }
 }
 
-/// A receiving end that gives the messages of a list in order, and then answers `Nothing`. It never answers `Gone`.
+/// A receiving end that returns the messages of a list in order, and then answers `Nothing`. It never answers `Gone`.
 #[derive(Drop)]
 pub struct ListTake<M: Copy> {
     messages: Vec<M>,
@@ -77,7 +77,7 @@ impl<M: Copy> Model for ListTake<M> {
 }
 
 impl<M: Copy> ListTake<M> {
-    /// An end that gives these messages.
+    /// A receiving end that returns these messages.
     pub fn of(messages: Vec<M>) -> ListTake<M>
         ensures { (result.left ≡ messages.items) × (result.taken ≡ []) }
     {

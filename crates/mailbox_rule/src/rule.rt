@@ -1,5 +1,5 @@
-//! The rule of a mailbox. The messages put are the messages taken, followed by the queue, and the queue is no longer
-//! than the capacity. No value of these types is ever made. They describe what a proof knows.
+//! The rule of a mailbox. The messages put are the messages taken, followed by the waiting messages, and at most
+//! `capacity` messages wait. No value of these types is ever made. The types describe what a proof knows.
 ghost use Rattle.std.specs.Prelude.{◌≡◌, ◌≤◌, true, false, [], ◌∷◌, ◌++◌, length};
 ghost use Rattle.mailbox_rule.specs.Rule.{known, IsInOrder};
 
@@ -7,7 +7,8 @@ use crossbeam_channel::protocol::{Join, Lesson, Outcome, Protocol, Split};
 use std::collections::LinkedList;
 use std::marker::Brand;
 
-/// What a pass knows: whether it may put, whether it may take, the capacity, and the messages that it put and took.
+/// What the proof knows for one end of the channel: whether this end may put, whether it may take, the capacity, and
+/// the messages that it put and took.
 pub struct Known<M> {
     pub may_put: bool,
     pub may_take: bool,
@@ -16,7 +17,7 @@ pub struct Known<M> {
     pub taken: LinkedList<M>,
 }
 
-// The rule of order.
+// The rule of a mailbox in which messages keep their order.
 pub struct InOrder;
 
 impl<M> Protocol<M, Known<M>> for InOrder {
@@ -28,7 +29,8 @@ impl<M> Protocol<M, Known<M>> for InOrder {
     ghost first = { known true true 0 [] [] };
 }
 
-// How the receiving pass is split off the first time. The call chooses the capacity.
+// How the knowledge of a new channel is split into that of the sending end and that of the receiving end. The caller
+// chooses the capacity.
 impl<M> Split<Known<M>> for Brand {
     ghost use Rattle.std.specs.Prelude.{true, false, []};
     ghost use Rattle.mailbox_rule.specs.Rule.{known};
@@ -38,7 +40,7 @@ impl<M> Split<Known<M>> for Brand {
     ghost right = { λ h. known false true 0 [] h.taken };
 }
 
-// How the receiving pass comes back, and is split off again.
+// How the knowledge of the receiving end is joined with that of the sending end, and split off again.
 pub struct Sides;
 
 impl<M> Split<Known<M>> for Sides {
@@ -59,7 +61,7 @@ impl<M> Join<Known<M>> for Sides {
     ghost spent = { known false false 0 [] [] };
 }
 
-// A message joins the queue at its back.
+// A message that is put stands behind all waiting messages.
 pub struct Puts;
 
 impl<M> Outcome<M, Known<M>> for Puts {
@@ -70,7 +72,7 @@ impl<M> Lesson<M, Known<M>> for Puts {
     ghost fact = { λ h items. length items ≤ length h.puts };
 }
 
-// A message leaves the queue at its front.
+// A message that is taken stood in front of all waiting messages.
 pub struct Takes;
 
 impl<M> Outcome<M, Known<M>> for Takes {
@@ -81,7 +83,7 @@ impl<M> Lesson<M, Known<M>> for Takes {
     ghost fact = { λ h items. Unit {0} };
 }
 
-// What the pass that knows both lists learns about the queue.
+// What is known about the waiting messages if the messages put and the messages taken are both known.
 pub struct Whole;
 
 impl<M> Lesson<M, Known<M>> for Whole {

@@ -1,4 +1,4 @@
-//! A mailbox is a bounded channel under a rule, with one sending end and one receiving end.
+//! A mailbox is a bounded channel under the rule of order, with one sending end and one receiving end.
 ghost use Rattle.std.specs.Prelude.{◌≡◌, ◌≢◌, ◌≤◌, ◌<◌, List, [], ◌∷◌, ◌++◌, length, Err, IfOk, IfErr};
 ghost use Rattle.mailbox_rule.specs.Replies.{MatchPut, MatchTake};
 
@@ -12,7 +12,7 @@ use std::alloc::Global;
 use std::marker::{Brand, Model};
 use std::sync::Wait;
 
-/// The only sending end of a mailbox. It cannot be cloned.
+/// The only sending end of a mailbox. This end cannot be cloned.
 #[derive(Drop)]
 pub struct RuledPut<M: Copy, R: Wait + Copy> {
     sender: RuledSender<M, Known<M>, InOrder>,
@@ -38,7 +38,7 @@ impl<M: Copy, R: Wait + Copy> Model for RuledPut<M, R> {
         × ((hand_of e.pass).room ≡ ruled_capacity (sends_on e.sender)) };
 }
 
-/// The only receiving end of a mailbox. It cannot be cloned.
+/// The only receiving end of a mailbox. This end cannot be cloned.
 #[derive(Drop)]
 pub struct RuledTake<M: Copy, R: Wait + Copy> {
     receiver: RuledReceiver<M, Known<M>, InOrder>,
@@ -59,7 +59,7 @@ impl<M: Copy, R: Wait + Copy> Model for RuledTake<M, R> {
     ghost invariant = { λ e. IsSeatAt (receives_on e.receiver) e.pass × ((hand_of e.pass).may_take ≡ true) };
 }
 
-/// A mailbox with room for at most `capacity` messages that are not yet taken.
+/// A mailbox in which at most `capacity` messages wait.
 pub fn mailbox<M: Copy + Eq, R: Wait + Copy>(
     alloc: Global,
     rt: R,
@@ -87,7 +87,7 @@ pub fn mailbox<M: Copy + Eq, R: Wait + Copy>(
 impl<M: Copy, R: Wait + Copy> PutEnd<M> for RuledPut<M, R> {
     ghost puts = { λ end. end.puts };
 
-    // Only if as many messages were put as the capacity.
+    // A put finds no room only if the number of messages put so far is at least the capacity.
     ghost may_fill = { λ end. end.room ≤ length end.puts };
 
     ghost may_go = { λ _. Unit {0} };
@@ -132,7 +132,7 @@ impl<M: Copy, R: Wait + Copy> TakeEnd<M> for RuledTake<M, R> {
     }
 }
 
-/// Shows that the messages taken are a prefix of the messages put, and gives both ends back.
+/// Shows that the messages taken are a beginning of the messages put, and returns both ends.
 pub fn agree<M: Copy, R: Wait + Copy>(
     put: RuledPut<M, R>,
     take: RuledTake<M, R>,

@@ -1,4 +1,5 @@
--- If a list of events agrees with the desk, the programme's wish is the core's next offer.
+-- If a list of events agrees with the desk, the programme wishes to offer to the resident to whom the core says it
+-- offers next.
 use Rattle.std.proofs.Common.{◌≡◌, false, List, length, refl}
 use Rattle.match_model.specs.Instance.{Instance}
 use Rattle.exchange_core.specs.declared.event.Event.{Event}

@@ -1,4 +1,4 @@
--- What a clause says for each reply of a desk that looked into its mailbox.
+-- What a contract says for each reply of a desk that looked into its mailbox.
 use Rattle.match_agents.specs.declared.heard.Heard.{Heard}
 use Rattle.match_agents.specs.declared.heard.Heard.TheVariants as heard
 

@@ -1,4 +1,4 @@
--- What a resident's desk keeps, and which answers it owes.
+-- What a resident's desk keeps, and which answers the desk owes.
 use Rattle.std.specs.Prelude.{◌≡◌, ℕ, ◌-◌, ◌≤◌, Bool, true, false, not, nat_lt, ◌&&◌, if◌then◌else◌, Option, Some, None, List, [], ◌∷◌, ◌++◌, length, take, drop}
 use Rattle.match_model.specs.Ranking.{place}
 use Rattle.match_model.specs.Instance.{Instance, IsResident, list_of_resident}
@@ -8,7 +8,7 @@ use Rattle.exchange_core.specs.Calls.{calls, best_of, release_of}
 use Rattle.exchange_core.specs.Refusal.{is_nil}
 use Rattle.match_agents.specs.Desks.{ResidentDesk}
 
--- the items are the end of the list
+-- the list ends with these items
 abbrev pub IsSuffix : {X : Type 0} → List X → List X → Type 0
 IsSuffix xs ys = drop (length ys - length xs) ys ≡ xs
 
@@ -16,44 +16,44 @@ IsSuffix xs ys = drop (length ys - length xs) ys ≡ xs
 abbrev pub without_last : {X : Type 0} → List X → List X
 without_last xs = take (length xs - 1) xs
 
--- the answers due are those that the last of these offers adds
+-- the answers due are those to the last of these offers
 abbrev pub IsCalledByLast : List ℕ → List ℕ → List Answered → Type 0
 IsCalledByLast ranking offers due = calls ranking offers ≡ calls ranking (without_last offers) ++ due
 
--- the answers due: the first one, and then a release
+-- the list of the answers due: a first answer, and then a release if a programme is to be released
 abbrev pub due_list : Option Answered → Option ℕ → List Answered
 due_list None release = []
 due_list (Some answer) release = answer ∷ release_of release
 
--- the programme with its place in the ranking, if there is a programme
+-- the programme with its position in the ranking, if there is a programme
 abbrev pub with_place : List ℕ → Option ℕ → Option (ℕ × ℕ)
 with_place ranking None = None
 with_place ranking (Some p) = Some (p, place ranking p)
 
--- the programme without its place
+-- the programme of a programme with its position, if there is one
 abbrev pub programme_in : Option (ℕ × ℕ) → Option ℕ
 programme_in None = None
 programme_in (Some (p, place)) = Some p
 
--- the place of an offer, if it is better than the best place so far
+-- the position of an offer, if it is better than the best position so far
 abbrev pub better_place : Option ℕ → Option (ℕ × ℕ) → Option ℕ
 better_place None best = None
 better_place (Some place) None = Some place
 better_place (Some place) (Some (p, best)) = if nat_lt place best then Some place else None
 
--- The answers to an offer by p. If p is better, they are a hold and then a release of the best so far; else a
--- decline.
+-- The answers to an offer by p. An offer better than the best so far gets `hold`, and the best so far then gets
+-- `release`. Any other offer gets `decline`.
 abbrev pub called_for : ℕ → Option ℕ → Option (ℕ × ℕ) → List Answered
 called_for p None best = (p, Decline) ∷ []
 called_for p (Some place) best = (p, Hold) ∷ release_of (programme_in best)
 
--- the best offer once p's is decided: p's, if it has the better place
+-- the best offer after p's offer is decided: p's offer, if p has the better position
 abbrev pub best_with : ℕ → Option ℕ → Option (ℕ × ℕ) → Option (ℕ × ℕ)
 best_with p None best = best
 best_with p (Some place) best = Some (p, place)
 
 module _ {T : Type 0} where
-  -- r's desk with this end, before it took or owed anything
+  -- r's desk with this receiving end, before the desk took an offer or owed an answer
   abbrev pub opened_resident : Instance → ℕ → T → ResidentDesk T
   opened_resident inst r end = record {
     resident = r;
@@ -69,11 +69,11 @@ module _ {T : Type 0} where
   abbrev pub is_ready : ResidentDesk T → Bool
   is_ready desk = not desk.undecided && is_nil desk.due
 
-  -- the desk after it took one more offer, still undecided, with its end after that
+  -- the desk after it took one more offer, which is still undecided, with the receiving end as it is after that offer
   abbrev pub took_offer : ResidentDesk T → T → ℕ → ResidentDesk T
   took_offer desk end p = record desk { end = end; taken = desk.taken ++ p ∷ []; undecided = true }
 
-  -- the desk after its last taken offer, by p, was decided
+  -- the desk after its last taken offer, which came from p, was decided
   abbrev pub decided_offer : ResidentDesk T → ℕ → Option ℕ → ResidentDesk T
   decided_offer desk p place = record desk { undecided = false; due = called_for p place desk.best; best = best_with p place desk.best }
 
@@ -85,8 +85,8 @@ module _ {T : Type 0} where
   abbrev pub decided : ResidentDesk T → List ℕ
   decided desk = if desk.undecided then without_last desk.taken else desk.taken
 
-  -- The desk is that of a resident of the instance. It has room for all offers that can ever come. Its best offer is
-  -- the best of the decided ones. It owes the last answers that the decided offers call for, at most two.
+  -- The desk is that of a resident of the instance. The desk has room for all offers that can ever come. Its best offer
+  -- is the best of the decided offers. The desk owes the last answers that the decided offers call for, at most two.
   pub record IsResidentAgentOf (inst : Instance) (desk : ResidentDesk T) : Type 0 where
     pub member : IsResident inst desk.resident
     pub room_for_all : desk.room ≡ length (list_of_resident inst desk.resident)

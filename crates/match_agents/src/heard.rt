@@ -3,19 +3,19 @@
 /// What a desk finds in its mailbox.
 #[derive(Clone, Copy, Debug, PartialEq, Eq, Drop)]
 pub enum Heard<M> {
-    /// The oldest message, which is now in the log.
+    /// The oldest message of the mailbox. This message now stands in the agent's log.
     Got(M),
-    /// No message.
+    /// No message waits in the mailbox.
     Nothing,
-    /// No message, and nobody can put one any more.
+    /// No message waits, and the sending end is gone, so no message can come.
     Gone,
     /// The log has no room left, so nothing was taken from the mailbox.
     LogFull,
 }
 
-/// There was no memory for an agent's log. The end comes back unchanged.
+/// An agent could not be made, since there was no memory for its log. The mailbox's end comes back unchanged.
 #[derive(Debug, Drop)]
 pub struct AgentRefused<T> {
-    /// The end that was given for the agent.
+    /// The mailbox's end that was given for the agent.
     pub end: T,
 }

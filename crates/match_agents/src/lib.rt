@@ -1,5 +1,5 @@
-//! The agents of residents and programmes: a log of what a desk took out of its mailbox, and the answers or offers
-//! that it still has to send.
+//! The agents of residents and programmes. An agent has a log of what its desk took out of the mailbox, and the answers
+//! or offers that the desk still has to send.
 #![tactic(auto)]
 
 mod heard;

@@ -1,4 +1,4 @@
--- The walk over a resident's list finds exactly the blocking pairs.
+-- The walk over a resident's list finds exactly the programmes that form a blocking pair with the resident.
 use Rattle.std.proofs.Common.{◌≡◌, ℕ, List, arith, subst}
 use Rattle.std.specs.Prelude.{Option, Some, ◌↔◌}
 use Rattle.match_model.specs.Ranking.{IsListed, IsBefore}

@@ -1,4 +1,4 @@
--- Lists of pairs that grow by one first number after another.
+-- Sorted lists of pairs, built by adding the pairs of one first number after another.
 use Rattle.std.proofs.Common.{◌≡◌, ℕ, zero, suc, ◌+◌, ◌-◌, ◌<◌, ◌⊎◌, inl, inr, List, [], ◌∷◌, ◌++◌, length, map, get_or, arith, refl, sym, ap, ◌∙◌, subst}
 use Rattle.std.specs.Prelude.{◌↔◌}
 use Rattle.std.specs.List.{AllPairs, Contains}
@@ -9,7 +9,8 @@ use Rattle.std.proofs.lemmas.List.Elements.{Contains-get_or, Contains-append_lef
 use Rattle.std.proofs.lemmas.List.Kept.{AllPairs-from_increasing}
 use Rattle.match_audit.specs.Listing.{ComesBefore, Lists}
 
--- in two joined lists, each item of the first is compared with each of the second
+-- all items of two joined lists are in order, if they are in order in each list and each item of the first list is in
+-- order with each of the second
 pub AllPairs-append : {X : Type 0} (R : X → X → Type 0) (xs ys : List X) → AllPairs R xs → AllPairs R ys →
     ((x y : X) → Contains xs x → Contains ys y → R x y) → AllPairs R (xs ++ ys)
 AllPairs-append R xs ys h k across i j d l m = elim (cases_lt j (length xs)) [
@@ -22,7 +23,8 @@ AllPairs-append R xs ys h k across i j d l m = elim (cases_lt j (length xs)) [
       ])
 ]
 
--- a list has the items of both parts, and each pair of the first part comes before each of the second
+-- two joined lists of pairs list the pairs of both, if every pair of the first list comes before every pair of the
+-- second
 pub Lists-append : (R S T : ℕ → ℕ → Type 0) (xs ys : List (ℕ × ℕ)) → Lists R xs → Lists S ys →
     ((a b c d : ℕ) → R a b → S c d → ComesBefore (a, b) (c, d)) → ((a b : ℕ) → R a b → T a b) → ((a b : ℕ) → S a b → T a b) →
     ((a b : ℕ) → T a b → R a b ⊎ S a b) → Lists T (xs ++ ys)
@@ -51,7 +53,7 @@ Lists-nil R none = record {
   rising = λ i j d l m. absurd (omega arith);
 }
 
--- the pairs for which R holds, with a first number below n
+-- the pairs for which R holds and whose first number is below n
 abbrev pub upto : ℕ → (ℕ → ℕ → Type 0) → ℕ → ℕ → Type 0
 upto n R a b = (a < n) × R a b
 
@@ -61,7 +63,7 @@ Lists_none R = Lists-nil (upto 0 R) (λ a b h. absurd (omega (arith, h.0)))
 pub Lists_all : (R : ℕ → ℕ → Type 0) (n : ℕ) (xs : List (ℕ × ℕ)) → Lists (upto n R) xs → ((a b : ℕ) → R a b → a < n) → Lists R xs
 Lists_all R n xs h within = Lists-same (upto n R) R xs h (λ a b r. r.1) (λ a b r. (within a b r, r))
 
--- one more first number, with its pairs in the list ys
+-- the pairs below n + 1 are the pairs below n, and then the pairs with first number n
 pub Lists_more : (R : ℕ → ℕ → Type 0) (n : ℕ) (xs ys : List (ℕ × ℕ)) → Lists (upto n R) xs →
     Lists (λ a b. (a ≡ n) × R a b) ys → Lists (upto (n + 1) R) (xs ++ ys)
 Lists_more R n xs ys h k =
@@ -71,7 +73,7 @@ Lists_more R n xs ys h k =
     (λ a b s. (let e = s.0 in omega arith, s.1))
     (λ a b t. elim (cases_lt a n) [ inl c ↦ inl (c, t.1) | inr c ↦ inr (let l = t.0 in omega arith, t.1) ])
 
--- it has no pair
+-- if no pair has the first number n, the pairs below n + 1 are the pairs below n
 pub Lists_more_none : (R : ℕ → ℕ → Type 0) (n : ℕ) (xs : List (ℕ × ℕ)) → Lists (upto n R) xs → ((b : ℕ) → R n b → ⊥) →
     Lists (upto (n + 1) R) xs
 Lists_more_none R n xs h none =
@@ -85,7 +87,7 @@ Lists_more_none R n xs h none =
 abbrev same_pair : ℕ × ℕ → ℕ × ℕ → Type 0
 same_pair x y = x ≡ y
 
--- it has one
+-- if one pair has the first number n, this pair is added at the end
 pub Lists_more_one : (R : ℕ → ℕ → Type 0) (n b : ℕ) (xs : List (ℕ × ℕ)) → Lists (upto n R) xs → R n b →
     ((c : ℕ) → R n c → c ≡ b) → Lists (upto (n + 1) R) (xs ++ (n, b) ∷ [])
 Lists_more_one R n b xs h here only = Lists_more R n xs ((n, b) ∷ []) h (record {
@@ -107,7 +109,7 @@ Lists_more_one R n b xs h here only = Lists_more R n xs ((n, b) ∷ []) h (recor
 abbrev pub pair_of : ℕ → ℕ → ℕ × ℕ
 pair_of n p = (n, p)
 
--- the list has one pair for each item of a sorted list
+-- the pairs with first number n have the items of a sorted list as second numbers
 pub Lists_more_row : (R : ℕ → ℕ → Type 0) (n : ℕ) (xs : List (ℕ × ℕ)) (ps : List ℕ) → Lists (upto n R) xs →
     IsStrictlyIncreasing ps → ((b : ℕ) → Contains ps b ↔ R n b) → Lists (upto (n + 1) R) (xs ++ map (pair_of n) ps)
 Lists_more_row R n xs ps h up row = Lists_more R n xs (map (pair_of n) ps) h (record {

@@ -1,4 +1,4 @@
--- How one more place of a placement changes the loads.
+-- How the programmes' loads change if a placement gets one more entry.
 use Rattle.std.proofs.Common.{◌≡◌, ℕ, ◌+◌, ◌<◌, ◌≤◌, ◌⊎◌, inl, inr, Bool, true, false, cond, max, List, [], ◌∷◌, ◌++◌, length, slice_get, get_or, set, replicate, take, arith, refl, sym, ap, ◌∙◌, subst}
 use Rattle.std.specs.Prelude.{Option, Some, None, ◌↔◌}
 use Rattle.std.proofs.lemmas.Bool.{cases_lt, cases_eq, ne_eqb}
@@ -13,7 +13,7 @@ use Rattle.settle_law.proofs.Placements.{member_within, holds_true}
 use Rattle.match_audit.specs.declared.load.Load.{Load}
 use Rattle.match_audit.specs.Loads.{IsLoadOf, AreLoads}
 
--- which members p has after one more place
+-- the members of programme p, after one more entry of the placement
 pub member_push : (m : List (Option ℕ)) (x : Option ℕ) (s p : ℕ) → IsMemberOf (m ++ x ∷ []) s p →
     IsMemberOf m s p ⊎ ((s ≡ length m) × (x ≡ Some p))
 member_push m x s p h = elim (cases_lt s (length m)) [
@@ -38,14 +38,14 @@ holds_false : (p : ℕ) (x : Option ℕ) → (x ≡ Some p → ⊥) → holds p 
 holds_false p None n = refl
 holds_false p (Some q) n = ne_eqb q p (λ e. n (ap Some e))
 
--- nobody is placed
+-- the load of a programme in a placement without entries
 IsLoadOf-none : (inst : Instance) (p : ℕ) → IsLoadOf inst [] p (record { members = 0; worst = 0 })
 IsLoadOf-none inst p = record {
   members = refl;
   worst = λ k. (λ l. absurd (omega arith), λ (s, h, l). absurd (omega (arith, member_within [] s p h)));
 }
 
--- the new place isn't p's
+-- an entry that does not name programme p leaves the load of p as it is
 IsLoadOf-other : (inst : Instance) (m : List (Option ℕ)) (x : Option ℕ) (p : ℕ) (load : Load) → IsLoadOf inst m p load →
     (x ≡ Some p → ⊥) → IsLoadOf inst (m ++ x ∷ []) p load
 IsLoadOf-other inst m x p load h n = record {
@@ -62,11 +62,11 @@ IsLoadOf-other inst m x p load h n = record {
     still : (b : Bool) → b ≡ false → member_count m p + cond b 1 0 ≡ member_count m p
     still b e = rw e (omega arith)
 
--- the load after one more member, at this place of the list
+-- the load after one more member, who stands at this place of the programme's list
 abbrev pub loaded : Load → ℕ → Load
 loaded load at = record { members = load.members + 1; worst = max load.worst at }
 
--- the new place is p's
+-- an entry that names programme p adds a member to the load of p
 IsLoadOf-more : (inst : Instance) (m : List (Option ℕ)) (p : ℕ) (load : Load) → IsLoadOf inst m p load →
     IsLoadOf inst (m ++ Some p ∷ []) p (loaded load (place (list_of_programme inst p) (length m)))
 IsLoadOf-more inst m p load h = record {
@@ -129,7 +129,7 @@ AreLoads-more inst m p loads load h at = record {
     within : p < length loads
     within = slice_get_within loads p load at
 
--- what the load says about p's room
+-- programme p has room for resident r exactly if its load shows a free place or a member behind r
 pub room_from_load : (inst : Instance) (m : List (Option ℕ)) (p r : ℕ) (load : Load) → IsLoadOf inst m p load →
     ((load.members < quota inst p) ⊎ (place (list_of_programme inst p) r < load.worst)) ↔ HasRoomFor inst m p r
 room_from_load inst m p r load h = (
@@ -143,13 +143,13 @@ room_from_load inst m p r load h = (
   ],
 )
 
--- the load at p's place says whether p has room
+-- the load that is stored for programme p says whether p has room for resident r
 pub room_at : (inst : Instance) (m : List (Option ℕ)) (p r i : ℕ) (loads : List Load) (load : Load) → AreLoads inst m loads → IsProgramme inst p → i ≡ p →
     (((get_or loads i load).members < quota inst p) ⊎ (place (list_of_programme inst p) r < (get_or loads i load).worst)) ↔ HasRoomFor inst m p r
 room_at inst m p r i loads load h member e =
     let within : i < length loads = (let l = h.one_each in omega arith) in
     room_from_load inst m p r (get_or loads i load) (h.each p (get_or loads i load) (ap (slice_get loads) (sym e) ∙ slice_get-get_or loads i load within))
 
--- a count over the first places of a placement stays small
+-- a programme has at most n members among the first n entries of a placement
 pub member_count-take : (m : List (Option ℕ)) (n p : ℕ) → n ≤ length m → member_count (take n m) p ≤ n
 member_count-take m n p l = omega (arith, count_by-le-length (holds p) (take n m), length-take-le n m l)

@@ -1,4 +1,4 @@
--- What a rank says about places.
+-- What a rank in a list says about places in the list.
 use Rattle.std.proofs.Common.{◌≡◌, ℕ, ◌<◌, ◌≤◌, ◌⊎◌, inl, inr, Bool, true, false, cond, List, length, take, drop, arith, refl, sym, ap, ◌∙◌, take-append-drop}
 use Rattle.std.specs.Prelude.{Option, Some, None, ◌↔◌}
 use Rattle.std.proofs.lemmas.Bool.{cases_lt}
@@ -9,7 +9,7 @@ use Rattle.match_model.specs.Instance.{rank}
 use Rattle.match_model.proofs.Rankings.{place-le, is_listed-true, is_listed-false, is_listed_not}
 use Rattle.match_model.proofs.Listed.{place-append, place-append_past}
 
--- a rank is the place of a listed number, and a number that isn't listed has none
+-- the rank of a listed number is its place, and a number that isn't listed has no rank
 pub rank_parts : (xs : List ℕ) (x : ℕ) (o : Option ℕ) → o ≡ rank xs x → ((k : ℕ) × (o ≡ Some k) × IsListed xs x × (place xs x ≡ k)) ⊎ ((o ≡ None) × (IsListed xs x → ⊥))
 rank_parts xs x o e = go (is_listed xs x) refl
   where
@@ -26,7 +26,7 @@ place_unranked xs x e = elim (rank_parts xs x None e) [
   ]
 ]
 
--- the items of a list before a member's place are those that stand before the member
+-- a number is among the first k items of a list exactly if its place is below k
 pub listed_in_front : (xs : List ℕ) (x k : ℕ) → k ≤ length xs → IsListed (take k xs) x ↔ (place xs x < k)
 listed_in_front xs x k l = (
   λ h. let e = whole x h in let long = length-take-le k xs l in omega arith,
@@ -41,7 +41,7 @@ listed_in_front xs x k l = (
     whole : (x : ℕ) → IsListed (take k xs) x → place xs x ≡ place (take k xs) x
     whole x h = ap (λ (zs : List ℕ). place zs x) (sym (take-append-drop k xs)) ∙ place-append (take k xs) (drop k xs) x h
 
--- the items of a list before a member's rank are those that stand before the member
+-- a number is among the items before q's rank exactly if it is listed and stands before q
 pub front_of : (xs : List ℕ) (q p k : ℕ) → Some k ≡ rank xs q → IsListed (take k xs) p ↔ (IsListed xs p × (place xs p < place xs q))
 front_of xs q p k e = elim (rank_parts xs q (Some k) e) [
   | inl c ↦

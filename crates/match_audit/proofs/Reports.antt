@@ -21,7 +21,7 @@ none_from_nil : {X : Type 0} (xs : List X) → xs ≡ [] → (x : X) → Contain
 none_from_nil [] e x c = omega (arith, c.1)
 none_from_nil (y ∷ ys) e x c = cc
 
--- a programme whose members are counted above 0 has a member
+-- a programme with more than 0 members has some member
 pub member_from_count : (m : List (Option ℕ)) (p : ℕ) → 0 < member_count m p → (r : ℕ) × IsMemberOf m r p
 member_from_count [] p h = absurd (omega arith)
 member_from_count (o ∷ ms) p h = go (holds p o) refl (sum_by-cons (λ z. cond (holds p z) 1 0) o ms) (member_from_count ms p)

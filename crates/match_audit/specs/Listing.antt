@@ -5,7 +5,7 @@ use Rattle.std.specs.List.Sorted.{IsStrictlyIncreasing}
 use Rattle.match_model.specs.Ranking.{IsListed}
 use Rattle.settle_law.specs.Stable.{Prefers}
 
--- a comes before b: its first number is smaller, or the first numbers are equal and its second is smaller
+-- pair a comes before pair b: a's first number is smaller, or the first numbers are equal and a's second is smaller
 abbrev pub ComesBefore : ℕ × ℕ → ℕ × ℕ → Type 0
 ComesBefore a b = (a.0 < b.0) ⊎ ((a.0 ≡ b.0) × (a.1 < b.1))
 
@@ -18,6 +18,7 @@ pub record Lists (R : ℕ → ℕ → Type 0) (pairs : List (ℕ × ℕ)) : Type
 abbrev pub ListsNumbers : (ℕ → Type 0) → List ℕ → Type 0
 ListsNumbers R numbers = IsStrictlyIncreasing numbers × ((n : ℕ) → Contains numbers n ↔ R n)
 
--- the list is the beginning of the ranking: all that the owner would rather have than the programme held
+-- the list is the beginning of the owner's ranking: all members that the owner would rather have than the programme
+-- held
 abbrev pub IsPreferredFront : List ℕ → Option ℕ → List ℕ → Type 0
 IsPreferredFront ranking held front = (p : ℕ) → IsListed front p ↔ (IsListed ranking p × Prefers ranking p held)

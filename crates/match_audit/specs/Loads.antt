@@ -5,12 +5,12 @@ use Rattle.match_model.specs.Instance.{Instance, list_of_programme}
 use Rattle.match_model.specs.Placement.{IsMemberOf, member_count}
 use Rattle.match_audit.specs.declared.load.Load.{Load}
 
--- how many members p has, and the last place of a member of p in p's list
+-- how many members p has, and the last position of a member of p in p's list
 pub record IsLoadOf (inst : Instance) (m : List (Option ℕ)) (p : ℕ) (load : Load) : Type 0 where
   pub members : load.members ≡ member_count m p
   pub worst : (k : ℕ) → (k < load.worst) ↔ ((s : ℕ) × IsMemberOf m s p × (k < place (list_of_programme inst p) s))
 
--- each programme has its load at its place
+-- entry p of the table is the load of programme p
 pub record AreLoads (inst : Instance) (m : List (Option ℕ)) (loads : List Load) : Type 0 where
   pub one_each : length loads ≡ length inst.quotas
   pub each : (p : ℕ) (load : Load) → slice_get loads p ≡ Some load → IsLoadOf inst m p load

@@ -14,7 +14,7 @@ use std::fmt;
 /// Why a placement was not audited.
 #[derive(Clone, Copy, Debug, PartialEq, Eq)]
 pub enum AuditFault {
-    /// The placement has a different number of places than there are residents.
+    /// The placement does not have exactly one entry for each resident.
     WrongSize,
     /// The memory could not grow.
     Memory,
@@ -39,8 +39,9 @@ impl From<AllocError> for AuditFault {
     }
 }
 
-/// Finds the unacceptable pairs, the programmes over their quota and the blocking pairs. A member who isn't listed
-/// ranks below every listed one. The placement may have any number as a programme.
+/// Finds the unacceptable pairs, the programmes over their quota and the blocking pairs. For a programme, a resident
+/// whom it doesn't list ranks below every resident on its list; the same is true for residents. The placement may have
+/// any number in place of a programme.
 pub fn audit(
     alloc: Global,
     inst: &Instance,

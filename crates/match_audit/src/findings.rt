@@ -1,4 +1,4 @@
-//! The three lists of a report.
+//! The three lists of findings in a report.
 ghost use Rattle.std.specs.Prelude.{◌≡◌, ◌↔◌, ◌++◌, ◌<◌, ℕ, List, Option, map, length, IfOk, OnOk, IsTrue};
 ghost use Rattle.match_model.specs.Ranking.{HasNoRepeats};
 ghost use Rattle.match_model.specs.Instance.{IsInstance, IsProgramme, IsResident, Acceptable, list_of_resident as ranking_of_resident};
@@ -11,7 +11,7 @@ use crate::load::{Load, place_at};
 use match_model::{Assignment, Instance, ProgrammeNo, ResidentNo};
 use std::alloc::{AllocError, Global};
 
-/// The unacceptable pairs of a placement, by resident.
+/// The unacceptable pairs of a placement, ordered by the resident's number.
 pub(crate) fn unacceptable_pairs(
     alloc: Global,
     inst: &Instance,
@@ -33,17 +33,19 @@ pub(crate) fn unacceptable_pairs(
     Ok(pairs)
 }
 
-/// Whether the two rank each other. The resident's table is used, since it is mostly the shorter one.
+/// Whether a resident and a programme rank each other. The call looks into the resident's table of ranks, since that
+/// table is mostly shorter than the programme's.
 fn is_acceptable(inst: &Instance, resident: ResidentNo, programme: ProgrammeNo) -> bool
     requires { IsResident inst.now resident }
     ensures { IsTrue result ↔ Acceptable inst.now resident programme }
 {
-    // Only for the proof: rankings are mutual.
+    // For the proof alone: if a resident ranks a programme, the programme ranks the resident.
     let _residents = inst.residents();
     inst.rank_at_resident(resident, programme).is_some()
 }
 
-/// The programmes with more members than their quota, by number, each with its number of members.
+/// The programmes with more members than their quota, each with its number of members, ordered by the programme's
+/// number.
 pub(crate) fn over_quota(
     alloc: Global,
     inst: &Instance,
@@ -63,7 +65,7 @@ pub(crate) fn over_quota(
     Ok(over)
 }
 
-/// The blocking pairs, by resident and then by programme.
+/// The blocking pairs, ordered by the resident's number and then by the programme's number.
 pub(crate) fn blocking_pairs(
     alloc: Global,
     inst: &Instance,
@@ -83,7 +85,7 @@ pub(crate) fn blocking_pairs(
     Ok(pairs)
 }
 
-/// Appends the pairs of a resident and each of these programmes.
+/// Appends a pair of this resident with each of these programmes.
 fn append_pairs(
     pairs: &mut Vec<(ResidentNo, ProgrammeNo)>,
     resident: ResidentNo,
@@ -97,7 +99,7 @@ fn append_pairs(
     Ok(())
 }
 
-/// The programmes that block with a resident, by number.
+/// The programmes that form a blocking pair with this resident, ordered by number.
 fn blocking_programmes(
     alloc: Global,
     inst: &Instance,
@@ -121,8 +123,9 @@ fn blocking_programmes(
     Ok(programmes)
 }
 
-/// The programmes that a resident prefers to the programme held: the beginning of the list, or the whole list if that
-/// programme isn't listed.
+/// The programmes that a resident prefers to the programme held. These programmes are the beginning of the resident's
+/// list, up to the programme held. If the programme held isn't on the list, or no programme is held, these programmes
+/// are the whole list.
 fn preferred(inst: &Instance, resident: ResidentNo, held: Option<ProgrammeNo>) -> &[ProgrammeNo]
     requires instance { IsInstance inst.now }
     requires member { IsResident inst.now resident }
@@ -139,7 +142,7 @@ fn preferred(inst: &Instance, resident: ResidentNo, held: Option<ProgrammeNo>) -
     }
 }
 
-/// Whether a programme has a free place, or a member who stands after this resident in its list.
+/// Whether a programme has a free place, or has a member who stands behind this resident on its list.
 fn has_room_for(
     inst: &Instance,
     loads: &[Load],

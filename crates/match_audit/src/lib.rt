@@ -1,8 +1,8 @@
 //! The auditor and the replay. The auditor finds what keeps a placement from being stable. The replay says whether a
 //! list of events is a good exchange.
 //!
-//! Neither asks who made the placement or the list: both work out everything again from the instance. Contracts say
-//! nothing about the texts of faults. Tests compare these texts.
+//! The auditor and the replay need not know who made the placement or the list of events: they work out everything
+//! again from the instance. Contracts say nothing about the texts of faults. Tests compare these texts.
 #![tactic(auto)]
 
 mod auditor;

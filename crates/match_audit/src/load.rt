@@ -1,4 +1,4 @@
-//! What one walk over a placement notes for each programme.
+//! What a walk over a placement notes for each programme.
 ghost use Rattle.std.specs.Prelude.{◌≡◌, ◌+◌, ◌^◌, ◌<◌, ◌⊎◌, ◌↔◌, max, IfOk, IsTrue};
 ghost use Rattle.match_model.specs.Ranking.{place as place_in};
 ghost use Rattle.match_model.specs.Instance.{IsProgramme, list_of_programme as ranking_of_programme};
@@ -7,7 +7,7 @@ ghost use Rattle.match_audit.specs.Loads.{AreLoads};
 use match_model::{Assignment, Instance, ProgrammeNo, ResidentNo};
 use std::alloc::{AllocError, Global};
 
-/// How many members a programme has, and the last place of a member in its list.
+/// How many members a programme has, and at which place of its list its last-ranked member stands.
 #[derive(Clone, Copy, Debug, Default)]
 pub(crate) struct Load {
     pub(crate) members: u32,
@@ -15,7 +15,7 @@ pub(crate) struct Load {
 }
 
 impl Load {
-    /// Counts a member with this place in the list.
+    /// Counts a member who stands at this place of the programme's list.
     pub(crate) fn add(&mut self, place: u32)
         requires { self.old.members + 1 < 2 ^ 32 }
         ensures { self.new ≡ record { members = self.old.members + 1; worst = max self.old.worst place } }
@@ -31,7 +31,7 @@ impl Load {
         self.members < quota
     }
 
-    /// Whether some member has a later place in the list.
+    /// Whether some member stands behind this place of the programme's list.
     pub(crate) fn has_member_after(&self, place: u32) -> bool
         ensures { IsTrue result ↔ (place < self.now.worst) }
     {
@@ -39,7 +39,7 @@ impl Load {
     }
 }
 
-/// The place of a resident in a programme's list, or the list's length for a resident who isn't listed.
+/// The place of a resident on a programme's list. A resident who isn't listed gets the list's length.
 pub(crate) fn place_at(inst: &Instance, programme: ProgrammeNo, resident: ResidentNo) -> u32
     requires { IsProgramme inst.now programme }
     ensures { result ≡ place_in (ranking_of_programme inst.now programme) resident }

@@ -1,6 +1,6 @@
-//! The match's result, worked out by the caller alone, and whether a sheet is this result.
+//! The result of the match, worked out by one thread, and whether a sheet is this result.
 //!
-//! The exchange runs in one order, with mailboxes that are never full. Nothing here waits, so every call returns.
+//! The exchange runs in one order, with mailboxes that are never full. No call here waits, so every call returns.
 ghost use Rattle.std.specs.Prelude.{◌≡◌, ◌↔◌, List, IfOk, IfErr, IfSome, IsTrue, MatchOption};
 ghost use Rattle.match_model.specs.Instance.{IsProgramme, IsResident};
 ghost use Rattle.exchange_core.specs.declared.event.Event.{Event};
@@ -17,14 +17,14 @@ use match_model::{Assignment, Instance, ProgrammeNo, ResidentNo};
 use settle_law::{law_bound, law_one_settled, law_settled};
 use std::alloc::Global;
 
-/// The settled assignment of an instance. It is stable, there is only one, and every closed exchange gives it. The
-/// only fault is out of memory.
+/// The settled assignment of an instance. This assignment is stable, an instance has only one settled assignment, and
+/// every closed exchange leads to it. The only fault is out of memory.
 pub fn settle(alloc: Global, inst: &Instance) -> Result<Assignment, AuditFault>
     ensures stable { IfOk result (IsStable inst.now) }
     ensures settled { IfOk result (IsSettled inst.now) }
     ensures memory { IfErr result (λ fault. fault ≡ AuditFault.Memory) }
 {
-    // A closed legal list gives a stable and settled assignment.
+    // A closed legal list of events leads to a stable and settled assignment.
     law_settled();
     let Ok(mut core) = Core::new(alloc, inst, Capacity::Full) else {
         return Err(AuditFault::Memory);
@@ -38,8 +38,8 @@ pub fn settle(alloc: Global, inst: &Instance) -> Result<Assignment, AuditFault>
     Ok(assignment)
 }
 
-/// The first resident for whom a sheet differs from the match's result, or none if the sheet is the result. A missing
-/// place is a difference. No journal is needed. The only fault is out of memory.
+/// The first resident for whom a sheet differs from the match's result, or none if the sheet is the result. If the
+/// sheet has no entry for a resident, this is a difference. No journal is needed. The only fault is out of memory.
 pub fn first_unlike_result(
     alloc: Global,
     inst: &Instance,
@@ -54,7 +54,7 @@ pub fn first_unlike_result(
     }
 }
 
-/// Whether a sheet is the match's result. No journal is needed. The only fault is out of memory.
+/// Whether a sheet is the match's result, found without a journal. The only fault is out of memory.
 pub fn is_result(alloc: Global, inst: &Instance, sheet: &Assignment) -> Result<bool, AuditFault>
     ensures exact { IfOk result (λ yes. IsTrue yes ↔ IsSettled inst.now sheet.now) }
     ensures memory { IfErr result (λ fault. fault ≡ AuditFault.Memory) }
@@ -68,8 +68,8 @@ pub fn is_result(alloc: Global, inst: &Instance, sheet: &Assignment) -> Result<b
     }
 }
 
-/// One programme after another offers down its list. If a resident releases another programme, that one offers next.
-/// So in the end no programme has a wish. The close does not depend on this: the step after this one does whatever is
+/// Lets each programme offer down its list. If a resident releases a programme, the released programme offers next. So
+/// at the end no programme should have a wish. No clause relies on this: `step_to_the_close` enters whatever events are
 /// left.
 fn offer_down_the_lists(core: &mut Core, inst: &Instance)
     requires core { IsCoreOf inst.now core.old }
@@ -79,7 +79,7 @@ fn offer_down_the_lists(core: &mut Core, inst: &Instance)
 {
     for p in 0..inst.programmes() {
         let mut programme = ProgrammeNo(p);
-        // Each turn is an offer, or the end of a chain of displacements.
+        // Each turn enters an offer, or ends a chain of released programmes.
         for _turn in 0..2 * inst.pairs() + 1 {
             match offer_once(core, inst, programme) {
                 Some(answered) => programme = answered,
@@ -90,8 +90,8 @@ fn offer_down_the_lists(core: &mut Core, inst: &Instance)
     }
 }
 
-/// Enters the next offer of a programme with all that follows from it. Returns the programme that was answered last.
-/// None if there is no such offer, or if one of the events may not follow.
+/// Enters the next offer of a programme, and all answers that follow from the offer. Returns the programme that was
+/// answered last. The result is none if the programme has no next offer, or if one of the events may not follow.
 fn offer_once(core: &mut Core, inst: &Instance, programme: ProgrammeNo) -> Option<ProgrammeNo>
     requires core { IsCoreOf inst.now core.old }
     requires reached { IsReached inst.now core.old }
@@ -113,15 +113,15 @@ fn offer_once(core: &mut Core, inst: &Instance, programme: ProgrammeNo) -> Optio
         return None;
     }
     let first = answer_once(core, inst, resident)?;
-    // After a hold, the programme held before is released.
+    // If the offer is held, the programme held until then is released.
     match answer_once(core, inst, resident) {
         Some(second) => Some(second),
         None => Some(first),
     }
 }
 
-/// Enters the first answer that a resident owes, and the hear. Returns the programme that heard it. None if no answer
-/// is due, or if one of the events may not follow.
+/// Enters the first answer that a resident owes, and the hear of this answer. Returns the programme that heard the
+/// answer. The result is none if no answer is due, or if one of the two events may not follow.
 fn answer_once(core: &mut Core, inst: &Instance, resident: ResidentNo) -> Option<ProgrammeNo>
     requires core { IsCoreOf inst.now core.old }
     requires reached { IsReached inst.now core.old }
@@ -147,7 +147,7 @@ fn answer_once(core: &mut Core, inst: &Instance, resident: ResidentNo) -> Option
     Some(programme)
 }
 
-/// Enters an event if it may follow, and returns whether it did.
+/// Enters an event if the event may follow, and returns whether it was entered.
 fn goes_on(core: &mut Core, inst: &Instance, event: Event) -> bool
     requires core { IsCoreOf inst.now core.old }
     requires reached { IsReached inst.now core.old }
@@ -158,7 +158,8 @@ fn goes_on(core: &mut Core, inst: &Instance, event: Event) -> bool
     core.step(inst, event).is_ok()
 }
 
-/// Enters events until the exchange is closed. These events are at most as many as a legal list has.
+/// Enters events until the exchange is closed. The number of these events is at most the number of events that a legal
+/// list can have.
 fn step_to_the_close(core: &mut Core, inst: &Instance)
     requires core { IsCoreOf inst.now core.old }
     requires reached { IsReached inst.now core.old }

@@ -4,7 +4,7 @@ use Rattle.std.proofs.lemmas.List.Sums.{sum_by-cons, sum_by_more}
 use Rattle.std.proofs.lemmas.Bool.{cases_lt, cases_eq, eq-eqb, ne_eqb}
 use Rattle.match_model.proofs.Rankings.{eqb_comm}
 
--- how often x stands in the list
+-- how often number x stands in the list
 abbrev pub count_of : ℕ → List ℕ → ℕ
 count_of x [] = 0
 count_of x (y ∷ ys) = cond (eqb y x) 1 0 + count_of x ys
@@ -37,7 +37,7 @@ pub sum_below-add : (f g : ℕ → ℕ) (n : ℕ) → sum_below (λ k. f k + g k
 sum_below-add f g zero = refl
 sum_below-add f g (suc n) = omega (arith, sum_below-add f g n)
 
--- one term grows by d
+-- how a sum changes if the term at one number grows by d
 pub sum_below_one_past : (f g : ℕ → ℕ) (n i d : ℕ) → n ≤ i → ((k : ℕ) → g k ≡ f k + cond (eqb k i) d 0) → sum_below g n ≡ sum_below f n
 sum_below_one_past f g zero i d l h = refl
 sum_below_one_past f g (suc n) i d l h =
@@ -62,7 +62,7 @@ pub sum_below_zero : (n : ℕ) → sum_below (λ k. 0) n ≡ 0
 sum_below_zero zero = refl
 sum_below_zero (suc n) = omega (arith, sum_below_zero n)
 
--- an item is counted for at most one number
+-- for at most one number below n, x equals this number
 pub sum_below_mark : (x n : ℕ) → sum_below (λ k. cond (eqb x k) 1 0) n ≤ 1
 sum_below_mark x n = step (cases_lt x n)
   where
@@ -77,7 +77,7 @@ pub sum_below_counts : (xs : List ℕ) (n : ℕ) → sum_below (λ k. count_of k
 sum_below_counts [] n = omega (arith, sum_below_zero n)
 sum_below_counts (x ∷ xs) n = omega (arith, sum_below-add (λ k. cond (eqb x k) 1 0) (λ k. count_of k xs) n, sum_below_mark x n, sum_below_counts xs n)
 
--- a sum over a list, as a sum over its places
+-- a sum over the first n items of a list is a sum over their places
 pub sum_by_places : {X : Type 0} (f : X → ℕ) (xs : List X) (d : X) (n : ℕ) → n ≤ length xs → sum_by f (take n xs) ≡ sum_below (λ k. f (get_or xs k d)) n
 sum_by_places f xs d zero l = refl
 sum_by_places f xs d (suc n) l =
@@ -98,7 +98,7 @@ pub sum_by_one : {X : Type 0} (xs : List X) → sum_by (λ x. 1) xs ≡ length x
 sum_by_one [] = refl
 sum_by_one (x ∷ xs) = omega (arith, sum_by-cons (λ x. 1) x xs, sum_by_one xs)
 
--- the terms stay the same for a number that is not in the list
+-- the sum over a list stays the same if only the term of a number outside the list changes
 sum_by_elsewhere : (f g : ℕ → ℕ) (xs : List ℕ) (s d : ℕ) → ((x : ℕ) → g x ≡ f x + cond (eqb x s) d 0) → count_of s xs ≡ 0 → sum_by g xs ≡ sum_by f xs
 sum_by_elsewhere f g [] s d h c = refl
 sum_by_elsewhere f g (x ∷ xs) s d h c = step (cases_eq x s) (sum_by_elsewhere f g xs s d h)
@@ -110,7 +110,7 @@ sum_by_elsewhere f g (x ∷ xs) s d h c = step (cases_eq x s) (sum_by_elsewhere 
         let k : g x ≡ f x = h x ∙ (rw (ne_eqb x s n) (omega arith)) in
         omega (arith, sum_by-cons f x xs, sum_by-cons g x xs, k, ih (omega (arith, w)))
 
--- the term of one number grows by d, if the number stands once in the list
+-- the sum over a list grows by d if the term of a number that stands in the list once grows by d
 pub sum_by_more_at : (f g : ℕ → ℕ) (xs : List ℕ) (s d : ℕ) → ((x : ℕ) → g x ≡ f x + cond (eqb x s) d 0) → count_of s xs ≡ 1 → sum_by g xs ≡ sum_by f xs + d
 sum_by_more_at f g [] s d h c = absurd (omega (arith, c))
 sum_by_more_at f g (x ∷ xs) s d h c = step (cases_eq x s) (sum_by_more_at f g xs s d h)

@@ -1,4 +1,4 @@
--- Lemmas about what a builder keeps.
+-- What is true of every builder, and still true after each call.
 use Rattle.std.proofs.Common.{◌≡◌, ℕ, ◌+◌, ◌<◌, ◌≤◌, Bool, true, false, ltb, List, [], ◌∷◌, ◌++◌, length, set, Option, Some, None, unwrap_or, refl, sym, ap, ◌∙◌, subst, arith}
 use Rattle.std.proofs.lemmas.List.{map_push, map-set, length_push, length-set}
 use Rattle.std.proofs.lemmas.List.Elements.{All-push, All-set, All-weaker, All-same}
@@ -10,7 +10,7 @@ use Rattle.match_model.specs.declared.fault.ModelFault.TheVariants.{NoSuchMember
 use Rattle.std.specs.Prelude.{if◌then◌else◌, not}
 use Rattle.std.proofs.lemmas.Bool.{and_parts, and_from, ltb-true, lt-ltb}
 
--- a bound also holds for a smaller number
+-- if all items of a list are below n, they are below every m from n on
 pub list_all_below_more : (n m : ℕ) (xs : List ℕ) → n ≤ m → list_all (λ x. ltb x n) xs ≡ true → list_all (λ x. ltb x m) xs ≡ true
 list_all_below_more n m [] h e = refl
 list_all_below_more n m (x ∷ xs) h e =
@@ -18,7 +18,7 @@ list_all_below_more n m (x ∷ xs) h e =
     let below = ltb-true x n part.0 in
     and_from (ltb x m) (list_all (λ y. ltb y m) xs) (lt-ltb x m (omega arith)) (list_all_below_more n m xs h part.1)
 
--- the given lists stay valid when there are more members
+-- the given lists stay valid when members are added to the other side
 pub AreLists-weaker : (lists : List (Option (List ℕ))) (n m : ℕ) → n ≤ m → AreLists lists n → AreLists lists m
 AreLists-weaker lists n m h a = record {
   items_below = All-weaker _ _ (λ xs e. list_all_below_more n m xs h e) (given_lists lists) a.items_below;
@@ -33,7 +33,7 @@ Below n list = list_all (λ x. ltb x n) list ≡ true
 abbrev Distinct : List ℕ → Type 0
 Distinct list = has_no_repeats list ≡ true
 
--- one more member has no list yet
+-- after a member is added, who has no list yet, all given lists are still valid
 pub AreLists-push : (lists : List (Option (List ℕ))) (n : ℕ) → AreLists lists n → AreLists (lists ++ None ∷ []) n
 AreLists-push lists n a =
     let same : given_lists (lists ++ None ∷ []) ≡ given_lists lists ++ [] ∷ [] = map_push (λ list. unwrap_or list []) lists None in
@@ -44,7 +44,7 @@ AreLists-push lists n a =
       no_repeats = All-same Distinct (given_lists (lists ++ None ∷ [])) (given_lists lists ++ [] ∷ []) same (All-push Distinct (given_lists lists) [] a.no_repeats empty_distinct);
     }
 
--- a list is given
+-- after a member gets a valid list, all given lists are still valid
 pub AreLists-set : (lists : List (Option (List ℕ))) (n i : ℕ) (items : List ℕ) → list_all (λ x. ltb x n) items ≡ true → has_no_repeats items ≡ true → AreLists lists n → AreLists (set lists i (Some items)) n
 AreLists-set lists n i items b d a =
     let same : given_lists (set lists i (Some items)) ≡ set (given_lists lists) i items = map-set (λ list. unwrap_or list []) lists i (Some items) in
@@ -53,7 +53,7 @@ AreLists-set lists n i items b d a =
       no_repeats = All-same Distinct (given_lists (set lists i (Some items))) (set (given_lists lists) i items) same (All-set Distinct (given_lists lists) i items d a.no_repeats);
     }
 
--- what a builder keeps after one more programme
+-- a builder is still valid after a programme is added
 pub IsDraft-with_programme : (d : Draft) (q : ℕ) → IsDraft d → length d.quotas < most_programmes d.limits → q ≤ MAX_QUOTA → IsDraft (with_programme d q)
 IsDraft-with_programme d q h room small = record {
   one_list_each = length_push d.programme_lists None ∙ ap (λ n. n + 1) h.one_list_each ∙ sym (length_push d.quotas q);
@@ -66,7 +66,7 @@ IsDraft-with_programme d q h room small = record {
   one_flag_each_resident = h.one_flag_each_resident;
 }
 
--- what a builder keeps after one more resident
+-- a builder is still valid after a resident is added
 pub IsDraft-with_resident : (d : Draft) → IsDraft d → length d.resident_lists < most_residents d.limits → IsDraft (with_resident d)
 IsDraft-with_resident d h room = record {
   one_list_each = h.one_list_each;
@@ -79,7 +79,7 @@ IsDraft-with_resident d h room = record {
   one_flag_each_resident = length_push d.residents_withdrawn false ∙ ap (λ n. n + 1) h.one_flag_each_resident ∙ sym (length_push d.resident_lists None);
 }
 
--- what a builder keeps after a list is given
+-- a builder is still valid after a programme's or a resident's list is given
 pub IsDraft-with_programme_list : (d : Draft) (p : ℕ) (items : List ℕ) → IsDraft d → list_all (λ x. ltb x (length d.resident_lists)) items ≡ true → has_no_repeats items ≡ true → IsDraft (with_programme_list d p items)
 IsDraft-with_programme_list d p items h below distinct = record {
   one_list_each = length-set d.programme_lists p (Some items) ∙ h.one_list_each;
@@ -104,7 +104,7 @@ IsDraft-with_resident_list d r items h below distinct = record {
   one_flag_each_resident = h.one_flag_each_resident ∙ sym (length-set d.resident_lists r (Some items));
 }
 
--- if a list's items have no fault, each is below the bound and stands once
+-- if the items of a list have no fault, each item is below the bound and stands in the list once
 pub no_items_fault : (n : ℕ) (items : List ℕ) → items_fault n items ≡ None → (list_all (λ x. ltb x n) items ≡ true) × (has_no_repeats items ≡ true)
 no_items_fault n items h = split (list_all (λ x. ltb x n) items) (has_no_repeats items) h
   where

@@ -1,4 +1,4 @@
--- Lemmas about the owners of the lists that have a number.
+-- For each number, the owners of the lists on which the number stands, as these owners are counted and entered.
 use Rattle.std.proofs.Common.{◌≡◌, ℕ, ◌+◌, ◌-◌, ◌^◌, ◌<◌, ◌≤◌, Bool, true, false, cond, eqb, ltb, List, [], ◌∷◌, ◌++◌, length, get_or, set, take, replicate, map, Option, refl, sym, ap, ◌∙◌, subst, arith, not, ◌&&◌, ◌||◌, suc, zero, zero-add, ⊎_elim}
 use Rattle.std.specs.Global.{Vec}
 use Rattle.std.specs.Vec.{with_items}
@@ -18,17 +18,18 @@ use Rattle.match_model.specs.Owners.{owners_below, AreOwners, stepped, AreSteppe
 use Rattle.match_model.proofs.Mutual.{length-lists_left, length-mutual_lists, get_or-mutual_lists}
 use Rattle.match_model.proofs.Rankings.{is_listed-cons, is_listed-append, is_listed_alone, is_listed-filter, is_listed_at, is_listed_nowhere, has_no_repeats-filter, HasNoRepeats-from_test}
 
--- one more number at the end
+-- the numbers from a on, with one more number at the end
 range_more : (a n : ℕ) → range_with_len a (suc n) ≡ range_with_len a n ++ (a + n) ∷ []
 range_more a zero = ap (λ (k : ℕ). k ∷ []) (omega arith)
 range_more a (suc n) = ap (λ (ks : List ℕ). a ∷ ks) (range_more (a + 1) n) ∙ ap (λ (k : ℕ). a ∷ (range_with_len (a + 1) n ++ k ∷ [])) (omega arith)
 
--- a row, with the owner added if its number is listed
+-- a row of owners, with this owner added if the number is on the owner's list
 abbrev with_owner : ℕ → Bool → List ℕ → List ℕ
 with_owner owner true row = row ++ owner ∷ []
 with_owner owner false row = row
 
--- one owner more
+-- the owners of a number among the first n + 1 lists are those among the first n lists, and owner n if list n has the
+-- number
 owners_more : (n : ℕ) (lists : List (List ℕ)) (x : ℕ) → owners_below (n + 1) lists x ≡ with_owner n (is_listed (list_at lists n) x) (owners_below n lists x)
 owners_more n lists x =
     let q : ℕ → Bool = λ owner. is_listed (list_at lists owner) x in
@@ -41,18 +42,18 @@ owners_more n lists x =
     step true row = refl
     step false row = append-nil row
 
--- how many owners these are
+-- a row is one longer if the owner is added, and stays as long otherwise
 length-with_owner : (owner : ℕ) (b : Bool) (row : List ℕ) → length (with_owner owner b row) ≡ stepped (λ n. n + 1) b (length row)
 length-with_owner owner true row = length_push row owner
 length-with_owner owner false row = refl
 
--- there are no more owners than the count
+-- at most n owners are among the first n lists
 pub owners_few : (n : ℕ) (lists : List (List ℕ)) (x : ℕ) → length (owners_below n lists x) ≤ n
 owners_few n lists x =
     let q : ℕ → Bool = λ owner. is_listed (list_at lists owner) x in
     omega (arith, length-filter q (range_with_len 0 n), count_by-le-length q (range_with_len 0 n), length-range_with_len 0 n)
 
--- no fewer among more
+-- a number has at most as many owners among the first n lists as among the first n + k lists
 owners_le : (n k : ℕ) (lists : List (List ℕ)) (x : ℕ) → length (owners_below n lists x) ≤ length (owners_below (n + k) lists x)
 owners_le n zero lists x = let e : n + 0 ≡ n = omega arith in let same = ap (λ (m : ℕ). length (owners_below m lists x)) e in omega arith
 owners_le n (suc k) lists x =
@@ -66,7 +67,7 @@ owners_le n (suc k) lists x =
     grown owner true row = omega (arith, length_push row owner)
     grown owner false row = omega arith
 
--- before an owner is entered, its row has room
+-- before an owner is entered, the row of the number has room for this owner
 pub owners_room : (n all : ℕ) (lists : List (List ℕ)) (x : ℕ) → n < all → is_listed (list_at lists n) x ≡ true → length (owners_below n lists x) < length (owners_below all lists x)
 owners_room n all lists x h e =
     let on : n + 1 + (all - (n + 1)) ≡ all = omega arith in
@@ -77,15 +78,15 @@ owners_room n all lists x h e =
     omega arith
 
 module _ {T : Type 0} (none : T) (step : ℕ → T → T) where
-  -- nothing is made yet
+  -- before any item of a list is looked at, nothing has changed
   pub AreStepped-none : (before : List T) → AreStepped none step [] before before
   AreStepped-none before = record { one_each = refl; item = λ x h. refl }
 
-  -- a number that isn't listed keeps its row
+  -- an item that isn't on the list leaves the entry of the number as it was
   pub AreStepped-unlisted : (list : List ℕ) (before after : List T) (x : ℕ) → AreStepped none step list before after → x < length before → is_listed list x ≡ false → get_or after x none ≡ get_or before x none
   AreStepped-unlisted list before after x a h e = a.item x h ∙ ap (λ b. stepped (step x) b (get_or before x none)) e
 
-  -- one item more
+  -- one more item of the list changes the entry of its own number only
   pub AreStepped-more : (list : List ℕ) (i : ℕ) (before after : List T) → i < length list → is_listed (take i list) (get_or list i 0) ≡ false → get_or list i 0 < length before →
       AreStepped none step (take i list) before after → AreStepped none step (take (i + 1) list) before (set after (get_or list i 0) (step (get_or list i 0) (get_or after (get_or list i 0) none)))
   AreStepped-more list i before after h new below a = record {
@@ -118,14 +119,14 @@ module _ {T : Type 0} (none : T) (step : ℕ → T → T) where
           apart : eqb x q ≡ false → q ≡ x → ⊥
           apart e s = grind arith
 
--- nothing is counted yet
+-- before any list is counted, all counts are 0
 pub AreCounts-none : (count : ℕ) (lists : List (List ℕ)) → AreCounts count 0 lists (replicate count 0)
 AreCounts-none count lists = record {
   one_each = length-replicate count 0;
   number = λ x h. get_or-replicate count x 0 0 h;
 }
 
--- one more owner is counted
+-- after one more list is counted, the counts are right for this list too
 pub AreCounts-more : (count n : ℕ) (lists : List (List ℕ)) (before after : List ℕ) → AreCounts count n lists before → AreStepped 0 (λ _ k. k + 1) (list_at lists n) before after → AreCounts count (n + 1) lists after
 AreCounts-more count n lists before after a e = record {
   one_each = e.one_each ∙ a.one_each;
@@ -133,14 +134,14 @@ AreCounts-more count n lists before after a e = record {
       ∙ sym (ap (λ (row : List ℕ). length row) (owners_more n lists x) ∙ length-with_owner n (is_listed (list_at lists n) x) (owners_below n lists x));
 }
 
--- if there are few lists, a number has few owners
+-- a number has fewer than 2^32 owners if there are fewer than 2^32 lists
 pub counts_few : (count n : ℕ) (lists : List (List ℕ)) (counts before : List ℕ) → before ≡ counts → AreCounts count n lists counts → n < 2 ^ 32 → (x : ℕ) → x < length before → get_or before x 0 < 2 ^ 32
 counts_few count n lists counts before e a few x h =
     let number = a.number x (omega (arith, h, ap (λ (ns : List ℕ). length ns) e, a.one_each)) in
     let here = ap (λ (ns : List ℕ). get_or ns x 0) e in
     omega (arith, number, here, owners_few n lists x, few)
 
--- one more list is counted in a vector
+-- after one more list is counted in a vector, the vector has the right counts
 pub counts_more : (count n : ℕ) (lists : List (List ℕ)) (list : List ℕ) (counts : Vec ℕ) (before after : List ℕ) → list ≡ list_at lists n → before ≡ counts.items → length before ≡ counts.len
     → AreStepped 0 (λ _ k. k + 1) list before after → AreCounts count n lists counts.items → AreCounts count (n + 1) lists (with_items counts after).items
 counts_more count n lists list counts before after same e len stepped a =
@@ -148,7 +149,7 @@ counts_more count n lists list counts before after same e len stepped a =
     let counted = subst (λ (ns : List ℕ). AreStepped 0 step (list_at lists n) ns after) e (subst (λ (items : List ℕ). AreStepped 0 step items before after) same stepped) in
     subst (AreCounts count (n + 1) lists) (sym (with_items_is counts after (stepped.one_each ∙ len))) (AreCounts-more count n lists counts.items after a counted)
 
--- rows with these lengths, before any owner is entered
+-- before any owner is entered, the rows have the right lengths
 pub AreBegun-none : (count all : ℕ) (lists rows : List (List ℕ)) (lengths counts : List ℕ) → AreCounts count all lists lengths → rows ≡ map (λ n. replicate n 0) lengths → counts ≡ replicate count 0 → AreBegun count all 0 lists rows counts
 AreBegun-none count all lists rows lengths counts a e z = record {
   one_each = ap (λ (rs : List (List ℕ)). length rs) e ∙ length-map lengths (λ n. replicate n 0) ∙ a.one_each;
@@ -159,7 +160,7 @@ AreBegun-none count all lists rows lengths counts a e z = record {
   first = λ x h. refl;
 }
 
--- one more owner is entered
+-- after one more owner is entered, the rows are right for this owner too
 pub AreBegun-more : (count all n : ℕ) (lists before after : List (List ℕ)) (counts more : List ℕ) → n < all → AreBegun count all n lists before counts →
     AreStepped [] (λ x row. set row (get_or counts x 0) n) (list_at lists n) before after → AreStepped 0 (λ _ k. k + 1) (list_at lists n) counts more → AreBegun count all (n + 1) lists after more
 AreBegun-more count all n lists before after counts more l a e d = record {
@@ -185,21 +186,21 @@ AreBegun-more count all n lists before after counts more l a e d = record {
         ap (λ (k : ℕ). take k (set row (length owners) n)) (length_push owners n) ∙ take_more_set row (length owners) n (room refl) ∙ ap (λ (xs : List ℕ). xs ++ n ∷ []) h
     taken false row owners h room = h
 
--- all are entered
+-- after all owners are entered, each row has exactly the owners of its number
 pub AreOwners-begun : (count all : ℕ) (lists rows : List (List ℕ)) (counts : List ℕ) → AreBegun count all all lists rows counts → AreOwners count all lists rows
 AreOwners-begun count all lists rows counts a = record {
   one_each = a.one_each;
   row = λ x h. sym (take_all (length (owners_below all lists x)) (list_at rows x) (let many = a.room x h in omega arith)) ∙ a.first x h;
 }
 
--- in a list without repeats no item also stands earlier
+-- in a list without repeats, no item also stands earlier in the list
 pub new_item : (list : List ℕ) (i : ℕ) → has_no_repeats list ≡ true → i < length list → is_listed (take i list) (get_or list i 0) ≡ false
 new_item list i distinct h =
     is_listed_nowhere (take i list) (get_or list i 0) (λ k l e.
     let n = length-take i list in
     HasNoRepeats-from_test list distinct k i 0 (omega arith) h (sym (get_or-take i list k 0 (omega arith)) ∙ e))
 
--- a listed number is below a bound of all listed numbers
+-- a number on a list is below n if all items of the list are below n
 pub is_listed_below : (n : ℕ) (xs : List ℕ) (x : ℕ) → list_all (λ y. ltb y n) xs ≡ true → is_listed xs x ≡ true → x < n
 is_listed_below n [] x a e = cc
 is_listed_below n (y ∷ ys) x a e =
@@ -210,7 +211,7 @@ is_listed_below n (y ∷ ys) x a e =
     step true same h l rest = let s = eqb-true y x same in omega arith
     step false same h l rest = rest h
 
--- the first n numbers
+-- a number below n stands in the list of the first n numbers
 listed_in_range : (n x : ℕ) → x < n → is_listed (range_with_len 0 n) x ≡ true
 listed_in_range n x h = is_listed_at (range_with_len 0 n) x x (omega (arith, length-range_with_len 0 n)) (get_or-range_with_len 0 n x 0 h ∙ zero-add x)
 
@@ -235,7 +236,7 @@ range_rises n = λ i j d l h.
     let high = get_or-range_with_len 0 n j d (omega arith) in
     omega arith
 
--- a property of each item also holds for what a filter keeps
+-- if all items of a list have a property, all items that a filter leaves have it
 list_all-filter : (p q : ℕ → Bool) (xs : List ℕ) → list_all p xs ≡ true → list_all p (filter q xs) ≡ true
 list_all-filter p q [] h = refl
 list_all-filter p q (x ∷ xs) h = let part = and_parts (p x) (list_all p xs) h in step (q x) part.0 (list_all-filter p q xs part.1)
@@ -244,7 +245,7 @@ list_all-filter p q (x ∷ xs) h = let part = and_parts (p x) (list_all p xs) h 
     step true e ih = and_from (p x) (list_all p (filter q xs)) e ih
     step false e ih = ih
 
--- the owners of all lists
+-- x is among the owners of number o exactly if o stands on the list of x
 pub owners_listed : (lists : List (List ℕ)) (o x : ℕ) → is_listed (owners_below (length lists) lists o) x ≡ is_listed (list_at lists x) o
 owners_listed lists o x =
     is_listed-filter (λ owner. is_listed (list_at lists owner) o) (range_with_len 0 (length lists)) x
@@ -259,7 +260,7 @@ owners_listed lists o x =
     absorb true = refl
     absorb false = refl
 
--- the rows of owners are sorted rows
+-- the rows of owners are sorted rows without repeats
 pub AreRows-owners : (count n : ℕ) (lists rows : List (List ℕ)) → AreOwners count n lists rows → AreRows count n rows
 AreRows-owners count n lists rows a = record {
   one_each = a.one_each;
@@ -271,7 +272,7 @@ AreRows-owners count n lists rows a = record {
       (IsNonDecreasingBy-filter (λ x. x) (λ owner. is_listed (list_at lists owner) i) (range_with_len 0 n) (range_rises n));
 }
 
--- the rows of owners keep exactly the mutual lists
+-- the items of the lists that also stand in the owners' rows are exactly the mutual lists
 kept_from : (n k : ℕ) (mine theirs rows : List (List ℕ)) → AreOwners n (length theirs) theirs rows → k + length mine ≤ n →
     map (λ (owned : ℕ × List ℕ). filter (λ x. is_listed (list_at rows owned.0) x) owned.1) (enumerate_from k mine)
     ≡ map (λ (owned : ℕ × List ℕ). filter (λ x. is_listed (list_at theirs x) owned.0) owned.1) (enumerate_from k mine)
@@ -285,7 +286,7 @@ pub kept_are_mutual : (mine theirs rows : List (List ℕ)) → AreOwners (length
 unfolding mutual_lists kept_lists
 kept_are_mutual mine theirs rows h = kept_from (length mine) 0 mine theirs rows h (omega arith)
 
--- the rows of owners keep the mutual lists, also of lists as they were given
+-- lists as they were given, filtered by the rows of owners, are the mutual lists
 pub made_is : (mine theirs : List (Option (List ℕ))) (my_flags their_flags : List Bool) (rows : List (List ℕ)) → AreOwners (length mine) (length theirs) (lists_left theirs their_flags) rows →
     kept_lists (lists_left mine my_flags) rows ≡ mutual_lists (lists_left mine my_flags) (lists_left theirs their_flags)
 made_is mine theirs my_flags their_flags rows h =
@@ -293,12 +294,12 @@ made_is mine theirs my_flags their_flags rows h =
     (subst (λ n. AreOwners n (length (lists_left theirs their_flags)) (lists_left theirs their_flags) rows) (sym (length-lists_left mine my_flags))
     (subst (λ n. AreOwners (length mine) n (lists_left theirs their_flags) rows) (sym (length-lists_left theirs their_flags)) h))
 
--- one more list is kept by the rows
+-- there are as many filtered lists as lists
 pub length-kept_lists : (lists rows : List (List ℕ)) → length (kept_lists lists rows) ≡ length lists
 unfolding kept_lists
 length-kept_lists lists rows = length-map (enumerate_from 0 lists) (λ (owned : ℕ × List ℕ). filter (λ x. is_listed (list_at rows owned.0) x) owned.1) ∙ length-enumerate_from 0 lists
 
--- the items of a list that stand in its owner's row
+-- the items of a list that also stand in the row of the list's owner
 abbrev kept_of : List (List ℕ) → ℕ × List ℕ → List ℕ
 kept_of rows owned = filter (λ x. is_listed (list_at rows owned.0) x) owned.1
 
@@ -308,7 +309,7 @@ get_or-kept_lists lists rows i h =
     get_or-map (kept_of rows) (enumerate_from 0 lists) i (0, []) [] (omega (arith, length-enumerate_from 0 lists))
     ∙ ap (kept_of rows) (get_or-enumerate_from 0 lists i (0, []) h) ∙ ap (λ n. kept_of rows (n, get_or lists i [])) (zero-add i)
 
--- each kept list has the items that the rows also have, each once
+-- each filtered list has only items below n and no repeats, if each list does
 pub kept_below : (lists rows : List (List ℕ)) (n : ℕ) → All (λ list. list_all (λ x. ltb x n) list ≡ true) lists → All (λ list. list_all (λ x. ltb x n) list ≡ true) (kept_lists lists rows)
 kept_below lists rows n a = λ i d h.
     let within : i < length lists = omega (arith, length-kept_lists lists rows) in
@@ -321,7 +322,7 @@ kept_distinct lists rows a = λ i d h.
     subst (λ (list : List ℕ). has_no_repeats list ≡ true) (sym (get_or-kept_lists lists rows i within) ∙ get_or_default (kept_lists lists rows) i [] d h)
     (has_no_repeats-filter (λ x. is_listed (list_at rows i) x) (list_at lists i) (a i [] within))
 
--- the rows of owners keep the mutual lists, also of mutual lists
+-- mutual lists have only items below n and no repeats, if the lists have
 pub mutual_below : (mine theirs : List (List ℕ)) (n : ℕ) → All (λ list. list_all (λ x. ltb x n) list ≡ true) mine → All (λ list. list_all (λ x. ltb x n) list ≡ true) (mutual_lists mine theirs)
 mutual_below mine theirs n a = λ i d h.
     let within : i < length mine = omega (arith, length-mutual_lists mine theirs) in
@@ -347,7 +348,7 @@ kept_covered lists rows = λ i x e. ⊎_elim
     true≢false : true ≡ false → ⊥
     true≢false h = cc
 
--- the row of an owner
+-- each row of owners has only items below n and is sorted
 pub row_below : (rows : List (List ℕ)) (count n i : ℕ) → AreRows count n rows → i < count → list_all (λ x. ltb x n) (list_at rows i) ≡ true
 row_below rows count n i a h = let same = a.one_each in a.below i [] (omega arith)
 

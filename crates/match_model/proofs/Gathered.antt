@@ -1,4 +1,4 @@
--- Lemmas about lists that are gathered one after another, up to a limit.
+-- Lists that are made one after another, until their items together are more than a limit.
 use Rattle.std.proofs.Common.{◌≡◌, ◌∙◌, ℕ, ◌+◌, ◌<◌, ◌≤◌, ◌⊎◌, inl, inr, true, false, List, [], ◌∷◌, ◌++◌, length, take, Option, Some, None, refl, sym, ap, subst, arith}
 use Rattle.std.specs.List.{filter, sum_by}
 use Rattle.std.specs.Result.{IsErrAnd}
@@ -16,7 +16,7 @@ use Rattle.match_model.specs.Owners.{kept_lists}
 use Rattle.match_model.specs.Rows.{RowLists}
 use Rattle.match_model.proofs.Entered.{length-kept_lists, get_or-kept_lists}
 
--- zero items are never too many; if some items are too many, more items are too
+-- no items are never above the limit, and items above a limit are still above it when more items come
 pub over_none : (most : Option ℕ) → are_over most 0 ≡ false
 over_none None = refl
 over_none (Some n) = grind (arith, nat_tests)
@@ -25,13 +25,13 @@ pub over_more : (most : Option ℕ) (n m : ℕ) → n ≤ m → are_over most n 
 over_more None n m l e = absurd (cc)
 over_more (Some k) n m l e = let h : k < n = ltb-true k n e in lt-ltb k m (omega arith)
 
--- after this many finished lists: their rows, an empty open row, and their items
+-- what is true after k finished lists: their rows, an empty open row, and the number of their items
 pub record AreGathered (made : List (List ℕ)) (k : ℕ) (kept : RowLists ℕ) (items : ℕ) : Type 0 where
   pub ended : kept.rows ≡ take k made
   pub none_begun : kept.begun ≡ []
   pub counted : items ≡ sum_by length (take k made)
 
--- one list more
+-- the rows and the number of items after one more finished list
 module _ (all rows : List (List ℕ)) (i : ℕ) (within : i < length all) (list row : List ℕ) (here : list ≡ list_at all i) (at : row ≡ list_at rows i) (before kept after : RowLists ℕ) where
   rows_more : before.rows ≡ take i (kept_lists all rows) → before.begun ≡ [] → kept ≡ record before { begun = before.begun ++ filter (is_listed row) list }
       → after ≡ record { rows = kept.rows ++ kept.begun ∷ []; begun = [] } → after.rows ≡ take (i + 1) (kept_lists all rows)
@@ -57,21 +57,21 @@ module _ (all rows : List (List ℕ)) (i : ℕ) (within : i < length all) (list 
       let nothing = ap (length {A = ℕ}) begun in
       record { ended = more; none_begun = begun; counted = omega arith }
 
--- all are no fewer
+-- the first k lists have at most as many items as all lists, so they are above a limit only if all lists are
 pub over_in_all : (most : Option ℕ) (made : List (List ℕ)) (n k : ℕ) → n ≡ sum_by length (take k made) → are_over most n ≡ true → are_over most (sum_by length made) ≡ true
 over_in_all most made n k counted e = over_more most n (sum_by length made) (let l = sum_by-take-le (length {A = ℕ}) made k in omega arith) e
 
--- an error is passed on
+-- what is true of an error is true of the result that is this error
 pub same_err : {T E : Type 0} (r : Result T E) (e : E) (P : E → Type 0) → IsErrAnd r (λ x. x ≡ e) → P e → IfErr r P
 same_err (Ok v) e P h p = tt
 same_err (Err x) e P h p = subst P (sym h) p
 
--- what a fault of gathering means if there is a limit
+-- a fault with a limit is either out of memory, or there are more items than the limit
 pub fault_of_most : (most n : ℕ) (e : ModelFault) → IsGatherFault (Some most) n e → (e ≡ Memory) ⊎ ((e ≡ TooManyPairs) × (most < n))
 fault_of_most most n e (inl m) = inl m
 fault_of_most most n e (inr t) = inr (t.0, ltb-true most n t.1)
 
--- without a limit, a fault of gathering is out of memory
+-- a fault without a limit is out of memory
 pub memory_alone : {T : Type 0} (n : ℕ) (r : Result T ModelFault) → IfErr r (IsGatherFault None n) → IfErr r (λ fault. fault ≡ Memory)
 memory_alone n (Ok v) h = tt
 memory_alone n (Err e) (inl m) = m

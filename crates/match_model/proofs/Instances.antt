@@ -1,11 +1,11 @@
--- Every number on an instance's lists is a member's.
+-- Every number on the lists of an instance is a member's number.
 use Rattle.std.proofs.Common.{ℕ, ◌≤◌, inl, inr, List, [], length, arith, subst}
 use Rattle.std.proofs.lemmas.Bool.{cases_lt}
 use Rattle.std.proofs.lemmas.List.{get_or_past}
 use Rattle.match_model.specs.Ranking.{IsListed}
 use Rattle.match_model.specs.Instance.{Instance, IsInstance, IsProgramme, IsResident, Acceptable, list_of_resident}
 
--- the owner of a list with an item is a resident
+-- if the list of r has an item, r is a resident
 pub ranking_resident : (inst : Instance) (r p : ℕ) → IsListed (list_of_resident inst r) p → IsResident inst r
 ranking_resident inst r p l = elim (cases_lt r (length inst.resident_lists)) [
   | inl c ↦ c

@@ -1,4 +1,4 @@
--- The instance of a draft keeps what every instance keeps.
+-- The instance of a draft has all properties that every instance has.
 use Rattle.std.proofs.Common.{◌≡◌, ℕ, ◌<◌, ◌≤◌, Bool, true, false, cond, eqb, ltb, List, [], ◌∷◌, length, unwrap_or, refl, sym, ap, ◌∙◌, subst, arith, ◌&&◌, ◌||◌, ⊎_elim}
 use Rattle.std.specs.List.{list_all, All, filter}
 use Rattle.std.proofs.lemmas.Bool.{cases_lt}
@@ -15,19 +15,19 @@ use Rattle.match_model.proofs.Rankings.{is_listed-cons, is_listed_at, is_listed-
 use Rattle.match_model.proofs.Mutual.{length-mutual_lists, get_or-mutual_lists}
 use Rattle.match_model.proofs.Remaining.{length-remaining_lists, remaining_withdrawn, remaining_all}
 
--- a property of each given list, which an empty list has too
+-- if each list has a property, and the empty list has it, the list of any number has it
 at_list : (P : List ℕ → Type 0) (lists : List (List ℕ)) (i : ℕ) → P [] → All P lists → P (list_at lists i)
 at_list P lists i none all =
     ⊎_elim (λ (h : i < length lists). all i [] h) (λ (h : length lists ≤ i). subst P (sym (get_or_past lists i [] h)) none) (cases_lt i (length lists))
 
--- each mutual list is a filter of the given list, for any number
+-- the mutual list of any number is the given list, filtered by who lists this number
 pub mutual_list_at : (mine theirs : List (List ℕ)) (i : ℕ) → list_at (mutual_lists mine theirs) i ≡ filter (λ x. is_listed (list_at theirs x) i) (list_at mine i)
 mutual_list_at mine theirs i =
     ⊎_elim (λ (h : i < length mine). get_or-mutual_lists mine theirs i h)
     (λ (h : length mine ≤ i). get_or_past (mutual_lists mine theirs) i [] (omega (arith, length-mutual_lists mine theirs)) ∙ sym (ap (λ (xs : List ℕ). filter (λ x. is_listed (list_at theirs x) i) xs) (get_or_past mine i [] h)))
     (cases_lt i (length mine))
 
--- which members stand on a mutual list
+-- member x stands on member i's mutual list exactly if each of the two members lists the other
 pub listed_both : (mine theirs : List (List ℕ)) (i x : ℕ) → is_listed (list_at (mutual_lists mine theirs) i) x ≡ is_listed (list_at mine i) x && is_listed (list_at theirs x) i
 listed_both mine theirs i x = ap (λ (xs : List ℕ). is_listed xs x) (mutual_list_at mine theirs i) ∙ is_listed-filter (λ y. is_listed (list_at theirs y) i) (list_at mine i) x
 
@@ -45,13 +45,13 @@ turned : (mine theirs : List (List ℕ)) (i x : ℕ) → IsListed (list_at (mutu
 turned mine theirs i x h =
     is_listed-true _ i (listed_both theirs mine x i ∙ and_comm (is_listed (list_at theirs x) i) (is_listed (list_at mine i) x) ∙ sym (listed_both mine theirs i x) ∙ is_listed_from _ x h)
 
--- a member on a mutual list has the owner on its own list
+-- if a member stands on p's mutual list, p stands on the member's mutual list
 pub listed_back : (mine theirs : List (List ℕ)) (p : ℕ) → AreListedBack (mutual_lists theirs mine) p (list_at (mutual_lists mine theirs) p)
 listed_back mine theirs p = record {
   back = λ r e. listed_both theirs mine r p ∙ and_comm (is_listed (list_at theirs r) p) (is_listed (list_at mine p) r) ∙ sym (listed_both mine theirs p r) ∙ e;
 }
 
--- two tests that agree on the items of a list keep the same items
+-- two tests that agree on all items of a list filter the list in the same way
 filter_listed : (p q : ℕ → Bool) (xs : List ℕ) → ((x : ℕ) → is_listed xs x ≡ true → p x ≡ q x) → filter p xs ≡ filter q xs
 filter_listed p q [] h = refl
 filter_listed p q (x ∷ xs) h =
@@ -62,7 +62,7 @@ filter_listed p q (x ∷ xs) h =
     either true = refl
     either false = refl
 
--- the other side's mutual lists keep the same items of a list as its full lists
+-- a list filtered by the other side's mutual lists is the list filtered by the other side's full lists
 pub mutual_in_turn : (mine theirs : List (List ℕ)) → mutual_lists mine (mutual_lists theirs mine) ≡ mutual_lists mine theirs
 mutual_in_turn mine theirs =
     ext_get_or [] (mutual_lists mine (mutual_lists theirs mine)) (mutual_lists mine theirs)
@@ -84,20 +84,20 @@ fewer_kept q (x ∷ xs) = step (q x) (fewer_kept q xs)
     step true h = omega arith
     step false h = omega arith
 
--- a mutual list is no longer than the number of members
+-- a mutual list has at most as many items as the other side has members
 length_at : (mine theirs : List (List ℕ)) (i n : ℕ) → All (λ list. has_no_repeats list ≡ true) mine → All (λ list. list_all (λ x. ltb x n) list ≡ true) mine → length (list_at (mutual_lists mine theirs) i) ≤ n
 length_at mine theirs i n distinct below =
     let short : length (list_at mine i) ≤ n = length-le_below (list_at mine i) n (at_list (λ list. has_no_repeats list ≡ true) mine i refl distinct) (at_list (λ list. list_all (λ x. ltb x n) list ≡ true) mine i refl below) in
     subst (λ (xs : List ℕ). length xs ≤ n) (sym (mutual_list_at mine theirs i)) (let fewer = fewer_kept (λ x. is_listed (list_at theirs x) i) (list_at mine i) in omega arith)
 
--- no item stands twice in a remaining list
+-- no item stands twice in a list that remains after withdrawals
 programmes_distinct : (d : Draft) → IsDraft d → All (λ list. has_no_repeats list ≡ true) (programme_lists_left d)
 programmes_distinct d h = remaining_all (λ list. has_no_repeats list ≡ true) (given_lists d.programme_lists) d.programmes_withdrawn refl h.programme_lists.no_repeats
 
 residents_distinct : (d : Draft) → IsDraft d → All (λ list. has_no_repeats list ≡ true) (resident_lists_left d)
 residents_distinct d h = remaining_all (λ list. has_no_repeats list ≡ true) (given_lists d.resident_lists) d.residents_withdrawn refl h.resident_lists.no_repeats
 
--- no resident's list is longer than the limit on pairs
+-- a resident's list has at most as many items as the limit on pairs
 resident_list_short : (d : Draft) (r : ℕ) → IsDraft d → length (list_at (instance_of d).resident_lists r) ≤ MAX_PAIRS
 resident_list_short d r h =
     let below = remaining_all (λ list. list_all (λ x. ltb x (length d.quotas)) list ≡ true) (given_lists d.resident_lists) d.residents_withdrawn refl h.resident_lists.items_below in
@@ -109,12 +109,12 @@ pub resident_lists_short : (d : Draft) → IsDraft d → All (λ (list : List �
 resident_lists_short d h = λ r other within.
     subst (λ (list : List ℕ). length list ≤ MAX_PAIRS) (get_or_default (instance_of d).resident_lists r [] other within) (resident_list_short d r h)
 
--- there are as many lists as members
+-- the instance has as many residents' lists as the draft, and as many programmes' lists
 pub as_many_residents : (d : Draft) → length (instance_of d).resident_lists ≡ length d.resident_lists
 as_many_residents d =
     length-mutual_lists (resident_lists_left d) (programme_lists_left d) ∙ length-remaining_lists (given_lists d.resident_lists) d.residents_withdrawn ∙ length-map d.resident_lists (λ list. unwrap_or list [])
 
--- a withdrawn member lists nobody
+-- a withdrawn member lists nobody in the instance
 withdrawn_programme : (d : Draft) (p : ℕ) → is_withdrawn d.programmes_withdrawn p ≡ true → list_of_programme (instance_of d) p ≡ []
 withdrawn_programme d p e =
     mutual_list_at (programme_lists_left d) (resident_lists_left d) p
@@ -125,7 +125,7 @@ withdrawn_resident d r e =
     mutual_list_at (resident_lists_left d) (programme_lists_left d) r
     ∙ ap (λ (xs : List ℕ). filter (λ x. is_listed (list_at (programme_lists_left d) x) r) xs) (remaining_withdrawn (given_lists d.resident_lists) d.residents_withdrawn r e)
 
--- what the instance of a draft keeps
+-- the instance of a draft is well formed
 pub IsWellFormed-instance_of : (d : Draft) (pairs : ℕ) → IsDraft d → pair_count (instance_of d) ≤ MAX_PAIRS → pairs ≡ pair_count (instance_of d) → IsWellFormed (instance_of d) pairs
 IsWellFormed-instance_of d pairs h few count = record {
   is_instance = record {
@@ -149,7 +149,7 @@ IsWellFormed-instance_of d pairs h few count = record {
   resident_lists_within = λ r. resident_list_short d r h;
 }
 
--- the instance of a draft keeps within the draft's limits
+-- the instance of a draft is within the limits of the draft
 pub IsWithin-instance_of : (d : Draft) → IsDraft d → pair_count (instance_of d) ≤ most_pairs d.limits → IsWithin d.limits (instance_of d)
 IsWithin-instance_of d h few = record {
   few_programmes = h.programmes_within;

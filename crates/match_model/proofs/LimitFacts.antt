@@ -1,4 +1,4 @@
--- Lemmas on limits: none is above the widths of the numbers.
+-- The limits on programmes, residents and pairs fit into the types of numbers that the code uses.
 use Rattle.std.proofs.Common.{◌≤◌, arith}
 use Rattle.match_model.specs.Limits.{most_programmes, most_residents, most_pairs}
 use Rattle.match_model.specs.declared.limits.Limits.{Limits}

@@ -1,4 +1,4 @@
--- Lemmas about listed items: the place of an item, counts and repeats, beginnings of lists, and sums over lists.
+-- Items of lists: the place of an item, counts and repeats, beginnings of lists, and sums over lists.
 use mathlib.Core.List.{IsPrefix}
 use Rattle.std.proofs.Common.{◌≡◌, ℕ, zero, suc, ◌+◌, ◌<◌, ◌≤◌, Bool, true, false, cond, eqb, ◌||◌, ◌⊎◌, inl, inr, List, [], ◌∷◌, ◌++◌, length, slice_get, Some, refl, ap, sym, ◌∙◌, subst, arith, one-add, get_or, ap₂, zero-add, add-zero, add_comm}
 use Rattle.std.specs.List.{list_all, sum_by}
@@ -22,7 +22,7 @@ place-append (z ∷ zs) ys x h = step (cases_eq z x) (place-append zs ys x)
     step (inl e) ih = rw (eq-eqb z x e) refl
     step (inr n) ih = let k : IsListed zs x = (let l = rw (ne_eqb z x n) at h in omega (arith, l)) in rw (ne_eqb z x n) (ap (λ (t : ℕ). 1 + t) (ih k))
 
--- two items at the same place are the same
+-- a listed item is equal to any item with the same place
 pub same_from_place : (xs : List ℕ) (x y : ℕ) → IsListed xs x → place xs x ≡ place xs y → x ≡ y
 same_from_place [] x y h e = absurd (omega arith)
 same_from_place (z ∷ zs) x y h e = grind (arith, nat_tests, same_from_place zs x y)
@@ -41,7 +41,7 @@ slice_get_place (z ∷ zs) x h = step (cases_eq z x) (slice_get_place zs x)
     step (inl e) ih = rw (eq-eqb z x e) (ap Some e)
     step (inr n) ih = let k : IsListed zs x = (let l = rw (ne_eqb z x n) at h in omega (arith, l)) in rw (ne_eqb z x n, one-add) (ih k)
 
--- a list's item is listed, at its place or earlier
+-- the item at index i of a list is listed, and its place is i or earlier
 pub listed_at : (xs : List ℕ) (i x : ℕ) → slice_get xs i ≡ Some x → (place xs x ≤ i) × (i < length xs)
 listed_at [] i x e = absurd (cc)
 listed_at (z ∷ zs) zero x e = let q : z ≡ x = cc in (rw (eq-eqb z x q) (omega arith), omega arith)
@@ -94,7 +94,7 @@ count_at_two (z ∷ zs) (suc i) (suc j) d l m e = omega (arith, count_at_two zs 
 pub no_repeats_from_count : (xs : List ℕ) → ((x : ℕ) → count_of x xs ≤ 1) → HasNoRepeats xs
 no_repeats_from_count xs h = λ i j d l m e. let two = count_at_two xs i j d l m e in let one = h (get_or xs j d) in absurd (omega (arith, two, one))
 
--- without repeats, an item's place is where it stands
+-- in a list without repeats, the place of an item is the index at which it stands
 pub place_at : (xs : List ℕ) (i x : ℕ) → HasNoRepeats xs → slice_get xs i ≡ Some x → place xs x ≡ i
 place_at xs i x h e =
     let at = listed_at xs i x e in
@@ -156,7 +156,7 @@ list_all_fails t (z ∷ zs) e = step (and_cases _ _ e) (list_all_fails t zs)
     step (inl u) ih = (z, (let p = place-head z zs in omega (arith, p)), u)
     step (inr u) ih = let r = ih u in let l : IsListed zs r.0 = r.1 in (r.0, grind (arith, nat_tests), r.2)
 
--- ---- in a list that begins another
+-- ---- a list that is the beginning of another list
 
 pub prefix_listed : (xs ys : List ℕ) (x : ℕ) → IsPrefix xs ys → IsListed xs x → IsListed ys x
 prefix_listed xs ys x h l = let s = slice_get_place xs x l in listed_item ys (place xs x) x (prefix_item xs ys (place xs x) x h s)
@@ -180,7 +180,7 @@ place-append_past (z ∷ zs) ys x h = step (cases_eq z x) (place-append_past zs 
         let u : is_listed zs x ≡ false = is_listed_not zs x (λ l. is_listed-false (z ∷ zs) x h (let p = place-tail z zs x n in omega (arith, p))) in
         place-tail z (zs ++ ys) x n ∙ (let e = ih u in omega (arith, e))
 
--- what stands before an item of the beginning is part of the beginning
+-- a number that stands before an item of the first list in the second list stands in the first list
 pub prefix_before : (xs ys : List ℕ) (w x : ℕ) → IsPrefix xs ys → IsListed xs x → IsBefore ys w x → IsListed xs w
 prefix_before xs ys w x h l b = step (cases_Bool (is_listed xs w))
   where
@@ -191,7 +191,7 @@ prefix_before xs ys w x h l b = step (cases_Bool (is_listed xs w))
         let q = prefix_place xs ys x h l in
         absurd (omega (arith, p, q, l, b))
 
--- a sum over the numbers below n is a sum over a list of them without repeats, if all other terms are 0
+-- if f is 0 outside a list without repeats, its sum over the list is its sum over all numbers below n
 pub sum_by_listed : (f : ℕ → ℕ) (xs : List ℕ) (n : ℕ) → HasNoRepeats xs
     → ((i x : ℕ) → slice_get xs i ≡ Some x → x < n)
     → ((x : ℕ) → is_listed xs x ≡ false → f x ≡ 0)

@@ -1,4 +1,4 @@
--- Lemmas about the mutual parts of lists.
+-- The mutual parts of lists: how many there are, and which items they have.
 use Rattle.std.proofs.Common.{◌≡◌, ℕ, ◌<◌, Bool, true, false, ltb, List, [], ◌∷◌, length, get_or, Option, None, unwrap_or, refl, ap, ◌∙◌, arith, ◌&&◌, suc, zero, zero-add}
 use Rattle.std.specs.List.{list_all, All, filter, enumerate_from}
 use Rattle.std.proofs.lemmas.List.{length-map, get_or-map}
@@ -8,7 +8,7 @@ use Rattle.match_model.specs.Instance.{list_at}
 use Rattle.match_model.specs.Draft.{given_lists, lists_left, has_no_repeats, AreLists, mutual_lists}
 use Rattle.match_model.proofs.Remaining.{length-remaining_lists, remaining_all}
 
--- an item of a list with items below n
+-- if all items of a list are below n, each item of the list is
 pub list_all_at : (n : ℕ) (xs : List ℕ) (k : ℕ) → list_all (λ x. ltb x n) xs ≡ true → k < length xs → get_or xs k 0 < n
 list_all_at n [] k e h = absurd (omega arith)
 list_all_at n (x ∷ xs) zero e h = first (ltb x n) refl e
@@ -31,14 +31,14 @@ list_all_at n (x ∷ xs) (suc k) e h = list_all_at n xs k (rest (ltb x n) e) (om
         false≢true : false ≡ true → ⊥
         false≢true e = cc
 
--- how many lists were given, and which they are
+-- there are as many given lists as members, and the list of a member is the list that was given or empty
 pub length-given_lists : (lists : List (Option (List ℕ))) → length (given_lists lists) ≡ length lists
 length-given_lists lists = length-map lists (λ list. unwrap_or list [])
 
 pub given_at : (lists : List (Option (List ℕ))) (i : ℕ) → i < length lists → list_at (given_lists lists) i ≡ unwrap_or (get_or lists i None) []
 given_at lists i h = get_or-map (λ (list : Option (List ℕ)). unwrap_or list []) lists i None [] h
 
--- how many lists remain, and whose they are
+-- there are as many remaining lists as members, and the list of a member is the given list or empty
 pub length-lists_left : (lists : List (Option (List ℕ))) (flags : List Bool) → length (lists_left lists flags) ≡ length lists
 length-lists_left lists flags = length-remaining_lists (given_lists lists) flags ∙ length-given_lists lists
 
@@ -48,12 +48,12 @@ left_below lists flags n a = remaining_all (λ list. list_all (λ x. ltb x n) li
 pub left_distinct : (lists : List (Option (List ℕ))) (flags : List Bool) (n : ℕ) → AreLists lists n → All (λ list. has_no_repeats list ≡ true) (lists_left lists flags)
 left_distinct lists flags n a = remaining_all (λ list. has_no_repeats list ≡ true) (given_lists lists) flags refl a.no_repeats
 
--- one more mutual list
+-- there are as many mutual lists as lists
 pub length-mutual_lists : (mine theirs : List (List ℕ)) → length (mutual_lists mine theirs) ≡ length mine
 unfolding mutual_lists
 length-mutual_lists mine theirs = length-map (enumerate_from 0 mine) (λ (owned : ℕ × List ℕ). filter (λ x. is_listed (list_at theirs x) owned.0) owned.1) ∙ length-enumerate_from 0 mine
 
--- the items of a list that list its owner too
+-- the items of a list on whose own lists the owner stands
 abbrev kept_of : List (List ℕ) → ℕ × List ℕ → List ℕ
 kept_of theirs owned = filter (λ x. is_listed (list_at theirs x) owned.0) owned.1
 

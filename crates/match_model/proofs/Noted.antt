@@ -1,4 +1,4 @@
--- Lemmas about tables of places.
+-- Tables of places: what an entry of the table says about a number in the list.
 use Rattle.std.proofs.Common.{◌≡◌, ◌≢◌, ℕ, ◌+◌, ◌<◌, ◌≤◌, Bool, true, false, List, length, get_or, set, take, Some, None, refl, sym, ap, ◌∙◌, arith, ⊎_elim}
 use Rattle.std.proofs.lemmas.Bool.{cases_lt}
 use Rattle.std.proofs.lemmas.List.{get_or-take, length-take, get_or-set_other}
@@ -9,21 +9,21 @@ use Rattle.match_model.specs.Instance.{rank}
 use Rattle.match_model.specs.Places.{ArePlaces}
 use Rattle.match_model.proofs.Rankings.{rank_found, rank_none, is_listed_at}
 
--- a number that stands at the table's place has this place as its rank
+-- if a number stands in the list at the place that the table notes, this place is its rank
 pub noted_rank : (list places : List ℕ) (x : ℕ) → ArePlaces list places → get_or places x 0 < length list → get_or list (get_or places x 0) 0 ≡ x → Some (get_or places x 0) ≡ rank list x
 noted_rank list places x noted within same =
     rank_found list x (get_or places x 0) within same (λ k l e.
     let here : get_or places x 0 ≡ k = sym (ap (λ n. get_or places n 0) e) ∙ noted k (omega arith) in
     absurd (omega arith))
 
--- a number that doesn't stand there has no rank
+-- if a number does not stand in the list at the place that the table notes, it has no rank
 pub noted_none : (list places : List ℕ) (x : ℕ) → ArePlaces list places → (get_or places x 0 < length list → get_or list (get_or places x 0) 0 ≢ x) → None ≡ rank list x
 noted_none list places x noted other =
     rank_none list x (λ k l e.
     let here : get_or places x 0 ≡ k = sym (ap (λ n. get_or places n 0) e) ∙ noted k l in
     other (omega arith) (ap (λ n. get_or list n 0) here ∙ e))
 
--- one more item, which did not stand earlier in the list
+-- the table notes one more item of the list, which did not stand earlier in the list
 pub ArePlaces-more : (list places : List ℕ) (i : ℕ) → i < length list → ((k : ℕ) → k < i → get_or list k 0 ≢ get_or list i 0) → get_or list i 0 < length places → ArePlaces (take i list) places → ArePlaces (take (i + 1) list) (set places (get_or list i 0) i)
 ArePlaces-more list places i h apart below noted k l =
     let n = length-take (i + 1) list in
@@ -47,7 +47,7 @@ is_some-rank xs x = step (is_listed xs x) (place xs x)
     step true p = refl
     step false p = refl
 
--- an item of the list is not a number that isn't listed
+-- no item of a list is equal to a number that isn't listed
 pub unlisted_apart : (xs : List ℕ) (x : ℕ) → is_listed xs x ≡ false → (k : ℕ) → k < length xs → get_or xs k 0 ≢ x
 unlisted_apart xs x e k l same = true≢false (sym (is_listed_at xs x k l same) ∙ e)
   where

@@ -1,4 +1,4 @@
--- Lemmas about the ranks of offers.
+-- The ranks that are stored for offers: the rank of each programme on the lists of its residents.
 use Rattle.std.proofs.Common.{◌≡◌, ℕ, ◌+◌, ◌<◌, List, [], ◌∷◌, ◌++◌, length, get_or, take, Some, sym, ap, ◌∙◌, arith, append_assoc}
 use Rattle.std.proofs.lemmas.List.{map_more, get_or-map, get_or_default}
 use Rattle.match_model.specs.Ranking.{place}
@@ -8,11 +8,11 @@ use Rattle.match_model.specs.Rows.{RowLists}
 use Rattle.match_model.proofs.Rankings.{is_listed_at, is_listed-true, is_listed_from}
 use Rattle.match_model.proofs.RankTables.{table_at, length_tables, rank_listed}
 
--- a row after its start
+-- finished rows, followed by an open row
 abbrev with_begun : List (List ℕ) → List ℕ → RowLists ℕ
 with_begun rows begun = record { rows = rows; begun = begun }
 
--- one rank more
+-- the ranks for the first i + 1 residents of a list, after one more rank is added
 pub ranks_more : (theirs : List (List ℕ)) (p i k : ℕ) (list : List ℕ) (first before after : RowLists ℕ) → i < length list → before ≡ record first { begun = first.begun ++ ranks_of theirs p (take i list) }
     → after ≡ record before { begun = before.begun ++ k ∷ [] } → k ≡ place (list_at theirs (get_or list i 0)) p → after ≡ record first { begun = first.begun ++ ranks_of theirs p (take (i + 1) list) }
 ranks_more theirs p i k list first before after h begun pushed here =
@@ -21,7 +21,7 @@ ranks_more theirs p i k list first before after h begun pushed here =
     pushed ∙ ap (λ (t : RowLists ℕ). with_begun t.rows (t.begun ++ k ∷ [])) begun
     ∙ ap (λ (xs : List ℕ). with_begun first.rows xs) (append_assoc first.begun ranks (k ∷ []) ∙ ap (λ (xs : List ℕ). first.begun ++ xs) (sym more))
 
--- the rank of p in a table; p stands in the list of this table
+-- the table of a resident's list has the rank of programme p, which stands on the list
 pub rank_there : (theirs : List (List ℕ)) (tables : List (List (ℕ × ℕ))) (p r i : ℕ) (list : List ℕ) (table : List (ℕ × ℕ)) → AreRankTables theirs tables → AreListedBack theirs p list → i < length list → get_or list i 0 ≡ r → r < length tables
     → table ≡ get_or tables r [] → (IsRankTable (list_at theirs r) table) × (rank (list_at theirs r) p ≡ Some (place (list_at theirs r) p))
 rank_there theirs tables p r i list table ranked back h at below is =
@@ -29,13 +29,13 @@ rank_there theirs tables p r i list table ranked back h at below is =
     (table_at theirs tables ranked.each r table (omega arith) (is ∙ get_or_default tables r [] table below), rank_listed (list_at theirs r) p (back.back r (is_listed_at list r i h at)))
 
 module _ (inst : Instance) (ranks : List (List ℕ)) (h : AreOfferRanks inst.programme_lists inst.resident_lists ranks) (p k r : ℕ) (within : p < length inst.programme_lists) (before_end : k < length (list_of_programme inst p)) (at : get_or (list_of_programme inst p) k 0 ≡ r) where
-  -- the rank stored for a place of p's list
+  -- the rank stored for place k of p's list is p's place on the list of the resident there
   offer_here : get_or (list_at ranks p) k 0 ≡ place (list_of_resident inst r) p
   offer_here =
       ap (λ (row : List ℕ). get_or row k 0) (h.row p within) ∙ get_or-map (λ s. place (list_of_resident inst s) p) (list_of_programme inst p) k 0 0 before_end
       ∙ ap (λ (s : ℕ). place (list_of_resident inst s) p) at
 
-  -- p's rank in that resident's list
+  -- p's rank on the list of the resident at place k is the stored rank
   pub ranked_here : IsInstance inst → rank (list_of_resident inst r) p ≡ Some (get_or (list_at ranks p) k 0)
   ranked_here is =
       let listed = is_listed_at (list_of_programme inst p) r k before_end at in

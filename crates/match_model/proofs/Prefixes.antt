@@ -1,10 +1,10 @@
--- Lemmas about lists that begin other lists, and induction on the last item.
+-- Lists that are the beginning of another list, and induction on the last item of a list.
 use mathlib.Core.List.{IsPrefix}
 use Rattle.std.proofs.Common.{◌≡◌, ℕ, zero, suc, ◌<◌, ◌≤◌, ◌⊎◌, inl, inr, List, [], ◌∷◌, ◌++◌, length, take, drop, slice_get, Some, refl, ap, ap₂, sym, ◌∙◌, subst, append_assoc, append-nil, arith, length-append}
 use Rattle.std.proofs.lemmas.List.{take_at, take_all, take-append-drop}
 use Rattle.std.proofs.lemmas.Option.{same_Some}
 
--- induction on a list's last item
+-- induction on lists that grow by one item at the end
 pub push_induction : {X : Type 0} (P : List X → Type 0) → P [] → ((xs : List X) (x : X) → P xs → P (xs ++ x ∷ [])) → (xs : List X) → P xs
 push_induction {X} P start step xs = from [] xs start
   where
@@ -26,7 +26,7 @@ slice_get-append_some [] ys i x e = absurd (cc)
 slice_get-append_some (z ∷ zs) ys zero x e = e
 slice_get-append_some (z ∷ zs) ys (suc i) x e = slice_get-append_some zs ys i x e
 
--- in a list with one more item at its end, an item stands earlier, or is this one
+-- an item of a list with one more item at its end stands in the old list, or is the added item
 pub slice_get_push_parts : {X : Type 0} (xs : List X) (y : X) (i : ℕ) (x : X) → slice_get (xs ++ y ∷ []) i ≡ Some x → (slice_get xs i ≡ Some x) ⊎ ((i ≡ length xs) × (y ≡ x))
 slice_get_push_parts [] y zero x e = inr (refl, cc)
 slice_get_push_parts [] y (suc i) x e = absurd (cc)
@@ -43,7 +43,7 @@ slice_get_drop zero (x ∷ xs) = refl
 slice_get_drop (suc n) [] = refl
 slice_get_drop (suc n) (x ∷ xs) = slice_get_drop n xs
 
--- ---- a list that begins another
+-- ---- lists that are the beginning of another list
 
 pub prefix_nil : {X : Type 0} (ys : List X) → IsPrefix [] ys
 prefix_nil ys = (ys, refl)
@@ -82,7 +82,7 @@ prefix_whole xs ys h l = sym (prefix_take xs ys h) ∙ take_all (length xs) ys l
 pub prefix_item : {X : Type 0} (xs ys : List X) (i : ℕ) (x : X) → IsPrefix xs ys → slice_get xs i ≡ Some x → slice_get ys i ≡ Some x
 prefix_item xs ys i x h e = subst (λ t. slice_get t i ≡ Some x) h.1 (slice_get-append_some xs h.0 i x e)
 
--- if a shorter list begins a longer one, the remainder has a first item
+-- if list xs is the beginning of a longer list ys, then ys has an item behind xs
 pub item_at : {X : Type 0} (xs : List X) (i : ℕ) → i < length xs → (x : X) × (slice_get xs i ≡ Some x)
 item_at [] i l = absurd (omega arith)
 item_at (x ∷ xs) zero l = (x, refl)

@@ -1,4 +1,4 @@
--- Lemmas about finding a rank in a table.
+-- How a rank is found in a table of ranks.
 use Rattle.std.proofs.Common.{◌≡◌, ◌≢◌, ℕ, ◌+◌, ◌<◌, ◌≤◌, Bool, true, false, cond, eqb, List, [], ◌∷◌, ◌++◌, length, get_or, take, map, Some, None, refl, sym, ap, ◌∙◌, subst, suc, zero, arith, ◌&&◌, ◌||◌, ⊎_elim}
 use Rattle.std.specs.Prelude.{Result, Ok, Err, MatchResult, if◌then◌else◌}
 use Rattle.std.specs.List.{list_any, All, AllZip, filter}
@@ -17,11 +17,11 @@ use Rattle.match_model.specs.Instance.{rank}
 use Rattle.match_model.specs.RankTable.{ranked, IsRankTable}
 use Rattle.match_model.proofs.Rankings.{is_listed-any, is_listed-filter, filter_keeps, filter_leaves}
 
--- an item, with its place
+-- an entry of a table: an item of a list, with its place in the list
 abbrev Entry : Type 0
 Entry = ℕ × ℕ
 
--- a listed number has its place as its rank
+-- the rank of a listed number is its place
 pub rank_listed : (list : List ℕ) (x : ℕ) → is_listed list x ≡ true → rank list x ≡ Some (place list x)
 rank_listed list x e = ap (λ (b : Bool). if b then Some (place list x) else None) e
 
@@ -39,7 +39,7 @@ rank_missing list x e = split (is_listed list x) e
     split true h = cc
     split false h = refl
 
--- one more number of a row
+-- the entries for the first i + 1 numbers of a row, if number i is listed
 pub ranked_keeps : (list row : List ℕ) (i p : ℕ) → i < length row → Some p ≡ rank list (get_or row i 0) → ranked list (take (i + 1) row) ≡ ranked list (take i row) ++ (get_or row i 0, p) ∷ []
 ranked_keeps list row i p h e =
     let found = rank_some list (get_or row i 0) p e in
@@ -51,7 +51,7 @@ ranked_keeps list row i p h e =
 pub ranked_leaves : (list row : List ℕ) (i : ℕ) → i < length row → None ≡ rank list (get_or row i 0) → ranked list (take (i + 1) row) ≡ ranked list (take i row)
 ranked_leaves list row i h e = ap (λ (xs : List ℕ). map (λ x. (x, place list x)) xs) (filter_leaves (λ x. is_listed list x) row i 0 h (rank_missing list (get_or row i 0) e))
 
--- an entry has the rank of its number
+-- each entry of a table has the rank of its number
 ranks_right : (list row : List ℕ) → All (λ (entry : Entry). rank list entry.0 ≡ Some entry.1) (ranked list row)
 ranks_right list [] = All-nil (λ (entry : Entry). rank list entry.0 ≡ Some entry.1)
 ranks_right list (x ∷ xs) = step (is_listed list x) refl (ranks_right list xs)
@@ -61,7 +61,7 @@ ranks_right list (x ∷ xs) = step (is_listed list x) refl (ranks_right list xs)
     step true e rest = All-cons (λ (entry : Entry). rank list entry.0 ≡ Some entry.1) (x, place list x) (ranked list xs) (rank_listed list x e) rest
     step false e rest = rest
 
--- an item has an entry exactly if some entry has its number
+-- a number has an entry in a table exactly if the number is among the table's numbers
 any_entry : (list xs : List ℕ) (x : ℕ) → list_any (λ (entry : Entry). eqb entry.0 x) (map (λ y. (y, place list y)) xs) ≡ list_any (λ y. eqb y x) xs
 any_entry list [] x = refl
 any_entry list (y ∷ ys) x = ap (λ (b : Bool). eqb y x || b) (any_entry list ys x)
@@ -75,7 +75,7 @@ entries_rise list xs up = IsNonDecreasingBy-from_default (λ (entry : Entry). en
     let rises = up i j 0 l within in
     omega (arith, low, high, rises))
 
--- a sorted row that has each item of a list gives the list's table
+-- a sorted row with all items of a list gives a table for this list
 pub IsRankTable-ranked : (list row : List ℕ) → IsNonDecreasing row → ((x : ℕ) → is_listed list x ≡ true → is_listed row x ≡ true) → IsRankTable list (ranked list row)
 IsRankTable-ranked list row up covers = record {
   ranks = ranks_right list row;
@@ -88,13 +88,13 @@ IsRankTable-ranked list row up covers = record {
     kept = filter (λ y. is_listed list y) row
 
 module _ (list : List ℕ) (table : List Entry) (of_list : IsRankTable list table) (x : ℕ) where
-  -- the entry of an item has its rank
+  -- the entry that has the number x has the rank of x
   pub table_finds : (at : ℕ) (entry : Entry) → at < length table → entry ≡ get_or table at entry → entry.0 ≡ x → Some entry.1 ≡ rank list x
   table_finds at entry h is same =
       let right : rank list entry.0 ≡ Some entry.1 = subst (λ (e : Entry). rank list e.0 ≡ Some e.1) (sym is) (of_list.ranks at entry h) in
       sym (ap (rank list) (sym same) ∙ right)
 
-  -- an item without an entry has no rank
+  -- if no entry has the number x, then x has no rank
   pub table_misses : ((k : ℕ) (d : Entry) → k < length table → (get_or table k d).0 ≢ x) → None ≡ rank list x
   table_misses none =
       let entered : list_any (λ (entry : Entry). eqb entry.0 x) table ≡ false =
@@ -113,7 +113,7 @@ module _ (list : List ℕ) (table : List Entry) (of_list : IsRankTable list tabl
       let keys_rise = of_list.rising i j (0, 0) l h in
       grind (arith, nat_tests))
 
-  -- what the binary search in the table finds
+  -- the binary search for x finds the rank of x, or that x has no rank
   pub searched : (r : Result ℕ ℕ) → IsBinarySearchResult (λ (entry : Entry). nat_cmp entry.0 x) table r →
       MatchResult r (λ at. (entry : Entry) → at < length table → entry ≡ get_or table at entry → Some entry.1 ≡ rank list x) (λ _. None ≡ rank list x)
   searched (Ok at) equal = λ entry h is. table_finds at entry h is (ranked_number entry.0 x _ (sym (ap (λ (e : Entry). nat_cmp e.0 x) is ∙ equal entry)))
@@ -125,21 +125,21 @@ module _ (list : List ℕ) (table : List Entry) (of_list : IsRankTable list tabl
           (λ (b : at ≤ k). let more : x < (get_or table k d).0 = ranked_number (get_or table k d).0 x _ (sym ((parted comparisons_rise).1 k d b l)) in absurd (omega arith))
           (cases_lt k at)
 
--- each table belongs to the list at the same place
+-- table i belongs to list i
 pub table_at : (lists : List (List ℕ)) (tables : List (List Entry)) → AllZip IsRankTable lists tables → (i : ℕ) (table : List Entry) → i < length lists → table ≡ get_or tables i table → IsRankTable (get_or lists i []) table
 table_at [] tables all i table h is = absurd (omega arith)
 table_at (l ∷ ls) [] all i table h is = absurd all
 table_at (l ∷ ls) (t ∷ ts) all zero table h is = subst (IsRankTable l) (sym is) all.0
 table_at (l ∷ ls) (t ∷ ts) all (suc i) table h is = table_at ls ts all.1 i table (omega arith) is
 
--- there are as many tables as lists
+-- there is one table for each list
 pub length_tables : (lists : List (List ℕ)) (tables : List (List Entry)) → AllZip IsRankTable lists tables → length lists ≡ length tables
 length_tables [] [] all = refl
 length_tables [] (t ∷ ts) all = absurd all
 length_tables (l ∷ ls) [] all = absurd all
 length_tables (l ∷ ls) (t ∷ ts) all = ap suc (length_tables ls ts all.1)
 
--- one table more
+-- the tables of the lists, after one more list and its table
 pub tables_push : (lists : List (List ℕ)) (tables : List (List Entry)) (list : List ℕ) (table : List Entry) → AllZip IsRankTable lists tables → IsRankTable list table → AllZip IsRankTable (lists ++ list ∷ []) (tables ++ table ∷ [])
 tables_push [] [] list table all one = (one, tt)
 tables_push [] (t ∷ ts) list table all one = absurd all

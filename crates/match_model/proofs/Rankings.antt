@@ -1,4 +1,4 @@
--- Lemmas about rankings: the place that a walk finds, and ranks.
+-- The places and ranks that a walk along a list finds.
 use Rattle.std.proofs.Common.{◌≡◌, ◌≢◌, ℕ, ◌+◌, ◌<◌, ◌≤◌, Bool, true, false, cond, eqb, ltb, List, [], ◌∷◌, ◌++◌, length, get_or, take, Some, None, refl, sym, ap, ◌∙◌, suc, zero, arith, one-add, not, ◌&&◌, ◌||◌}
 use Rattle.std.specs.List.{list_any, list_all, filter, IsDistinct, AllByRecursion}
 use Rattle.std.proofs.lemmas.Bool.{and_parts, or_parts, not-true, eqb-true, eq-eqb, ltb-true, ltb-false, lt-ltb}
@@ -11,14 +11,14 @@ use Rattle.match_model.specs.Ranking.{place, is_listed, HasNoRepeats, IsListed}
 use Rattle.match_model.specs.Instance.{rank}
 use Rattle.match_model.specs.Draft.{has_no_repeats}
 
--- one step of the walk
+-- the place of a number in a list that begins with this number, and in a list that begins with another number
 pub place-cons_same : (y x : ℕ) (ys : List ℕ) → y ≡ x → place (y ∷ ys) x ≡ 0
 place-cons_same y x ys e = grind arith
 
 pub place-cons_other : (y x : ℕ) (ys : List ℕ) → y ≢ x → place (y ∷ ys) x ≡ 1 + place ys x
 place-cons_other y x ys e = grind arith
 
--- the place of an item that differs from all earlier items
+-- the place of an item is the index of the first item equal to it
 pub place_is : (xs : List ℕ) (x i : ℕ) → i < length xs → get_or xs i 0 ≡ x → ((k : ℕ) → k < i → get_or xs k 0 ≢ x) → place xs x ≡ i
 place_is [] x i h e none = absurd (omega arith)
 place_is (y ∷ ys) x zero h e none = place-cons_same y x ys e
@@ -31,14 +31,14 @@ place_past [] x none = refl
 place_past (y ∷ ys) x none =
     place-cons_other y x ys (none 0 (omega arith)) ∙ ap (λ n. 1 + n) (place_past ys x (λ k l. none (suc k) (omega arith))) ∙ one-add (length ys)
 
--- what a search for a rank finds
+-- the walk finds the rank of a number, or that the number has no rank
 pub rank_found : (xs : List ℕ) (x i : ℕ) → i < length xs → get_or xs i 0 ≡ x → ((k : ℕ) → k < i → get_or xs k 0 ≢ x) → Some i ≡ rank xs x
 rank_found xs x i h e none = let p : place xs x ≡ i = place_is xs x i h e none in grind arith
 
 pub rank_none : (xs : List ℕ) (x : ℕ) → ((k : ℕ) → k < length xs → get_or xs k 0 ≢ x) → None ≡ rank xs x
 rank_none xs x none = let p : place xs x ≡ length xs = place_past xs x none in grind arith
 
--- a place is at most the length
+-- the place of a number in a list is at most the list's length
 pub place-le : (xs : List ℕ) (x : ℕ) → place xs x ≤ length xs
 place-le [] x = omega arith
 place-le (y ∷ ys) x = let h : place ys x ≤ length ys = place-le ys x in place-le_cons y x ys h
@@ -46,7 +46,7 @@ place-le (y ∷ ys) x = let h : place ys x ≤ length ys = place-le ys x in plac
     place-le_cons : (y x : ℕ) (ys : List ℕ) → place ys x ≤ length ys → place (y ∷ ys) x ≤ length (y ∷ ys)
     place-le_cons y x ys h = grind arith
 
--- an item is listed: as a fact and as a test
+-- the test whether a number is listed is true exactly if the number is listed
 pub is_listed-true : (xs : List ℕ) (x : ℕ) → is_listed xs x ≡ true → IsListed xs x
 is_listed-true xs x e = ltb-true _ _ e
 
@@ -59,7 +59,7 @@ is_listed_from xs x h = lt-ltb _ _ h
 pub is_listed_not : (xs : List ℕ) (x : ℕ) → (IsListed xs x → ⊥) → is_listed xs x ≡ false
 is_listed_not xs x h = grind (arith, nat_tests)
 
--- an item is listed, as a walk over the list finds it
+-- a number is listed exactly if a walk over the list finds an equal item
 pub is_listed-any : (xs : List ℕ) (x : ℕ) → is_listed xs x ≡ list_any (λ y. eqb y x) xs
 is_listed-any [] x = refl
 is_listed-any (y ∷ ys) x = step y x ys (is_listed-any ys x)
@@ -67,7 +67,7 @@ is_listed-any (y ∷ ys) x = step y x ys (is_listed-any ys x)
     step : (y x : ℕ) (ys : List ℕ) → is_listed ys x ≡ list_any (λ z. eqb z x) ys → is_listed (y ∷ ys) x ≡ list_any (λ z. eqb z x) (y ∷ ys)
     step y x ys h = grind arith
 
--- an item is listed, with one more item in front or at the end
+-- which numbers are listed, after one more item in front or at the end
 pub is_listed-cons : (y : ℕ) (ys : List ℕ) (x : ℕ) → is_listed (y ∷ ys) x ≡ eqb y x || is_listed ys x
 is_listed-cons y ys x = is_listed-any (y ∷ ys) x ∙ ap (λ b. eqb y x || b) (sym (is_listed-any ys x))
 
@@ -84,7 +84,7 @@ is_listed-append (z ∷ xs) ys x =
 pub is_listed_alone : (y x : ℕ) → is_listed (y ∷ []) x ≡ eqb y x
 is_listed_alone y x = grind arith
 
--- an item that is found is listed, and an item that is not found isn't
+-- a number that a walk finds is listed, and a number that no walk finds isn't
 pub is_listed_at : (xs : List ℕ) (x i : ℕ) → i < length xs → get_or xs i 0 ≡ x → is_listed xs x ≡ true
 is_listed_at [] x i h e = absurd (omega arith)
 is_listed_at (y ∷ ys) x zero h e = is_listed-cons y ys x ∙ ap (λ b. b || is_listed ys x) (eq-eqb y x e)
@@ -97,11 +97,11 @@ is_listed_at (y ∷ ys) x (suc i) h e = is_listed-cons y ys x ∙ ap (λ b. eqb 
 pub is_listed_nowhere : (xs : List ℕ) (x : ℕ) → ((k : ℕ) → k < length xs → get_or xs k 0 ≢ x) → is_listed xs x ≡ false
 is_listed_nowhere xs x none = let p : place xs x ≡ length xs = place_past xs x none in grind arith
 
--- equality of numbers holds in both directions
+-- if a equals b, then b equals a
 pub eqb_comm : (a b : ℕ) → eqb a b ≡ eqb b a
 eqb_comm a b = grind arith
 
--- no repeats, with one more item at the end
+-- a list with one more item at its end has no repeats exactly if the old list has none and the item is new
 pub has_no_repeats-push : (xs : List ℕ) (y : ℕ) → has_no_repeats (xs ++ y ∷ []) ≡ has_no_repeats xs && not (is_listed xs y)
 has_no_repeats-push [] y = refl
 has_no_repeats-push (x ∷ xs) y =
@@ -120,7 +120,7 @@ has_no_repeats-push (x ∷ xs) y =
     regroup false true n b = absorb n
     regroup false false n b = refl
 
--- a list whose beginning has a repeat has one
+-- if the beginning of a list has a repeat, the whole list has a repeat
 pub has_no_repeats-append : (xs ys : List ℕ) → has_no_repeats xs ≡ false → has_no_repeats (xs ++ ys) ≡ false
 has_no_repeats-append [] ys h = absurd (true≢false h)
   where
@@ -132,11 +132,11 @@ has_no_repeats-append (x ∷ xs) ys h =
     step : (a b n m l : Bool) → l ≡ a || b → not a && n ≡ false → (n ≡ false → m ≡ false) → not l && m ≡ false
     step a b n m l e h f = grind arith
 
--- no repeats, from the head of the list
+-- if a list has no repeats, its first item is not among the others, and these have no repeats
 no_repeats_parts : (y : ℕ) (ys : List ℕ) → has_no_repeats (y ∷ ys) ≡ true → (is_listed ys y ≡ false) × (has_no_repeats ys ≡ true)
 no_repeats_parts y ys h = let part = and_parts (not (is_listed ys y)) (has_no_repeats ys) h in (not-true (is_listed ys y) part.0, part.1)
 
--- an item is in the filtered list exactly if it was listed and passes
+-- a number is in a filtered list exactly if it is in the list and passes the test
 pub is_listed-filter : (q : ℕ → Bool) (xs : List ℕ) (x : ℕ) → is_listed (filter q xs) x ≡ is_listed xs x && q x
 is_listed-filter q [] x = refl
 is_listed-filter q (y ∷ ys) x = step (q y) refl (is_listed-filter q ys x)
@@ -152,7 +152,7 @@ is_listed-filter q (y ∷ ys) x = step (q y) refl (is_listed-filter q ys x)
     step true h ih = is_listed-cons y (filter q ys) x ∙ ap (λ b. eqb y x || b) ih ∙ join (eqb y x) (is_listed ys x) true (q x) (same (eqb y x) true refl h) ∙ ap (λ b. b && q x) (sym (is_listed-cons y ys x))
     step false h ih = ih ∙ join (eqb y x) (is_listed ys x) false (q x) (same (eqb y x) false refl h) ∙ ap (λ b. b && q x) (sym (is_listed-cons y ys x))
 
--- a filter makes no new repeats
+-- if a list has no repeats, the filtered list has none
 pub has_no_repeats-filter : (q : ℕ → Bool) (xs : List ℕ) → has_no_repeats xs ≡ true → has_no_repeats (filter q xs) ≡ true
 has_no_repeats-filter q [] h = refl
 has_no_repeats-filter q (y ∷ ys) h = step (q y) (has_no_repeats-filter q ys (part.1)) (is_listed-filter q ys y)
@@ -167,7 +167,7 @@ has_no_repeats-filter q (y ∷ ys) h = step (q y) (has_no_repeats-filter q ys (p
     step true ih l = keep _ _ _ (q y) l part.0 ih
     step false ih l = ih
 
--- no repeats, in the terms of std
+-- a list without repeats is a distinct list as the standard library defines it
 pub IsDistinct-from_test : (xs : List ℕ) → has_no_repeats xs ≡ true → IsDistinct eqb xs
 unfolding IsDistinct
 IsDistinct-from_test [] h = tt
@@ -202,7 +202,7 @@ listed_below n q (y ∷ ys) b e =
 pub length-le_below : (xs : List ℕ) (n : ℕ) → has_no_repeats xs ≡ true → list_all (λ x. ltb x n) xs ≡ true → length xs ≤ n
 length-le_below xs n h b = length-le_from_distinct_below xs n (IsDistinct-from_test xs h) (λ q e. listed_below n q xs b e)
 
--- the beginning of what a filter keeps, after one more item
+-- the filtered first i + 1 items of a list are the filtered first i items, followed by item i if it passes
 module _ (q : ℕ → Bool) (xs : List ℕ) (i d : ℕ) (within : i < length xs) where
   filter_more : filter q (take (i + 1) xs) ≡ filter q (take i xs) ++ filter q (get_or xs i d ∷ [])
   filter_more = ap (filter q) (take_more xs i d within) ∙ filter-append q (take i xs) (get_or xs i d ∷ [])
@@ -213,6 +213,6 @@ module _ (q : ℕ → Bool) (xs : List ℕ) (i d : ℕ) (within : i < length xs)
   pub filter_leaves : q (get_or xs i d) ≡ false → filter q (take (i + 1) xs) ≡ filter q (take i xs)
   filter_leaves h = filter_more ∙ ap (λ b. filter q (take i xs) ++ cond b (get_or xs i d ∷ []) []) h ∙ append-nil (filter q (take i xs))
 
--- in a list without repeats, an item's rank is its place
+-- in a list without repeats, the rank of an item is the index at which it stands
 pub rank_at_place : (xs : List ℕ) (x i : ℕ) → HasNoRepeats xs → i < length xs → get_or xs i 0 ≡ x → Some i ≡ rank xs x
 rank_at_place xs x i distinct h at = rank_found xs x i h at (λ k l e. distinct k i 0 l h (e ∙ sym at))

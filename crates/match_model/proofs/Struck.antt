@@ -1,4 +1,5 @@
--- The instance of a draft with withdrawals is that of the draft without the withdrawn members' names.
+-- A draft with withdrawals has the same lists in its instance as the draft in which the withdrawn members are struck
+-- from all lists.
 use Rattle.std.proofs.Common.{◌≡◌, ℕ, Bool, true, false, cond, List, [], ◌∷◌, map, Option, Some, refl, sym, ap, ◌∙◌, suc, zero, not, ◌&&◌}
 use Rattle.std.specs.Prelude.{◌↔◌, if◌then◌else◌}
 use Rattle.std.specs.List.{filter}
@@ -13,7 +14,7 @@ use Rattle.match_model.proofs.Remaining.{remaining_at, remaining_withdrawn}
 use Rattle.match_model.proofs.Mutual.{length-mutual_lists}
 use Rattle.match_model.proofs.Kept.{mutual_list_at, listed_both}
 
--- a member on a remaining list also stood on the given list, and the owner is not withdrawn
+-- a member on a remaining list also stands on the given list, and the owner of the list is not withdrawn
 left_from : (lists : List (List ℕ)) (flags : List Bool) (i x : ℕ) → is_listed (list_at (remaining_lists lists flags) i) x ≡ true → (is_listed (list_at lists i) x ≡ true) × (is_withdrawn flags i ≡ false)
 left_from lists flags i x h = split (is_withdrawn flags i) (sym (ap (λ (xs : List ℕ). is_listed xs x) (remaining_at lists flags i)) ∙ h)
   where
@@ -24,7 +25,7 @@ left_from lists flags i x h = split (is_withdrawn flags i) (sym (ap (λ (xs : Li
 left_stays : (lists : List (List ℕ)) (flags : List Bool) (i x : ℕ) → is_listed (list_at lists i) x ≡ true → is_withdrawn flags i ≡ false → is_listed (list_at (remaining_lists lists flags) i) x ≡ true
 left_stays lists flags i x h e = ap (λ (xs : List ℕ). is_listed xs x) (remaining_at lists flags i ∙ ap (λ b. if b then [] else list_at lists i) e) ∙ h
 
--- a pair is acceptable exactly if each listed the other and neither is withdrawn
+-- a pair is acceptable exactly if each member listed the other and neither is withdrawn
 pub acceptable_where : (d : Draft) (r p : ℕ) → Acceptable (instance_of d) r p ↔ ListOneAnother d r p
 acceptable_where d r p = (there, back)
   where
@@ -47,7 +48,7 @@ acceptable_where d r p = (there, back)
         (left_stays (given_lists d.programme_lists) d.programmes_withdrawn p r (is_listed_from _ r l.programme_lists_resident) l.programme_stays)
         (left_stays (given_lists d.resident_lists) d.residents_withdrawn r p (is_listed_from _ p l.resident_lists_programme) l.resident_stays))
 
--- if nobody is withdrawn, the lists are the given ones
+-- if nobody is withdrawn, the remaining lists are the given lists
 pub remaining_nobody : (lists : List (List ℕ)) (flags : List Bool) → AreAllHere flags → remaining_lists lists flags ≡ lists
 remaining_nobody [] flags h = refl
 remaining_nobody (l ∷ ls) [] h = refl
@@ -64,7 +65,7 @@ all_here d p r = λ i. mutual_lists (remaining_nobody (given_lists d.programme_l
 pub all_here_too : (d : Draft) → AreAllHere d.programmes_withdrawn → AreAllHere d.residents_withdrawn → (instance_of d).resident_lists ≡ mutual_lists (given_lists d.resident_lists) (given_lists d.programme_lists)
 all_here_too d p r = λ i. mutual_lists (remaining_nobody (given_lists d.resident_lists) d.residents_withdrawn r i) (remaining_nobody (given_lists d.programme_lists) d.programmes_withdrawn p i)
 
--- the lists of a struck draft
+-- the lists of a draft from which withdrawn members were struck
 given_struck : (flags : List Bool) (lists : List (List ℕ)) → given_lists (map (λ list. Some (strike flags list)) lists) ≡ map (strike flags) lists
 given_struck flags [] = refl
 given_struck flags (l ∷ ls) = ap (λ (xs : List (List ℕ)). strike flags l ∷ xs) (given_struck flags ls)
@@ -74,7 +75,7 @@ struck_at flags [] i = refl
 struck_at flags (l ∷ ls) zero = refl
 struck_at flags (l ∷ ls) (suc i) = struck_at flags ls i
 
--- a test of two conditions can be split in two
+-- a filter by two tests is a filter by the first test, and then by the second
 filter_parted : (p q s : ℕ → Bool) → ((x : ℕ) → p x ≡ q x && s x) → (xs : List ℕ) → filter p xs ≡ filter s (filter q xs)
 filter_parted p q s h [] = refl
 filter_parted p q s h (x ∷ xs) =
@@ -84,7 +85,7 @@ filter_parted p q s h (x ∷ xs) =
     step true = refl
     step false = refl
 
--- the mutual lists after withdrawn members were struck
+-- the mutual lists of lists from which withdrawn members were struck
 module _ (mine theirs : List (List ℕ)) (my_flags their_flags : List Bool) where
   abbrev my_left : List (List ℕ)
   my_left = remaining_lists mine my_flags
@@ -123,11 +124,11 @@ module _ (mine theirs : List (List ℕ)) (my_flags their_flags : List Bool) wher
       (length-mutual_lists my_left their_left ∙ sym (length-mutual_lists (map (strike their_flags) my_left) (map (strike my_flags) their_left) ∙ length-map my_left (strike their_flags)))
       (λ o h. mutual_list_at my_left their_left o ∙ mutual_struck_at o ∙ sym (mutual_list_at (map (strike their_flags) my_left) (map (strike my_flags) their_left) o))
 
--- the remaining lists of a struck draft
+-- the remaining lists of a draft from which withdrawn members were struck
 struck_left : (lists : List (Option (List ℕ))) (owners others : List Bool) → remaining_lists (given_lists (struck_lists lists owners others)) (none_withdrawn owners) ≡ map (strike others) (remaining_lists (given_lists lists) owners)
 struck_left lists owners others = remaining_none (given_lists (struck_lists lists owners others)) owners ∙ given_struck others (remaining_lists (given_lists lists) owners)
 
--- the instance of a draft with withdrawals is that of the struck draft
+-- the instance of a draft with withdrawals is the instance of the struck draft, with the flags of the withdrawn members
 pub as_struck : (d : Draft) → instance_of d ≡ with_flags (instance_of (struck d)) d.programmes_withdrawn d.residents_withdrawn
 as_struck d =
     let ps = struck_left d.programme_lists d.programmes_withdrawn d.residents_withdrawn in

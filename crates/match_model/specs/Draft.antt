@@ -82,7 +82,7 @@ abbrev pub list_in : List ℕ → Option (ℕ × ℕ) → Option (List ℕ)
 list_in items None = None
 list_in items (Some span) = Some (slice_range items span.0 span.1)
 
--- if there is a span, it ends at or after its start, and at n at the latest
+-- if there is a span, the span does not end before its start, and does not end after n
 abbrev pub IsSpan : ℕ → Option (ℕ × ℕ) → Type 0
 IsSpan n None = Unit {0}
 IsSpan n (Some span) = (span.0 ≤ span.1) × (span.1 ≤ n)
@@ -102,7 +102,8 @@ draft_with limits quotas programmes residents programmes_gone residents_gone = r
 abbrev pub lists_left : List (Option (List ℕ)) → List Bool → List (List ℕ)
 lists_left lists flags = remaining_lists (given_lists lists) flags
 
--- my lists, each with only the members who list its owner too; lists of withdrawn owners are empty on both sides
+-- one side's lists, each with only those members who list the list's owner too; the list of a withdrawn owner counts as
+-- empty, on both sides
 abbrev pub mutual_left : List (Option (List ℕ)) → List Bool → List (Option (List ℕ)) → List Bool → List (List ℕ)
 mutual_left mine my_flags theirs their_flags = mutual_lists (lists_left mine my_flags) (lists_left theirs their_flags)
 
@@ -127,13 +128,14 @@ owner_fault lists owner =
     if nat_le (length lists) owner then Some NoSuchMember
     else (if is_some (slice_index_or lists owner None) then Some ListGivenTwice else None)
 
--- the first fault of a list's items: an item is `others` or more, or is listed twice
+-- the first fault of a list's items: an item is not below `others`, or is listed twice
 abbrev pub items_fault : ℕ → List ℕ → Option ModelFault
 items_fault others items =
     if not (list_all (λ x. nat_lt x others) items) then Some NoSuchMember
     else (if not (has_no_repeats items) then Some ListedTwice else None)
 
--- the first fault of a list: the owner's fault, and then that of the items, which have to be below `others`
+-- the first fault of a list: the fault of its owner, or else the first fault of its items, which have to be below
+-- `others`
 abbrev pub list_fault : List (Option (List ℕ)) → ℕ → ℕ → List ℕ → Option ModelFault
 list_fault lists owner others items = option_or (owner_fault lists owner) (items_fault others items)
 
@@ -143,23 +145,23 @@ withdrawal_fault flags member =
     if nat_le (length flags) member then Some NoSuchMember
     else (if is_withdrawn flags member then Some WithdrawnTwice else None)
 
--- if there is a fault, the answer is the fault; if there is none, the answer is Ok or out of memory
+-- if there is a fault, the answer is this fault; without a fault, the answer is Ok or out of memory
 abbrev pub AnswersFirst : {T : Type 0} → Option ModelFault → Result T ModelFault → Type 0
 AnswersFirst (Some fault) r = r ≡ Err fault
 AnswersFirst None (Ok v) = Unit {0}
 AnswersFirst None (Err e) = e ≡ Memory
 
--- the answer is Ok only if there is no fault; an error is that fault, or out of memory
+-- the answer is Ok only if there is no fault; an error is the fault, or out of memory
 abbrev pub AnswersOrWantsMemory : {T : Type 0} → Option ModelFault → Result T ModelFault → Type 0
 AnswersOrWantsMemory fault r = Answers Memory fault r
 
--- in every list that was given, each item is below n and stands once
+-- in every list that was given, each item is below n, and no item stands twice
 pub record AreLists (lists : List (Option (List ℕ))) (n : ℕ) : Type 0 where
   pub items_below : All (λ list. list_all (λ x. nat_lt x n) list ≡ true) (given_lists lists)
   pub no_repeats : All (λ list. has_no_repeats list ≡ true) (given_lists lists)
 
--- what a builder keeps: for each member a flag, and a list of other members without repeats, or none; all within its
--- repeats; all within the limits
+-- What a builder keeps. The numbers of members and the quotas are within the limits. Each member has a flag, and a list
+-- or none. A list has only members of the other side, without repeats.
 pub record IsDraft (d : Draft) : Type 0 where
   pub one_list_each : length d.programme_lists ≡ length d.quotas
   pub programmes_within : length d.quotas ≤ most_programmes d.limits
@@ -170,7 +172,7 @@ pub record IsDraft (d : Draft) : Type 0 where
   pub one_flag_each_programme : length d.programmes_withdrawn ≡ length d.quotas
   pub one_flag_each_resident : length d.residents_withdrawn ≡ length d.resident_lists
 
--- why a draft is not finished: out of memory, or too many acceptable pairs
+-- why a builder makes no instance: memory ran out, or there are too many acceptable pairs
 abbrev pub IsFinishFault : Draft → ModelFault → Type 0
 IsFinishFault d fault = (fault ≡ Memory) ⊎ ((fault ≡ TooManyPairs) × (most_pairs d.limits < pair_count (instance_of d)))
 
@@ -179,6 +181,6 @@ abbrev pub are_over : Option ℕ → ℕ → Bool
 are_over None n = false
 are_over (Some most) n = nat_lt most n
 
--- why this count of items is not gathered: out of memory, or above the limit
+-- why this many items are not gathered: memory ran out, or there are more items than the limit
 abbrev pub IsGatherFault : Option ℕ → ℕ → ModelFault → Type 0
 IsGatherFault most n fault = (fault ≡ Memory) ⊎ ((fault ≡ TooManyPairs) × (are_over most n ≡ true))

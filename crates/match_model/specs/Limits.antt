@@ -1,4 +1,4 @@
--- The limits within which a builder keeps, and its instance.
+-- The limits on the size of a builder's input and of the instance that the builder makes.
 use Rattle.std.specs.Prelude.{ℕ, ◌≤◌, length}
 use Rattle.match_model.specs.declared.limits.Limits.{Limits}
 use Rattle.match_model.specs.Instance.{Instance, pair_count}
@@ -19,7 +19,7 @@ abbrev pub most_pairs : Limits → ℕ
 most_pairs Standard = 200000
 most_pairs National = 2000000
 
--- the instance has at most so many programmes, residents and acceptable pairs
+-- the instance has at most as many programmes, residents and acceptable pairs as the limits allow
 pub record IsWithin (limits : Limits) (inst : Instance) : Type 0 where
   pub few_programmes : length inst.quotas ≤ most_programmes limits
   pub few_residents : length inst.resident_lists ≤ most_residents limits

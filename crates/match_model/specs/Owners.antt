@@ -6,49 +6,49 @@ use Rattle.match_model.specs.Ranking.{is_listed}
 use Rattle.match_model.specs.Instance.{list_at}
 use Rattle.match_model.specs.Draft.{has_no_repeats}
 
--- the owners below n whose lists have x, in rising order
+-- the owners with numbers below n whose lists have x, in rising order
 abbrev pub owners_below : ℕ → List (List ℕ) → ℕ → List ℕ
 owners_below n lists x = filter (λ owner. is_listed (list_at lists owner) x) (range_with_len 0 n)
 
--- for each number x below the count, row x has the owners below n whose lists have x
+-- for each number x below `count`, row x has the owners with numbers below n whose lists have x
 pub record AreOwners (count n : ℕ) (lists rows : List (List ℕ)) : Type 0 where
   pub one_each : length rows ≡ count
   pub row : (x : ℕ) → x < count → list_at rows x ≡ owners_below n lists x
 
--- a number's item after one step; without a listing the item stays
+-- an item after one step, if the item's number is listed; else the item itself
 abbrev pub stepped : {T : Type 0} → (T → T) → Bool → T → T
 stepped step true item = step item
 stepped step false item = item
 
--- each item with a listed number takes one step, and the other items stay the same
+-- each item whose number is listed takes one step, and every other item is unchanged
 pub record AreStepped {T : Type 0} (none : T) (step : ℕ → T → T) (list : List ℕ) (before after : List T) : Type 0 where
   pub one_each : length after ≡ length before
   pub item : (x : ℕ) → x < length before → slice_index_or after x none ≡ stepped (step x) (is_listed list x) (slice_index_or before x none)
 
--- for each number below the count, how many owners below n have it in their lists
+-- for each number x below `count`, how many owners with numbers below n have x in their lists
 pub record AreCounts (count n : ℕ) (lists : List (List ℕ)) (counts : List ℕ) : Type 0 where
   pub one_each : length counts ≡ count
   pub number : (x : ℕ) → x < count → slice_index counts x ≡ length (owners_below n lists x)
 
--- Each number has a row with room for all its owners. The owners below n are entered, and each count says how many
--- these are.
+-- Each number x has a row, with room for all owners whose lists have x. Those of these owners whose numbers are below n
+-- are entered in the row. The count of x says how many owners are entered.
 pub record AreBegun (count all n : ℕ) (lists rows : List (List ℕ)) (counts : List ℕ) : Type 0 where
   pub one_each : length rows ≡ count
   pub counted : AreCounts count n lists counts
   pub room : (x : ℕ) → x < count → length (list_at rows x) ≡ length (owners_below all lists x)
   pub first : (x : ℕ) → x < count → take (length (owners_below n lists x)) (list_at rows x) ≡ owners_below n lists x
 
--- from each list, the items that stand in its owner's row
+-- each list, with only those items that also stand in the row of the list's owner
 unfoldable pub kept_lists : List (List ℕ) → List (List ℕ) → List (List ℕ)
 kept_lists lists rows = map (λ (owned : ℕ × List ℕ). filter (λ x. is_listed (list_at rows owned.0) x) owned.1) (enumerate_from 0 lists)
 
--- the number of rows is the count; each has numbers below n, in rising order without repeats
+-- there are `count` rows; each row has numbers below n in rising order, without repeats
 pub record AreRows (count n : ℕ) (rows : List (List ℕ)) : Type 0 where
   pub one_each : length rows ≡ count
   pub below : All (λ row. list_all (λ x. nat_lt x n) row ≡ true) rows
   pub distinct : All (λ row. has_no_repeats row ≡ true) rows
   pub rising : All IsNonDecreasing rows
 
--- each row has every item of the list at the same place
+-- every item of list i also stands in row i
 abbrev pub AreCovered : List (List ℕ) → List (List ℕ) → Type 0
 AreCovered lists rows = (i x : ℕ) → is_listed (list_at lists i) x ≡ true → is_listed (list_at rows i) x ≡ true

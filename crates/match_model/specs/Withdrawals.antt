@@ -42,7 +42,7 @@ with_flags inst programmes residents = record inst { programmes_withdrawn = prog
 abbrev pub AreAllHere : List Bool → Type 0
 AreAllHere flags = (member : ℕ) → is_withdrawn flags member ≡ false
 
--- if nobody is withdrawn, each of these lists has the members who list its owner too, as the lists were given
+-- if nobody is withdrawn, each of these lists is the given list with only those members who list the list's owner too
 abbrev pub AreMutualWhereAllHere : Draft → List (List ℕ) → List (Option (List ℕ)) → List (Option (List ℕ)) → Type 0
 AreMutualWhereAllHere d lists mine theirs =
     AreAllHere d.programmes_withdrawn → AreAllHere d.residents_withdrawn → lists ≡ mutual_lists (given_lists mine) (given_lists theirs)

@@ -7,7 +7,7 @@ use crate::member::{ProgrammeNo, ResidentNo};
 use std::alloc::Global;
 use std::marker::Model;
 
-/// One programme or none for each resident.
+/// For each resident a programme or none.
 #[derive(Debug, Drop)]
 pub struct Assignment {
     places: Vec<Option<ProgrammeNo>>,
@@ -32,7 +32,7 @@ impl Assignment {
         })
     }
 
-    /// How many residents there are.
+    /// The number of residents.
     pub fn len(&self) -> u32
         ensures { result ≡ length self.now }
     {

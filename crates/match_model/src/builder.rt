@@ -13,7 +13,7 @@ use crate::{mutual_parts, ranking};
 use std::alloc::Global;
 use std::marker::Model;
 
-/// Takes quotas, lists and withdrawals, one at a time.
+/// A builder that accepts quotas, lists and withdrawals, one at a time.
 #[derive(Debug, Drop)]
 pub struct InstanceBuilder {
     alloc: Global,
@@ -37,7 +37,7 @@ impl Model for InstanceBuilder {
         (draft_with b.limits b.quotas.items b.programme_lists b.resident_lists b.programmes_withdrawn.items b.residents_withdrawn.items) };
 }
 
-/// Why `finish` refused, with the unchanged builder.
+/// Why `finish` refused to make an instance, with the unchanged builder.
 #[derive(Debug, Drop)]
 pub struct FinishRefused {
     /// The unchanged builder.
@@ -53,7 +53,7 @@ impl InstanceBuilder {
     ghost use Rattle.match_model.specs.Limits.{IsWithin};
     ghost use Rattle.match_model.specs.declared.limits.Limits.TheVariants.{Standard};
 
-    /// A builder without members, within the standard limits. The allocator serves all later growths.
+    /// A builder without members, within the standard limits. All later memory comes from this allocator.
     pub fn new(alloc: Global) -> InstanceBuilder
         ensures { result ≡ record { limits = Standard; quotas = []; programme_lists = []; resident_lists = []; programmes_withdrawn = []; residents_withdrawn = [] } }
     {
@@ -76,7 +76,7 @@ impl InstanceBuilder {
         }
     }
 
-    /// The limits within which it keeps.
+    /// The limits that apply to the builder's numbers of members and pairs.
     pub fn limits(&self) -> Limits
         ensures { result ≡ self.now.limits }
     {
@@ -131,7 +131,7 @@ impl InstanceBuilder {
     }
 
     /// Gives a programme its list, best first. May fail with `NoSuchMember` for the owner, `ListGivenTwice`,
-    /// `NoSuchMember` for an item, `ListedTwice` or `Memory`. An empty list counts as given.
+    /// `NoSuchMember` for an item, `ListedTwice` or `Memory`. A given list may be empty.
     pub fn programme_list(
         &mut self,
         programme: ProgrammeNo,
@@ -150,7 +150,7 @@ impl InstanceBuilder {
         Ok(())
     }
 
-    /// Gives a resident its list, best first, with the same faults as `programme_list`.
+    /// Gives a resident a list, best first. The faults are those of `programme_list`.
     pub fn resident_list(
         &mut self,
         resident: ResidentNo,
@@ -169,8 +169,9 @@ impl InstanceBuilder {
         Ok(())
     }
 
-    /// Withdraws a programme. The programme keeps its number and quota, and is in no acceptable pair. Its list may be
-    /// given before or after. May fail with `NoSuchMember` or `WithdrawnTwice`. Takes no memory.
+    /// Withdraws a programme. The programme still has its number and quota, and is in no acceptable pair. Its list may
+    /// be given before or after the withdrawal. May fail with `NoSuchMember` or `WithdrawnTwice`. The call takes no
+    /// memory.
     pub fn withdraw_programme(&mut self, programme: ProgrammeNo) -> Result<(), ModelFault>
         ensures withdrawn { OnOk result (self.new ≡ with_programme_withdrawn self.old programme) }
         ensures fault { AnswersExactly (withdrawal_fault self.old.programmes_withdrawn programme) result }
@@ -182,7 +183,7 @@ impl InstanceBuilder {
         Ok(())
     }
 
-    /// Withdraws a resident, in the same way as `withdraw_programme`.
+    /// Withdraws a resident, as `withdraw_programme` withdraws a programme.
     pub fn withdraw_resident(&mut self, resident: ResidentNo) -> Result<(), ModelFault>
         ensures withdrawn { OnOk result (self.new ≡ with_resident_withdrawn self.old resident) }
         ensures fault { AnswersExactly (withdrawal_fault self.old.residents_withdrawn resident) result }
@@ -194,8 +195,8 @@ impl InstanceBuilder {
         Ok(())
     }
 
-    /// Makes the instance. Each list keeps the members who list its owner too, and a withdrawn member lists nobody.
-    /// May fail with `TooManyPairs` or `Memory`; then the builder comes back unchanged.
+    /// Makes the instance. Each list of the instance has, in order, those listed members who list its owner too. A
+    /// withdrawn member lists nobody. May fail with `TooManyPairs` or `Memory`; then the builder comes back unchanged.
     pub fn finish(self) -> Result<Instance, FinishRefused>
         ensures made { IfOk result (λ inst. inst ≡ instance_of self) }
         ensures within { OnOk result (IsWithin self.limits (instance_of self)) }
@@ -208,8 +209,8 @@ impl InstanceBuilder {
         }
     }
 
-    /// Makes the instance as `finish` does, and also returns the lists as they were given. They are moved out of the
-    /// builder.
+    /// Makes the instance as `finish` does, and also returns the lists as they were given. The lists are moved out of
+    /// the builder.
     pub fn finish_with_lists(self) -> Result<(Instance, WrittenLists), FinishRefused>
         ensures made { IfOk result (λ made. made.0 ≡ instance_of self) }
         ensures lists { IfOk result (λ made. made.1 ≡ written_of self) }

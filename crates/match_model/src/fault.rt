@@ -7,22 +7,22 @@ use std::alloc::{AllocError, AllocFailed};
 use std::error::Error;
 use std::fmt;
 
-/// Why a builder or an assignment refused. Each call tests the causes in the order that its own comment gives.
+/// Why a builder or an assignment refused a call. Each call tests the causes in the order that its own comment gives.
 #[derive(Clone, Copy, Debug, PartialEq, Eq, Hash)]
 pub enum ModelFault {
-    /// There are as many programmes already as the builder's limits allow.
+    /// The number of programmes is already at the builder's limit.
     TooManyProgrammes,
-    /// There are as many residents already as the builder's limits allow.
+    /// The number of residents is already at the builder's limit.
     TooManyResidents,
-    /// The quota is over `MAX_QUOTA`.
+    /// The quota is above `MAX_QUOTA`.
     QuotaTooLarge,
     /// The owner of a list, or a member on the list, was not added.
     NoSuchMember,
-    /// The owner already has a list.
+    /// The owner of the list already has a list.
     ListGivenTwice,
     /// A member stands on the list twice.
     ListedTwice,
-    /// There are more acceptable pairs than the builder's limits allow.
+    /// The number of acceptable pairs is above the builder's limit.
     TooManyPairs,
     /// The memory could not grow.
     Memory,
@@ -31,7 +31,7 @@ pub enum ModelFault {
 }
 
 impl ModelFault {
-    /// The fault as a text by these limits.
+    /// The fault as a text. The text names the limits under which the builder refused.
     pub fn within(self, limits: Limits) -> FaultWithin {
         FaultWithin {
             fault: self,
@@ -40,7 +40,7 @@ impl ModelFault {
     }
 }
 
-/// By the standard limits.
+/// Writes the fault as a text. The text names the standard limits.
 impl fmt::Display for ModelFault {
     fn fmt<W: fmt::Write>(&self, f: &mut fmt::Formatter<W>) -> fmt::Result {
         self.within(Limits::Standard).fmt(f)
@@ -49,7 +49,7 @@ impl fmt::Display for ModelFault {
 
 impl Error for ModelFault {}
 
-/// A fault of a builder within these limits. Its text names the number that is passed.
+/// A fault of a builder within these limits. Where a limit was exceeded, the text names this limit.
 #[derive(Clone, Copy, Debug)]
 pub struct FaultWithin {
     fault: ModelFault,

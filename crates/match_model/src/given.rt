@@ -9,7 +9,7 @@ use crate::ranking::test_items;
 use std::alloc::{AllocError, Global};
 use std::marker::Model;
 
-/// The items of all lists. For each member with a list, also where its list stands among them.
+/// The items of all lists of one side. For each member with a list, also where this list stands among the items.
 #[derive(Debug, Drop)]
 pub(crate) struct GivenLists {
     items: Vec<u32>,
@@ -38,14 +38,14 @@ impl GivenLists {
         }
     }
 
-    /// How many members there are.
+    /// The number of members on this side.
     pub(crate) fn len(&self) -> usize
         ensures { result ≡ length self.now }
     {
         self.spans.len()
     }
 
-    /// Adds a member without a list.
+    /// Adds a member, who has no list yet.
     pub(crate) fn add_member(&mut self) -> Result<(), AllocError>
         ensures added { OnOk result (self.new ≡ self.old ++ None ∷ []) }
         ensures err { OnErr result (self.new ≡ self.old) }
@@ -54,7 +54,7 @@ impl GivenLists {
         Ok(())
     }
 
-    /// Whether this owner was added and still has no list.
+    /// Whether this owner was added and has no list yet; if not, why.
     pub(crate) fn test_owner(&self, owner: usize) -> Result<(), ModelFault>
         ensures { AnswersFirst (owner_fault self.now owner) result }
     {
@@ -65,7 +65,7 @@ impl GivenLists {
         }
     }
 
-    /// The items of a member's list; empty without a list.
+    /// The items of a member's list, or no items if the member has no list.
     pub(crate) fn items(&self, owner: usize) -> &[u32]
         requires { owner < length self.now }
         ensures { result.now ≡ unwrap_or (slice_index_or self.now owner None) [] }
@@ -76,7 +76,7 @@ impl GivenLists {
         }
     }
 
-    /// The items of the list for this number; empty if there is no such list.
+    /// The items of the list of the member with this number, or no items if there is no such list.
     pub(crate) fn written(&self, owner: u32) -> &[u32]
         ensures { result.now ≡ list_at (given_lists self.now) owner }
     {
@@ -86,7 +86,8 @@ impl GivenLists {
         self.items(owner as usize)
     }
 
-    /// Gives a member its list of residents. Each resident has to be below `others`, and stand in the list once.
+    /// Gives a member a list of residents. Each resident's number has to be below `others`, and no resident may stand
+    /// on the list twice.
     pub(crate) fn give_residents(
         &mut self,
         owner: usize,
@@ -113,7 +114,7 @@ impl GivenLists {
         }
     }
 
-    /// Gives a member its list of programmes, as `give_residents` does for residents.
+    /// Gives a member a list of programmes, as `give_residents` gives a list of residents.
     pub(crate) fn give_programmes(
         &mut self,
         owner: usize,

@@ -8,7 +8,7 @@ use crate::rank_table::rank_in;
 use crate::rows::Rows;
 use std::marker::Model;
 
-/// Quotas, and for each member its ranking of acceptable members, best first.
+/// The quotas, and for each member the ranking of the members who rank this member too, best first.
 #[derive(Debug)]
 pub struct Instance {
     pub(crate) quotas: Vec<u32>,
@@ -38,7 +38,7 @@ impl Model for Instance {
     } };
 }
 
-// A single call. So a caller that drops an instance need not prove anything about its parts.
+// One function drops the whole instance. So a caller that drops an instance need not prove anything about its parts.
 impl Drop for Instance {
     fn drop(self) {
         let Instance {
@@ -56,7 +56,7 @@ impl Drop for Instance {
 }
 
 impl Instance {
-    /// How many programmes there are, at most `MAX_PROGRAMMES`.
+    /// The number of programmes, at most `MAX_PROGRAMMES`.
     #[inline(always)]
     pub fn programmes(&self) -> u32
         ensures count { result ≡ length self.now.quotas }
@@ -65,7 +65,7 @@ impl Instance {
         self.quotas.len() as u32
     }
 
-    /// How many residents there are, at most `MAX_RESIDENTS`.
+    /// The number of residents, at most `MAX_RESIDENTS`.
     #[inline(always)]
     pub fn residents(&self) -> u32
         ensures count { result ≡ length self.now.resident_lists }
@@ -74,7 +74,7 @@ impl Instance {
         self.resident_lists.len() as u32
     }
 
-    /// How many pairs are acceptable, at most `MAX_PAIRS`.
+    /// The number of acceptable pairs, at most `MAX_PAIRS`.
     pub fn pairs(&self) -> u32
         ensures count { result ≡ pair_count self.now }
         ensures instance { IsInstance self.now }
@@ -91,7 +91,7 @@ impl Instance {
         self.quotas[programme.0 as usize]
     }
 
-    /// Whether a programme is withdrawn and so ranks nobody. The programme is a member.
+    /// Whether a programme is withdrawn and so lists nobody. The programme is a member.
     pub fn programme_withdrawn(&self, programme: ProgrammeNo) -> bool
         requires { IsProgramme self.now programme }
         ensures { result ≡ is_withdrawn self.now.programmes_withdrawn programme }
@@ -99,7 +99,7 @@ impl Instance {
         self.programmes_withdrawn[programme.0 as usize]
     }
 
-    /// Whether a resident is withdrawn and so ranks nobody. The resident is a member.
+    /// Whether a resident is withdrawn and so lists nobody. The resident is a member.
     pub fn resident_withdrawn(&self, resident: ResidentNo) -> bool
         requires { IsResident self.now resident }
         ensures { result ≡ is_withdrawn self.now.residents_withdrawn resident }
@@ -107,7 +107,7 @@ impl Instance {
         self.residents_withdrawn[resident.0 as usize]
     }
 
-    /// The residents whom a programme ranks and who rank it, best first. The programme is a member.
+    /// The residents whom a programme ranks and who rank the programme, best first. The programme is a member.
     #[inline(always)]
     pub fn list_of_programme(&self, programme: ProgrammeNo) -> &[ResidentNo]
         requires { IsProgramme self.now programme }
@@ -117,8 +117,8 @@ impl Instance {
         self.programme_lists.row(programme.0 as usize)
     }
 
-    /// The resident at this place of a programme's list, counted from 0, or none past the list's end. The programme
-    /// is a member.
+    /// The resident at this place of a programme's list, or none past the list's end. Places are counted from 0. The
+    /// programme is a member.
     #[inline(always)]
     pub fn listed_at(&self, programme: ProgrammeNo, place: u32) -> Option<ResidentNo>
         requires { IsProgramme self.now programme }
@@ -128,8 +128,8 @@ impl Instance {
         list.get(place as usize).copied()
     }
 
-    /// The resident at this place of a programme's list, with the programme's place in that resident's list. Both
-    /// places are counted from 0. None past the list's end. The programme is a member.
+    /// The resident at this place of a programme's list, with the programme's place on that resident's list. The result
+    /// is none past the programme's list's end. Both places are counted from 0. The programme is a member.
     #[inline]
     pub fn offer_at(&self, programme: ProgrammeNo, place: u32) -> Option<(ResidentNo, u32)>
         requires { IsProgramme self.now programme }
@@ -154,7 +154,7 @@ impl Instance {
         self.resident_lists.row(resident.0 as usize)
     }
 
-    /// The place of a resident in a programme's list, counted from 0, if the pair is acceptable. The programme is a
+    /// The place of a resident on a programme's list, counted from 0, if the pair is acceptable. The programme is a
     /// member.
     #[inline(always)]
     pub fn rank_at_programme(&self, programme: ProgrammeNo, resident: ResidentNo) -> Option<u32>
@@ -165,7 +165,7 @@ impl Instance {
         rank_in(table, resident.0)
     }
 
-    /// The place of a programme in a resident's list, counted from 0, if the pair is acceptable. The resident is a
+    /// The place of a programme on a resident's list, counted from 0, if the pair is acceptable. The resident is a
     /// member.
     #[inline(always)]
     pub fn rank_at_resident(&self, resident: ResidentNo, programme: ProgrammeNo) -> Option<u32>
@@ -176,7 +176,8 @@ impl Instance {
         rank_in(table, programme.0)
     }
 
-    /// Gives the same answer as `rank_at_resident`, but first looks at the guessed place. The resident is a member.
+    /// Returns what `rank_at_resident` returns, but looks at the guessed place of the list first. The resident is a
+    /// member.
     #[inline]
     pub fn rank_by_guess(
         &self,

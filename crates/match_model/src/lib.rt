@@ -1,7 +1,7 @@
 //! The model of a residency match: quotas, rankings, ranks and assignments.
 //!
-//! A builder takes quotas, lists and withdrawals, and `finish` makes an instance from them. Each list of the instance
-//! keeps, in order, the members who list its owner too. The list has no repeats and no withdrawn member.
+//! A builder accepts quotas, lists and withdrawals, and `finish` makes an instance from them. Each list of the instance
+//! has, in order, those listed members who list its owner too. The list has no repeats and no withdrawn member.
 //!
 //! Contracts say nothing about the text of a `ModelFault`. A test compares this text.
 #![tactic(auto)]

@@ -2,25 +2,25 @@
 ghost use Rattle.std.specs.Prelude.{◌≡◌, ◌≤◌};
 ghost use Rattle.match_model.specs.Limits.{most_programmes, most_residents, most_pairs};
 
-/// The largest number of programmes of any instance.
+/// The largest number of programmes that any instance may have.
 pub const MAX_PROGRAMMES: usize = 65_536;
 
-/// The largest number of residents of any instance.
+/// The largest number of residents that any instance may have.
 pub const MAX_RESIDENTS: usize = 1_000_000;
 
-/// The largest number of acceptable pairs of any instance.
+/// The largest number of acceptable pairs that any instance may have.
 pub const MAX_PAIRS: usize = 20_000_000;
 
 /// The largest quota of a programme.
 pub const MAX_QUOTA: u32 = 10_000;
 
-/// The largest number of programmes by the national limits.
+/// The largest number of programmes within the national limits.
 pub const NATIONAL_PROGRAMMES: usize = 10_000;
 
-/// The largest number of residents by the national limits.
+/// The largest number of residents within the national limits.
 pub const NATIONAL_RESIDENTS: usize = 100_000;
 
-/// The limits within which a builder keeps.
+/// The limits that apply to a builder's numbers of members and pairs.
 #[derive(Clone, Copy, Debug, PartialEq, Eq)]
 pub enum Limits {
     /// 2,000 programmes, 20,000 residents and 200,000 acceptable pairs
@@ -30,7 +30,7 @@ pub enum Limits {
 }
 
 impl Limits {
-    /// The largest number of programmes.
+    /// The largest number of programmes within these limits.
     pub fn programmes(self) -> usize
         ensures number { result ≡ most_programmes self }
         ensures within { result ≤ MAX_PROGRAMMES }
@@ -41,7 +41,7 @@ impl Limits {
         }
     }
 
-    /// The largest number of residents.
+    /// The largest number of residents within these limits.
     pub fn residents(self) -> usize
         ensures number { result ≡ most_residents self }
         ensures within { result ≤ MAX_RESIDENTS }
@@ -52,7 +52,7 @@ impl Limits {
         }
     }
 
-    /// The largest number of acceptable pairs.
+    /// The largest number of acceptable pairs within these limits.
     pub fn pairs(self) -> usize
         ensures number { result ≡ most_pairs self }
         ensures within { result ≤ MAX_PAIRS }

@@ -1,4 +1,5 @@
-//! The mutual parts of lists, found with rows that say who lists each owner.
+//! The mutual part of each list: the members on the list who list its owner too. This part is found with rows that say
+//! who lists each owner.
 ghost use Rattle.std.specs.Prelude.{◌≡◌, ℕ, ◌<◌, ◌≤◌, ◌^◌, nat_lt, List, [], length, map, true, false, ◌++◌, Some, OnOk, IfOk, IfErr};
 ghost use Rattle.std.specs.List.{All, list_all, filter, sum_by};
 ghost use Rattle.match_model.specs.Ranking.{is_listed};
@@ -17,8 +18,8 @@ use crate::ranking::remaining;
 use crate::rows::Rows;
 use std::alloc::{AllocError, Global};
 
-/// Appends those items of a list to the open row of `kept` that also stand in another row, in the list's order.
-/// `places` has the places of that row.
+/// Appends to the open row of `kept` those items of a list that also stand in the row `row`. These items are appended
+/// in the list's order. `places` says where each number stands in `row`.
 fn keep(
     kept: &mut Rows<u32>,
     items: &[u32],
@@ -37,7 +38,7 @@ fn keep(
     Ok(())
 }
 
-/// Whether this count of items is above the limit, if there is a limit.
+/// Whether this count of items is above the limit `most`. Without a limit the answer is no.
 fn is_over(most: Option<usize>, count: usize) -> bool
     ensures { result ≡ are_over most count }
 {
@@ -47,7 +48,7 @@ fn is_over(most: Option<usize>, count: usize) -> bool
     }
 }
 
-/// How many of so many items are made room for: no more than the most, if there is a most.
+/// For how many of these items memory is reserved: for all of them, but at most for the limit, if there is a limit.
 fn room_for(most: Option<usize>, count: usize) -> usize
     ensures { result ≤ count }
 {
@@ -57,7 +58,8 @@ fn room_for(most: Option<usize>, count: usize) -> usize
     }
 }
 
-/// The items of each list that stand in its owner's row. Fails as soon as they are above the limit.
+/// For each list the items that stand in the row of the list's owner. Fails as soon as the items together are more than
+/// the limit.
 fn all_kept(
     alloc: Global,
     most: Option<usize>,
@@ -88,8 +90,8 @@ fn all_kept(
     Ok(kept)
 }
 
-/// The items of each list that stand in its owner's row, with the table of their ranks. The rows have members below a
-/// count.
+/// For each list the items that stand in the row of the list's owner, with the table of their ranks. All numbers in the
+/// rows are below `others`.
 fn kept_with_ranks(
     alloc: Global,
     most: Option<usize>,
@@ -113,8 +115,8 @@ fn kept_with_ranks(
     Ok((kept, ranks))
 }
 
-/// Each member's list in order, with only those who list this member too, and the table of their ranks. Fails if
-/// they have more items than these.
+/// For each member's list, in order, those listed members who list this member too, and the table of their ranks. Fails
+/// if these items together are more than `most`.
 pub(crate) fn mutual(
     alloc: Global,
     most: usize,
@@ -137,8 +139,8 @@ pub(crate) fn mutual(
     kept_with_ranks(alloc, Some(most), mine, mine_withdrawn, theirs.len(), &rows)
 }
 
-/// The same as `mutual`, from the mutual lists of the other side instead of the lists as given. These are short, and
-/// have exactly the members who are listed back.
+/// The same as `mutual`, but from the mutual lists of the other side instead of the lists as given. The mutual lists
+/// are shorter, and have exactly the members who are listed back.
 pub(crate) fn mutual_in_turn(
     alloc: Global,
     mine: &GivenLists,

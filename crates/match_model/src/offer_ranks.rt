@@ -1,4 +1,4 @@
-//! The rank of each programme on the lists of the residents that it lists.
+//! For each resident on a programme's list, the rank of the programme on this resident's list.
 ghost use Rattle.std.specs.Prelude.{◌≡◌, ℕ, ◌<◌, ◌^◌, nat_lt, List, length, true, ◌++◌, map, OnOk, IfOk};
 ghost use Rattle.std.specs.List.{All, list_all};
 ghost use Rattle.match_model.specs.Instance.{list_at, rank};
@@ -8,8 +8,8 @@ use crate::rank_table::rank_in;
 use crate::rows::Rows;
 use std::alloc::{AllocError, Global};
 
-/// The place of a number in the list of this table, if it stands there. The guessed entry is tried first; then the
-/// table is searched.
+/// The place of a number in the list of this table, if the number stands in the list. The guessed entry of the table is
+/// tried first, and then the table is searched.
 fn rank_by_guess(table: &[(u32, u32)], number: u32, guess: usize) -> Option<u32>
     ensures { (list : List ℕ) → IsRankTable list table.now → result ≡ rank list number }
 {
@@ -19,8 +19,8 @@ fn rank_by_guess(table: &[(u32, u32)], number: u32, guess: usize) -> Option<u32>
     }
 }
 
-/// Appends one row: a programme's rank on the list of each resident that it lists. The tables have the ranks of those
-/// lists. The guess is the number of entries of a table that were passed.
+/// Appends one row: the rank of a programme on the list of each resident whom the programme lists. The tables have the
+/// ranks of the residents' lists. The guess for a table is the number of its entries that were looked up before.
 fn push_ranks(
     ranks: &mut Rows<u32>,
     passed: &mut [usize],
@@ -44,8 +44,8 @@ fn push_ranks(
     Ok(())
 }
 
-/// For each place of each programme's list, the programme's rank on that resident's list. The tables have the ranks
-/// of those lists.
+/// For each place on each programme's list, the rank of the programme on the list of the resident there. The tables
+/// have the ranks of the residents' lists.
 pub(crate) fn offer_ranks(
     alloc: Global,
     lists: &Rows<u32>,

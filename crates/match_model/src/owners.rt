@@ -1,4 +1,4 @@
-//! For each number, the owners of the lists that have this number.
+//! For each member's number, the owners of the lists on which this number stands.
 ghost use Rattle.std.specs.Prelude.{◌≡◌, ℕ, ◌+◌, ◌<◌, ◌^◌, nat_lt, List, [], length, slice_index, slice_set, true, IfOk};
 ghost use Rattle.std.specs.List.{All, list_all};
 ghost use Rattle.match_model.specs.Ranking.{is_listed};
@@ -11,7 +11,7 @@ use crate::ranking::remaining;
 use crate::rows::Rows;
 use std::alloc::{AllocError, Global};
 
-/// For each number below `count`, the number of lists that have it.
+/// For each number below `count`, the number of lists on which it stands.
 fn row_lengths(
     alloc: Global,
     count: usize,
@@ -31,7 +31,7 @@ fn row_lengths(
     Ok(counts)
 }
 
-/// Adds one to the count of each item.
+/// Adds one to the count of each item of a list.
 fn count_items(counts: &mut [usize], items: &[u32])
     requires below { list_all (λ x. nat_lt x (length counts.old)) items.now ≡ true }
     requires distinct { has_no_repeats items.now ≡ true }
@@ -43,7 +43,8 @@ fn count_items(counts: &mut [usize], items: &[u32])
     }
 }
 
-/// Enters an owner into the row of each item of its list, after the owners counted so far, and counts it.
+/// Enters an owner into the row of each item of the owner's list, behind the owners already counted for this item, and
+/// counts the owner.
 fn enter(rows: &mut Rows<u32>, counts: &mut [usize], owner: u32, items: &[u32])
     requires below { list_all (λ x. nat_lt x (length counts.old)) items.now ≡ true }
     requires distinct { has_no_repeats items.now ≡ true }
@@ -60,7 +61,7 @@ fn enter(rows: &mut Rows<u32>, counts: &mut [usize], owner: u32, items: &[u32])
     }
 }
 
-/// For each number below `count`, the owners of the lists that have it, in rising order.
+/// For each number below `count`, the owners of the lists on which it stands, in rising order.
 pub(crate) fn owners(
     alloc: Global,
     count: usize,
@@ -87,7 +88,7 @@ pub(crate) fn owners(
     Ok(rows)
 }
 
-/// For each number below `count`, the number of rows that have it.
+/// For each number below `count`, the number of rows in which it stands.
 fn lengths_by_rows(alloc: Global, count: usize, lists: &Rows<u32>) -> Result<Vec<usize>, AllocError>
     requires few { length lists.now.rows < 2 ^ 32 }
     requires below { All (λ list. list_all (λ x. nat_lt x count) list ≡ true) lists.now.rows }
@@ -101,7 +102,7 @@ fn lengths_by_rows(alloc: Global, count: usize, lists: &Rows<u32>) -> Result<Vec
     Ok(counts)
 }
 
-/// The same as `owners`, for lists that are rows.
+/// The same as `owners`, for lists that are stored as rows.
 pub(crate) fn owners_of_rows(
     alloc: Global,
     count: usize,

@@ -1,4 +1,4 @@
-//! Tables of places. With such a table one look-up finds a number in a list.
+//! Tables of places. With such a table, one look-up says where a number stands in a list.
 ghost use Rattle.std.specs.Prelude.{◌≡◌, ◌<◌, nat_lt, length, true};
 ghost use Rattle.std.specs.List.{list_all};
 ghost use Rattle.match_model.specs.Draft.{has_no_repeats};
@@ -6,7 +6,7 @@ ghost use Rattle.match_model.specs.Instance.{rank};
 ghost use Rattle.match_model.specs.Ranking.{is_listed};
 ghost use Rattle.match_model.specs.Places.{ArePlaces};
 
-/// The place of a number in the table's list, if it stands there.
+/// The place of a number in the table's list, if the number stands in the list.
 pub(crate) fn place_in(places: &[usize], list: &[u32], number: u32) -> Option<usize>
     requires noted { ArePlaces list.now places.now }
     requires below { number < length places.now }
@@ -28,8 +28,8 @@ pub(crate) fn stands_in(places: &[usize], list: &[u32], number: u32) -> bool
     place_in(places, list, number).is_some()
 }
 
-/// Notes the place of each item of a list without repeats. Older notes can stay: the list has other numbers at those
-/// places.
+/// Notes the place of each item of a list without repeats. Older notes may remain in the table: at those places the
+/// list has other numbers.
 pub(crate) fn note_places(places: &mut [usize], list: &[u32])
     requires below { list_all (λ x. nat_lt x (length places.old)) list.now ≡ true }
     requires distinct { has_no_repeats list.now ≡ true }

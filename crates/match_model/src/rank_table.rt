@@ -1,4 +1,4 @@
-//! Tables of ranks. A rank is found by binary search.
+//! Tables of ranks, in which a rank is found by binary search.
 ghost use Rattle.std.specs.Prelude.{◌≡◌, ℕ, ◌<◌, ◌≤◌, ◌^◌, ◌++◌, nat_lt, List, length, true, OnOk, IfOk};
 ghost use Rattle.std.specs.List.{All, list_all};
 ghost use Rattle.match_model.specs.Draft.{has_no_repeats};
@@ -11,7 +11,7 @@ use crate::places::{note_places, place_in};
 use crate::rows::Rows;
 use std::alloc::{AllocError, Global};
 
-/// The place of a number in the list of this table, if it stands there.
+/// The place of a number in the list of this table, if the number stands in the list.
 #[inline(always)]
 pub(crate) fn rank_in(table: &[(u32, u32)], number: u32) -> Option<u32>
     ensures { (list : List ℕ) → IsRankTable list table.now → result ≡ rank list number }
@@ -22,8 +22,8 @@ pub(crate) fn rank_in(table: &[(u32, u32)], number: u32) -> Option<u32>
     }
 }
 
-/// Appends to the open table the numbers of a row that stand in a list, in the row's order, each with its place in
-/// the list. `places` has these places.
+/// Appends to the open table those numbers of a row that stand in a list, in the row's order, each with its place in
+/// the list. `places` says where each number stands in the list.
 fn enter_ranks(
     tables: &mut Rows<(u32, u32)>,
     list: &[u32],
@@ -43,7 +43,8 @@ fn enter_ranks(
     Ok(())
 }
 
-/// The table of each list, made from a sorted row that has all items of the list. So no table has to be sorted.
+/// The table of ranks of each list. Each table is made from a sorted row that has all items of the list, so no table
+/// has to be sorted.
 pub(crate) fn rank_tables(
     alloc: Global,
     lists: &Rows<u32>,

@@ -11,7 +11,7 @@ use crate::member::{ProgrammeNo, ResidentNo};
 use crate::places::stands_in;
 use std::alloc::{AllocError, Global};
 
-/// Whether this member was added and is not withdrawn yet.
+/// Whether this member was added and is not withdrawn yet; if not, why.
 pub(crate) fn test_withdrawal(withdrawn: &[bool], member: usize) -> Result<(), ModelFault>
     ensures { AnswersExactly (withdrawal_fault withdrawn.now member) result }
 {
@@ -22,7 +22,8 @@ pub(crate) fn test_withdrawal(withdrawn: &[bool], member: usize) -> Result<(), M
     }
 }
 
-/// Whether each item is below `others` and stands in the list once. The table of places may have any content.
+/// Whether each item is below `others` and stands in the list once; if not, why. The table of places may have any
+/// content before the call.
 pub(crate) fn test_items(
     places: &mut Vec<usize>,
     others: usize,
@@ -37,7 +38,7 @@ pub(crate) fn test_items(
     }
 }
 
-/// The first fault of a list's items, found in one pass. The pass also notes places.
+/// The first fault of a list's items, found in one walk over the list. The walk also notes the places of the items.
 fn first_fault(places: &mut [usize], others: usize, items: &[u32]) -> Option<ModelFault>
     requires { others ≤ length places.old }
     ensures { result ≡ items_fault others items.now }
@@ -65,7 +66,7 @@ fn fault_of_repeat(others: usize, items: &[u32]) -> ModelFault
     ModelFault::NoSuchMember
 }
 
-/// Makes a table of places at least this long.
+/// Makes the table of places at least `others` entries long.
 fn make_room(places: &mut Vec<usize>, others: usize) -> Result<(), AllocError>
     ensures { OnOk result (others ≤ vec_len places.new) }
 {

@@ -1,4 +1,4 @@
-//! Rows of items, one after another in one vector.
+//! Rows of items, stored one after another in one vector.
 ghost use Rattle.std.specs.Prelude.{◌≡◌, ◌+◌, ◌<◌, ◌≤◌, [], ◌∷◌, ◌++◌, length, map, replicate, slice_index_or, slice_set, IfOk, OnOk};
 ghost use Rattle.std.specs.List.{slice_range, sum_by};
 
@@ -7,7 +7,7 @@ use crate::ranking::{programme_numbers, resident_numbers};
 use std::alloc::{AllocError, Global};
 use std::marker::Model;
 
-/// Rows of items, with the place where each row ends. An item goes to the open row until this row is ended.
+/// Rows of items, with the place where each row ends. A new item goes to the open row, until this row is ended.
 #[derive(Debug)]
 pub(crate) struct Rows<T> {
     items: Vec<T>,
@@ -25,7 +25,7 @@ impl<T> Model for Rows<T> {
     ghost invariant = { λ r. AreEnds 0 r.ends.items (length r.items.items) };
 }
 
-// A single call. So a caller that drops rows need not prove anything about their parts.
+// One function drops all rows. So a caller that drops rows need not prove anything about their parts.
 impl<T: Drop> Drop for Rows<T> {
     fn drop(self) {
         let Rows { items: _, ends: _ } = self;
@@ -33,7 +33,7 @@ impl<T: Drop> Drop for Rows<T> {
 }
 
 impl<T: Copy> Rows<T> {
-    /// No rows yet, with room for this many rows and this many items.
+    /// An object without rows, with memory for `rows` rows and `items` items.
     pub(crate) fn with_capacity(
         alloc: Global,
         rows: usize,
@@ -73,21 +73,21 @@ impl<T: Copy> Rows<T> {
         self.items[at] = item;
     }
 
-    /// How many rows are finished.
+    /// The number of finished rows.
     pub(crate) fn len(&self) -> usize
         ensures { result ≡ length self.now.rows }
     {
         self.ends.len()
     }
 
-    /// How many items there are, including those of the open row.
+    /// The number of all items, including those of the open row.
     pub(crate) fn item_count(&self) -> usize
         ensures { result ≡ sum_by length self.now.rows + length self.now.begun }
     {
         self.items.len()
     }
 
-    /// A finished row.
+    /// The finished row with the number `place`.
     #[inline(always)]
     pub(crate) fn row(&self, place: usize) -> &[T]
         requires { place < length self.now.rows }
@@ -98,7 +98,7 @@ impl<T: Copy> Rows<T> {
     }
 }
 
-/// The start of a row, from the ends of the rows.
+/// Where the row with the number `place` starts, read from the ends of all rows.
 #[inline(always)]
 fn start_of(ends: &[usize], place: usize) -> usize
     requires { place < length ends.now }
@@ -110,7 +110,7 @@ fn start_of(ends: &[usize], place: usize) -> usize
     ends[place - 1]
 }
 
-/// The items from `start` to `end`, without the one at `end`.
+/// The items from index `start` up to index `end`, without the item at `end`.
 #[inline(always)]
 fn part<T>(items: &[T], start: usize, end: usize) -> &[T]
     requires order { start ≤ end }
@@ -120,7 +120,7 @@ fn part<T>(items: &[T], start: usize, end: usize) -> &[T]
     &items[start..end]
 }
 
-/// The sum of these lengths. It is only a hint for reserving room, so no contract speaks of it.
+/// The sum of these lengths. The sum is only a hint for reserving memory, so no contract speaks of it.
 fn total(lengths: &[usize]) -> usize {
     let mut total: usize = 0;
     for length in lengths {
@@ -142,7 +142,7 @@ impl Rows<u32> {
         Ok(rows)
     }
 
-    /// Appends zeros to the open row.
+    /// Appends `count` zeros to the open row.
     fn push_zeros(&mut self, count: usize) -> Result<(), AllocError>
         ensures { OnOk result (self.new ≡ record self.old { begun = self.old.begun ++ replicate count 0 }) }
     {
@@ -152,7 +152,7 @@ impl Rows<u32> {
         Ok(())
     }
 
-    /// The same rows, with their numbers as residents.
+    /// The same rows, with their numbers as numbers of residents.
     pub(crate) fn into_residents(self, alloc: Global) -> Result<Rows<ResidentNo>, AllocError>
         ensures { IfOk result (λ made. made ≡ self) }
     {
@@ -161,7 +161,7 @@ impl Rows<u32> {
         Ok(Rows { items, ends })
     }
 
-    /// The same rows, with their numbers as programmes.
+    /// The same rows, with their numbers as numbers of programmes.
     pub(crate) fn into_programmes(self, alloc: Global) -> Result<Rows<ProgrammeNo>, AllocError>
         ensures { IfOk result (λ made. made ≡ self) }
     {

@@ -16,7 +16,7 @@ use Rattle.match_pool.specs.declared.done.Ending.TheVariants.{Closed, Stopped}
 use Rattle.match_pool.specs.declared.fault.RunFault.{RunFault}
 use Rattle.match_pool.specs.declared.fault.RunFault.TheVariants.{BadWorkers, BadCapacity, Memory, Thread, OutOfStep, Torn, MailGone}
 
--- there is one item for each number below the count, and each has this property
+-- there is one item for each number below the count, and each item has this property
 pub record Each {X : Type 0} (xs : List X) (count : ℕ) (property : ℕ → X → Type 0) : Type 0 where
   pub one_each : length xs ≡ count
   pub has : (i : ℕ) (x : X) → slice_get xs i ≡ Some x → property i x
@@ -27,26 +27,25 @@ pub record ClosesAtRest (inst : Instance) (journal : List Event) : Type 0 where
   pub close_is_last : journal ≡ before ++ Close ∷ []
   pub at_rest : IsAtRest inst before
 
--- What each desk took begins what was sent to it. Before the close everything is at rest. The assignment is stable
--- and settled.
+-- The journal is orderly. Before the close everything is at rest. The assignment is stable and settled.
 pub record IsSettledRun (inst : Instance) (journal : List Event) (assignment : List (Option ℕ)) : Type 0 where
   pub orderly : IsOrderly inst journal
   pub closes_at_rest : ClosesAtRest inst journal
   pub stable : IsStable inst assignment
   pub settled : IsSettled inst assignment
 
--- Each event has the number of its worker, from this many workers. Each worker has a count of its events, and the
--- counts add up to all events.
+-- Each event has the number of the worker who made it, and this number is below the number of workers. Each worker has
+-- a count of its events, and the counts add up to the number of all events.
 pub record AreCounted (workers : ℕ) (journal : List Event) (who entered : List ℕ) : Type 0 where
   pub one_worker_each : length who ≡ length journal
   pub among_the_workers : All (λ w. w < workers) who
   pub counted : Each entered workers (λ w n. n ≡ count_by (λ v. v == w) who)
   pub all_counted : sum entered ≡ length journal
 
--- The result of a run with this many workers, with a gate that may or may not be allowed to stop it. The journal is
--- legal, and closed exactly if the run closed. Each desk's ends have put the journal's messages, and each agent's log
--- has the journal's receipts. The assignment is the journal's, and settled if the run closed. Each event has its
--- worker.
+-- The result of a run with this many workers. `may_stop` says whether the run's gate may stop it. The journal is legal,
+-- and closed exactly if the run closed. Each desk's ends have put the journal's messages, and each agent's log has the
+-- journal's receipts. The assignment is the one that the journal gives, and is settled if the run closed. Each event
+-- has its worker.
 pub record IsRunOf {M P T Q U : Type 0} (done : Done M P T Q U) (offers_put : P → List ℕ) (offers_taken : T → List ℕ)
     (answers_put : Q → List Answered) (answers_taken : U → List Answered) (inst : Instance) (cap : Capacity) (workers : ℕ) (may_stop : Bool) : Type 0 where
   pub legal : IsLegal inst cap done.journal.items
@@ -79,8 +78,8 @@ IsFault inst cap (OutOfStep journal event) = IsLegal inst cap journal.items × I
 IsFault inst cap (Torn desk) = Unit {0}
 IsFault inst cap (MailGone desk) = Unit {0}
 
--- A wrong number of workers, which has to be 1 to 8, is told first; then a wrong capacity. Any other fault is a fault
--- of the run.
+-- A wrong number of workers, which has to be 1 to 8, is reported first; then a wrong capacity. Any other fault is a
+-- fault of the run.
 abbrev pub IsRunFault : Instance → Capacity → ℕ → RunFault → Type 0
 IsRunFault inst cap workers BadWorkers = (workers ≡ 0) ⊎ (8 < workers)
 IsRunFault inst cap workers BadCapacity = (1 ≤ workers) × (workers ≤ 8) × (is_capacity cap ≡ false)

@@ -24,17 +24,18 @@ pub record Exchanged (P Q : Type 0) : Type 0 where
   pub out_of_step : Option Event
   pub waits : Waits
 
--- what an entry that is made tells: whether its desk's mailbox has more, and whom it woke
+-- if the event was entered, this holds of the reply: whether the desk's mailbox has more messages, and which desk was
+-- woken
 abbrev pub IfMade : Entry → (Bool → Option ℕ → Type 0) → Type 0
 IfMade (entry.Made more woken) told = told more woken
 IfMade other told = Unit {0}
 
--- what a worker that asked the core for something to do was told, if that is a desk
+-- if the core named a desk to a worker that asked for something to do, this holds of the desk
 abbrev pub IfDesk : {C : Type 0} → Found C → (ℕ → Type 0) → Type 0
 IfDesk (found.Desk desk) property = property desk
 IfDesk other property = Unit {0}
 
--- what becomes of a put that was refused for this cause
+-- the reply to a put that was refused for this cause
 abbrev pub refused_put : EntryRefused → Entry
 refused_put Spoiled = entry.Ended
 refused_put (Step MailboxFull) = entry.Later
@@ -42,17 +43,17 @@ refused_put (Step cause) = entry.Refused
 refused_put (PutRefused Full) = entry.Missed
 refused_put (PutRefused Gone) = entry.Gone
 
--- what becomes of a receipt that was refused for this cause. It puts nothing, so that no mailbox refuses it
+-- The reply to a receipt that was refused for this cause. A receipt puts no message, so no mailbox refuses a receipt.
 abbrev pub refused_receipt : EntryRefused → Entry
 refused_receipt Spoiled = entry.Ended
 refused_receipt (Step cause) = entry.Refused
 refused_receipt (PutRefused cause) = entry.Refused
 
--- the number of a programme's desk, behind those of the residents
+-- the number of a programme's desk; residents' desks have the numbers before
 abbrev pub number_of_programme : Instance → ℕ → ℕ
 number_of_programme inst p = min (length inst.resident_lists + p) 4294967295
 
--- the number of the desk whose event it is; none of a close
+-- the number of the desk that makes the event; none for a close
 abbrev pub number_of_desk : Instance → Event → Option ℕ
 number_of_desk inst (Offer p r) = Some (number_of_programme inst p)
 number_of_desk inst (Take r p) = Some r
@@ -67,7 +68,7 @@ pub record HasEvent {P Q : Type 0} (inst : Instance) (cap : Capacity) (ledger : 
   pub of_desk : number_of_desk inst event ≡ Some desk
 
 module _ {P Q : Type 0} where
-  -- the ledger takes no more events, and the receipt may not follow its journal
+  -- the ledger accepts no more events, and the receipt may not follow the ledger's journal
   pub record IsOutOfStep (inst : Instance) (cap : Capacity) (ledger : Entries P Q) (receipt : Event) : Type 0 where
     pub spoiled : ledger.spoiled ≡ true
     pub is_receipt : IsReceipt receipt

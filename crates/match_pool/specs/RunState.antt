@@ -1,4 +1,4 @@
--- Who told the end of a run, and what a trouble is told as.
+-- Whether a run ends, and which fault is reported for a trouble that was noted.
 use Rattle.std.specs.Prelude.{Bool, true, ◌||◌, Option, Some, None}
 use Rattle.match_pool.specs.declared.fault.RunFault.{RunFault}
 use Rattle.match_pool.specs.declared.fault.RunFault.TheVariants as fault
@@ -10,7 +10,8 @@ abbrev pub is_told : {X : Type 0} → Bool → Bool → Option X → Bool
 is_told closed stopped (Some trouble) = true
 is_told closed stopped None = closed || stopped
 
--- the fault that a trouble is told as. A receipt out of step is told by itself, with the journal before it
+-- The fault that is reported for a trouble. A receipt out of step has a report of its own, with the journal before the
+-- receipt.
 abbrev pub fault_of : Option Trouble → Option RunFault
 fault_of (Some (Torn desk)) = Some (fault.Torn desk)
 fault_of (Some (MailGone desk)) = Some (fault.MailGone desk)

@@ -1,4 +1,4 @@
-//! What a run gives once its workers are joined, and the room that it reserves for that at its start.
+//! What a run returns after its workers have ended, and the memory that the run reserves for this at its start.
 ghost use Rattle.std.specs.Prelude.{◌≡◌, ◌≢◌, ◌↔◌, Bool, None, Some, Err, length, replicate, true, IfOk, IfErr};
 ghost use Rattle.exchange_core.specs.declared.event.Event.{Event};
 ghost use Rattle.exchange_core.specs.Legal.{IsClosed};
@@ -26,7 +26,8 @@ use offer_ledger::{ExchangeIdentity, Ledger, Tally};
 use settle_law::{law_orderly, law_settled};
 use std::alloc::Global;
 
-/// Room for the comparison and for the result, so that nothing more is asked of memory after the joins.
+/// Memory for the comparison of the logs and for the result. This memory is reserved at the start, so that no call
+/// after the end of the workers needs memory.
 pub(crate) struct Reserve<M: Mailboxes> {
     residents: Logs<ResidentAgent<M::OfferTake>>,
     programmes: Logs<ProgrammeAgent<M::AnswerTake>>,
@@ -34,7 +35,7 @@ pub(crate) struct Reserve<M: Mailboxes> {
     entered: Vec<u64>,
 }
 
-// As one call, so that whoever lets a reserve go proves nothing of its parts.
+// One function drops the whole reserve. So a caller that drops a reserve need not prove anything about its parts.
 impl<M: Mailboxes> Drop for Reserve<M> {
     fn drop(self) {
         let Reserve {
@@ -47,7 +48,7 @@ impl<M: Mailboxes> Drop for Reserve<M> {
 }
 
 impl<M: Mailboxes> Reserve<M> {
-    /// Room for a run of this instance by this many workers.
+    /// Reserves memory for a run of this instance by this number of workers.
     pub(crate) fn new(
         alloc: Global,
         inst: &Instance,
@@ -71,7 +72,7 @@ impl<M: Mailboxes> Reserve<M> {
         }
     }
 
-    /// What a run gives whose workers are joined, with these tallies.
+    /// The result of a run whose workers have ended with these tallies.
     pub(crate) fn finish<J: ExchangeIdentity + WorkersIdentity, G: Gate>(
         self,
         inst: &Instance,
@@ -104,8 +105,8 @@ impl<M: Mailboxes> Reserve<M> {
     }
 }
 
-// The shares of the ledger's count come together again, as one. What each worker entered is counted from the ledger's
-// own list.
+// Joins the workers' shares of the ledger's count. The events of each worker are counted from the ledger's own record
+// of workers.
 fn join_all<J: ExchangeIdentity>(tallies: Vec<Tally<J>>) {
     let mut tallies = tallies.into_iter();
     if let Some(mut whole) = tallies.next() {
@@ -115,7 +116,7 @@ fn join_all<J: ExchangeIdentity>(tallies: Vec<Tally<J>>) {
     }
 }
 
-// How a run ended, with its ledger; or what ended it early.
+// How the run ended, with its ledger; or the fault that ended the run early.
 fn outcome_of<J: ExchangeIdentity + WorkersIdentity, M: Mailboxes, G: Gate>(
     inst: &Instance,
     exchange: Exchange<J, M>,
@@ -142,7 +143,7 @@ fn outcome_of<J: ExchangeIdentity + WorkersIdentity, M: Mailboxes, G: Gate>(
     Ok((ledger, ending))
 }
 
-// A receipt that may not follow the journal of its ledger.
+// The fault for a receipt that may not follow the journal of the ledger.
 fn out_of_step_fault<J: ExchangeIdentity, M: Mailboxes>(
     inst: &Instance,
     ledger: Ledger<J, M::OfferPut, M::AnswerPut>,
@@ -159,8 +160,8 @@ fn out_of_step_fault<J: ExchangeIdentity, M: Mailboxes>(
     }
 }
 
-// How a run ended: closed, or stopped where it was stopped; else the desk that was left pending. Where all is at rest no
-// worker came to close it, since none had begun.
+// How a run without a fault ended: closed, or stopped by the gate. If neither is so, the fault names a desk that is
+// still pending. If no desk is pending either, no worker ever began, so none closed the exchange.
 fn ending_of<J: ExchangeIdentity, M: Mailboxes>(
     inst: &Instance,
     ledger: &Ledger<J, M::OfferPut, M::AnswerPut>,
@@ -183,7 +184,7 @@ fn ending_of<J: ExchangeIdentity, M: Mailboxes>(
     Err(RunFault::Torn(pending_desk(pending)))
 }
 
-// The desk that is pending.
+// The desk at which this is pending.
 fn pending_desk(pending: Pending) -> Desk {
     match pending {
         Pending::Offers(resident) => Desk::Resident(resident),
@@ -193,7 +194,7 @@ fn pending_desk(pending: Pending) -> Desk {
     }
 }
 
-// What a run gives whose logs are the journal's.
+// The result of a run in which each desk's log agrees with the journal.
 fn done_of<J: ExchangeIdentity, M: Mailboxes>(
     inst: &Instance,
     ledger: Ledger<J, M::OfferPut, M::AnswerPut>,
@@ -236,7 +237,7 @@ fn done_of<J: ExchangeIdentity, M: Mailboxes>(
     }
 }
 
-// Counts the events of each worker.
+// Counts for each worker the events that this worker entered.
 fn count<J: ExchangeIdentity, M: Mailboxes>(
     ledger: &Ledger<J, M::OfferPut, M::AnswerPut>,
     entered: &mut Vec<u64>,

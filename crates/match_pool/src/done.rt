@@ -13,16 +13,17 @@ pub enum Ending {
     Stopped,
 }
 
-/// The ends and agents of a run. Sending ends are ordered by receiver, agents by desk.
+/// The mailboxes' ends and the agents of a run. Sending ends are ordered by the receiver's number, and agents by their
+/// own desk's number.
 #[derive(Drop)]
 pub struct Ends<M: Mailboxes> {
-    /// For each resident, the end that offers were put into.
+    /// For each resident, the sending end of the mailbox for the offers to the resident.
     pub offer_puts: Vec<M::OfferPut>,
-    /// For each resident, the agent.
+    /// The agent of each resident.
     pub residents: Vec<ResidentAgent<M::OfferTake>>,
-    /// For each programme, the end that answers were put into.
+    /// For each programme, the sending end of the mailbox for the answers to the programme.
     pub answer_puts: Vec<M::AnswerPut>,
-    /// For each programme, the agent.
+    /// The agent of each programme.
     pub programmes: Vec<ProgrammeAgent<M::AnswerTake>>,
 }
 
@@ -31,11 +32,11 @@ pub struct Ends<M: Mailboxes> {
 pub struct Done<M: Mailboxes> {
     /// How the run ended.
     pub ending: Ending,
-    /// Every event, in the order in which the ledger's lock was taken.
+    /// Every event, in the order in which the workers took the ledger's lock to enter the events.
     pub journal: Vec<Event>,
     /// For each event, the number of the worker that entered it.
     pub who: Vec<u8>,
-    /// The programme that each resident holds after the journal.
+    /// The programme whose offer each resident holds after the journal.
     pub assignment: Assignment,
     /// For each worker, how many events it entered.
     pub entered: Vec<u64>,

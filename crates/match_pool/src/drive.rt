@@ -1,4 +1,4 @@
-//! The threads of a run.
+//! The threads of a run, one for each worker.
 ghost use Rattle.std.specs.Prelude.{◌≡◌, ◌≤◌, ◌⊎◌, [], length, vec_capacity, IfErr};
 ghost use Rattle.match_pool.specs.declared.fault.RunFault.TheVariants.{Memory, Thread};
 
@@ -16,14 +16,14 @@ use std::sync::Wait;
 use std::thread;
 use std::thread::{Builder, JoinHandle, Scope, Threads};
 
-/// The size of a worker's stack, in bytes. A worker uses some 5,000 of them.
+/// The size of a worker's stack, in bytes. A worker uses about 5,000 bytes.
 const STACK_BYTES: usize = 256 * 1024;
 
-/// The threads of the workers. Each gives its tally back.
+/// The threads of the workers. Each thread returns its worker's tally.
 type Handles<J> = Vec<JoinHandle<Tally<J>>>;
 
-/// Starts a worker for each tally, and joins them all. The tallies come back in the order of workers. If the system
-/// refuses to start a worker, the others are ended and joined.
+/// Starts a worker for each tally, and waits until all workers have ended. The tallies come back in the order of
+/// workers. If the system refuses to start a worker, the workers already started are ended.
 pub(crate) fn drive<J, M, G, R>(
     rt: &R,
     alloc: Global,
@@ -65,7 +65,7 @@ where
     Ok(back)
 }
 
-// Starts a worker for each tally. None if the system refuses to start a worker; then the run is ended.
+// Starts a worker for each tally. The result is none if the system refuses to start a worker; then the run is ended.
 fn start_all<'s, 'f, E, J, M, G, R>(
     scope: &Scope<'s, E>,
     rt: &'s R,

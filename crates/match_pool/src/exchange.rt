@@ -1,4 +1,4 @@
-//! What lies under the ledger's lock: the ledger, and the desks that wait for room in a mailbox.
+//! What the ledger's lock protects: the ledger, and the desks that wait for room in a mailbox.
 ghost use Rattle.std.specs.Prelude.{◌≡◌, ◌<◌, None, Some, length};
 ghost use Rattle.desk_scheduler.specs.Waits.{linked_at};
 ghost use Rattle.exchange_core.specs.Mail.{answers_wait, offers_wait};
@@ -15,8 +15,8 @@ use offer_ledger::{CloseToken, EntryRefused, ExchangeIdentity, Ledger, PutRefusa
 use std::alloc::{AllocError, Global};
 use std::marker::Model;
 
-/// The ledger, the desks that wait for room, and a receipt that the core refused, if it refused one. The ledger is
-/// spoiled then, so that the receipt is out of step ever after.
+/// The ledger, the desks that wait for room, and the receipt that the core refused, if the core refused a receipt.
+/// After such a refusal the ledger accepts no event, so that the receipt stays out of step with the journal.
 pub(crate) struct Exchange<J: ExchangeIdentity, M: Mailboxes> {
     ledger: Ledger<J, M::OfferPut, M::AnswerPut>,
     wait_queues: WaitQueues,
@@ -33,26 +33,26 @@ impl<J: ExchangeIdentity, M: Mailboxes> Model for Exchange<J, M> {
     ghost invariant = { λ e. IsRefusedForGood J.inst J.cap e.ledger e.out_of_step };
 }
 
-/// What became of an event that was to be entered.
+/// What happened when a worker tried to enter an event.
 #[derive(Clone, Copy, Debug)]
 pub(crate) enum Entry {
-    /// It is entered. `more` tells whether the desk's mailbox has more. After a take nobody asks, since an answer comes
-    /// before the next. `woken` is the receiver of a put whose mailbox was empty, or who waited for the room that a
-    /// receipt made.
+    /// The event was entered. `more` says whether the mailbox of the event's own desk has further messages. After a
+    /// take no worker reads `more`, since an answer is due before the next take. `woken` is a desk that now has work:
+    /// after a put the receiver whose mailbox was empty, after a receipt the sender who waited for the room.
     Made { more: bool, woken: Option<u32> },
     /// The mailbox was full, and the desk waits for room.
     Later,
-    /// The mailbox said that it is full, though the journal has room in it.
+    /// The mailbox said that it is full, although it has room by the journal.
     Missed,
-    /// Nothing is entered any more.
+    /// The ledger accepts no more events.
     Ended,
-    /// The core refused it.
+    /// The core refused the event.
     Refused,
-    /// Nobody can take from the mailbox any more.
+    /// The receiving end of the mailbox is gone.
     Gone,
 }
 
-// As one call, so that whoever lets an exchange go proves nothing of its parts.
+// One function drops the whole exchange. So a caller that drops an exchange need not prove anything about its parts.
 impl<J: ExchangeIdentity, M: Mailboxes> Drop for Exchange<J, M> {
     fn drop(self) {
         let Exchange {
@@ -64,7 +64,7 @@ impl<J: ExchangeIdentity, M: Mailboxes> Drop for Exchange<J, M> {
 }
 
 impl<J: ExchangeIdentity, M: Mailboxes> Exchange<J, M> {
-    /// This ledger, with nobody waiting at so many desks.
+    /// An exchange with this ledger and this number of desks, while no desk waits for room.
     pub(crate) fn new(
         alloc: Global,
         ledger: Ledger<J, M::OfferPut, M::AnswerPut>,
@@ -77,7 +77,7 @@ impl<J: ExchangeIdentity, M: Mailboxes> Exchange<J, M> {
         })
     }
 
-    /// The ledger, and the receipt that its core refused, if it refused one.
+    /// The ledger, and the receipt that the core refused, if the core refused a receipt.
     pub(crate) fn into_parts(self) -> (Ledger<J, M::OfferPut, M::AnswerPut>, Option<Event>)
         ensures refused { IsRefusedForGood J.inst J.cap result.0 result.1 }
         ensures receipt { result.1 ≡ self.out_of_step }
@@ -90,7 +90,7 @@ impl<J: ExchangeIdentity, M: Mailboxes> Exchange<J, M> {
         (ledger, out_of_step)
     }
 
-    /// Whether messages wait at a desk: put, and by the journal not received yet.
+    /// Whether messages wait at a desk: by the journal they were put and not received.
     #[inline(always)]
     pub(crate) fn has_mail(&self, inst: &Instance, desk: Desk) -> bool
         requires { inst.now ≡ J.inst }
@@ -105,8 +105,8 @@ impl<J: ExchangeIdentity, M: Mailboxes> Exchange<J, M> {
         }
     }
 
-    /// A programme's desk that waited comes into a worker's hands, and waits for room no more. Whether answers wait at
-    /// it, and whether it was called for room.
+    /// A worker has taken the desk of a programme that waited for room, so the desk no longer waits. The first answer
+    /// says whether messages wait at the desk. The second says whether the desk was called because of room.
     pub(crate) fn programme_comes(
         &mut self,
         inst: &Instance,
@@ -118,7 +118,7 @@ impl<J: ExchangeIdentity, M: Mailboxes> Exchange<J, M> {
         (self.has_mail(inst, Desk::Programme(programme)), is_called)
     }
 
-    /// Enters an offer.
+    /// Enters an offer of this programme to this resident.
     pub(crate) fn offer(
         &mut self,
         inst: &Instance,
@@ -147,7 +147,7 @@ impl<J: ExchangeIdentity, M: Mailboxes> Exchange<J, M> {
         }
     }
 
-    /// Enters an answer.
+    /// Enters this resident's answer to this programme.
     pub(crate) fn answer(
         &mut self,
         inst: &Instance,
@@ -176,7 +176,8 @@ impl<J: ExchangeIdentity, M: Mailboxes> Exchange<J, M> {
         }
     }
 
-    /// Enters a take, which makes room in its mailbox. One that the core refuses spoils the ledger.
+    /// Enters a take, which makes room in its mailbox. If the core refuses the take, the ledger accepts no further
+    /// event.
     pub(crate) fn take(
         &mut self,
         inst: &Instance,
@@ -201,7 +202,8 @@ impl<J: ExchangeIdentity, M: Mailboxes> Exchange<J, M> {
         }
     }
 
-    /// Enters a hear, which makes room in its mailbox. One that the core refuses spoils the ledger.
+    /// Enters a hear, which makes room in its mailbox. If the core refuses the hear, the ledger accepts no further
+    /// event.
     pub(crate) fn hear(
         &mut self,
         inst: &Instance,
@@ -234,7 +236,7 @@ impl<J: ExchangeIdentity, M: Mailboxes> Exchange<J, M> {
         }
     }
 
-    // What became of a put that was refused. Its sender waits for room in a mailbox that was full.
+    // What happened to a put that the ledger refused. If the mailbox was full, the sender now waits for room in it.
     #[cold]
     fn put_refused(&mut self, refused: EntryRefused, mailbox: u32, sender: u32) -> Entry
         ensures told { result ≡ refused_put refused }
@@ -253,7 +255,7 @@ impl<J: ExchangeIdentity, M: Mailboxes> Exchange<J, M> {
         }
     }
 
-    // What became of a receipt that was refused. From the first that the core refuses on nothing is entered.
+    // What happened to a refused receipt. Once the core has refused a receipt, the ledger accepts no event.
     #[cold]
     fn receipt_refused(&mut self, refused: EntryRefused, receipt: Event) -> Entry
         requires receipt { IsReceipt receipt }
@@ -272,7 +274,7 @@ impl<J: ExchangeIdentity, M: Mailboxes> Exchange<J, M> {
         }
     }
 
-    /// Some event that may follow; where that is the close it is entered, and this is none.
+    /// Some event that may follow the journal. If this event is the close, the call enters the close.
     pub(crate) fn close_or_find(
         &mut self,
         inst: &Instance,
@@ -294,18 +296,19 @@ impl<J: ExchangeIdentity, M: Mailboxes> Exchange<J, M> {
     }
 }
 
-/// What a worker finds that asked the core for something to do.
+/// What a worker gets that asks the core for an event.
 #[derive(Drop)]
 pub(crate) enum Found<C> {
-    /// The exchange was at rest, and the close is entered. The end is to be told.
+    /// The exchange was at rest, and this worker has entered the close. The worker still has to end the run.
     Closed(C),
-    /// Nothing is entered any more. Another worker closed or was refused a receipt, and tells the end.
+    /// The ledger accepts no more events: another worker closed the exchange, or another worker's receipt was refused.
+    /// That other worker ends the run.
     Ended,
-    /// Some event of this desk may follow.
+    /// Some event may follow at the desk with this number.
     Desk(u32),
 }
 
-/// The number of a programme's desk: residents' desks come first.
+/// The number of a programme's desk. Programmes' desks are numbered after all residents' desks.
 #[inline(always)]
 pub(crate) fn desk_of_programme(inst: &Instance, programme: ProgrammeNo) -> u32
     ensures { result ≡ number_of_programme inst.now programme }
@@ -313,7 +316,7 @@ pub(crate) fn desk_of_programme(inst: &Instance, programme: ProgrammeNo) -> u32
     inst.residents().saturating_add(programme.0)
 }
 
-// The number of the desk whose event this is; none of a close.
+// The number of the event's desk, or none if the event is a close.
 fn desk_of(inst: &Instance, event: Event) -> Option<u32>
     ensures { result ≡ number_of_desk inst.now event }
 {

@@ -6,7 +6,7 @@ use exchange_core::{Desk, Event};
 use std::alloc::{AllocError, AllocFailed};
 use thiserror::Error;
 
-/// Why a run had no result. A fault ends all workers, and is returned once all have joined.
+/// Why a run had no result. A fault ends all workers, and the run returns the fault after all workers have ended.
 #[derive(Debug, Drop, PartialEq, Eq, Error)]
 pub enum RunFault {
     /// The number of workers is not from 1 to 8.
@@ -21,7 +21,7 @@ pub enum RunFault {
     /// The system refused to start a worker.
     #[error("a worker could not be started")]
     Thread,
-    /// A receipt may not follow the journal.
+    /// A receipt did not agree with the journal: it may not follow the journal's events.
     #[error("a receipt was out of step")]
     OutOfStep {
         /// The events entered before the receipt.
@@ -29,12 +29,12 @@ pub enum RunFault {
         /// The receipt: a take or a hear.
         event: Event,
     },
-    /// The desk's log differs from the journal, or the desk was left pending. A desk is left pending if its mailbox
-    /// too often disagreed with the journal: it had no message where the journal has one, or no room where the
-    /// journal has room.
+    /// The desk's log differs from the journal, or the desk was left pending. A desk is left pending if its mailbox too
+    /// often disagreed with the journal: the mailbox had no message where the journal has a message, or no room where
+    /// the journal has room.
     #[error("a desk's log differs from the journal")]
     Torn(Desk),
-    /// Nobody holds the other end of this desk's mailbox.
+    /// The other end of this desk's mailbox is gone.
     #[error("a mailbox is gone")]
     MailGone(Desk),
 }
@@ -44,9 +44,10 @@ pub enum RunFault {
 pub(crate) enum Trouble {
     /// The core refused a receipt.
     OutOfStep,
-    /// The desk's log is full, or the core refused its event, or its mailbox disagreed with the journal for too long.
+    /// The desk's log is full, or the core refused the desk's event, or the desk's mailbox disagreed with the journal
+    /// too often.
     Torn(Desk),
-    /// The mailbox of this desk has lost its other end.
+    /// The other end of this desk's mailbox is gone.
     MailGone(Desk),
     /// The system refused to start a worker.
     Thread,

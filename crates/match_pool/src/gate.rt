@@ -1,4 +1,4 @@
-//! A gate watches a run as it goes, and may stop it.
+//! A gate sees a run while it goes on, and may stop the run.
 ghost use Rattle.std.specs.Prelude.{◌≡◌, Bool, true, false};
 
 use exchange_core::Desk;
@@ -8,27 +8,28 @@ use exchange_core::Desk;
 pub enum Go {
     /// The run goes on.
     On,
-    /// The run ends once the events that were begun are entered.
+    /// The run ends once the events that workers have begun are entered.
     Stop,
 }
 
 /// What the workers of a run call between their steps. Workers are numbered from 0.
 pub trait Gate {
-    // Whether `pass` may answer `Stop`, as clauses see it.
+    // Whether the gate's call `pass` may answer `Stop`, as clauses see it.
     ghost MAY_STOP: { Bool };
 
-    /// Whether `pass` may answer `Stop`.
+    /// Whether the gate's call `pass` may answer `Stop`.
     const MAY_STOP: bool;
 
-    /// Whether `entered` may hold its worker. If so, the desks that the entry gave work are listed for other workers
-    /// first.
+    /// Whether the gate's call `entered` may keep its worker waiting. If so, the worker lists the desks to which an
+    /// event gave work before it makes the call, so that other workers find these desks.
     const ENTERED_MAY_HOLD: bool = true;
 
-    /// Called between a receipt and its entry, while only this desk's lock is held.
+    /// The gate's call after a message was taken out of a mailbox and before this receipt is entered. The worker holds
+    /// only this desk's lock.
     fn pass(&self, worker: usize, desk: Desk) -> Go
         ensures { result ≡ Go.Stop → MAY_STOP ≡ true };
 
-    /// Called after each accepted entry, when the ledger's lock is released.
+    /// The gate's call after each event that was entered. The ledger's lock is released by then.
     fn entered(&self, worker: usize);
 }
 

@@ -1,5 +1,5 @@
-//! The pool. Several threads drive the agents of an exchange. Each desk has its own lock, and the ledger has one. A
-//! third lock protects which desks workers hold and which may have work.
+//! The pool: several threads drive the agents of an exchange. Each desk has a lock of its own, and the ledger has a
+//! lock. A further lock protects the schedule: which worker has which desk, and which desks may have work.
 #![tactic(auto)]
 
 mod after_joins;

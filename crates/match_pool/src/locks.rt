@@ -1,5 +1,5 @@
-//! The locks of a run, and the order in which a worker takes them: a desk's first, then the ledger's or the
-//! scheduler's.
+//! The locks of a run, and the order in which a worker takes them: first a desk's lock, then the ledger's lock or the
+//! schedule's lock.
 ghost use Rattle.std.specs.Prelude.{◌≡◌, true, false};
 
 use crate::naps::{NapRoom, Naps};
@@ -7,27 +7,27 @@ use std::hint::spin_loop;
 use std::snapshot::Snapshot;
 use std::sync::{Mutex, MutexGuard, Wait};
 
-/// The token of a thread that holds no desk's lock. It has no bytes. A desk's lock takes the token, and gives it back
-/// when the lock is released.
+/// The token of a thread that holds no desk's lock. The token has no bytes. A thread that takes a desk's lock gives up
+/// the token, and gets the token back when it releases the lock.
 #[derive(Drop)]
 pub(crate) struct DeskRank(());
 
-/// Whether a thread may take the ledger's lock or the scheduler's. It may hold only one of them. The token has no
-/// bytes.
+/// The token that says whether a thread may take the ledger's lock or the schedule's lock. A thread may hold only one
+/// of these two locks. The token has no bytes.
 #[derive(Drop)]
 pub(crate) struct InnerRank {
     free: Snapshot<bool>,
 }
 
 impl DeskRank {
-    /// The token of a thread at its start.
+    /// The token that a thread has at its start.
     pub(crate) fn of_thread() -> DeskRank {
         DeskRank(())
     }
 }
 
 impl InnerRank {
-    /// The token of a thread at its start.
+    /// The token that a thread has at its start.
     pub(crate) fn of_thread() -> InnerRank
         ensures { result.free.value ≡ true }
     {
@@ -36,7 +36,7 @@ impl InnerRank {
         }
     }
 
-    /// The thread took a lock of this rank.
+    /// Notes that the thread took the ledger's lock or the schedule's lock.
     #[inline(always)]
     pub(crate) fn taken(&mut self)
         requires { self.old.free.value ≡ true }
@@ -45,7 +45,7 @@ impl InnerRank {
         self.free = Snapshot::of(&false);
     }
 
-    /// The thread released the lock.
+    /// Releases the ledger's lock or the schedule's lock.
     #[inline(always)]
     pub(crate) fn give_back<T>(&mut self, guard: MutexGuard<'_, T>)
         requires { self.old.free.value ≡ false }
@@ -72,7 +72,7 @@ impl<T> DeskLock<T> {
         DeskLock(Mutex::new(value))
     }
 
-    /// The value, for a thread that holds no lock.
+    /// Waits for the desk's lock, and returns the value under it. The thread holds no lock.
     #[inline(always)]
     pub(crate) fn lock<R: Wait>(
         &self,
@@ -87,7 +87,7 @@ impl<T> DeskLock<T> {
         }
     }
 
-    /// The value, out of its lock.
+    /// Takes the value out of its lock.
     pub(crate) fn into_inner(self) -> T {
         let DeskLock(value) = self;
         value.into_inner()
@@ -95,7 +95,7 @@ impl<T> DeskLock<T> {
 }
 
 impl<'a, T> DeskGuard<'a, T> {
-    /// Releases the lock.
+    /// Releases the desk's lock.
     #[inline(always)]
     pub(crate) fn give_back(self) -> DeskRank {
         let DeskGuard { value } = self;
@@ -104,15 +104,15 @@ impl<'a, T> DeskGuard<'a, T> {
     }
 }
 
-/// How often a lock is tried before a worker naps, and how long the worker pauses after each try.
+/// How often a worker tries a lock before it naps, and how long the worker pauses after each try.
 const TRIES: u32 = 2;
 
 const PAUSES: u32 = 4;
 
-/// How often a worker naps before it waits for a lock.
+/// How often a worker naps before it waits for a lock without a limit.
 const NAPS: u32 = 20;
 
-// Tries a lock some times.
+// Tries a lock a few times, and returns none if another worker holds the lock each time.
 #[inline(always)]
 fn try_soon<T>(lock: &Mutex<T>) -> Option<MutexGuard<'_, T>> {
     for _ in 0..TRIES {
@@ -126,9 +126,8 @@ fn try_soon<T>(lock: &Mutex<T>) -> Option<MutexGuard<'_, T>> {
     None
 }
 
-/// The value under a lock that each worker needs for each event. If another worker holds the lock, this one steps
-/// back for a while, so that the other works on alone. A lock that changes hands for each event makes both slower
-/// than one worker.
+/// The value under a lock that each worker needs for each event. If another worker holds the lock, this worker naps, so
+/// that the other worker goes on alone. A lock that changes hands with each event makes two workers slower than one.
 #[inline(always)]
 pub(crate) fn lock_soon<'a, T, R: Wait>(
     rt: &R,
@@ -141,8 +140,8 @@ pub(crate) fn lock_soon<'a, T, R: Wait>(
     }
 }
 
-// The value under a lock that another worker holds. The lock is tried after each of some naps. After the last nap the
-// worker waits for it.
+// The value under a lock that another worker holds. The worker tries the lock after each of some naps. After the last
+// nap the worker waits for the lock.
 #[cold]
 fn lock_later<'a, T, R: Wait>(rt: &R, lock: &'a Mutex<T>, room: &NapRoom) -> MutexGuard<'a, T> {
     let mut naps = Naps::FOR_LOCK;

@@ -7,8 +7,8 @@ use match_model::{ProgrammeNo, ResidentNo};
 use std::alloc::Global;
 use std::sync::Wait;
 
-/// The mailboxes of a run: the two ends of a mailbox for offers, the two ends of one for answers, and how each is
-/// opened. A new mailbox has the room that was asked for. Nothing was put into it or taken from it.
+/// The mailboxes of a run: the two ends of a mailbox for offers, the two ends of a mailbox for answers, and how a
+/// mailbox is opened. A new mailbox has the room that was asked for. No message was put into it or taken from it.
 pub trait Mailboxes {
     /// The end into which a resident's offers are put.
     type OfferPut: PutEnd<OfferNote> + Drop + Send;
@@ -22,17 +22,17 @@ pub trait Mailboxes {
     /// The end from which a programme takes answers.
     type AnswerTake: TakeEnd<AnswerNote> + Drop + Send;
 
-    // How many offers a mailbox has room for.
+    // How many offers fit into a mailbox for offers.
     ghost offer_room: { Self.OfferPut → ℕ };
 
-    // How many answers a mailbox has room for.
+    // How many answers fit into a mailbox for answers.
     ghost answer_room: { Self.AnswerPut → ℕ };
 
-    /// How many misses in a row a worker accepts. In a miss a mailbox gives or accepts nothing, although by the
-    /// journal it should. After this many the run ends as torn.
+    /// How many misses in a row a worker accepts at one desk. A miss is a mailbox that has no message, or no room,
+    /// although by the journal it has. After more misses the run ends with the fault `Torn`.
     const PATIENCE: u32;
 
-    /// Opens this resident's mailbox, with room for this many offers, at least one. The only fault is `Memory`.
+    /// Opens this resident's mailbox, with room for `room` offers, which is at least one. The only fault is `Memory`.
     fn open_offers(
         &self,
         alloc: Global,
@@ -44,7 +44,7 @@ pub trait Mailboxes {
         ensures room { IfOk result (λ ends. offer_room ends.0 ≡ room) }
         ensures memory { IfErr result (λ fault. fault ≡ MailFault.Memory) };
 
-    /// Opens this programme's mailbox, with room for this many answers, at least one. The only fault is `Memory`.
+    /// Opens this programme's mailbox, with room for `room` answers, which is at least one. The only fault is `Memory`.
     fn open_answers(
         &self,
         alloc: Global,
@@ -57,7 +57,7 @@ pub trait Mailboxes {
         ensures memory { IfErr result (λ fault. fault ≡ MailFault.Memory) };
 }
 
-/// Mailboxes under a rule: the messages taken are a prefix of the messages put.
+/// Mailboxes under this rule: the messages taken out of a mailbox are a beginning of the messages put into it.
 #[derive(Clone, Copy, Debug)]
 pub struct RuledMailboxes<R: Wait + Copy>(pub R);
 

@@ -1,16 +1,16 @@
-//! How a worker steps back for a while.
+//! How a worker naps: a worker pauses for a while and then looks for work again.
 use std::sync::Wait;
 use std::sync::atomic::{AtomicU64, Ordering};
 use std::time::Duration;
 
-/// Where the workers of a run nap. All wake when it ends.
+/// Where the workers of a run nap. All workers wake when the run ends.
 #[derive(Debug, Drop)]
 pub(crate) struct NapRoom {
     over: AtomicU64,
 }
 
 impl NapRoom {
-    /// Nobody naps, and the run goes on.
+    /// A room in which nobody naps, while the run goes on.
     pub(crate) fn new() -> NapRoom {
         NapRoom {
             over: AtomicU64::new(0),
@@ -22,20 +22,20 @@ impl NapRoom {
         self.over.load(Ordering::SeqCst) != 0
     }
 
-    /// The run ends.
+    /// Notes that the run ends.
     pub(crate) fn end(&self) {
         self.over.store(1, Ordering::SeqCst);
         self.over.wake_all();
     }
 
-    /// Wakes all who nap.
+    /// Wakes all workers that nap.
     pub(crate) fn rouse(&self) {
         self.over.wake_all();
     }
 }
 
-/// Naps of a worker, in microseconds, each twice as long as the one before, up to the longest. So the more workers there
-/// are that find nothing to do, the less they cost those that work.
+/// The lengths of a worker's naps, in microseconds. Each nap is twice as long as the nap before, up to a longest nap.
+/// So workers that find nothing to do cost the working ones little.
 #[derive(Clone, Copy, Debug)]
 pub(crate) struct Naps {
     micros: u64,
@@ -43,20 +43,20 @@ pub(crate) struct Naps {
 }
 
 impl Naps {
-    /// No nap yet, of a worker that found a lock taken. They are long, since a lock that goes to and fro brings all that
-    /// lies behind it from one processor to another.
+    /// The naps of a worker that found a lock taken, before the first nap. These naps are long: each time that a lock
+    /// changes hands, the data under it moves from one processor to another.
     pub(crate) const FOR_LOCK: Naps = Naps {
         micros: 25_000,
         longest: 100_000,
     };
 
-    /// No nap yet, of a worker that found nothing to do.
+    /// The naps of a worker that found no desk with work, before the first nap.
     pub(crate) const FOR_WORK: Naps = Naps {
         micros: 200,
         longest: 3_200,
     };
 
-    /// Naps once in this room.
+    /// Takes one nap in this room.
     pub(crate) fn nap<R: Wait>(&mut self, rt: &R, room: &NapRoom) {
         room.over
             .park_timeout(rt, 0, Duration::from_micros(self.micros));

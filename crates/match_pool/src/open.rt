@@ -23,11 +23,11 @@ use std::alloc::Global;
 use std::marker::PhantomData;
 use std::sync::ledger::Blank;
 
-/// The desks of one side, in the order of receivers: the sending ends of their mailboxes, and the locks with their
-/// agents.
+/// The desks of one side: the sending ends of the desks' mailboxes, and the locks with the desks' agents, both by the
+/// desk's number.
 type Side<P, D> = (Vec<P>, Vec<DeskLock<D>>);
 
-/// The parts from which a run opens the exchange in the type's name.
+/// What a run needs to open its exchange. The type names the instance and the capacity.
 #[derive(Drop)]
 pub(crate) struct RunStart<'a, J: ExchangeIdentity + WorkersIdentity, M: Mailboxes> {
     pub(crate) alloc: Global,
@@ -41,7 +41,7 @@ pub(crate) struct RunStart<'a, J: ExchangeIdentity + WorkersIdentity, M: Mailbox
 }
 
 impl<'a, J: ExchangeIdentity + WorkersIdentity, M: Mailboxes> RunStart<'a, J, M> {
-    /// All that the workers share, before any event, and the workers' tallies.
+    /// All that the workers share, and the workers' tallies, before any event.
     pub(crate) fn shared<'g, G: Gate>(
         &self,
         blank: Blank,
@@ -63,7 +63,7 @@ impl<'a, J: ExchangeIdentity + WorkersIdentity, M: Mailboxes> RunStart<'a, J, M>
         Ok((shared, tallies))
     }
 
-    // A mailbox for each resident: its sending end, and a lock with the resident's agent over its receiving end.
+    // For each resident a mailbox: its sending end, and a lock with the resident's agent, which has the receiving end.
     fn residents(&self) -> Result<Side<M::OfferPut, ResidentSeat<J, M>>, RunFault>
         ensures puts { IfOk result (λ side. Each side.0.items (length J.inst.resident_lists)
             (IsNew M.OfferPut.puts M.offer_room (offer_room_of J.inst J.cap))) }
@@ -80,7 +80,7 @@ impl<'a, J: ExchangeIdentity + WorkersIdentity, M: Mailboxes> RunStart<'a, J, M>
         Ok((puts, desks))
     }
 
-    // A mailbox for each programme: its sending end, and a lock with the programme's agent over its receiving end.
+    // For each programme a mailbox: its sending end, and a lock with the agent, which has the receiving end.
     fn programmes(&self) -> Result<Side<M::AnswerPut, ProgrammeSeat<J, M>>, RunFault>
         ensures puts { IfOk result (λ side. Each side.0.items (length J.inst.quotas)
             (IsNew M.AnswerPut.puts M.answer_room (answer_room_of J.inst J.cap))) }
@@ -97,7 +97,7 @@ impl<'a, J: ExchangeIdentity + WorkersIdentity, M: Mailboxes> RunStart<'a, J, M>
         Ok((puts, desks))
     }
 
-    // A resident's desk: the sending end of its mailbox, and its agent.
+    // A resident's desk: the sending end of the desk's mailbox, and the desk's agent.
     fn resident(&self, resident: ResidentNo) -> Result<(M::OfferPut, ResidentSeat<J, M>), RunFault>
         requires { IsResident J.inst resident }
         ensures new { IfOk result (λ desk. IsNew M.OfferPut.puts M.offer_room
@@ -114,7 +114,7 @@ impl<'a, J: ExchangeIdentity + WorkersIdentity, M: Mailboxes> RunStart<'a, J, M>
         }
     }
 
-    // A programme's desk: the sending end of its mailbox, and its agent.
+    // A programme's desk: the sending end of the desk's mailbox, and the desk's agent.
     fn programme(
         &self,
         programme: ProgrammeNo,
@@ -134,7 +134,7 @@ impl<'a, J: ExchangeIdentity + WorkersIdentity, M: Mailboxes> RunStart<'a, J, M>
         }
     }
 
-    // The ledger over these new ends, while no desk waits for room, and each worker's tally.
+    // The ledger over these new sending ends, and each worker's tally. No desk waits for room yet.
     fn exchange(
         &self,
         blank: Blank,
@@ -167,7 +167,7 @@ impl<'a, J: ExchangeIdentity + WorkersIdentity, M: Mailboxes> RunStart<'a, J, M>
     }
 }
 
-// The room of a mailbox that gets at most this many messages: never more than will be used.
+// The room of a mailbox that gets at most `most` messages in the whole exchange: never more room than can be used.
 fn room(cap: Capacity, most: usize) -> u32
     requires within { most ≤ 2 * MAX_PAIRS }
     requires admitted { is_capacity cap ≡ true }

@@ -1,4 +1,4 @@
-//! A run: from an instance, through mailboxes, agents, ledger and workers, to what the ends put and took.
+//! A run of an exchange: an instance goes in, and the events and the result come out.
 ghost use Rattle.std.specs.Prelude.{◌≡◌, ◌≤◌, true, IfOk, IfErr, OnOk};
 ghost use Rattle.exchange_core.specs.Shown.{is_capacity};
 ghost use Rattle.match_pool.specs.Done.{IsRunOf, IsFault, IsRunFault};
@@ -26,11 +26,12 @@ const MOST_WORKERS: usize = 8;
 /// The result of a run with ruled mailboxes.
 pub type RuledDone<R> = Done<RuledMailboxes<R>>;
 
-/// Runs the exchange of an instance with this many workers, from 1 to 8, until it is closed or the gate stops it.
+/// Runs the exchange of an instance with this number of workers, from 1 to 8, until the exchange is closed or the gate
+/// stops the run.
 ///
-/// After a stop each worker enters the event that it has begun, and no other. A stop at the run's last receipt may
-/// come too late. Once this receipt is entered, a worker that has not seen the stop may close the run. Then the run
-/// ends as `Closed`.
+/// After a stop each worker enters only the event that it has begun. A stop at the run's last receipt may come too
+/// late: once this receipt is entered, a worker that has not seen the stop may close the exchange. Then the run ends as
+/// `Closed`.
 pub fn run<G: Gate + Sync, R: Threads + Wait + Sync + Send + Copy>(
     rt: R,
     alloc: Global,
@@ -47,8 +48,8 @@ pub fn run<G: Gate + Sync, R: Threads + Wait + Sync + Send + Copy>(
     run_over(rt, alloc, &RuledMailboxes(rt), inst, cap, workers, gate)
 }
 
-/// Runs the exchange of an instance over these mailboxes, until it is closed or the gate stops it. It has this many
-/// workers, from 1 to 8.
+/// Runs the exchange of an instance over these mailboxes, until the exchange is closed or the gate stops the run. There
+/// are `workers` workers, from 1 to 8.
 pub fn run_over<M: Mailboxes + Send + Sync, G: Gate + Sync, R: Threads + Wait + Sync + Copy>(
     rt: R,
     alloc: Global,
@@ -76,14 +77,14 @@ pub fn run_over<M: Mailboxes + Send + Sync, G: Gate + Sync, R: Threads + Wait + 
     run_named::<Brand, M, G, R>(&rt, alloc, blanks, mailboxes, inst, cap, workers, gate)
 }
 
-/// The ledgers for the counts of a run, before they get their names: one for entries, the others for workers.
+/// Empty records for the counts of a run: one for the entries of the ledger, and one for the workers.
 #[derive(Drop)]
 struct Blanks {
     entries: Blank,
     workers: WorkerBlanks,
 }
 
-// The run of the exchange in the type's name.
+// Runs the exchange of the instance and the capacity that the type names.
 fn run_named<
     J: ExchangeIdentity + WorkersIdentity + Send + Sync,
     M: Mailboxes + Send + Sync,

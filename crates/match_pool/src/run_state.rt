@@ -1,4 +1,4 @@
-//! What the third lock protects: which worker holds which desk, which desks may have work, and what ended the run.
+//! What the schedule's lock protects: which worker has which desk, which desks may have work, and what ended the run.
 ghost use Rattle.std.specs.Prelude.{◌≡◌, Some, true, false, MatchOption};
 ghost use Rattle.match_pool.specs.RunState.{is_told};
 
@@ -8,7 +8,7 @@ use desk_scheduler::{Shift, WorkersIdentity};
 use offer_ledger::{CloseToken, ExchangeIdentity};
 use std::marker::PhantomData;
 
-/// The workers and their desks, and what ended the run: the close, the gate's stop, or a fault.
+/// The schedule of workers and desks, and what ended the run: the close, the gate's stop, or a fault.
 #[derive(Drop)]
 pub(crate) struct RunState<'a, J: ExchangeIdentity + WorkersIdentity, G: Gate> {
     pub(crate) shift: Shift<J>,
@@ -34,13 +34,13 @@ impl<'a, J: ExchangeIdentity + WorkersIdentity, G: Gate> RunState<'a, J, G> {
         }
     }
 
-    /// The close is entered, so the run ends.
+    /// Notes that the close is entered, so that the run ends.
     pub(crate) fn close(&mut self, _close: CloseToken<J>) {
         self.closed = true;
         self.end();
     }
 
-    /// The gate stopped the run, so the run ends.
+    /// Notes that the gate stopped the run, so that the run ends.
     pub(crate) fn stop(&mut self)
         requires { G.MAY_STOP ≡ true }
     {
@@ -48,7 +48,7 @@ impl<'a, J: ExchangeIdentity + WorkersIdentity, G: Gate> RunState<'a, J, G> {
         self.end();
     }
 
-    /// A fault ends the run. If there are several, the first is kept.
+    /// Notes a fault that ends the run. If there are several faults, the first fault stays.
     pub(crate) fn fail(&mut self, trouble: Trouble)
         ensures { MatchOption self.old.trouble (self.new.trouble ≡ Some trouble)
             (λ first. self.new.trouble ≡ Some first) }
@@ -58,7 +58,7 @@ impl<'a, J: ExchangeIdentity + WorkersIdentity, G: Gate> RunState<'a, J, G> {
         self.end();
     }
 
-    // No worker gets a desk any more. Only the worker that closed, stopped or failed calls this.
+    // Ends the schedule: no worker gets a desk any more. The worker that closed, stopped or failed the run calls this.
     fn end(&mut self)
         requires { is_told self.old.closed self.old.stopped self.old.trouble ≡ true }
         ensures { self.new.trouble ≡ self.old.trouble }
@@ -73,7 +73,7 @@ impl<'a, J: ExchangeIdentity + WorkersIdentity, G: Gate> RunState<'a, J, G> {
         self.trouble
     }
 
-    /// Whether the gate stopped the run.
+    /// Whether the gate has stopped the run.
     pub(crate) fn is_stopped(&self) -> bool
         ensures { result ≡ true → G.MAY_STOP ≡ true }
     {

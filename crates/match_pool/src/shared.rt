@@ -1,4 +1,4 @@
-//! What the workers share.
+//! What all workers of a run share.
 ghost use Rattle.std.specs.Prelude.{◌≡◌, true, false};
 
 use crate::exchange::Exchange;
@@ -13,8 +13,8 @@ use desk_scheduler::WorkersIdentity;
 use offer_ledger::{CloseToken, ExchangeIdentity};
 use std::sync::{Condvar, Mutex, MutexGuard, Wait};
 
-/// What the shared state is taken apart into: the seats of the residents and of the programmes, the exchange and how
-/// the run stands.
+/// The parts of the shared state: the seats of the residents and of the programmes, the exchange, and the state of the
+/// run.
 pub(crate) type SharedParts<'a, J, M, G> = (
     Vec<DeskLock<ResidentSeat<J, M>>>,
     Vec<DeskLock<ProgrammeSeat<J, M>>>,
@@ -22,7 +22,8 @@ pub(crate) type SharedParts<'a, J, M, G> = (
     RunState<'a, J, G>,
 );
 
-/// The locks of a run, each of its rank: a desk's lock is taken first, and then the ledger's or the scheduler's, never both.
+/// The locks of a run, in the order in which a worker takes them: a desk's lock first, and then either the ledger's
+/// lock or the schedule's lock.
 pub(crate) struct SharedState<'a, J: ExchangeIdentity + WorkersIdentity, M: Mailboxes, G: Gate> {
     pub(crate) residents: Vec<DeskLock<ResidentSeat<J, M>>>,
     pub(crate) programmes: Vec<DeskLock<ProgrammeSeat<J, M>>>,
@@ -33,7 +34,8 @@ pub(crate) struct SharedState<'a, J: ExchangeIdentity + WorkersIdentity, M: Mail
     for_work: NapRoom,
 }
 
-// As one call, so that whoever lets the shared state go proves nothing of its parts.
+// One function drops the whole shared state. So a caller that drops a shared state need not prove anything about its
+// parts.
 impl<'a, J: ExchangeIdentity + WorkersIdentity, M: Mailboxes, G: Gate> Drop
     for SharedState<'a, J, M, G> {
     fn drop(self) {
@@ -50,7 +52,7 @@ impl<'a, J: ExchangeIdentity + WorkersIdentity, M: Mailboxes, G: Gate> Drop
 }
 
 impl<'a, J: ExchangeIdentity + WorkersIdentity, M: Mailboxes, G: Gate> SharedState<'a, J, M, G> {
-    /// The seats, the exchange and how the run stands, out of their locks but for the seats.
+    /// The seats, the exchange and the state of the run. The exchange and the state are taken out of their locks.
     pub(crate) fn into_parts(self) -> SharedParts<'a, J, M, G> {
         let SharedState {
             residents,
@@ -65,7 +67,7 @@ impl<'a, J: ExchangeIdentity + WorkersIdentity, M: Mailboxes, G: Gate> SharedSta
         (residents, programmes, exchange, state.into_inner())
     }
 
-    /// Seats, exchange and how the run stands, each under its lock.
+    /// The seats, the exchange and the state of the run, each put under its lock.
     pub(crate) fn new(
         residents: Vec<DeskLock<ResidentSeat<J, M>>>,
         programmes: Vec<DeskLock<ProgrammeSeat<J, M>>>,
@@ -83,7 +85,7 @@ impl<'a, J: ExchangeIdentity + WorkersIdentity, M: Mailboxes, G: Gate> SharedSta
         }
     }
 
-    /// The ledger and those who wait for room, under their lock.
+    /// The ledger and the desks that wait for room, once this thread has their lock.
     #[inline(always)]
     pub(crate) fn lock_exchange<R: Wait>(
         &self,
@@ -97,7 +99,7 @@ impl<'a, J: ExchangeIdentity + WorkersIdentity, M: Mailboxes, G: Gate> SharedSta
         lock_soon(rt, &self.exchange, &self.for_lock)
     }
 
-    /// Who has which desk, the list and how the run ends, under their lock.
+    /// The schedule and the state of the run, once this thread has their lock.
     #[inline(always)]
     pub(crate) fn lock_state<R: Wait>(
         &self,
@@ -111,7 +113,8 @@ impl<'a, J: ExchangeIdentity + WorkersIdentity, M: Mailboxes, G: Gate> SharedSta
         lock_soon(rt, &self.state, &self.for_lock)
     }
 
-    /// Naps once, having found nothing to do. Whoever naps for a lock goes on, since what there is to do may be in its hands.
+    /// Naps once, because the worker found no desk with work. A worker that naps for a lock is woken as well, since it
+    /// may have the work in hand.
     pub(crate) fn nap<R: Wait>(&self, rt: &R, naps: &mut Naps) {
         self.for_lock.rouse();
         naps.nap(rt, &self.for_work);
@@ -123,7 +126,7 @@ impl<'a, J: ExchangeIdentity + WorkersIdentity, M: Mailboxes, G: Gate> SharedSta
         self.for_lock.is_over()
     }
 
-    /// Ends the run, whose close is entered.
+    /// Ends the run, because the close is entered.
     pub(crate) fn close<R: Wait>(&self, rt: &R, inner: &mut InnerRank, close: CloseToken<J>)
         requires { inner.old.free.value ≡ true }
         ensures { inner.new.free.value ≡ true }
@@ -135,7 +138,7 @@ impl<'a, J: ExchangeIdentity + WorkersIdentity, M: Mailboxes, G: Gate> SharedSta
         self.wake_all();
     }
 
-    /// Ends the run on a gate's word: the workers leave once what they have begun is entered.
+    /// Ends the run, because the gate said so. Each worker still enters the event that it has begun, and then leaves.
     pub(crate) fn stop<R: Wait>(&self, rt: &R, inner: &mut InnerRank)
         requires may_stop { G.MAY_STOP ≡ true }
         requires free { inner.old.free.value ≡ true }
@@ -148,7 +151,7 @@ impl<'a, J: ExchangeIdentity + WorkersIdentity, M: Mailboxes, G: Gate> SharedSta
         self.wake_all();
     }
 
-    /// Ends the run for a trouble, of which the first one is kept.
+    /// Ends the run with a fault. If there are several faults, the first fault stays.
     pub(crate) fn fail<R: Wait>(&self, rt: &R, inner: &mut InnerRank, trouble: Trouble)
         requires { inner.old.free.value ≡ true }
         ensures { inner.new.free.value ≡ true }
@@ -160,13 +163,13 @@ impl<'a, J: ExchangeIdentity + WorkersIdentity, M: Mailboxes, G: Gate> SharedSta
         self.wake_all();
     }
 
-    // No worker begins an event any more, and none naps.
+    // Notes that no worker may begin a further event, and wakes all workers that nap.
     fn end_naps(&self) {
         self.for_lock.end();
         self.for_work.end();
     }
 
-    // Wakes all workers that rest.
+    // Wakes all workers that rest until a desk is listed.
     fn wake_all(&self) {
         self.news.notify_all();
     }

@@ -1,4 +1,5 @@
-//! A worker: it takes desks that may have work, stays at each while it has some, and closes the exchange at rest.
+//! A worker takes a desk that may have work, works there while the desk has work, and goes on to the next desk. If the
+//! exchange is at rest, the worker closes the exchange.
 ghost use Rattle.std.specs.Prelude.{◌≡◌, ◌≢◌, ◌⊎◌, ◌++◌, ◌∷◌, [], None, true, slice_get};
 ghost use Rattle.match_agents.specs.Programmes.{wish_of};
 
@@ -17,7 +18,8 @@ use match_model::{Instance, ProgrammeNo, ResidentNo};
 use offer_ledger::{ExchangeIdentity, Tally};
 use std::sync::Wait;
 
-/// One worker of a run. It notes the desks to which its entries may have given work, by number, until it lists them.
+/// One worker of a run. The worker notes the numbers of desks to which its events may have given work, until it lists
+/// these desks for all workers.
 #[derive(Drop)]
 pub(crate) struct Worker<
     'a,
@@ -40,24 +42,25 @@ pub(crate) struct Worker<
     ghost idle: { inner.free.value ≡ true },
 }
 
-/// What a step at a desk leaves.
+/// What a worker does after a step at a desk.
 #[derive(Clone, Copy, Debug, PartialEq, Eq)]
 enum Step {
-    /// The worker stays at the desk: an event is entered, or its mailbox has nothing. Whether the mailbox may have more.
+    /// The worker stays at the desk: an event was entered, or the mailbox had no message. `more` says whether the
+    /// mailbox may have further messages.
     Stay { more: bool },
-    /// The worker leaves the desk; whether it is to be come back to at once.
+    /// The worker leaves the desk. `again` says whether the desk has to be visited again at once.
     Leave { again: bool },
 }
 
-/// After how many misses in a row a worker naps after each.
+/// After this number of misses in a row, a worker naps after each further miss.
 const MISSES: u32 = 16;
 
-/// How often a worker that has found no desk naps and looks again, before it waits for news.
+/// How often a worker that found no desk naps and looks again, before it rests until a desk is listed.
 const LOOKS: u32 = 8;
 
 const LEAVE: Step = Step::Leave { again: false };
 
-// What an answer wakes its programme for: a place that it gives back is for another offer.
+// For what an answer wakes its programme. An answer that gives back a place wakes the programme for a further offer.
 #[inline(always)]
 fn wake_of(kind: AnswerKind) -> Wake {
     match kind {
@@ -74,7 +77,7 @@ impl<'a, 'f, J: ExchangeIdentity + WorkersIdentity, M: Mailboxes, G: Gate, R: Wa
     G,
     R,
 > {
-    /// A worker with this number and tally, which has noted nothing.
+    /// The worker with this number and tally, before it has noted any desk.
     pub(crate) fn new(
         rt: &'a R,
         inst: &'a Instance,
@@ -98,7 +101,7 @@ impl<'a, 'f, J: ExchangeIdentity + WorkersIdentity, M: Mailboxes, G: Gate, R: Wa
         }
     }
 
-    /// Drives desks until the run ends, and gives the tally back.
+    /// Works at desks until the run ends, and returns the worker's tally.
     pub(crate) fn work(mut self) -> Tally<J> {
         let mut rank = DeskRank::of_thread();
         let mut in_hand = self.begin();
@@ -114,7 +117,7 @@ impl<'a, 'f, J: ExchangeIdentity + WorkersIdentity, M: Mailboxes, G: Gate, R: Wa
         tally
     }
 
-    // Begins to look, and gets the first desk. None where more workers have begun than can be counted.
+    // Begins to look for a desk, and gets the first desk. The result is none if too many workers have begun.
     fn begin(&mut self) -> Option<Hand<J>> {
         let mut state = self.shared.lock_state(self.rt, &mut self.inner);
         let first = match state.shift.begins() {
@@ -125,7 +128,7 @@ impl<'a, 'f, J: ExchangeIdentity + WorkersIdentity, M: Mailboxes, G: Gate, R: Wa
         self.or_search(first?)
     }
 
-    // Stays at a desk while it has work. Answers whether to come back to it at once.
+    // Works at a desk while the desk has work. Answers whether the desk has to be visited again at once.
     fn visit(&mut self, rank: DeskRank, desk: u32) -> (bool, DeskRank) {
         let residents = self.inst.residents();
         if desk < residents {
@@ -146,8 +149,8 @@ impl<'a, 'f, J: ExchangeIdentity + WorkersIdentity, M: Mailboxes, G: Gate, R: Wa
         }
     }
 
-    // Gives every answer that is due and takes the next offer, while there is one. The mailbox is looked into at first, and
-    // the ledger asked where it gives nothing.
+    // Gives every answer that is due and takes the next offer, while the resident's mailbox has an offer. The worker
+    // looks into the mailbox first, and asks the ledger only if the mailbox has no message.
     fn visit_resident(&mut self, seat: &mut ResidentSeat<J, M>, resident: ResidentNo) -> bool {
         let mut more = true;
         for _ in self.rt.forever() {
@@ -167,8 +170,8 @@ impl<'a, 'f, J: ExchangeIdentity + WorkersIdentity, M: Mailboxes, G: Gate, R: Wa
         unreachable!()
     }
 
-    // Hears every answer that waits, and offers while there is a wish. Room that it was called for is used first: no
-    // receipt may hold it up, since others wait for room behind it.
+    // Hears every answer that waits, and makes offers while the programme has a wish. If the desk was called because a
+    // mailbox got room, the offer into that room comes first, since other desks wait behind it.
     fn visit_programme(&mut self, seat: &mut ProgrammeSeat<J, M>, programme: ProgrammeNo) -> bool {
         let mut more = true;
         if seat.asks_first_once() {
@@ -220,7 +223,7 @@ impl<'a, 'f, J: ExchangeIdentity + WorkersIdentity, M: Mailboxes, G: Gate, R: Wa
         self.after_put(entry, sender, receiver, wake_of(kind))
     }
 
-    // Offers to the next resident, if there is a wish.
+    // Makes the programme's next offer, if the programme has a wish.
     fn offer_next(&mut self, seat: &mut ProgrammeSeat<J, M>, programme: ProgrammeNo) -> Step {
         match seat.wish(self.inst) {
             Some(resident) => self.offer(seat, programme, resident),
@@ -228,7 +231,7 @@ impl<'a, 'f, J: ExchangeIdentity + WorkersIdentity, M: Mailboxes, G: Gate, R: Wa
         }
     }
 
-    // Offers to this resident, who is the next.
+    // Makes the programme's next offer, which goes to this resident.
     fn offer(
         &mut self,
         seat: &mut ProgrammeSeat<J, M>,
@@ -249,7 +252,7 @@ impl<'a, 'f, J: ExchangeIdentity + WorkersIdentity, M: Mailboxes, G: Gate, R: Wa
         self.after_put(entry, sender, receiver, Wake::Work)
     }
 
-    // Takes an offer out of the mailbox, enters the take, and decides.
+    // Takes an offer out of the mailbox, enters the take, and decides about the offer.
     fn take(&mut self, seat: &mut ResidentSeat<J, M>, resident: ResidentNo) -> Step {
         let desk = Desk::Resident(resident);
         let again = desk;
@@ -283,7 +286,7 @@ impl<'a, 'f, J: ExchangeIdentity + WorkersIdentity, M: Mailboxes, G: Gate, R: Wa
         self.after_receipt(entry)
     }
 
-    // Lets the gate see a receipt, and ends the run on its word.
+    // Makes the gate's call before a receipt is entered, and ends the run if the gate says so.
     #[inline(always)]
     fn pass(&mut self, desk: Desk) {
         if let Go::Stop = self.gate.pass(self.number, desk) {
@@ -291,7 +294,7 @@ impl<'a, 'f, J: ExchangeIdentity + WorkersIdentity, M: Mailboxes, G: Gate, R: Wa
         }
     }
 
-    // What a put leaves at the desk of its sender, which woke its receiver for this.
+    // The step after a put. The put woke the receiver for the reason `wake`.
     #[inline(always)]
     fn after_put(&mut self, entry: Entry, sender: Desk, receiver: Desk, wake: Wake) -> Step {
         match entry {
@@ -311,7 +314,7 @@ impl<'a, 'f, J: ExchangeIdentity + WorkersIdentity, M: Mailboxes, G: Gate, R: Wa
         }
     }
 
-    // What a receipt leaves at its desk. Whom it woke waited for room, and puts into it.
+    // The step after a receipt. A desk that the receipt woke had waited for room in the mailbox.
     #[inline(always)]
     fn after_receipt(&mut self, entry: Entry) -> Step {
         match entry {
@@ -325,8 +328,8 @@ impl<'a, 'f, J: ExchangeIdentity + WorkersIdentity, M: Mailboxes, G: Gate, R: Wa
         }
     }
 
-    // What a look into the mailbox leaves that gave no message. Where none waits by the ledger, the desk does what else it
-    // has to do.
+    // The step after a look into a mailbox that had no message. If by the ledger no message waits either, the desk goes
+    // on to its other work.
     fn after_look<N: Drop>(&mut self, heard: Heard<N>, desk: Desk) -> Step {
         if let Heard::Gone = heard {
             self.shared
@@ -348,7 +351,7 @@ impl<'a, 'f, J: ExchangeIdentity + WorkersIdentity, M: Mailboxes, G: Gate, R: Wa
         self.miss(desk)
     }
 
-    // A mailbox had nothing, or no room, against the journal: the desk is come back to, while there is patience.
+    // Counts a miss at a desk. The desk is visited again, unless there were too many misses in a row.
     #[cold]
     fn miss(&mut self, desk: Desk) -> Step {
         self.missed = self.missed.saturating_add(1);
@@ -364,8 +367,8 @@ impl<'a, 'f, J: ExchangeIdentity + WorkersIdentity, M: Mailboxes, G: Gate, R: Wa
         Step::Leave { again: true }
     }
 
-    // An event was entered: the desk that it woke is noted, and the gate is told. What was woken is listed before, where the
-    // gate may hold this worker.
+    // After an event was entered: notes the desk that the event woke, and makes the gate's call. If the gate may keep
+    // this worker waiting, the woken desks are listed first.
     #[inline(always)]
     fn made(&mut self, more: bool, woken: Option<u32>, wake: Wake) -> Step {
         self.missed = 0;
@@ -379,7 +382,7 @@ impl<'a, 'f, J: ExchangeIdentity + WorkersIdentity, M: Mailboxes, G: Gate, R: Wa
         Step::Stay { more }
     }
 
-    // Notes a desk that was woken. Where no more can be noted, those so far are listed before.
+    // Notes a desk that was woken. If there is no room for a further note, the desks noted so far are listed first.
     fn note(&mut self, desk: u32, wake: Wake)
         ensures { (self.new.woken ≡ self.old.woken ++ (desk, wake) ∷ [])
             ⊎ (self.new.woken ≡ (desk, wake) ∷ []) }
@@ -390,7 +393,7 @@ impl<'a, 'f, J: ExchangeIdentity + WorkersIdentity, M: Mailboxes, G: Gate, R: Wa
         self.woken.note(desk, wake);
     }
 
-    // Lists the desks that were woken, and wakes a worker that rests.
+    // Lists the noted desks for all workers, and wakes a worker that rests.
     fn list_woken(&mut self)
         ensures { self.new.woken ≡ [] }
     {
@@ -408,7 +411,7 @@ impl<'a, 'f, J: ExchangeIdentity + WorkersIdentity, M: Mailboxes, G: Gate, R: Wa
         }
     }
 
-    // Lets a desk go, lists what was woken, and takes the next desk.
+    // Leaves a desk, lists the noted desks, and takes the next desk.
     fn turn(&mut self, hand: Hand<J>, again: bool) -> Option<Hand<J>> {
         let mut state = self.shared.lock_state(self.rt, &mut self.inner);
         let (next, wakes) = {
@@ -423,7 +426,7 @@ impl<'a, 'f, J: ExchangeIdentity + WorkersIdentity, M: Mailboxes, G: Gate, R: Wa
         self.or_search(next)
     }
 
-    // The desk that was found, or where none was listed what a search gives. None once the run ends.
+    // The desk that was found, or the desk that a search finds. The result is none once the run ends.
     fn or_search(&mut self, found: TurnOf<J>) -> Option<Hand<J>> {
         match found {
             Turn::Desk(hand) => Some(hand),
@@ -432,8 +435,8 @@ impl<'a, 'f, J: ExchangeIdentity + WorkersIdentity, M: Mailboxes, G: Gate, R: Wa
         }
     }
 
-    // Where no desk is listed: asks the core once, closes at rest, or rests. None once the run ends, or where nothing is
-    // entered any more. Then whoever closed or failed tells the end.
+    // If no desk is listed: asks the core once for an event, closes an exchange at rest, or rests. The result is none
+    // once the run ends or the ledger accepts no events; then the worker that closed or failed ends the run.
     fn search(&mut self, own: Looking<J>) -> Option<Hand<J>> {
         let mut own = own;
         for _ in self.rt.forever() {
@@ -461,8 +464,8 @@ impl<'a, 'f, J: ExchangeIdentity + WorkersIdentity, M: Mailboxes, G: Gate, R: Wa
         unreachable!()
     }
 
-    // Takes this desk into a hand. Where another worker has it, looks after each of some naps whether a desk is listed, and
-    // then rests. Who naps needs no waking.
+    // Takes this desk. If another worker has the desk, this worker naps a few times and looks after each nap whether a
+    // desk is listed, and then rests. A worker that naps need not be woken.
     fn claim_or_look(&mut self, own: Looking<J>, desk: u32) -> TurnOf<J> {
         let mut state = self.shared.lock_state(self.rt, &mut self.inner);
         let mut found = state.shift.claim_or_next(own, desk);
@@ -482,7 +485,7 @@ impl<'a, 'f, J: ExchangeIdentity + WorkersIdentity, M: Mailboxes, G: Gate, R: Wa
         }
     }
 
-    // The next desk that is listed.
+    // Takes the next desk that is listed.
     fn next(&mut self, own: Looking<J>) -> TurnOf<J> {
         let mut state = self.shared.lock_state(self.rt, &mut self.inner);
         let next = state.shift.next(own);
@@ -490,8 +493,8 @@ impl<'a, 'f, J: ExchangeIdentity + WorkersIdentity, M: Mailboxes, G: Gate, R: Wa
         next
     }
 
-    // Rests until a desk is listed or the run ends. Where no other worker has a desk, it looks on. Whoever lists desks wakes
-    // one worker, so one that wakes and leaves a desk listed wakes the next.
+    // Rests until a desk is listed or the run ends. If no other worker has a desk, the worker searches on instead. Each
+    // worker that lists desks wakes one resting worker, which wakes the next if it leaves a desk listed.
     fn rest(&mut self, own: Looking<J>) -> TurnOf<J> {
         let mut state = self.shared.lock_state(self.rt, &mut self.inner);
         let resting = match state.shift.rests(own) {

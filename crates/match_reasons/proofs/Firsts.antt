@@ -1,4 +1,4 @@
--- There is one first answer, and which one is told.
+-- Exactly one answer is the first true answer, and which one the code returns.
 use Rattle.std.proofs.Common.{◌≡◌, ℕ, ◌<◌, ◌≤◌, inl, inr, List, arith, refl, sym, ap, ◌∙◌, subst}
 use Rattle.std.specs.Prelude.{Option, Some, None}
 use Rattle.std.proofs.lemmas.Bool.{cases_lt}
@@ -16,7 +16,7 @@ use Rattle.match_reasons.specs.declared.taken.Taken.{Taken}
 use Rattle.match_reasons.specs.declared.reason.Why.{Why}
 use Rattle.match_reasons.specs.declared.reason.Why.TheVariants.{Withdrawn, NotListed, NotRanked, Matched, PrefersOwn, Full, Blocking}
 
--- a last place is one
+-- a programme's members have only one last place
 same_last : (theirs : List ℕ) (m : List (Option ℕ)) (p : ℕ) (a b : Option ℕ) → IsLastPlace theirs m p a → IsLastPlace theirs m p b → a ≡ b
 same_last theirs m p None None h k = refl
 same_last theirs m p None (Some b) h k = absurd (h k.0.0 k.0.1)
@@ -25,7 +25,7 @@ same_last theirs m p (Some a) (Some b) h k =
     let l = h.1 k.0.0 k.0.1 in let g = k.1 h.0.0 h.0.1 in let e = h.0.2 in let f = k.0.2 in
     ap Some (omega arith)
 
--- two answers of one turn that hold are one
+-- two true answers with the same turn are equal
 same_holding : (inst : Instance) (mine theirs : List ℕ) (m : List (Option ℕ)) (r p : ℕ) (a b : Why) →
     Holds inst mine theirs m r p a → Holds inst mine theirs m r p b → turn a ≡ turn b → a ≡ b
 same_holding inst mine theirs m r p Withdrawn Withdrawn h k e = refl
@@ -43,7 +43,7 @@ same_holding inst mine theirs m r p (Full i l q) (Full i' l' q') h k e =
 same_holding inst mine theirs m r p Blocking Blocking h k e = refl
 same_holding inst mine theirs m r p a b h k e = absurd (omega arith)
 
--- there is one first answer
+-- only one answer is the first true answer
 pub one_first : (inst : Instance) (mine theirs : List ℕ) (m : List (Option ℕ)) (r p : ℕ) (a b : Why) →
     IsFirst inst mine theirs m r p a → IsFirst inst mine theirs m r p b → a ≡ b
 one_first inst mine theirs m r p a b h k = elim (cases_lt (turn a) (turn b)) [
@@ -54,19 +54,20 @@ one_first inst mine theirs m r p a b h k = elim (cases_lt (turn a) (turn b)) [
   ]
 ]
 
--- the first answer over a stable placement isn't that the two block it
+-- if a placement is stable, the first true answer is not that the two block it
 pub never_blocking : (inst : Instance) (mine theirs : List ℕ) (m : List (Option ℕ)) (r p : ℕ) (a : Why) → IsFirst inst mine theirs m r p a →
     IsStable inst m → a ≡ Blocking → ⊥
 never_blocking inst mine theirs m r p a h stable e = stable.nothing_blocks r p (subst (Holds inst mine theirs m r p) e h.holds)
 
--- who is withdrawn is in no acceptable pair
+-- a withdrawn member is in no acceptable pair
 not_withdrawn : (inst : Instance) → IsInstance inst → (r p : ℕ) → Acceptable inst r p → HasWithdrawn inst r p → ⊥
 not_withdrawn inst is r p a (inl c) =
     IsListed-nil p (subst (λ (xs : List ℕ). IsListed xs p) (is.withdrawn_residents_rank_nobody r c) ((is.both_rank p r).0 a))
 not_withdrawn inst is r p a (inr c) =
     IsListed-nil r (subst (λ (xs : List ℕ). IsListed xs r) (is.withdrawn_programmes_rank_nobody p c) a)
 
--- none of the first five answers holds of an acceptable pair that isn't placed, where r has nothing that stands before p
+-- none of the first five answers is true of an acceptable pair that isn't matched, if resident r has no programme that
+-- stands before p
 none_of_five : (inst : Instance) → IsInstance inst → (mine theirs : List ℕ) (m : List (Option ℕ)) (r p : ℕ) → AreListsOf inst r p mine theirs →
     Acceptable inst r p → (IsMemberOf m r p → ⊥) → ((own : ℕ) → IsMemberOf m r own → IsBefore mine p own) →
     (a : Why) → turn a < 5 → Holds inst mine theirs m r p a → ⊥
@@ -82,7 +83,8 @@ none_of_five inst is mine theirs m r p w a not has (PrefersOwn own i j) l h =
 none_of_five inst is mine theirs m r p w a not has (Full i k q) l h = absurd (omega arith)
 none_of_five inst is mine theirs m r p w a not has Blocking l h = absurd (omega arith)
 
--- so r asks for p
+-- an acceptable pair that isn't matched, where resident r has no programme that stands before p, is left to the last
+-- two answers
 pub asks : (inst : Instance) → IsInstance inst → (mine theirs : List ℕ) (m : List (Option ℕ)) (r p : ℕ) → AreListsOf inst r p mine theirs → IsResident inst r →
     Acceptable inst r p → (IsMemberOf m r p → ⊥) → ((own : ℕ) → IsMemberOf m r own → IsBefore mine p own) → Asks inst mine theirs m r p
 asks inst is mine theirs m r p w within a not has = record {
@@ -94,7 +96,7 @@ asks inst is mine theirs m r p w within a not has = record {
     would None e = tt
     would (Some own) e = resident_before inst r p mine theirs p own w within ((is.both_rank p r).0 a) (has own e)
 
--- r has nothing, or nothing that it lists
+-- resident r has no programme, or has a programme that r does not list
 pub before_none : (mine : List ℕ) (m : List (Option ℕ)) (r p : ℕ) → programme_of m r ≡ None → (own : ℕ) → IsMemberOf m r own → IsBefore mine p own
 before_none mine m r p none own is = absurd (cc)
 
@@ -106,7 +108,7 @@ before_unlisted mine m r p j o e has none own is =
     let at = (ranked mine p j e).0 in
     subst (IsBefore mine p) same (omega arith)
 
--- r has another programme, which stands no earlier
+-- resident r has another programme, which does not stand before p on r's list
 pub before_later : (mine : List ℕ) (m : List (Option ℕ)) (r p i j o : ℕ) → Some j ≡ rank mine p → programme_of m r ≡ Some o → Some i ≡ rank mine o → j ≤ i →
     (IsMemberOf m r p → ⊥) → (own : ℕ) → IsMemberOf m r own → IsBefore mine p own
 before_later mine m r p i j o e has f l not own is = elim (cases_lt (place mine p) (place mine own)) [
@@ -120,7 +122,7 @@ before_later mine m r p i j o e has f l not own is = elim (cases_lt (place mine 
       absurd (not (subst (IsMemberOf m r) (sym alike) is))
 ]
 
--- whoever would rather have p of a stable placement has nothing that stands before p
+-- in a stable placement, a resident who would rather have programme p has no programme that stands before p
 stable_before : (inst : Instance) → IsInstance inst → (mine theirs : List ℕ) (m : List (Option ℕ)) (r p : ℕ) → AreListsOf inst r p mine theirs → IsResident inst r →
     IsStable inst m → Wants inst m r p → (own : ℕ) → IsMemberOf m r own → IsBefore mine p own
 stable_before inst is mine theirs m r p w within stable wants own has = elim (cases_lt (place mine p) (place mine own)) [
@@ -138,7 +140,7 @@ stable_before inst is mine theirs m r p w within stable wants own has = elim (ca
       ]
 ]
 
--- so they are told that all places were taken before them
+-- in a stable placement, a resident who would rather have programme p gets the answer that all places of p were taken
 pub tells_full : (inst : Instance) → IsInstance inst → (mine theirs : List ℕ) (m : List (Option ℕ)) (r p : ℕ) (a : Why) → AreListsOf inst r p mine theirs → IsResident inst r →
     IsFirst inst mine theirs m r p a → IsStable inst m → Wants inst m r p → TellsFull a
 tells_full inst is mine theirs m r p a w within h stable wants =
@@ -153,7 +155,7 @@ tells_full inst is mine theirs m r p a w within h stable wants =
     go (Full i l q) k none = tt
     go Blocking k none = stable.nothing_blocks r p k
 
--- the first four answers, and the fifth
+-- when each of the first four answers is the first true answer, and when the fifth is
 module _ (inst : Instance) (mine theirs : List ℕ) (m : List (Option ℕ)) (r p : ℕ) where
   pub first_withdrawn : HasWithdrawn inst r p → IsFirst inst mine theirs m r p Withdrawn
   first_withdrawn h = record { holds = h; none_before = λ other l k. absurd (omega arith) }
@@ -193,7 +195,7 @@ module _ (inst : Instance) (mine theirs : List ℕ) (m : List (Option ℕ)) (r p
       none Matched l k = not k
       none other l k = absurd (omega arith)
 
--- the programme wouldn't: as many members as places, all of whom stand before r
+-- if programme p has as many members as places and all of them stand before resident r, the first true answer is `Full`
 pub first_full : (inst : Instance) (mine theirs : List ℕ) (m : List (Option ℕ)) (r p rank_there : ℕ) (taken : Taken) → Asks inst mine theirs m r p →
     Some rank_there ≡ rank theirs r → IsTaken theirs m p taken → (HasRoomAt taken (quota inst p) rank_there → ⊥) →
     IsFirst inst mine theirs m r p (Full rank_there taken.last (quota inst p))
@@ -218,7 +220,7 @@ first_full inst mine theirs m r p i taken h e t roomless = record {
       | inr c ↦ absurd (past c)
     ]
 
--- and it would, with a free place or with a member who stands after r
+-- if programme p has a free place or a member who stands behind resident r, then p has room for r
 has_room : (inst : Instance) → IsInstance inst → (mine theirs : List ℕ) (m : List (Option ℕ)) (r p rank_there : ℕ) (taken : Taken) →
     AreListsOf inst r p mine theirs → IsProgramme inst p → Wants inst m r p → Some rank_there ≡ rank theirs r → IsTaken theirs m p taken →
     HasRoomAt taken (quota inst p) rank_there → HasRoomFor inst m p r
@@ -272,7 +274,7 @@ first_blocking inst is mine theirs m r p i taken w within h e t room = record {
     none Matched l k = h.none_yet Matched (omega arith) k
     none (PrefersOwn own a b) l k = h.none_yet (PrefersOwn own a b) (omega arith) k
 
--- whomever the placement gives is a programme, so whoever is named is one
+-- if a placement names only programmes, the programme that an answer names is a programme
 pub names_programme : (inst : Instance) (m : List (Option ℕ)) (r : ℕ) (a : Why) → NamesOwn m r a → GivesProgrammes inst m → NamesProgramme inst a
 names_programme inst m r Withdrawn h gives = tt
 names_programme inst m r NotListed h gives = tt

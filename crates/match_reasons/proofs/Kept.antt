@@ -1,4 +1,5 @@
--- An instance's list is what a test keeps of the list as it was written, so who stands before whom is the same in both.
+-- An instance's list has those items of the written list that pass a test. So the order of two members is the same on
+-- both lists.
 use Rattle.std.proofs.Common.{◌≡◌, ℕ, ◌<◌, inl, inr, Bool, true, false, cond, List, [], ◌∷◌, length, arith, refl, sym, ap, ◌∙◌, subst}
 use Rattle.std.specs.Prelude.{if◌then◌else◌}
 use Rattle.std.specs.List.{filter}
@@ -11,7 +12,7 @@ use Rattle.match_model.proofs.Remaining.{remaining_at}
 use Rattle.match_model.proofs.Struck.{acceptable_where}
 use Rattle.settle_law.proofs.Places.{place_cases, IsListed-filter}
 
--- the instance is made of lists of which these are r's and p's, as they were written
+-- the instance was made from written lists, among which `mine` is resident r's list and `theirs` is programme p's list
 pub record AreListsOf (inst : Instance) (r p : ℕ) (mine theirs : List ℕ) : Type 0 where
   pub draft : Draft
   pub made : inst ≡ instance_of draft
@@ -27,7 +28,8 @@ lists_of_pair inst written r p h = record {
   of_programme = ap (λ (w : Written). list_at w.programme_lists p) h.lists;
 }
 
--- who is kept, and stands before somebody in the list as it was written, stands before that one among those who are kept
+-- if a member passes the test and stands before another on a list, the member stands before the other among those who
+-- pass
 pub kept_before : (f : ℕ → Bool) (ys : List ℕ) (x y : ℕ) → IsListed (filter f ys) x → place ys x < place ys y →
     place (filter f ys) x < place (filter f ys) y
 kept_before f [] x y l b = absurd (omega arith)
@@ -57,12 +59,12 @@ kept_before f (z ∷ zs) x y l b = go (f z) refl l (kept_before f zs x y)
       ]
     ]
 
--- nobody passes
+-- if no item passes the test, the filtered list is empty
 filter-none : (xs : List ℕ) → [] ≡ filter (λ x. false) xs
 filter-none [] = refl
 filter-none (x ∷ xs) = filter-none xs
 
--- the mutual part of a list is what a test keeps of it, and of the list of whoever is withdrawn nothing is kept
+-- the mutual part of a list has those items that pass a test; for a withdrawn owner no item passes
 kept_at : (mine theirs : List (List ℕ)) (flags : List Bool) (i : ℕ) → i < length (remaining_lists mine flags) →
     (f : ℕ → Bool) × (list_at (mutual_lists (remaining_lists mine flags) theirs) i ≡ filter f (list_at mine i))
 kept_at mine theirs flags i l =
@@ -73,7 +75,7 @@ kept_at mine theirs flags i l =
     go true e = ((λ x. false), e ∙ filter-none (list_at mine i))
     go false e = ((λ x. is_listed (list_at theirs x) i), e)
 
--- so of the two lists of a pair
+-- the instance's lists of resident r and of programme p have those items of the written lists that pass a test
 pub resident_kept : (inst : Instance) (r p : ℕ) (mine theirs : List ℕ) → AreListsOf inst r p mine theirs → r < length inst.resident_lists →
     (f : ℕ → Bool) × (list_of_resident inst r ≡ filter f mine)
 resident_kept inst r p mine theirs w l =
@@ -92,7 +94,7 @@ programme_kept inst r p mine theirs w l =
     let kept = kept_at (given_lists d.programme_lists) (resident_lists_left d) d.programmes_withdrawn p (omega arith) in
     (kept.0, ap (λ (i : Instance). list_of_programme i p) w.made ∙ kept.1 ∙ ap (filter kept.0) (sym w.of_programme))
 
--- who stands before whom in an instance's list, by the list as it was written
+-- two members stand in the same order on an instance's list and on the written list
 before_in : (f : ℕ → Bool) (xs ys : List ℕ) (x y : ℕ) → xs ≡ filter f ys → IsListed xs x → IsBefore ys x y → IsBefore xs x y
 before_in f xs ys x y e l b = subst (λ (zs : List ℕ). IsBefore zs x y) (sym e) (kept_before f ys x y (subst (λ (zs : List ℕ). IsListed zs x) e l) b)
 
@@ -106,7 +108,7 @@ pub programme_before : (inst : Instance) (r p : ℕ) (mine theirs : List ℕ) (x
 programme_before inst r p mine theirs x y w within l b =
     let kept = programme_kept inst r p mine theirs w within in before_in kept.0 (list_of_programme inst p) theirs x y kept.1 l b
 
--- a pair is acceptable exactly where each listed the other, as the lists were written, and neither is withdrawn
+-- a pair is acceptable exactly if each member listed the other on the written lists, and neither member is withdrawn
 pub written_parts : (inst : Instance) (r p : ℕ) (mine theirs : List ℕ) → AreListsOf inst r p mine theirs → Acceptable inst r p →
     IsListed mine p × IsListed theirs r
 written_parts inst r p mine theirs w a =

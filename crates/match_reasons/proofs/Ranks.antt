@@ -1,4 +1,4 @@
--- What a rank tells of a place.
+-- What the rank of a member says about the member's place on a list.
 use Rattle.std.proofs.Common.{◌≡◌, ℕ, inl, inr, Bool, true, false, cond, List, length, arith, refl, sym}
 use Rattle.std.specs.Prelude.{Some, None}
 use Rattle.std.proofs.lemmas.Bool.{cases_lt}
@@ -7,7 +7,7 @@ use Rattle.match_model.specs.Ranking.{place, IsListed, is_listed}
 use Rattle.match_model.specs.Instance.{rank}
 use Rattle.match_model.proofs.Rankings.{place-le, is_listed-true, is_listed-false}
 
--- a rank is the place of somebody listed
+-- a member with a rank is listed, and the rank is the member's place
 pub ranked : (xs : List ℕ) (x k : ℕ) → Some k ≡ rank xs x → IsListed xs x × (place xs x ≡ k)
 ranked xs x k e = go (is_listed xs x) refl e
   where
@@ -15,7 +15,7 @@ ranked xs x k e = go (is_listed xs x) refl e
     go true t e = (is_listed-true xs x t, sym (same_Some k (place xs x) e))
     go false t e = absurd (cc)
 
--- whoever has no rank isn't listed
+-- a member without a rank isn't listed
 pub unranked : (xs : List ℕ) (x : ℕ) → None ≡ rank xs x → IsListed xs x → ⊥
 unranked xs x e = go (is_listed xs x) refl e
   where
@@ -23,7 +23,7 @@ unranked xs x e = go (is_listed xs x) refl e
     go true t e = absurd (cc)
     go false t e = is_listed-false xs x t
 
--- and has the list's length as its place
+-- the place of a member without a rank is the list's length
 pub place_unranked : (xs : List ℕ) (x : ℕ) → None ≡ rank xs x → place xs x ≡ length xs
 place_unranked xs x e = elim (cases_lt (place xs x) (length xs)) [
   | inl c ↦ absurd (unranked xs x e c)

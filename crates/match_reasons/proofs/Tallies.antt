@@ -1,4 +1,5 @@
--- What one place more of a placement does to what is told of a programme's members.
+-- The number of a programme's members and the place of the last-ranked one, after one more resident of the placement is
+-- looked at.
 use Rattle.std.proofs.Common.{◌≡◌, ℕ, ◌+◌, ◌<◌, ◌≤◌, inl, inr, false, List, length, take, get_or, max, arith, refl, ap, ◌∙◌, subst, unwrap_or}
 use Rattle.std.specs.Prelude.{Option, Some, None}
 use Rattle.std.proofs.lemmas.Bool.{cases_lt, ne_eqb}
@@ -11,14 +12,14 @@ use Rattle.settle_law.proofs.Counting.{one_if}
 use Rattle.settle_law.proofs.Placements.{holds_true, member_within}
 use Rattle.match_reasons.specs.Reason.{IsLastPlace, IsTaken}
 
--- the last place that one of the first n residents has who is p's, or none where none of them is
+-- the last place among those of the first n residents who are members of p, or none if none of them is a member
 abbrev pub IsLastOf : List ℕ → List (Option ℕ) → ℕ → ℕ → Option ℕ → Type 0
 IsLastOf theirs m p n None = (s : ℕ) → s < n → IsMemberOf m s p → ⊥
 IsLastOf theirs m p n (Some k) =
     ((s : ℕ) × IsMemberOf m s p × (place theirs s ≡ k) × (s < n))
     × ((s : ℕ) → s < n → IsMemberOf m s p → place theirs s ≤ k)
 
--- what is told of the first n residents
+-- the number of members and the last place are right for the first n residents
 pub record IsSoFar (theirs : List ℕ) (m : List (Option ℕ)) (p n members : ℕ) (last : Option ℕ) : Type 0 where
   pub members_are : members ≡ member_count (take n m) p
   pub last_is : IsLastOf theirs m p n last
@@ -27,7 +28,7 @@ holds_false : (p : ℕ) (x : Option ℕ) → (x ≡ Some p → ⊥) → holds p 
 holds_false p None n = refl
 holds_false p (Some q) n = ne_eqb q p (λ e. n (ap Some e))
 
--- one place more in a placement
+-- the number of p's members among the first r + 1 residents, by whether resident r is a member
 member_count_more : (m : List (Option ℕ)) (p r : ℕ) → r < length m →
     member_count (take (r + 1) m) p ≡ member_count (take r m) p + one_if (holds p (programme_of m r))
 member_count_more m p r l = ap (λ z. member_count z p) (take_more m r None l) ∙ sum_by_push (λ z. one_if (holds p z)) (take r m) (get_or m r None)
@@ -48,7 +49,7 @@ last_other theirs m p r (Some k) h n = (
   ],
 )
 
--- the next resident isn't p's
+-- resident r isn't a member of p, so the number and the last place stay as they are
 pub IsSoFar-other : (theirs : List ℕ) (m : List (Option ℕ)) (p r members : ℕ) (last : Option ℕ) → r < length m → IsSoFar theirs m p r members last →
     (IsMemberOf m r p → ⊥) → IsSoFar theirs m p (r + 1) members last
 IsSoFar-other theirs m p r members last l h n = record {
@@ -84,7 +85,7 @@ last_more theirs m p r (Some k) h is = (
       | inr c ↦ (h.0.0, h.0.1, (let e = h.0.2 in omega arith), let b = h.0.3 in omega arith)
     ]
 
--- the next resident is p's
+-- resident r is a member of p, so the number grows by 1 and the last place may grow
 pub IsSoFar-more : (theirs : List ℕ) (m : List (Option ℕ)) (p r members : ℕ) (last : Option ℕ) → r < length m → IsSoFar theirs m p r members last →
     IsMemberOf m r p → IsSoFar theirs m p (r + 1) (members + 1) (Some (max (unwrap_or last 0) (place theirs r)))
 IsSoFar-more theirs m p r members last l h is = record {
@@ -97,7 +98,7 @@ IsSoFar-more theirs m p r members last l h is = record {
   last_is = last_more theirs m p r last h.last_is is;
 }
 
--- all residents were met
+-- after all residents, the number and the last place are those of the whole placement
 pub IsSoFar-all : (theirs : List ℕ) (m : List (Option ℕ)) (p n members : ℕ) (last : Option ℕ) → n ≡ length m → IsSoFar theirs m p n members last →
     IsTaken theirs m p (record { members = members; last = last })
 IsSoFar-all theirs m p n members last all h = record {

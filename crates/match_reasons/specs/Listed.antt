@@ -2,7 +2,7 @@
 use Rattle.match_model.specs.Instance.{Instance}
 use Rattle.match_model.specs.Written.{AreWritten, Written}
 
--- an instance, and by member a list as it was written
+-- an instance, and each member's list as it was written
 pub record ListedParts : Type 0 where
   pub instance : Instance
   pub written : Written

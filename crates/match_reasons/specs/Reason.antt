@@ -8,26 +8,27 @@ use Rattle.match_reasons.specs.declared.taken.Taken.{Taken}
 use Rattle.match_reasons.specs.declared.reason.Why.{Why}
 use Rattle.match_reasons.specs.declared.reason.Why.TheVariants.{Withdrawn, NotListed, NotRanked, Matched, PrefersOwn, Full, Blocking}
 
--- r has a programme that stands before p in its list, and these are the places of the two
+-- r has a programme that stands before p in r's list; the two ranks are the positions of these programmes
 pub record HasBetter (mine : List ℕ) (m : List (Option ℕ)) (r p own own_rank rank : ℕ) : Type 0 where
   pub has_own : IsMemberOf m r own
   pub own_ranked : rank_in mine own ≡ Some own_rank
   pub ranked : rank_in mine p ≡ Some rank
   pub before : own_rank < rank
 
--- the last place that a member of p has in p's list, or none where p has no members
+-- the last position that a member of p has in p's list; none if p has no members
 abbrev pub IsLastPlace : List ℕ → List (Option ℕ) → ℕ → Option ℕ → Type 0
 IsLastPlace theirs m p None = (s : ℕ) → ¬ IsMemberOf m s p
 IsLastPlace theirs m p (Some k) =
     ((s : ℕ) × IsMemberOf m s p × (place theirs s ≡ k))
     × ((s : ℕ) → IsMemberOf m s p → place theirs s ≤ k)
 
--- how many members p has, and the last of their places in its list
+-- how many members p has, and the last of their positions in p's list
 pub record IsTaken (theirs : List ℕ) (m : List (Option ℕ)) (p : ℕ) (taken : Taken) : Type 0 where
   pub members : taken.members ≡ member_count m p
   pub last : IsLastPlace theirs m p taken.last
 
--- all places of p went to residents who stand before r in its list: r's place, the last of theirs, and p's quota
+-- All places of p went to residents who stand before r in p's list. The numbers are r's position, the last position of
+-- those residents, and p's quota.
 pub record IsFullBefore (inst : Instance) (theirs : List ℕ) (m : List (Option ℕ)) (r p rank : ℕ) (last_rank : Option ℕ) (quota : ℕ) : Type 0 where
   pub ranked : rank_in theirs r ≡ Some rank
   pub last : IsLastPlace theirs m p last_rank
@@ -39,7 +40,7 @@ pub record IsFullBefore (inst : Instance) (theirs : List ℕ) (m : List (Option 
 abbrev pub HasWithdrawn : Instance → ℕ → ℕ → Type 0
 HasWithdrawn inst r p = (is_withdrawn inst.residents_withdrawn r ≡ true) ⊎ (is_withdrawn inst.programmes_withdrawn p ≡ true)
 
--- the answer holds of r and p, whose lists these are
+-- the answer is true of r and p; `mine` is r's list and `theirs` is p's list
 abbrev pub Holds : Instance → List ℕ → List ℕ → List (Option ℕ) → ℕ → ℕ → Why → Type 0
 Holds inst mine theirs m r p Withdrawn = HasWithdrawn inst r p
 Holds inst mine theirs m r p NotListed = ¬ IsListed mine p
@@ -64,7 +65,7 @@ pub record IsFirst (inst : Instance) (mine theirs : List ℕ) (m : List (Option 
   pub holds : Holds inst mine theirs m r p answer
   pub none_before : (other : Why) → turn other < turn answer → ¬ Holds inst mine theirs m r p other
 
--- r and p rank one another, and r would rather have p than what it has
+-- r and p rank each other, r is not with p, and r would rather have p than what r has
 pub record Wants (inst : Instance) (m : List (Option ℕ)) (r p : ℕ) : Type 0 where
   pub acceptable : Acceptable inst r p
   pub not_placed : ¬ IsMemberOf m r p
@@ -80,11 +81,11 @@ TellsFull (PrefersOwn own own_rank rank) = ⊥
 TellsFull (Full rank last_rank quota) = Unit {0}
 TellsFull Blocking = ⊥
 
--- whomever the placement gives is a programme
+-- the placement gives only programmes of the instance
 abbrev pub GivesProgrammes : Instance → List (Option ℕ) → Type 0
 GivesProgrammes inst m = (s q : ℕ) → IsMemberOf m s q → IsProgramme inst q
 
--- whoever the answer names is a programme
+-- if the answer names a programme, it is a programme of the instance
 abbrev pub NamesProgramme : Instance → Why → Type 0
 NamesProgramme inst Withdrawn = Unit {0}
 NamesProgramme inst NotListed = Unit {0}
@@ -94,7 +95,7 @@ NamesProgramme inst (PrefersOwn own own_rank rank) = IsProgramme inst own
 NamesProgramme inst (Full rank last_rank quota) = Unit {0}
 NamesProgramme inst Blocking = Unit {0}
 
--- whoever the answer names is what the placement gives to r
+-- if the answer names a programme, the placement gives this programme to r
 abbrev pub NamesOwn : List (Option ℕ) → ℕ → Why → Type 0
 NamesOwn m r Withdrawn = Unit {0}
 NamesOwn m r NotListed = Unit {0}
@@ -104,16 +105,16 @@ NamesOwn m r (PrefersOwn own own_rank rank) = IsMemberOf m r own
 NamesOwn m r (Full rank last_rank quota) = Unit {0}
 NamesOwn m r Blocking = Unit {0}
 
--- r would rather have p, and none of the answers holds that are its own
+-- r and p rank each other, r would rather have p, and none of the five answers that are tried first is true
 pub record Asks (inst : Instance) (mine theirs : List ℕ) (m : List (Option ℕ)) (r p : ℕ) : Type 0 where
   pub wants : Wants inst m r p
   pub none_yet : (other : Why) → turn other < 5 → ¬ Holds inst mine theirs m r p other
 
--- some member stands no earlier than this place
+-- there is a last position, and it is not before this position
 abbrev pub StandsPast : Option ℕ → ℕ → Type 0
 StandsPast None rank = ⊥
 StandsPast (Some last) rank = rank ≤ last
 
--- fewer members than places, or one who stands no earlier than this place
+-- the programme has fewer members than places, or its last member does not stand before this position
 abbrev pub HasRoomAt : Taken → ℕ → ℕ → Type 0
 HasRoomAt taken quota rank = (taken.members < quota) ⊎ StandsPast taken.last rank

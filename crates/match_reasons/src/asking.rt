@@ -1,4 +1,4 @@
-//! Asking why.
+//! How it is found why a placement does not give a programme to a resident.
 ghost use Rattle.std.specs.Prelude.{◌≡◌, ◌≢◌, length, MatchOption, IfSome};
 ghost use Rattle.match_model.specs.Instance.{IsProgramme, IsResident, list_at};
 ghost use Rattle.settle_law.specs.Stable.{IsStable};
@@ -9,12 +9,12 @@ use crate::reason::Why;
 use crate::taken::{Taken, is_member};
 use match_model::{Assignment, ProgrammeNo, ResidentNo};
 
-/// Why a placement doesn't give a programme to a resident, or that it does. It is the first answer that holds, by the
-/// lists of the two as they were written.
+/// Why a placement does not match this resident with this programme, or that it does. The result is the first of the
+/// possible answers that is true, by the lists of the two members as they were written.
 ///
-/// The two are members of the instance, and the placement has a place for each resident. How the programme's places are
-/// taken is what `places_taken` says of the same placement and list. The lists are those of which the instance was made,
-/// since `Listed` takes no others. Nobody who asks about a stable placement is told that they block it.
+/// The resident and the programme are members of the instance, and the placement has an entry for each resident.
+/// `taken` is what `places_taken` returned for the same programme, placement and lists. The instance was made from the
+/// lists, since `Listed` accepts no other lists. If the placement is stable, the answer is never `Blocking`.
 pub fn why(
     listed: &Listed,
     sheet: &Assignment,
@@ -39,12 +39,12 @@ pub fn why(
     ensures full { IsStable listed.now.instance sheet.now
         → Wants listed.now.instance sheet.now resident programme → TellsFull result }
 {
-    // For the proof alone: the instance is made of the lists.
+    // For the proof alone: the instance was made from the lists.
     let _inst = listed.instance();
     first_reason(listed, sheet, taken, resident, programme)
 }
 
-// The first answer that holds.
+// The first of the possible answers that is true.
 fn first_reason(
     listed: &Listed,
     sheet: &Assignment,
@@ -81,7 +81,8 @@ fn first_reason(
     }
 }
 
-/// Why the resident wouldn't rather have the programme, unless it would.
+/// The answer that lies with the resident, if there is one: a withdrawal, a list without the other member, a match with
+/// this programme, or a programme that the resident ranks before this one.
 fn residents_reason(
     listed: &Listed,
     sheet: &Assignment,
@@ -107,7 +108,7 @@ fn residents_reason(
     let Some(rank) = written.rank_of_programme(resident, programme) else {
         return Some(Why::NotListed);
     };
-    // Where neither is withdrawn, and the resident listed the programme, a rank is wanting only if the programme didn't.
+    // Neither member is withdrawn, and the resident listed the programme. So a missing rank lies with the programme.
     let Some(_) = inst.rank_at_resident(resident, programme) else {
         return Some(Why::NotRanked);
     };

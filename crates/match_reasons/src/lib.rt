@@ -1,5 +1,5 @@
-//! Why a resident isn't with a programme, told from an instance, the two members' lists as they were written, and a
-//! placement alone.
+//! Why a resident isn't matched with a programme. The answer uses only the instance, the two members' lists as they
+//! were written, and the placement.
 #![tactic(auto)]
 
 mod asking;

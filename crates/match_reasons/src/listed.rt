@@ -1,4 +1,4 @@
-//! An instance with the lists of which it was made.
+//! An instance together with the lists from which it was made.
 ghost use Rattle.std.specs.Prelude.{◌≡◌};
 ghost use Rattle.match_model.specs.Instance.{IsInstance};
 ghost use Rattle.match_model.specs.Written.{AreWritten};
@@ -7,8 +7,8 @@ ghost use Rattle.match_reasons.specs.Listed.{AreItsLists};
 use match_model::{Instance, WrittenLists};
 use std::marker::Model;
 
-/// An instance, lent together with the very lists of which it was made, as they were written. Nobody can make one with the
-/// lists of another instance.
+/// An instance, borrowed together with the lists from which it was made, as they were written. No value of this type
+/// has the lists of another instance.
 #[derive(Drop)]
 pub struct Listed<'a> {
     inst: &'a Instance,
@@ -26,7 +26,7 @@ impl<'a> Model for Listed<'a> {
 }
 
 impl<'a> Listed<'a> {
-    /// An instance with its lists.
+    /// An instance with the lists from which it was made.
     pub fn new(inst: &'a Instance, written: &'a WrittenLists) -> Listed<'a>
         requires { AreWritten inst.now written.now }
         ensures instance { result.instance ≡ inst.now }
@@ -35,13 +35,13 @@ impl<'a> Listed<'a> {
         Listed { inst, written }
     }
 
-    /// The instance. It is made of the lists.
+    /// The instance, which was made from the lists.
     pub fn instance(&self) -> &Instance
         ensures instance { result.now ≡ self.now.instance }
         ensures whole { IsInstance self.now.instance }
         ensures lists { AreItsLists self.now }
     {
-        // For the proof alone: the instance is one.
+        // For the proof alone: the instance is well formed.
         let _residents = self.inst.residents();
         self.inst
     }

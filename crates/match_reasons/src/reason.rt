@@ -1,8 +1,9 @@
-//! The answers.
+//! The possible answers to the question why.
 
 use match_model::ProgrammeNo;
 
-/// Why a resident isn't with a programme, or that it is. Ranks are places, from 0, in the lists as they were written.
+/// Why a resident isn't matched with a programme, or that the resident is. A rank is the place of a member on a list as
+/// it was written, counted from 0.
 #[derive(Clone, Copy, Debug, PartialEq, Eq)]
 pub enum Why {
     /// The resident or the programme is withdrawn.
@@ -11,26 +12,26 @@ pub enum Why {
     NotListed,
     /// The programme didn't rank the resident.
     NotRanked,
-    /// The resident is matched there.
+    /// The resident is matched with this programme.
     Matched,
-    /// The resident has a programme that it ranks before this one.
+    /// The resident is matched with a programme that the resident ranks before this programme.
     PrefersOwn {
-        /// The programme that it has.
+        /// The programme with which the resident is matched.
         own: ProgrammeNo,
-        /// The rank of that one in the resident's list.
+        /// The rank of that programme on the resident's list.
         own_rank: usize,
-        /// The rank of the programme asked about.
+        /// The rank of the programme asked about, on the resident's list.
         rank: usize,
     },
-    /// All places of the programme went to residents whom it ranks before this one.
+    /// All places of the programme went to residents whom the programme ranks before this resident.
     Full {
-        /// The resident's rank in the programme's list.
+        /// The resident's rank on the programme's list.
         rank: usize,
-        /// The last rank that one of its members has, if it has members.
+        /// The rank of the programme's last-ranked member, if the programme has members.
         last_rank: Option<usize>,
         /// How many places the programme has.
         quota: u32,
     },
-    /// The two would rather have one another: the placement isn't stable.
+    /// The resident and the programme would rather have each other than what they have, so the placement isn't stable.
     Blocking,
 }

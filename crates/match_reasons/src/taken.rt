@@ -8,18 +8,18 @@ ghost use Rattle.match_reasons.specs.Reason.{IsTaken, HasRoomAt};
 use crate::listed::Listed;
 use match_model::{Assignment, ProgrammeNo, ResidentNo, WrittenLists};
 
-/// How many members a programme has, and the last place that one of them has in its list as it was written. A member who
-/// isn't on that list counts as after all who are.
+/// How many members a programme has in a placement, and at which place of the programme's list, as it was written, its
+/// last-ranked member stands. A member who isn't on the list counts as behind all who are on it.
 #[derive(Clone, Copy, Debug, PartialEq, Eq)]
 pub struct Taken {
-    /// How many members there are.
+    /// How many members the programme has.
     pub members: u32,
-    /// The last of their places, if there are members.
+    /// The place of the programme's last-ranked member, if the programme has members.
     pub last: Option<usize>,
 }
 
 impl Taken {
-    /// Whether there are fewer members than places, or one who stands no earlier than this place.
+    /// Whether the programme has fewer members than places, or has a member who stands no earlier than this rank.
     pub(crate) fn has_room(&self, quota: u32, rank: usize) -> bool
         ensures { IsTrue result ↔ HasRoomAt self.now quota rank }
     {
@@ -41,7 +41,7 @@ pub(crate) fn is_member(sheet: &Assignment, resident: ResidentNo, programme: Pro
     }
 }
 
-// The place of a resident in a programme's list, or the list's length.
+// The place of a resident on a programme's list as it was written. A resident who isn't listed gets the list's length.
 fn place_of_resident(written: &WrittenLists, programme: ProgrammeNo, resident: ResidentNo) -> usize
     ensures { result ≡ place (list_at written.now.programme_lists programme) resident }
 {
@@ -51,7 +51,7 @@ fn place_of_resident(written: &WrittenLists, programme: ProgrammeNo, resident: R
     }
 }
 
-// The later of two places, of which the first may be none.
+// The larger of two places. The first place may be none.
 fn later(last: Option<usize>, place: usize) -> usize
     ensures { result ≡ max (unwrap_or last 0) place }
 {
@@ -61,7 +61,8 @@ fn later(last: Option<usize>, place: usize) -> usize
     }
 }
 
-/// How a programme's places are taken, by its list as it was written: one walk over the placement.
+/// How a programme's places are taken, by the programme's list as it was written. The call makes one walk over the
+/// placement.
 pub fn places_taken(listed: &Listed, sheet: &Assignment, programme: ProgrammeNo) -> Taken
     ensures { IsTaken (list_at listed.now.written.programme_lists programme) sheet.now
         programme result }

@@ -18,8 +18,8 @@ use Rattle.docket.specs.declared.fault.DocketFault.TheVariants.{TooManyRecords, 
 use Rattle.docket.proofs.SoundFacts.{both_none}
 use Rattle.docket.proofs.DeclarationFacts.{programmes_of-if, residents_of-if, quotas_of-if}
 
--- the letters of three kinds of row in ASCII: `Q` declares a programme, `P` is a programme's list, and `R` is a
--- resident's
+-- the letters of three kinds of row in ASCII: `Q` declares a programme, `P` has a programme's list, and `R` declares a
+-- resident with a list
 abbrev pub quota_letter : ℕ
 quota_letter = 81
 
@@ -29,7 +29,8 @@ programme_letter = 80
 abbrev pub resident_letter : ℕ
 resident_letter = 82
 
--- a property of no records that each further record without a fault keeps holds for all records
+-- a property holds for all records if it holds for no records, and still holds after each further record without a
+-- fault
 pub over_records : (f : List Fields → Fields → Option DocketFault) (P : List Fields → Type 0) → P []
     → ((before : List Fields) (row : Fields) → f before row ≡ None → P before → P (before ++ row ∷ []))
     → (rows : List Fields) → first_from f [] rows ≡ None → P rows
@@ -55,15 +56,16 @@ limit_none before row none = by _ none
     by true e = absurd (cc e)
     by false e = (both_none (repeat_fault before row) (limit_fault Standard before row) (both_none own (option_or (repeat_fault before row) (limit_fault Standard before row)) e).1).1
 
--- a record is of one kind
+-- a record has only one kind
 pub one_kind : (row : Fields) (j k : ℕ) → is_kind j row ≡ true → is_kind k row ≡ true → j ≡ k
 one_kind row j k e f = search (rules, e, f)
 
--- the quota in a record
+-- the quota that a record declares
 abbrev quota_in : Fields → ℕ
 quota_in row = unwrap_or (number_of (field row 2)) 0
 
--- what the limits say about a record that declares a programme
+-- if a record that declares a programme is within the limits, there is room for one more programme, and the quota is
+-- not too large
 programme_limits : (before : List Fields) (row : Fields) → is_kind quota_letter row ≡ true → limit_fault Standard before row ≡ None
     → (nat_le (most_programmes Standard) (length (programmes_of before)) ≡ false) × (nat_lt MAX_QUOTA (quota_in row) ≡ false)
 unfolding limit_fault
@@ -80,7 +82,7 @@ programme_limits before row kind none = by (is_kind quota_letter row) kind none
     by true t e = both (nat_le (most_programmes Standard) (length (programmes_of before))) (nat_lt MAX_QUOTA (quota_in row)) e
     by false t e = absurd (cc t)
 
--- what the limits say about a record that declares a resident
+-- if a record that declares a resident is within the limits, there is room for one more resident
 resident_limits : (before : List Fields) (row : Fields) → is_kind resident_letter row ≡ true → limit_fault Standard before row ≡ None
     → nat_le (most_residents Standard) (length (residents_of before)) ≡ false
 unfolding limit_fault
@@ -97,7 +99,7 @@ resident_limits before row kind none = by (is_kind quota_letter row) (is_kind re
     by false true q t e = one (nat_le (most_residents Standard) (length (residents_of before))) e
     by false false q t e = absurd (cc t)
 
--- there are no more programmes than the limit
+-- the number of programmes is at most the limit on programmes
 pub programmes_within : (rows : List Fields) → first_from (reading_fault Standard) [] rows ≡ None → length (programmes_of rows) ≤ most_programmes Standard
 unfolding programmes_of
 programmes_within rows none = over_records (reading_fault Standard) (λ some. length (programmes_of some) ≤ most_programmes Standard) (omega arith) more rows none
@@ -109,7 +111,7 @@ programmes_within rows none = over_records (reading_fault Standard) (λ some. le
         by true kind = search (rules, (programme_limits before row kind (limit_none before row e)).0, length-append (programmes_of before) (field row 1 ∷ []))
         by false kind = h
 
--- there are no more residents than the limit
+-- the number of residents is at most the limit on residents
 pub residents_within : (rows : List Fields) → first_from (reading_fault Standard) [] rows ≡ None → length (residents_of rows) ≤ most_residents Standard
 unfolding residents_of
 residents_within rows none = over_records (reading_fault Standard) (λ some. length (residents_of some) ≤ most_residents Standard) (omega arith) more rows none
@@ -121,7 +123,7 @@ residents_within rows none = over_records (reading_fault Standard) (λ some. len
         by true kind = search (rules, resident_limits before row kind (limit_none before row e), length-append (residents_of before) (field row 1 ∷ []))
         by false kind = h
 
--- no quota is above the limit
+-- each quota is at most the limit on quotas
 pub quotas_within : (rows : List Fields) → first_from (reading_fault Standard) [] rows ≡ None → All (λ q. q ≤ MAX_QUOTA) (quotas_of rows)
 unfolding quotas_of
 quotas_within rows none = over_records (reading_fault Standard) (λ some. All (λ q. q ≤ MAX_QUOTA) (quotas_of some)) (All-nil (λ q. q ≤ MAX_QUOTA)) more rows none

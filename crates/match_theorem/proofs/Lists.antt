@@ -27,7 +27,7 @@ use Rattle.match_theorem.proofs.Limits.{programme_letter, resident_letter, one_k
 abbrev IsList : ℕ → List ℕ → Type 0
 IsList n list = (list_all (λ x. nat_lt x n) list ≡ true) × (has_no_repeats list ≡ true)
 
--- if every record that passes the test has a property, the record that is found has it too
+-- if each record that passes a test has a property, the record found by this test has the property
 found : (f : List Fields → Fields → Option DocketFault) (p : Fields → Bool) (R : Fields → Type 0)
     → ((before : List Fields) (row : Fields) → f before row ≡ None → p row ≡ true → R row)
     → (before rows : List Fields) → first_from f before rows ≡ None → IfSome (find p rows) R
@@ -41,7 +41,7 @@ found f p R each before (row ∷ rest) none =
     by here true e h = each before row here e
     by here false e h = h
 
--- a record without a fault in its list lists members, each once
+-- if the list in a record has no fault, it names only members, and each of them once
 listing_sound : (n : ℕ) (others : List (List ℕ)) (row : Fields) → listing_fault n others row ≡ None → IsList (length others) (listed_in others row)
 unfolding listed_in
 listing_sound n others row none =
@@ -75,7 +75,7 @@ resident_sound rows before row none kind = by _ _ (is_kind programme_letter row)
     by first rest false true p t e = listing_sound (next_place before) (programmes_of rows) row e
     by first rest false false p t e = absurd (cc t)
 
--- each owner's list has only members, each once
+-- each owner's list has only members, and each of them once
 given : (kind n : ℕ) (owners others : List (List ℕ)) (rows : List Fields)
     → ((name : List ℕ) → IfSome (find (is_row_of kind name) rows) (λ row. IsList n (listed_in others row)))
     → All (IsList n) (given_lists (lists_of kind owners others rows))
@@ -95,16 +95,16 @@ all_below n lists h = λ i d lt. (h i d lt).0
 all_once : (n : ℕ) (lists : List (List ℕ)) → All (IsList n) lists → All (λ list. has_no_repeats list ≡ true) lists
 all_once n lists h = λ i d lt. (h i d lt).1
 
--- the kind of an owner's row
+-- a row that is found as an owner's row of some kind is of this kind
 kind_of_owned : (kind : ℕ) (name : List ℕ) (row : Fields) → is_row_of kind name row ≡ true → is_kind kind row ≡ true
 kind_of_owned kind name row e = (and_parts (is_kind kind row) (bytes_eq name (field row 1)) e).0
 
--- there are as many flags as names
+-- there is one flag for each name
 flags_each : (side : List ℕ) (names : List (List ℕ)) (rows : List Fields) → length (withdrawn_of side names rows) ≡ length names
 unfolding withdrawn_of
 flags_each side names rows = length-map names (λ (name : List ℕ). list_any (is_withdrawal_of side name) rows)
 
--- what the records of a docket give to the builder is what a builder keeps
+-- the quotas, lists and withdrawals in a docket's records are what a builder accepts
 draft_kept : (rows : List Fields) → first_from (reading_fault Standard) [] rows ≡ None → first_from (ranking_fault rows) [] rows ≡ None → IsDraft (draft_of rows)
 draft_kept rows reading ranking =
     let programmes = programmes_of rows in
@@ -134,7 +134,7 @@ draft_kept rows reading ranking =
       one_flag_each_resident = flags_each _ residents rows ∙ sym their_lists;
     }
 
--- there are no more pairs than the limit
+-- the number of acceptable pairs is at most the limit on pairs
 pairs_within : (rows : List Fields) → pairs_fault Standard rows ≡ None → pair_count (instance_of (draft_of rows)) ≤ most_pairs Standard
 unfolding pairs_fault
 pairs_within rows none = search (rules, unless_none (nat_le (pair_count (instance_of (draft_of rows))) (most_pairs Standard)) (Model (length rows) model.TooManyPairs) none)

@@ -38,7 +38,7 @@ match_law bytes o old new h =
       };
     }
 
--- no fault has status 0
+-- the exit status of a fault is never 0
 fault_told : (fault : ServeFault) → 0 ≡ fault_status_of fault → ⊥
 fault_told (Docket (docket.Read place)) e = cc e
 fault_told (Docket docket.Memory) e = cc e

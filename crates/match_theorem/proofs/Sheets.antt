@@ -1,4 +1,4 @@
--- The text of a sheet, from the market in the bytes.
+-- The text of a sheet, read from the docket and read from the market that the bytes describe.
 use Rattle.std.proofs.Common.{◌≡◌, ℕ, List, [], ◌∷◌, ◌++◌, Option, Some, None, refl, ap, ◌∙◌}
 use Rattle.std.specs.Prelude.{length}
 use Rattle.std.specs.List.{flat_map, range_with_len}
@@ -8,18 +8,18 @@ use Rattle.docket.specs.Passes.{docket_of, rows_in}
 use Rattle.docket.specs.Texts.{programme_name, resident_name, mark_row, programme_row, resident_row, filled_rows, sheet_text}
 use Rattle.match_theorem.specs.Theorem.{market_of, place_row, market_sheet}
 
--- functions with the same values give the same texts
+-- two functions with the same values give the same text for a list
 flat_map_same : (f g : ℕ → List ℕ) (xs : List ℕ) → ((x : ℕ) → f x ≡ g x) → flat_map f xs ≡ flat_map g xs
 flat_map_same f g [] h = refl
 flat_map_same f g (x ∷ xs) h = ap (λ (t : List ℕ). t ++ flat_map f xs) (h x) ∙ ap (λ (t : List ℕ). g x ++ t) (flat_map_same f g xs h)
 
--- a resident's row is the same from the docket and from the market
+-- a resident's row by the docket is the resident's row by the market
 same_row : (bytes : List ℕ) (r : ℕ) (o : Option ℕ) → mark_row (docket_of bytes) r o ≡ place_row (market_of bytes) r o
 unfolding mark_row resident_name programme_name
 same_row bytes r None = refl
 same_row bytes r (Some p) = refl
 
--- the sheet is the same from the docket and from the market
+-- the text of the sheet by the docket is the text of the sheet by the market
 pub same_sheet : (bytes : List ℕ) (m : List (Option ℕ)) → sheet_text (docket_of bytes) m ≡ market_sheet (market_of bytes) m
 unfolding sheet_text programme_row programme_name
 same_sheet bytes m =

@@ -1,4 +1,5 @@
--- What a match wrote, as laws. Each law is the contract of the function of the same name.
+-- What a match wrote, as laws. Each law is proved as the contract of a function with a like name: `MatchLaw` as the
+-- contract of `law_match`.
 use Rattle.std.specs.Prelude.{◌≡◌, ℕ, Option, Some, List, []}
 use Rattle.residency.specs.declared.options.MatchOptions.{MatchOptions}
 use Rattle.residency.specs.declared.options.JournalForm.TheVariants.{Absent}
@@ -20,7 +21,7 @@ MatchLaw =
     AreDocket (λ d. WritesMatch d o old new) bytes →
     WritesSheet bytes o old new
 
--- if the program served a match over these bytes with status 0, it wrote the sheet of their result
+-- if the program served a match over these bytes with status 0, the program wrote the sheet of the docket's result
 abbrev pub ProgramLaw : Type 0
 ProgramLaw =
     (bytes : List ℕ) (o : MatchOptions) (old new : Option (List ℕ)) →

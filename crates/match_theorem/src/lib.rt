@@ -1,4 +1,4 @@
-//! The theorem of a match in few words. A match writes the sheet of the docket's only settled placement, and this
+//! The theorem of a match in few words: a match writes the sheet of the docket's only settled placement, and this
 //! placement is stable.
 #![tactic(auto)]
 

@@ -1,14 +1,14 @@
-//! What a match has written, for each of its calls.
+//! What a match has written once its call has ended well.
 
 ghost use Rattle.match_theorem.specs.Law.{MatchLaw, ProgramLaw};
 
-/// A match of a docket has written the sheet of the docket's result, followed by the journal if it is wanted.
+/// A match of a docket has written the sheet of the docket's result. If the journal is asked for, it follows the sheet.
 pub fn law_match()
     ensures { MatchLaw }
 {}
 
-/// If the program's words order a match and its exit status is 0, it has written the sheet of the docket's only
-/// settled placement.
+/// If the program's words ask for a match and its exit status is 0, the program has written the sheet of the docket's
+/// only settled placement.
 pub fn law_program()
     ensures { ProgramLaw }
 {}

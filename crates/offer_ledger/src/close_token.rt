@@ -2,8 +2,8 @@
 use crate::identity::ExchangeIdentity;
 use std::marker::PhantomData;
 
-/// The close of the exchange in the type's name is entered. Only a ledger's `close_and_tell` makes such a token. It
-/// has no bytes.
+/// A token that says that the close of the exchange was entered. The type names the exchange. Only a ledger's
+/// `close_and_tell` makes such a token. The token has no bytes.
 #[derive(Drop)]
 pub struct CloseToken<J: ExchangeIdentity> {
     exchange: PhantomData<J>,

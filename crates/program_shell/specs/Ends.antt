@@ -9,7 +9,7 @@ use Rattle.program_shell.specs.declared.fault.LineFault.TheVariants.{Memory}
 use Rattle.program_shell.specs.declared.fault.UsageFault.{UsageFault}
 use Rattle.program_shell.specs.declared.fault.UsageFault.TheVariants.{NoText, Line}
 
--- why words are not texts: one of them isn't, or memory ran out before they were read
+-- why words are not texts: one of the words is no text, or memory ran out before they were read
 abbrev pub IsTextFaultOf : {A E : Type 0} → Result (Vec (String A)) E → UsageFault → Type 0
 IsTextFaultOf (Ok texts) fault = ⊥
 IsTextFaultOf (Err error) fault = (fault ≡ NoText) ⊎ (fault ≡ Line Memory)
@@ -29,7 +29,7 @@ IsOrderOf Orders words order = IsOkAnd words (λ texts. Orders (map string_bytes
 abbrev pub IsRefusedStatus : UsageFault → ℕ → Type 0
 IsRefusedStatus fault status = (status ≡ usage_status_of fault) ⊎ ((usage_status_of fault ≡ 0) × (status ≡ 1))
 
--- the words give no order, nothing was written, and the status tells why
+-- the words give no order, nothing was written, and the status says why
 pub record EndsRefused {A E : Type 0} (Refuses : List Text → LineFault → Type 0) (words : Result (Vec (String A)) E) (old new : Option (List ℕ))
     (status : ℕ) : Type 0 where
   pub fault : UsageFault

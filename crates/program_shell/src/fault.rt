@@ -1,4 +1,4 @@
-//! Why words give no order.
+//! Why a command line's words do not say what the program has to do.
 ghost use Rattle.std.specs.Prelude.{◌≡◌};
 ghost use Rattle.clap.specs.Values.{kind_of};
 ghost use Rattle.program_shell.specs.Faults.{IsErrorOf, IsLineFault};
@@ -8,7 +8,7 @@ use clap::error::ErrorKind;
 use std::alloc::AllocError;
 use thiserror::Error;
 
-/// Why a command line gives no order.
+/// Why a command line does not say what the program has to do.
 #[derive(Debug, Drop, Error)]
 pub enum LineFault {
     /// The memory could not grow.
@@ -30,10 +30,10 @@ impl From<AllocError> for LineFault {
     }
 }
 
-/// Why the words after the program's name give no order.
+/// Why the words after the program's name do not say what the program has to do.
 #[derive(Debug, Drop, Error)]
 pub enum UsageFault {
-    /// A word is not a text.
+    /// One of the words is not valid text.
     #[error("a word of the command line is no text")]
     NoText,
     /// The words are no command line, or they ask for help or the version.
@@ -41,7 +41,7 @@ pub enum UsageFault {
     Line(LineFault),
 }
 
-/// The fault that an error of the parser becomes.
+/// The parser's error as a fault of the command line.
 pub fn line_fault(error: clap::Error) -> LineFault
     ensures fault { IsLineFault result }
     ensures kind { IsErrorOf (λ kind. kind ≡ kind_of error) result }

@@ -1,4 +1,4 @@
-//! What a program does with its words before it reads them, and if they give no order.
+//! What a program does with the command line's words before it reads them, and what it does if they ask for nothing.
 //!
 //! Contracts say which fault is reported, and with which exit status. Tests compare the texts.
 #![tactic(auto)]

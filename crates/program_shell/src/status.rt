@@ -16,7 +16,8 @@ pub fn docket_status(fault: &DocketFault) -> u8
     }
 }
 
-/// The exit status after a command line without an order. It is 0 if help or the version was asked for.
+/// The exit status after a command line that does not say what to do. The status is 0 if the words ask for help or the
+/// version.
 pub fn line_status(fault: &LineFault) -> u8
     ensures { result ≡ line_status_of fault.now }
 {
@@ -30,7 +31,7 @@ pub fn line_status(fault: &LineFault) -> u8
     }
 }
 
-/// The exit status after words without an order. It is 2 if a word is not a text.
+/// The exit status after words that do not say what to do. The status is 2 if a word is not valid text.
 pub fn usage_status(fault: &UsageFault) -> u8
     ensures { result ≡ usage_status_of fault.now }
 {

@@ -1,4 +1,4 @@
-//! The words after a program's name: their texts, and the message if they give no order.
+//! The words after a program's name: their texts, and the message if they do not say what to do.
 ghost use Rattle.std.specs.Prelude.{◌≡◌, IfErr, IfOk, Ok};
 ghost use Rattle.std.specs.Process.{exit_status as exit_status_in};
 ghost use Rattle.program_shell.specs.Ends.{IsRefusedStatus, IsTextFaultOf};
@@ -9,7 +9,7 @@ use docket::DocketFault;
 use std::io;
 use std::process::ExitCode;
 
-/// The texts of the words, or why they are not texts.
+/// The texts of the words, or the fault that a word is not valid text.
 pub fn texts_of(words: io::Result<Vec<String>>) -> Result<Vec<String>, UsageFault>
     ensures texts { IfOk result (λ texts. words ≡ Ok texts) }
     ensures fault { IfErr result (IsTextFaultOf words) }
@@ -23,8 +23,8 @@ pub fn texts_of(words: io::Result<Vec<String>>) -> Result<Vec<String>, UsageFaul
     }
 }
 
-/// Prints why the words give no order, and returns the exit status. Help and the version are an answer, so it is a
-/// fault if their text can't be written.
+/// Prints why the words do not say what to do, and returns the exit status. Help and the version are answers, so the
+/// program fails if their text can't be written.
 pub fn refuse<T: Print + Eprint>(told: &T, fault: &UsageFault) -> ExitCode
     ensures { IsRefusedStatus fault.now (exit_status_in result) }
 {

@@ -1,4 +1,4 @@
-//! Audits of sheets, some of them from before a withdrawal.
+//! Audits of sheets. Some of the sheets were made before a member withdrew.
 use crate::commands::{serves, serves_both};
 use crate::texts::{
     FULL, ONE_SIDED, OTHER_SHEET, QUOTAS, QUOTAS_SHEET, SMALL, SMALL_JOURNAL, SMALL_SHEET,
@@ -46,7 +46,7 @@ fn audits(rt: HostRuntime) -> Result<(), Fail> {
     Ok(())
 }
 
-// Sheets from before a withdrawal, each with its report.
+// Sheets that were made before a member withdrew, each with its report.
 const AUDITS: [(&[&str], Status, &str, u8); 4] = [
     (
         &[VERSION_2, SMALL, "W,R,x\n", SMALL_SHEET],

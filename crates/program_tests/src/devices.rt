@@ -1,4 +1,4 @@
-//! Readers that fail or are interrupted, and writers that fail: how the commands report them.
+//! Readers that fail or are interrupted, and writers that fail: what the commands report about them.
 pub(super) mod broken;
 
 use crate::commands::{MATCH, serve};
@@ -13,14 +13,14 @@ use std::test::Fail;
 use std::thread::Threads;
 use test_support::randomness::OneByte;
 
-// Each order, with its status and its output for a docket with a settled sheet and a journal.
+// Each command, with its status and its output for a docket with a settled sheet and a journal.
 const ORDERS: [(Order, Status, &str); 3] = [
     (MATCH, Status::Closed, SMALL_SHEET),
     (Order::Audit, Status::Stable, "S,stable\n"),
     (Order::Replay, Status::ReplayGood, "G,9\n"),
 ];
 
-// Whether a command reports a reader that fails after `cut` bytes, at this record, and writes nothing.
+// Whether a command reports a reader that fails after `cut` bytes, names this record, and writes nothing.
 fn tells_of_cut<H: Threads + Wait + RandomSource + Sync + Send + Copy>(
     rt: H,
     alloc: Global,
@@ -42,7 +42,7 @@ fn tells_of_cut<H: Threads + Wait + RandomSource + Sync + Send + Copy>(
         && exit_status(&answer) == 1
 }
 
-// The first number of bytes after which a reader fails without a report from the command.
+// The first number of bytes after which the reader fails and the command doesn't report it.
 fn first_untold_cut<H: Threads + Wait + RandomSource + Sync + Send + Copy>(
     rt: H,
     alloc: Global,
@@ -81,7 +81,7 @@ fn tells_of_broken_readers(rt: HostRuntime) -> Result<(), Fail> {
     Ok(())
 }
 
-// Whether a command reports a writer that fails after `good` calls and got a part of the text.
+// Whether a command reports a writer that fails after `good` calls, and the writer got the beginning of the text.
 fn tells_of_cut_output<H: Threads + Wait + RandomSource + Sync + Send + Copy>(
     rt: H,
     alloc: Global,
@@ -97,7 +97,7 @@ fn tells_of_cut_output<H: Threads + Wait + RandomSource + Sync + Send + Copy>(
         && text.as_bytes().starts_with(writer.got())
 }
 
-// Whether a writer that accepts everything has the text.
+// Whether a writer that accepts everything gets the whole text.
 fn writes_all<H: Threads + Wait + RandomSource + Sync + Send + Copy>(
     rt: H,
     alloc: Global,
@@ -131,7 +131,7 @@ fn tells_of_broken_writers(rt: HostRuntime) -> Result<(), Fail> {
 
 const UNKNOWN_KIND: &str = "Q,a,1\nZ,b\n";
 
-// Audits a docket whose reader is interrupted each time after this many bytes.
+// Audits a docket. The reader is interrupted again and again, each time after this number of bytes.
 fn audit(
     alloc: Global,
     text: &str,

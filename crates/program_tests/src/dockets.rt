@@ -1,4 +1,4 @@
-//! Dockets by their bytes.
+//! Dockets, read from their bytes.
 mod faults;
 mod forms;
 mod limits;
@@ -16,7 +16,7 @@ use exchange_core::Capacity;
 use std::alloc::{AllocError, Global};
 use test_support::randomness::OneByte;
 
-/// Reads a docket at once.
+/// Reads a docket with a reader that gives all bytes at once.
 fn read(alloc: Global, input: &str) -> Result<Docket, DocketFault> {
     read_docket(&OneByte(7), alloc, input.as_bytes())
 }
@@ -26,7 +26,7 @@ fn read_slowly(alloc: Global, input: &str, cut: usize) -> Result<Docket, DocketF
     read_docket(&OneByte(7), alloc, CutReader::new(input.as_bytes(), cut))
 }
 
-/// Whether the outcome of a reading is this: the text of its fault, or `read`.
+/// Whether reading a docket ended as expected: with a fault of this text, or well if the text is `read`.
 fn is_told(
     alloc: Global,
     answer: Result<Docket, DocketFault>,
@@ -38,14 +38,14 @@ fn is_told(
     }
 }
 
-/// Whether the docket of these texts, one after another, has this outcome.
+/// Whether reading the docket of these texts, one after another, ends as expected.
 fn tells(alloc: Global, texts: &[&str], wanted: &str) -> Result<bool, AllocError> {
     let text = joined(alloc, texts)?;
     is_told(alloc, read(alloc, text.as_str()), wanted)
 }
 
-/// Whether a reader that gives everything at once and a slow reader have this outcome. Spaces separate the records of
-/// the docket.
+/// Whether reading a docket ends as expected, with a reader that gives all bytes at once and with a slow reader. Spaces
+/// separate the records of the docket.
 fn tells_both(alloc: Global, records: &str, wanted: &str) -> Result<bool, AllocError> {
     let mut input = records.replace(alloc, " ", "\n")?;
     input.push_str("\n")?;
@@ -58,10 +58,10 @@ fn tells_both(alloc: Global, records: &str, wanted: &str) -> Result<bool, AllocE
     Ok(at_once && slowly)
 }
 
-/// The first line whose docket has another outcome than the line says, with a reader that gives everything at once or
-/// a slow one.
+/// The first line whose docket is read with another outcome than the line says, by a reader that gives all bytes at
+/// once or by a slow reader.
 ///
-/// Spaces separate the records in a line, and the outcome stands after ` = `.
+/// Spaces separate the records in a line, and the expected outcome stands after ` = `.
 fn first_wrong<'a>(alloc: Global, lines: &'a str) -> Result<Option<&'a str>, AllocError> {
     for line in lines.lines() {
         let Some((records, wanted)) = line.split_once(" = ") else {
@@ -74,7 +74,8 @@ fn first_wrong<'a>(alloc: Global, lines: &'a str) -> Result<Option<&'a str>, All
     Ok(None)
 }
 
-/// The same as `first_wrong`, for dockets of version 2 with the same records, each with a number one higher.
+/// Does what `first_wrong` does, for dockets of version 2 with the same records. The number of each record is one
+/// higher.
 fn first_wrong_of_version_2<'a>(
     alloc: Global,
     lines: &'a str,

@@ -1,4 +1,5 @@
-//! Worked dockets as bytes, and the answers of reading, of writing and of the program's calls.
+//! Small dockets with known results, as bytes, and what the calls for reading, for writing and of the program answer to
+//! them.
 //!
 //! This crate has only tests, like `library_tests`.
 #![tactic(auto)]

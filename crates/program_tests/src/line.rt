@@ -54,7 +54,7 @@ const BY_WORKER: Order = Order::Match(MatchOptions {
     journal: JournalForm::ByWorker,
 });
 
-// The order of the words, or the status of their fault.
+// What the command line's words ask the program to do, or the exit status of their fault.
 fn order_of(alloc: Global, words: &[&str]) -> Result<Order, u8> {
     match read_line(alloc, words) {
         Ok(order) => Ok(order),
@@ -62,7 +62,7 @@ fn order_of(alloc: Global, words: &[&str]) -> Result<Order, u8> {
     }
 }
 
-// Command lines, with the order that they give, or the status of their fault.
+// Command lines, with what they ask the program to do, or with the exit status of their fault.
 const LINES: [(&[&str], Result<Order, u8>); 21] = [
     (&["match"], Ok(MATCH)),
     (&["match", "--workers", "2"], Ok(MATCH)),

@@ -1,4 +1,4 @@
-//! Dockets whose rows are made by arithmetic.
+//! Dockets whose rows are computed.
 use std::alloc::{AllocError, Global};
 
 /// Adds `start`, a number and `end`.
@@ -14,7 +14,7 @@ pub(super) fn push_numbered(
     text.push_str(end)
 }
 
-/// Adds the same for each number below `count`.
+/// Adds `start`, a number and `end` for each number below `count`.
 pub(super) fn push_all(
     text: &mut String,
     alloc: Global,
@@ -28,7 +28,7 @@ pub(super) fn push_all(
     Ok(())
 }
 
-/// Adds the lists of ten programmes, each of 20,000 residents.
+/// Adds the lists of ten programmes, each with all 20,000 residents.
 pub(super) fn push_lists(text: &mut String, alloc: Global) -> Result<(), AllocError> {
     for p in 0..10u32 {
         push_numbered(text, alloc, "P,p", p, "")?;
@@ -38,10 +38,11 @@ pub(super) fn push_lists(text: &mut String, alloc: Global) -> Result<(), AllocEr
     Ok(())
 }
 
-// A step, how often it is taken, and the number of places in the circle.
+// A way round a circle: the length of a step, the number of steps, and the number of places on the circle.
 type Round = (u32, u32, u32);
 
-// Adds a comma, a letter and a number for each place that the steps reach from `first`, plus `base`.
+// Adds a comma, a letter and a number for each place that the steps reach. The steps begin at place `first`, and `base`
+// is added to each number.
 fn push_round(
     text: &mut String,
     alloc: Global,
@@ -59,7 +60,7 @@ fn push_round(
     Ok(())
 }
 
-// Steps that reach each of forty places, and each of twelve.
+// Lengths of steps with which a walk reaches all of forty places, and all of twelve places.
 const STEPS: [(u32, u32); 4] = [(3, 1), (7, 5), (11, 7), (13, 11)];
 
 // Adds the quota and the list of a programme of `hundreds`.
@@ -93,7 +94,7 @@ pub(super) fn hundreds(alloc: Global) -> Result<String, AllocError> {
     Ok(text)
 }
 
-// Adds the residents who list a programme of `widest`: ten of each 2,000 residents.
+// Adds the residents who list a programme of `widest`: ten residents of each 2,000.
 fn push_widest_list(text: &mut String, alloc: Global, p: u32) -> Result<(), AllocError> {
     push_numbered(text, alloc, "P,p", p, "")?;
     for thousands in 0..10u32 {
@@ -102,8 +103,8 @@ fn push_widest_list(text: &mut String, alloc: Global, p: u32) -> Result<(), Allo
     text.push_str("\n")
 }
 
-/// The greatest numbers of programmes, residents and pairs. Each of 2,000 programmes has ten places and ranks a
-/// hundred residents. Each of 20,000 residents ranks ten programmes, and all ranks are mutual.
+/// A docket with the greatest numbers of programmes, residents and pairs. Each of 2,000 programmes has ten places and
+/// ranks a hundred residents. Each of 20,000 residents ranks ten programmes, and all ranks are mutual.
 pub(super) fn widest(alloc: Global) -> Result<String, AllocError> {
     let mut text = String::new(alloc);
     push_all(&mut text, alloc, "Q,p", 2_000, ",10\n")?;
@@ -118,7 +119,8 @@ pub(super) fn widest(alloc: Global) -> Result<String, AllocError> {
     Ok(text)
 }
 
-/// Ten programmes with 2,000 places each, and 20,000 residents, all ranked by number on both sides.
+/// A docket of ten programmes with 2,000 places each, and 20,000 residents. Each member ranks the other side in the
+/// order of numbers.
 pub(super) fn in_one_order(alloc: Global) -> Result<String, AllocError> {
     let mut text = String::new(alloc);
     push_all(&mut text, alloc, "Q,p", 10, ",2000\n")?;
@@ -133,7 +135,8 @@ pub(super) fn in_one_order(alloc: Global) -> Result<String, AllocError> {
     Ok(text)
 }
 
-/// The sheet of this market: the first 2,000 residents are at the first programme, and so on.
+/// The sheet of the docket `in_one_order`: the first 2,000 residents are at the first programme, the next 2,000 at the
+/// second, and so on.
 pub(super) fn sheet_in_one_order(alloc: Global) -> Result<String, AllocError> {
     let mut text = String::new(alloc);
     for r in 0..20_000u32 {

@@ -17,7 +17,7 @@ use std::test::Fail;
 fn matches(rt: HostRuntime) -> Result<(), Fail> {
     let cases: [(&[&str], &str); 10] = [
         (&[SMALL], SMALL_SHEET),
-        // the same docket without its last byte
+        // the small docket without its last byte
         (&[THREE, "P,b,y,x\nR,x,b,a\nR,y,a,b"], SMALL_SHEET),
         (&[QUOTAS], QUOTAS_SHEET),
         (&[], ""),

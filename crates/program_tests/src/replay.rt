@@ -1,4 +1,5 @@
-//! Replays of good, bad and forged journals, of journals by worker, and of journals from before a withdrawal.
+//! Replays of good, bad and forged journals, of journals by worker, and of journals that were made before a member
+//! withdrew.
 use crate::commands::{serves, serves_both};
 use crate::texts::{
     CLOSE, EIGHT_BY_TWO, ELEVEN, FULL, OTHER_SHEET, QUOTAS, SMALL, SMALL_JOURNAL, SMALL_SHEET,
@@ -124,7 +125,7 @@ const NINE: [&str; 9] = [
     "E,close\n",
 ];
 
-// A journal with these of the nine events, counted from 0. Any other number stands for an event of no kind.
+// A journal of those of the nine events that have these indices. Any other index stands for an event of no kind.
 fn journal_of(alloc: Global, events: &[usize]) -> Result<String, AllocError> {
     let mut journal = FULL.to_string(alloc)?;
     for event in events {
@@ -133,7 +134,7 @@ fn journal_of(alloc: Global, events: &[usize]) -> Result<String, AllocError> {
     Ok(journal)
 }
 
-// Which events a journal of the small docket has, and the answer of its replay.
+// Which of the nine events a journal of the small docket has, and the answer of its replay.
 const FORGED: [(&[usize], Status, &str, u8); 7] = [
     (&[0, 1, 2, 3, 4, 5, 6, 7, 8], Status::ReplayGood, "G,9\n", 0),
     (
@@ -252,7 +253,8 @@ fn refuses_wrong_workers(rt: HostRuntime) -> Result<(), Fail> {
     Ok(())
 }
 
-// Journals from before a withdrawal. The first offer by or to a withdrawn member is not the next of any list.
+// Journals that were made before a member withdrew. The first offer by or to the withdrawn member is not the next offer
+// of any list.
 const REPLAYS: [(&[&str], Status, &str, u8); 3] = [
     (
         &[

@@ -1,4 +1,4 @@
-//! Which worker made an event, as a journal by worker says.
+//! Which worker made each event, as a journal by worker says.
 ghost use Rattle.std.specs.Prelude.{true, false};
 
 use crate::markets::{hundreds, push_all, push_numbered};
@@ -18,7 +18,7 @@ use test_support::events::desk_of;
 use test_support::gates::{Firm, Held};
 use test_support::randomness::OneByte;
 
-// How many rows of a text begin with one word and end with another.
+// How many rows of a text begin with `start` and end with `end`.
 fn rows_between(text: &[u8], start: &str, end: &str) -> u64 {
     let mut count = 0_u64;
     if let Ok(text) = str::from_utf8(text) {
@@ -31,8 +31,8 @@ fn rows_between(text: &[u8], start: &str, end: &str) -> u64 {
     count
 }
 
-// Adds the row that a replay has for each worker. Returns whether the journal names each worker as often as the gate
-// was told.
+// Adds the row that a replay writes for each worker. Returns whether the journal names each worker as often as the gate
+// counted the worker's entries.
 fn is_named(
     alloc: Global,
     journal: &[u8],
@@ -50,8 +50,7 @@ fn is_named(
     Ok(same)
 }
 
-// Whether a match names the worker of each event, if its first receipt waits until another worker has made two
-// events.
+// Whether a match names the worker of each event, if its first receipt waits until another worker has made two events.
 fn names_its_workers<H: Threads + Wait + RandomSource + Sync + Send + Copy>(
     rt: H,
     alloc: Global,
@@ -95,7 +94,8 @@ fn a_journal_names_the_worker_of_each_event(rt: HostRuntime) -> Result<(), Fail>
     Ok(())
 }
 
-// A receipt that passed a gate: its desk, its worker, and whether it was found in the journal.
+// A receipt for which a gate's `pass` was called: its desk, its worker, and whether the receipt was found in the
+// journal.
 #[derive(Clone, Copy, Debug)]
 struct Receipt {
     desk: Desk,
@@ -103,10 +103,10 @@ struct Receipt {
     is_found: bool,
 }
 
-// How often the gate lets other workers go first, so that another worker passes too.
+// How often the gate lets other workers go first, so that another worker calls `pass` too.
 const TURNS: u32 = 1_000_000;
 
-// A gate that notes each receipt. It holds the first until another passes.
+// A gate that notes each receipt. The gate keeps the first receipt waiting until another worker calls `pass`.
 #[derive(Drop)]
 struct Noting<R: Wait + Copy> {
     rt: R,
@@ -126,7 +126,7 @@ impl<R: Wait + Copy + Sync> Gate for Noting<R> {
             worker,
             is_found: false,
         };
-        // If a receipt isn't noted here, it is missed when the journal has it.
+        // If the note of a receipt fails here, the receipt is missing when the journal names it.
         let _is_noted = self.receipts.lock(&self.rt).push(receipt).is_ok();
         if self.passed.fetch_add(1, Ordering::SeqCst) == 0 && self.workers > 1 {
             for _ in 0..TURNS {
@@ -142,7 +142,7 @@ impl<R: Wait + Copy + Sync> Gate for Noting<R> {
     fn entered(&self, _worker: usize) {}
 }
 
-// The worker of the next receipt of a desk; this receipt then counts as found.
+// The worker of the next receipt of a desk. This receipt then counts as found.
 fn next_at(receipts: &mut [Receipt], desk: Option<Desk>) -> Option<usize> {
     for receipt in receipts {
         if Some(receipt.desk) == desk && !receipt.is_found {
@@ -153,7 +153,7 @@ fn next_at(receipts: &mut [Receipt], desk: Option<Desk>) -> Option<usize> {
     None
 }
 
-// The worker of the last found receipt of a desk.
+// The worker of the receipt of a desk that was found last.
 fn last_at(receipts: &[Receipt], desk: Option<Desk>) -> Option<usize> {
     let mut last = None;
     for receipt in receipts {
@@ -164,8 +164,8 @@ fn last_at(receipts: &[Receipt], desk: Option<Desk>) -> Option<usize> {
     last
 }
 
-// Whether a journal names, event by event, the worker that passed with each receipt. The worker that takes an offer
-// gives the answers due before it takes the next.
+// Whether the journal names, event by event, the worker that called `pass` for each receipt. The worker that takes an
+// offer also gives the answers due, before it takes the next offer.
 fn is_told_by(journal: &Journal, receipts: &mut [Receipt]) -> bool {
     let Some(by) = &journal.by else {
         return false;
@@ -184,12 +184,12 @@ fn is_told_by(journal: &Journal, receipts: &mut [Receipt]) -> bool {
     receipts.iter().all(|receipt| receipt.is_found)
 }
 
-// The docket of these bytes, if it is one.
+// The docket of these bytes, or none if the bytes are no docket.
 fn docket_of(alloc: Global, text: &[u8]) -> Option<Docket> {
     read_docket(&OneByte(7), alloc, text).ok()
 }
 
-// Whether a match with this many workers names the worker of each receipt and of each answer.
+// Whether a match with this number of workers names the right worker of each receipt and of each answer.
 fn tells_its_workers<H: Threads + Wait + RandomSource + Sync + Send + Copy>(
     rt: H,
     alloc: Global,
@@ -219,7 +219,7 @@ fn tells_its_workers<H: Threads + Wait + RandomSource + Sync + Send + Copy>(
     Ok(status == Ok(Status::Closed) && is_told_by(journal, receipts.as_mut_slice()))
 }
 
-// A programme that ranks thirty residents, and has a place for each.
+// A docket of one programme that ranks thirty residents and has a place for each of them.
 fn thirty(alloc: Global) -> Result<String, AllocError> {
     let mut text = String::new(alloc);
     text.push_str("Q,a,30\nP,a")?;

@@ -1,4 +1,4 @@
--- What a resident is told, with one more programme.
+-- The answers that a resident gets, after the answer about one more programme.
 use Rattle.std.proofs.Common.{◌≡◌, ℕ, ◌<◌, inl, inr, List, [], ◌∷◌, ◌++◌, length, Option, Some, None, true, refl, sym, ap, ◌∙◌, subst, arith, rules}
 use Rattle.std.specs.Prelude.{nat_lt, slice_get}
 use Rattle.std.specs.List.{list_all}
@@ -17,7 +17,7 @@ use Rattle.match_model.specs.declared.limits.Limits.{Limits}
 use Rattle.reasons_text.specs.Answers.{AreFirst, AreOfRecord, AreTaken, CaseParts, IsAnswer, IsCase}
 use Rattle.reasons_text.specs.Naming.{Naming, SideNames, no_names, own_names}
 
--- how the places of one more programme are taken
+-- how the places of the first n + 1 programmes are taken, after programme n is counted
 pub AreTaken-push : (written : Written) (m : List (Option ℕ)) (takens : List Taken) (t : Taken) (n : ℕ) → length takens ≡ n → AreTaken written m takens →
     IsTaken (list_at written.programme_lists n) m n t → AreTaken written m (takens ++ t ∷ [])
 AreTaken-push written m takens t n e h new p u at = elim (slice_get_push_parts takens t p u at) [
@@ -27,7 +27,7 @@ AreTaken-push written m takens t n e h new p u at = elim (slice_get_push_parts t
       subst (λ (v : Taken). IsTaken (list_at written.programme_lists p) m p v) same (subst (λ q. IsTaken (list_at written.programme_lists q) m q t) here new)
 ]
 
--- one answer more
+-- the first answers about a resident's list, after one more answer
 pub AreFirst-push : (c : CaseParts) (r : ℕ) (mine : List ℕ) (reasons : List Why) (reason : Why) (p n : ℕ) → length reasons ≡ n →
     slice_get mine n ≡ Some p → AreFirst c r mine reasons → IsAnswer c r p reason → AreFirst c r mine (reasons ++ reason ∷ [])
 AreFirst-push c r mine reasons reason p n e there h new i q w at told = elim (slice_get_push_parts reasons reason i w told) [
@@ -38,11 +38,11 @@ AreFirst-push c r mine reasons reason p n e there h new i q w at told = elim (sl
       subst (λ (v : Why). IsAnswer c r q v) same (subst (λ z. IsAnswer c r z reason) alike new)
 ]
 
--- the instance is made from the lists that were read
+-- the instance of a docket is made from the lists that were read with the docket
 pub made_of_lists : (limits : Limits) (bytes : Option (List ℕ)) (d : Contents) (written : Written) → IsReadWithin limits bytes d written → AreWritten d.instance written
 made_of_lists limits bytes d written h = record { draft = draft_of h.rows; made = ap (λ (c : Contents). c.instance) h.docket_is; lists = h.written_is }
 
--- the instance is made from the lists that were read, even if nothing is known about the bytes
+-- the instance of a docket is made from the lists that were read, even if the bytes are unknown
 pub read_of : (limits : Limits) (bytes : Option (List ℕ)) (d : Contents) (written : Written) → IsReadWithin limits bytes d written → IsReadWithin limits None d written
 read_of limits bytes d written h = record {
   rows = h.rows;
@@ -54,21 +54,21 @@ read_of limits bytes d written h = record {
   members = h.members;
 }
 
--- the sheet has a place for each resident
+-- the sheet has one entry for each resident
 pub places_of : (c : CaseParts) → IsCase c → IsWhole c.docket → length c.sheet ≡ length c.docket.instance.resident_lists
 places_of c h whole = (whole.sheet c.sheet h.has_sheet).one_entry_each ∙ whole.residents
 
--- an item of a list of numbers below n
+-- if all numbers of a list are below n, each item of the list is below n
 pub below_at : (n : ℕ) (xs : List ℕ) (i p : ℕ) → i < length xs → list_all (λ x. nat_lt x n) xs ≡ true → slice_get xs i ≡ Some p → p < n
 below_at n xs i p lt all at =
     let below : nat_lt p n ≡ true = subst (λ x. nat_lt x n ≡ true) (get_or_from_slice_get xs i p 0 at) (list_all_true_at (λ x. nat_lt x n) xs i 0 lt all) in
     search (rules, below)
 
--- a resident's list names the programmes of the R record
+-- a resident's list names the programmes on the resident's R record
 pub of_record : (d : Contents) (written : Written) (r : ℕ) → IsWhole d → IsResident d.instance r → AreOfRecord d written r (list_at written.resident_lists r)
 of_record d written r whole within limits bytes read = read.names r (let many = whole.residents in omega (arith, many))
 
--- these names are all the docket's own
+-- if the key has no names, all names are those of the docket
 pub names_own : (d e : Contents) (r p : SideNames) → d ≡ e → r ≡ no_names → p ≡ no_names
     → ◌≡◌ {A = Naming} (record { docket = d; residents = r; programmes = p }) (own_names e)
 names_own d e r p h k l = rw (h, k, l) refl

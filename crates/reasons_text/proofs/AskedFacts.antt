@@ -1,4 +1,4 @@
--- Without real names a name means the docket's member with that name.
+-- Without a key, a name means the docket's member of this name.
 use Rattle.std.proofs.Common.{◌≡◌}
 use Rattle.reasons_text.specs.Naming.{IsKeyless, Naming}
 use Rattle.reasons_text.specs.Texts.{Asks, AsksByDocket}
@@ -9,7 +9,7 @@ use Rattle.reasons_text.specs.declared.question.Asked.TheVariants as asked
 use Rattle.reasons_text.specs.declared.side.Side.TheVariants.{Programmes, Residents}
 use Rattle.reasons_text.proofs.MeantFacts.{by_docket}
 
--- without a key, a question uses the docket's names
+-- if there is no key, a question means members by their names in the docket
 pub asked_keyless : (names : Naming) (question : Asked) (told : Told) → IsKeyless names → Asks names question told → AsksByDocket names.docket question told
 asked_keyless names asked.All All none h = tt
 asked_keyless names asked.All (Resident r) none h = absurd h

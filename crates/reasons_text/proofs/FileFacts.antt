@@ -1,4 +1,4 @@
--- The answer over files is the answer over their joined records.
+-- The answer over a docket's file and a sheet's file is the answer over their joined records.
 use Rattle.std.proofs.Common.{◌≡◌, ◌≢◌, ◌∙◌, ℕ, List, [], length, Option, Some, None, inr, refl}
 use Rattle.std.specs.Prelude.{Bool}
 use Rattle.docket.specs.Passes.{rows_in}
@@ -12,7 +12,7 @@ use Rattle.reasons_text.specs.declared.fault.WhyFault.{WhyFault}
 use Rattle.reasons_text.specs.declared.fault.WhyFault.TheVariants.{Docket}
 use Rattle.reasons_text.specs.declared.question.Asked.{Asked}
 
--- a docket reads its records in the same way as files are read
+-- a docket's bytes have the same records for the docket's reader as for the reader of files
 rows_same : (bytes : List ℕ) → rows_in bytes ≡ rows_of bytes
 unfolding rows_in rows_of
 rows_same bytes = refl
@@ -29,13 +29,13 @@ answers_files limits d s text key question without_ranks old new joins told = re
   appended = told.appended;
 }
 
--- a fault of the joined records is told with its file
+-- a fault of the joined records is a fault of the files, reported with the record's file
 pub files_fault : (limits : Limits) (d s text : List ℕ) (key : Option (List ℕ)) (question : Asked) (nd ns : ℕ) (fault : WhyFault) → Joins d s text
     → nd ≡ length (rows_of d) → ns ≡ length (rows_of s) → IsServeFaultWithin limits (Some text) key question fault
     → IsFilesFaultWithin limits d s key question (in_its_file nd ns fault)
 files_fault limits d s text key question nd ns fault joins of_docket of_sheet holds =
     inr (inr (record { joined = text; joins = joins; whole = fault; holds = holds; is_told = rw (of_docket, of_sheet) refl }))
 
--- a fault other than the writer's, told with its file, is still not the writer's
+-- if a fault with its file is not the writer's, the fault without its file is not the writer's either
 pub not_written : (nd ns : ℕ) (fault : WhyFault) → in_its_file nd ns fault ≢ Docket Write → fault ≢ Docket Write
 not_written nd ns fault other is = other (rw is refl)

@@ -13,13 +13,13 @@ or_none None b h = (refl, h)
 or_none (Some x) b h = absurd (cc h)
 
 module _ (d : Contents) where
-  -- the names of some rows followed by others
+  -- the names of two lists of rows, one after the other, are those of the first list with the second list's names added
   added_after : (key : KeyNames) (done rest : List Fields) → all_added d key (done ++ rest) ≡ all_added d (all_added d key done) rest
   unfolding all_added
   added_after key [] rest = refl
   added_after key (row ∷ more) rest = added_after (added d key row) more rest
 
-  -- the first fault of some good rows followed by others
+  -- if the first rows have no fault, the first fault of all rows is the first fault of the rows after them
   fault_after : (key : KeyNames) (n : ℕ) (done rest : List Fields) → fault_from d key n done ≡ None
       → fault_from d key n (done ++ rest) ≡ fault_from d (all_added d key done) (n + length done) rest
   unfolding fault_from all_added
@@ -29,7 +29,7 @@ module _ (d : Contents) where
       let e : n + 1 + length more ≡ n + length (row ∷ more) = omega arith in
       rw both.0 (fault_after (added d key row) (n + 1) more rest both.1 ∙ ap (λ k. fault_from d (all_added d (added d key row) more) k rest) e)
 
-  -- no row
+  -- without rows the key's names stay as they are
   pub none_added : (key : KeyNames) → key ≡ all_added d key []
   unfolding all_added
   none_added key = refl
@@ -38,13 +38,13 @@ module _ (d : Contents) where
   unfolding fault_from
   none_bad key = refl
 
-  -- a row more
+  -- the names of the rows read so far, after one more row
   pub one_added : (key now new : KeyNames) (done : List Fields) (row : Fields) → now ≡ all_added d key done → new ≡ added d now row
       → new ≡ all_added d key (done ++ row ∷ [])
   unfolding all_added
   one_added key now new done row was is = is ∙ ap (λ (k : KeyNames). added d k row) was ∙ sym (added_after key done (row ∷ []))
 
-  -- the fault of the row after some good rows
+  -- if the rows so far have no fault, the first fault of these rows and the next row is the next row's fault
   pub next_fault : (key now : KeyNames) (done : List Fields) (row : Fields) (count : ℕ) (fault : Option WhyFault) → now ≡ all_added d key done
       → length done ≡ count → fault_from d key 0 done ≡ None → row_fault d now (count + 1) row ≡ fault → fault_from d key 0 (done ++ row ∷ []) ≡ fault
   unfolding fault_from
@@ -59,7 +59,7 @@ module _ (d : Contents) where
       or_nothing None = refl
       or_nothing (Some x) = refl
 
--- no field has a word so far, and the next field has none
+-- the fields before field 0 are all empty, and the fields before field i + 1 are if field i is empty too
 pub blank_none : (row : Fields) → true ≡ is_blank_below row 0
 unfolding is_blank_below
 blank_none row = refl

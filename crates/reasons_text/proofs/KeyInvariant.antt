@@ -1,4 +1,4 @@
--- What holds after each row of a key was added.
+-- What is true after each row of a key has been added.
 use Rattle.std.proofs.Common.{Bor, ◌≡◌, ℕ, List, length, Option, Some, None}
 use Rattle.csv.specs.Reading.{Reached, Ready, reader_config, reader_state, reader_trim, source_of, strip_bom}
 use Rattle.csv.specs.declared.reader.Reader.{Reader}
@@ -9,7 +9,7 @@ use Rattle.docket.specs.Fields.{Fields}
 use Rattle.reasons_text.specs.Keys.{all_added, fault_from, key_config}
 use Rattle.reasons_text.specs.Naming.{KeyNames}
 
--- the bytes that remain in a slice
+-- the bytes that remain in a slice: all of them
 abbrev pub bytes_left : Bor (List ℕ) → Option (List ℕ)
 bytes_left slice = Some slice.now
 

@@ -1,4 +1,4 @@
--- One more row of a key, and the end of the rows.
+-- The key's names after one more row, and after the last row.
 use Rattle.std.proofs.Common.{Bor, ◌≡◌, ◌+◌, ◌∙◌, ℕ, List, [], ◌∷◌, ◌++◌, length, Option, Some, None, true, false, inl, inr, refl, ap}
 use Rattle.std.specs.Prelude.{◌⊎◌}
 use Rattle.std.proofs.lemmas.List.{length-append}
@@ -19,7 +19,7 @@ use Rattle.reasons_text.proofs.KeyFacts.{next_fault, none_added, none_bad, one_a
 use Rattle.reasons_text.proofs.KeyInvariant.{HasAdded, bytes_left}
 
 module _ (d : Contents) (bytes : List ℕ) (old : KeyNames) where
-  -- no row was read
+  -- before the first row no name was added
   pub rows_start : (reader : Reader (Bor (List ℕ))) → reader_config reader ≡ key_config bytes → reader_trim reader ≡ trim.None → Ready reader
       → reader_state reader ≡ st.StartRecord → source_of bytes_left reader ≡ Some (strip_bom bytes) → HasAdded d bytes old old reader 0
   unfolding Reached
@@ -37,7 +37,7 @@ module _ (d : Contents) (bytes : List ℕ) (old : KeyNames) where
   }
 
   module _ (now : KeyNames) (reader after : Reader (Bor (List ℕ))) (count : ℕ) (was : HasAdded d bytes old now reader count) (row : Fields) where
-    -- the rows, with the row that was read
+    -- the rows read so far, after the next row was read
     reached_next : ReadRecord bytes_left reader after true row
         → (left : List ℕ) × (source_of bytes_left after ≡ Some left) × Reached (key_config bytes) st.StartRecord (strip_bom bytes) (was.done ++ row ∷ []) (reader_state after) left
     reached_next read = rows-more bytes_left reader after row (key_config bytes) st.StartRecord (strip_bom bytes) was.left was.done was.config was.source was.reached read

@@ -1,4 +1,4 @@
--- Who has a name, and whose label is shown.
+-- Who has a name, and which members are shown with a label.
 use Rattle.std.proofs.Common.{◌≡◌, ◌≢◌, ◌∙◌, ◌<◌, ◌≤◌, ◌+◌, inl, inr, ℕ, Bool, true, false, List, [], ◌∷◌, ◌++◌, length, eq-eqb, Option, Some, None, refl, sym, ap, subst, arith, rules}
 use Rattle.std.proofs.lemmas.List.{length-append, length-map}
 use Rattle.std.specs.Prelude.{◌&&◌, ◌||◌, ◌==◌, if◌then◌else◌, nat_lt, unwrap_or, slice_get, map, string_bytes, String}
@@ -25,13 +25,13 @@ owner_same r n is = rw is refl
 owner_apart : (r n : ℕ) → (r == n) ≡ false → owner_with (One r) n ≡ Several
 owner_apart r n not = rw not refl
 
--- the next member differs from all before
+-- if the members found before are all below n, member n is counted as a further member
 owner_also : (test : ℕ → Bool) (n : ℕ) (owner : Meant) → IsMeantBelow test n owner → owner_with owner n ≡ also_of owner n
 owner_also test n Nobody h = refl
 owner_also test n (One r) h = let lt = h.0 in owner_apart r n (ne_eqb r n (λ same. absurd (omega (arith, lt, same))))
 owner_also test n Several h = refl
 
--- the next member has the name, or not
+-- who has a name among the first n + 1 members, by whether member n has the name
 pub owner_more : (test : ℕ → Bool) (n : ℕ) (owner : Meant) → IsMeantBelow test n owner
     → IsMeantBelow test (n + 1) (if test n then owner_with owner n else owner)
 owner_more test n owner h = elim (cases_Bool (test n)) [
@@ -39,7 +39,7 @@ owner_more test n owner h = elim (cases_Bool (test n)) [
   | inr not ↦ rw not (meant_skip test n owner h not)
 ]
 
--- a member that is noted twice counts once
+-- a member that is noted twice for a name counts once
 owner_twice : (owner : Meant) (n : ℕ) → owner_with (owner_with owner n) n ≡ owner_with owner n
 owner_twice Nobody n = owner_same n n (eq-eqb n n refl)
 owner_twice (One r) n = elim (cases_Bool (r == n)) [
@@ -55,14 +55,14 @@ two_notes true false old mid new n h k = k ∙ h
 two_notes false true old mid new n h k = k ∙ rw h refl
 two_notes false false old mid new n h k = k ∙ h
 
--- a member's names were noted, in the docket and in the key's row
+-- both names of member n were noted: the docket's name, and the name in the key's row
 pub noted_both : (d : Contents) (side : Side) (names : List (List ℕ)) (text : List ℕ) (old mid new : Meant) (n : ℕ)
     → mid ≡ (if is_this (own_name d side n) text then owner_with old n else old) → new ≡ (if is_this (text_at names n) text then owner_with mid n else mid)
     → new ≡ (if has_name d side names text n then owner_with old n else old)
 unfolding has_name
 noted_both d side names text old mid new n h k = two_notes (is_this (own_name d side n) text) (is_this (text_at names n) text) old mid new n h k
 
--- past the docket's members and the key's rows, nobody has a name
+-- a number past the docket's members and the key's rows belongs to nobody with a name
 pub named_within : (d : Contents) (side : Side) (names : List (List ℕ)) (name : List ℕ) (n k : ℕ) → member_count d side ≤ n → length names ≤ n
     → has_name d side names name k ≡ true → k < n
 unfolding has_name text_at
@@ -79,7 +79,7 @@ pub named_rows : {A : Type 0} (d : Contents) (side : Side) (rows : List (String 
 named_rows d side rows name n k count past has =
     let same = length-map rows string_bytes in named_within d side (map string_bytes rows) name n k count (omega (arith, same, past)) has
 
--- a member has the name of its row
+-- a member has the name in its row of the key
 row_name : (d : Contents) (side : Side) (names : List (List ℕ)) (name : List ℕ) (n : ℕ) → text_at names n ≡ Some name → has_name d side names name n ≡ true
 unfolding has_name
 row_name d side names name n is = rw (is, (bytes_eq-Decides name name).1 refl) (either _)
@@ -88,7 +88,7 @@ row_name d side names name n is = rw (is, (bytes_eq-Decides name name).1 refl) (
     either true = refl
     either false = refl
 
--- of two different members, at most one is this one
+-- if two different members pass a test, one of them is not member n
 other_of_two : (test : ℕ → Bool) (n : ℕ) (a b : ℕ) → a < b → test a ≡ true → test b ≡ true → (k : ℕ) × ((k ≢ n) × (test k ≡ true))
 other_of_two test n a b lt one other = elim (cases_Bool (a == n)) [
   | inl is ↦ (b, ((λ same. absurd (omega (arith, lt, same, eqb-true a n is))), other))
@@ -96,7 +96,7 @@ other_of_two test n a b lt one other = elim (cases_Bool (a == n)) [
 ]
 
 module _ (d : Contents) (side : Side) (read : SideNames) (n : ℕ) where
-  -- if another member has the name, the label is shown, whoever was noted for the name
+  -- if another member has the same name, the label is shown, whichever member was noted for the name
   shown_where : (name sign : List ℕ) (owner : Meant) → IsOwner d side read.names name owner → text_at read.names n ≡ Some name
       → IsShared d side read.names name n → label_where owner name sign ≡ label_of name sign
   shown_where name sign Several h own shared = refl
@@ -114,7 +114,7 @@ module _ (d : Contents) (side : Side) (read : SideNames) (n : ℕ) where
   hidden_where name sign (One r) h alone = refl
   hidden_where name sign Nobody h alone = refl
 
-  -- the label from the map of names is the member's label
+  -- the label that is made from the map of names is the label by definition
   pub is_label : (owner : List ℕ → Meant) (label : List ℕ) → ((name : List ℕ) → IsOwner d side read.names name (owner name))
       → label ≡ label_if owner (text_at read.names n) (unwrap_or (text_at read.signs n) []) → IsLabel d side read n label
   is_label owner label owners is = record {
@@ -123,7 +123,7 @@ module _ (d : Contents) (side : Side) (read : SideNames) (n : ℕ) where
     nameless = λ none. is ∙ rw none refl;
   }
 
--- no label, and one more label
+-- the labels of no member, and the labels after one more member
 pub labels_none : (d : Contents) (side : Side) (read : SideNames) → AreLabelsBelow d side read 0 []
 labels_none d side read = record { each = refl; label = λ n label at. absurd (cc at) }
 
@@ -139,7 +139,7 @@ labels_more d side read count labels label h new = record {
   ];
 }
 
--- one member has a name, and nothing changes for the others
+-- if the map of names changes for one name only, it says the same as before about every other name
 pub noted_one : (lookup now : List ℕ → Option Meant) (name : List ℕ) (n : ℕ) (owner : Meant) → owner ≡ owner_with (unwrap_or (lookup name) Nobody) n
     → ((text : List ℕ) → now text ≡ (if bytes_eq name text then Some owner else lookup text)) → (text : List ℕ)
     → unwrap_or (now text) Nobody ≡ (if bytes_eq name text then owner_with (unwrap_or (lookup text) Nobody) n else unwrap_or (lookup text) Nobody)

@@ -1,4 +1,4 @@
--- Lines and rows, one after another.
+-- The lines and rows of an answer, written one after another.
 use Rattle.std.proofs.Common.{◌≡◌, ℕ, Bool, ◌+◌, ◌<◌, List, [], ◌∷◌, ◌++◌, Option, Some, length, take, get_or, inl, inr, refl, sym, ap, ◌∙◌, subst, arith, rules, append_assoc, append-nil}
 use Rattle.std.specs.Prelude.{slice_get}
 use Rattle.std.specs.List.{enumerate_from, flat_map, zip}
@@ -17,7 +17,7 @@ use Rattle.reasons_text.specs.Lines.{ended, first_line, has_withdrawn, lines, ra
 use Rattle.reasons_text.specs.Naming.{Naming}
 use Rattle.reasons_text.specs.Texts.{AddsRows, AppendsText, AreRowsOn}
 
--- a text made from the first items, and from one more
+-- a text made from the first k + 1 items is the text of the first k items and the text of item k
 taken_next : {A : Type 0} (f : A → List ℕ) (xs : List A) (k : ℕ) (x : A) → k < length xs → get_or xs k x ≡ x →
     flat_map f (take (k + 1) xs) ≡ flat_map f (take k xs) ++ f x
 taken_next f xs k x within here =
@@ -34,7 +34,7 @@ zip_here : {A B : Type 0} (ks : List A) (vs : List B) (k : ℕ) (a : A) (b : B) 
     → get_or (zip ks vs) k (a, b) ≡ (a, b)
 zip_here ks vs k a b in_ks in_vs e w = get_or-zip ks vs k (a, b) in_ks in_vs ∙ pair_same _ _ _ _ (sym e) (sym w)
 
--- one line more
+-- the lines of an answer, after one more line
 pub line_next : {A B : Type 0} (f : A × B → List ℕ) (ks : List A) (vs : List B) (k : ℕ) (a : A) (b : B) (start old new : List ℕ) →
     k < length ks → k < length vs → a ≡ get_or ks k a → b ≡ get_or vs k b → old ≡ start ++ flat_map f (take k (zip ks vs)) → new ≡ old ++ f (a, b)
     → new ≡ start ++ flat_map f (take (k + 1) (zip ks vs))
@@ -42,7 +42,7 @@ line_next f ks vs k a b start old new in_ks in_vs e w so_far more =
     more ∙ ap (λ (t : List ℕ). t ++ f (a, b)) so_far ∙ append_assoc start (flat_map f (take k (zip ks vs))) (f (a, b))
     ∙ ap (λ (t : List ℕ). start ++ t) (sym (taken_next f (zip ks vs) k (a, b) (zip_within ks vs k in_ks in_vs) (zip_here ks vs k a b in_ks in_vs e w)))
 
--- one row more
+-- the rows of the table, after one more row
 pub row_next : {W A B : Type 0} (contents : W → Option (List ℕ)) (f : ℕ × (A × B) → List ℕ) (ks : List A) (vs : List B) (k : ℕ) (a : A) (b : B)
     (start old new : RowWriter W) → k < length ks → k < length vs → a ≡ get_or ks k a → b ≡ get_or vs k b
     → Adds contents start old (flat_map f (take k (enumerate_from 1 (zip ks vs)))) → Adds contents old new (f (k + 1, (a, b)))
@@ -55,7 +55,7 @@ row_next contents f ks vs k a b start old new in_ks in_vs e w so_far more =
     get_or-enumerate_from 1 pairs k (k + 1, (a, b)) (zip_within ks vs k in_ks in_vs) ∙ pair_same _ _ _ _ number (zip_here ks vs k a b in_ks in_vs e w) in
     subst (Adds contents start new) (sym (taken_next f (enumerate_from 1 pairs) k (k + 1, (a, b)) within here)) (adds_both contents start old new _ _ so_far more)
 
--- the first line, and a line for each programme
+-- the text about a resident is the first line and then a line for each programme
 pub text_made : (names : Naming) (without_ranks : Bool) (r : ℕ) (own with_own : Option ℕ) (programmes : List ℕ) (reasons : List Why) (old mid new : List ℕ) →
     with_own ≡ own → mid ≡ old ++ first_line names r with_own programmes reasons → new ≡ mid ++ lines names without_ranks r programmes reasons
     → new ≡ old ++ text_on names without_ranks r own programmes reasons
@@ -63,11 +63,11 @@ text_made names without_ranks r own with_own programmes reasons old mid new same
     rest ∙ ap (λ (t : List ℕ). t ++ lines names without_ranks r programmes reasons) (rw same at first)
     ∙ append_assoc old (first_line names r own programmes reasons) (lines names without_ranks r programmes reasons)
 
--- a text of this kind that was added to an empty text
+-- if an empty text became a text with a property by an addition, the added text has this property
 pub of_new : (P : List ℕ → Type 0) (old new text : List ℕ) → text ≡ new → old ≡ [] → AppendsText P (Some old) (Some new) → P text
 of_new P old new text e none h = subst P (sym (e ∙ h.appended ∙ ap (λ (t : List ℕ). t ++ h.text) none)) h.wanted
 
--- no rows
+-- the rows about no resident are none
 pub rows_none : {W : Type 0} (contents : W → Option (List ℕ)) (c : CaseParts) (names : Naming) (without_ranks : Bool) (a : RowWriter W) →
     AddsRows contents c names without_ranks 0 a a
 rows_none contents c names without_ranks a = record { texts = []; rows = (refl, nothing); added = adds_none contents a }
@@ -75,7 +75,7 @@ rows_none contents c names without_ranks a = record { texts = []; rows = (refl, 
     nothing : (r : ℕ) (text : List ℕ) → slice_get [] r ≡ Some text → AreRowsOn c names without_ranks r text
     nothing r text at = search rules
 
--- the rows about one more resident
+-- the rows about the first n + 1 residents are the rows about the first n and the rows about resident n
 pub rows_more : {W : Type 0} (contents : W → Option (List ℕ)) (c : CaseParts) (names : Naming) (without_ranks : Bool) (n : ℕ) (a b d : RowWriter W) (t : List ℕ) →
     AddsRows contents c names without_ranks n a b → AreRowsOn c names without_ranks n t → Adds contents b d t → AddsRows contents c names without_ranks (n + 1) a d
 rows_more contents c names without_ranks n a b d t h new more = record {
@@ -92,7 +92,7 @@ rows_more contents c names without_ranks n a b d t h new more = record {
           subst (λ (v : List ℕ). AreRowsOn c names without_ranks r v) same (subst (λ q. AreRowsOn c names without_ranks q t) here new)
     ]
 
--- a text was added to no rows over a writer, and then the buffer was sent
+-- a text was added to an empty buffer over a writer, and then the buffer was written out
 pub handed_over : {W : Type 0} (contents : W → Option (List ℕ)) (start last : RowWriter W) (old new : W) (none text : List ℕ) → start.writer.now ≡ old →
     start.waiting.now.items ≡ none → none ≡ [] → Adds contents start last text → Writes contents last.writer.now new last.waiting.now.items
     → Appends (contents old) (contents new) text

@@ -13,7 +13,7 @@ use Rattle.reasons_text.specs.declared.side.Side.{Side}
 pub meant_none : (test : ℕ → Bool) → IsMeantBelow test 0 Nobody
 meant_none test k h = absurd (omega (arith, h))
 
--- a number is one of the first, or the next
+-- a number below n + 1 is below n or is n
 next_or : (k n : ℕ) → k < n + 1 → (k < n) ⊎ (k ≡ n)
 next_or k n h = elim (cases_lt k n) [
   | inl below ↦ inl below
@@ -23,7 +23,7 @@ next_or k n h = elim (cases_lt k n) [
 no_both : {b : Bool} → b ≡ true → b ≡ false → ⊥
 no_both one other = search rules
 
--- the text does not mean the next member
+-- if a text does not mean member n, it means the same members below n + 1 as below n
 pub meant_skip : (test : ℕ → Bool) (n : ℕ) (meant : Meant) → IsMeantBelow test n meant → test n ≡ false → IsMeantBelow test (n + 1) meant
 meant_skip test n Nobody h unmet = λ k lt. elim (next_or k n lt) [
   | inl below ↦ h k below
@@ -41,7 +41,7 @@ meant_skip test n (One r) h unmet = (
 )
 meant_skip test n Several h unmet = (h.0, (h.1.0, (h.1.1.0, (let lt = h.1.1.1.0 in omega (arith, lt), h.1.1.1.1))))
 
--- the text also means the next member
+-- if a text means member n, it means member n besides the members below n
 pub meant_also : (test : ℕ → Bool) (n : ℕ) (meant : Meant) → IsMeantBelow test n meant → test n ≡ true → IsMeantBelow test (n + 1) (also_of meant n)
 meant_also test n Nobody h met = (
   omega arith,
@@ -59,7 +59,7 @@ meant_also test n Several h met = (h.0, (h.1.0, (h.1.1.0, (let lt = h.1.1.1.0 in
 not_below : (k n : ℕ) → n ≤ k → nat_lt k n ≡ false
 not_below k n h = grind (arith, h)
 
--- past the docket's members and the key's rows, the text means nobody
+-- a text means nobody at a number past the docket's members and the key's rows
 unmeant : (names : Naming) (side : Side) (text : List ℕ) (k : ℕ) → member_count names.docket side ≤ k → length (names_in names side).names ≤ k
     → means names side text k ≡ false
 unfolding means text_at is_by_key
@@ -75,7 +75,7 @@ meant_within names side text n k count rows met = elim (cases_lt k n) [
   | inr past ↦ absurd (no_both met (unmeant names side text k (omega (arith, count, past)) (omega (arith, rows, past))))
 ]
 
--- without real names, a text means the docket's name
+-- without a key, a text means only the member whose name in the docket it is
 pub by_docket : (names : Naming) (side : Side) (text : List ℕ) (k : ℕ) → names_in names side ≡ no_names → means names side text k ≡ true
     → docket_name names.docket side k ≡ text
 unfolding means text_at is_by_key

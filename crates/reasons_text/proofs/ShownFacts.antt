@@ -1,4 +1,4 @@
--- The shown form of a text, character by character.
+-- The form in which a text is shown, made character by character.
 use Rattle.std.proofs.Common.{◌≡◌, ◌++◌, ℕ, IsUtf8, List, [], chars, length, encode_utf8}
 use Rattle.std.proofs.StrCases.{chars_of_empty}
 use Rattle.std.proofs.lemmas.Str.{chars_past_char, encodes-append}

@@ -1,4 +1,4 @@
--- Whether a field is text, as a test.
+-- Whether a field's bytes are text, by a test that the code makes.
 use Rattle.std.proofs.Common.{◌≡◌, inl, inr, true, false, List, ℕ}
 use Rattle.std.specs.Str.{IsUtf8, is_utf8}
 use Rattle.std.proofs.lemmas.Bool.{cases_Bool}

@@ -1,4 +1,4 @@
--- What follows once it is known whom a text means.
+-- What a question does, once it is known whom a text means.
 use Rattle.std.proofs.Common.{◌≡◌, ◌≤◌, ◌<◌, ℕ, Bool, true, false, List, refl, arith, rules}
 use Rattle.reasons_text.specs.Naming.{IsMeant, MeansAlone, MeansNoMember, MeansTwo, Naming, means, member_count}
 use Rattle.reasons_text.specs.declared.names.Meant.TheVariants.{Nobody, One, Several}
@@ -15,7 +15,7 @@ module _ (names : Naming) (side : Side) (text : List ℕ) where
       decide false e = e
       decide true e = absurd (no_both e (h.is k (h.all k e)))
 
-  -- the text means somebody who has a row in the key and isn't in the docket
+  -- a text that means only a member outside the docket means no member of the docket
   pub stranger_meant : (r : ℕ) → IsMeant names side text (One r) → member_count names.docket side ≤ r → MeansNoMember names side text
   stranger_meant r h past k lt = decide (means names side text k) refl
     where

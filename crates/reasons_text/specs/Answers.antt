@@ -1,4 +1,4 @@
--- What a resident is told about each programme of the R record.
+-- What a resident learns about each programme of the R record.
 use Rattle.std.specs.Prelude.{◌≡◌, ℕ, Bool, true, false, Option, Some, None, List, codes, length, map, slice_get}
 use Rattle.match_model.specs.Instance.{list_at}
 use Rattle.match_model.specs.Written.{Written}
@@ -12,7 +12,8 @@ use Rattle.docket.specs.Fields.{lone_byte}
 use Rattle.docket.specs.Texts.{programme_name, resident_name}
 use Rattle.docket.specs.WithLists.{IsReadWithin, fields_after}
 
--- a docket with its sheet and its lists as written; for some first programmes it also has how their places are taken
+-- a docket with its sheet and its lists as written; for the first programmes, up to some number, a case also has how
+-- their places are taken
 pub record CaseParts : Type 0 where
   pub docket : Contents
   pub sheet : List (Option ℕ)
@@ -22,7 +23,7 @@ pub record CaseParts : Type 0 where
 abbrev pub case_of : Contents → List (Option ℕ) → Written → List Taken → CaseParts
 case_of docket sheet written takens = record { docket = docket; sheet = sheet; written = written; takens = takens }
 
--- each entry says how the places of the programme with that number are taken
+-- entry p says how the places of programme p are taken
 abbrev pub AreTaken : Written → List (Option ℕ) → List Taken → Type 0
 AreTaken written m takens = (p : ℕ) (t : Taken) → slice_get takens p ≡ Some t → IsTaken (list_at written.programme_lists p) m p t
 
@@ -47,7 +48,7 @@ abbrev pub IsAnswer : CaseParts → ℕ → ℕ → Why → Type 0
 IsAnswer c r p reason =
     IsFirst c.docket.instance (list_at c.written.resident_lists r) (list_at c.written.programme_lists p) c.sheet r p reason
 
--- each answer is the first that holds for r and the programme at the same place
+-- for each of these programmes there is an answer, and it is the first that holds for r and this programme
 abbrev pub AreFirst : CaseParts → ℕ → List ℕ → List Why → Type 0
 AreFirst c r programmes reasons =
     (i p : ℕ) (reason : Why) → slice_get programmes i ≡ Some p → slice_get reasons i ≡ Some reason → IsAnswer c r p reason

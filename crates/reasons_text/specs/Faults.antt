@@ -1,4 +1,4 @@
--- Why nothing was written, or not all of it.
+-- Why an answer was not written, or not all of it.
 use Rattle.std.specs.Prelude.{◌≡◌, ◌≢◌, ◌⊎◌, ℕ, Option, Some, None, List, IfSome, IsSomeAnd}
 use Rattle.docket.specs.Answers.{Refuses}
 use Rattle.docket.specs.Contents.{Contents}
@@ -20,7 +20,8 @@ use Rattle.reasons_text.specs.declared.question.Asked.TheVariants as asked
 use Rattle.reasons_text.specs.declared.side.Side.{Side}
 use Rattle.reasons_text.specs.declared.side.Side.TheVariants.{Programmes, Residents}
 
--- the reader's fault, want of memory, or the first fault of the bytes within these limits, where they are known
+-- a fault of the reader, or want of memory, or, if the bytes are known, the first fault of the bytes within these
+-- limits
 abbrev pub IsDocketFault : Limits → Option (List ℕ) → DocketFault → Type 0
 IsDocketFault limits bytes e = IsReadFault e ⊎ IfSome bytes (λ b. Refuses (fault_within limits b) e)
 
@@ -31,7 +32,7 @@ pub record HasNoSheetWithin (limits : Limits) (bytes : Option (List ℕ)) : Type
   pub read : IsReadWithin limits bytes docket written
   pub none : docket.sheet ≡ None
 
--- so within the standard limits
+-- the bytes are a docket without a sheet within the standard limits
 abbrev pub HasNoSheet : Option (List ℕ) → Type 0
 HasNoSheet bytes = HasNoSheetWithin Standard bytes
 
@@ -41,11 +42,11 @@ IsCaseFaultWithin limits bytes (Docket e) = IsDocketFault limits bytes e
 IsCaseFaultWithin limits bytes NoSheet = HasNoSheetWithin limits bytes
 IsCaseFaultWithin limits bytes fault = ⊥
 
--- and within the standard ones
+-- why no docket with a sheet was read within the standard limits
 abbrev pub IsCaseFault : Option (List ℕ) → WhyFault → Type 0
 IsCaseFault bytes fault = IsCaseFaultWithin Standard bytes fault
 
--- the fault is this one, or out of memory
+-- the error is this fault, or out of memory
 abbrev pub IsFaultOrMemory : Option WhyFault → WhyFault → Type 0
 IsFaultOrMemory first fault = (fault ≡ Docket docket.Memory) ⊎ (first ≡ Some fault)
 
@@ -64,7 +65,7 @@ IsSharedName Residents (ManyResidents told) = Unit {0}
 IsSharedName Programmes (ManyProgrammes told) = Unit {0}
 IsSharedName side fault = ⊥
 
--- why a name does not mean exactly one member: out of memory, or it means none or two
+-- why a name does not mean exactly one member: memory ran out, or the name means no member, or the name means two
 abbrev pub IsNameFault : Naming → Side → List ℕ → WhyFault → Type 0
 IsNameFault names side text fault = (fault ≡ Docket docket.Memory)
     ⊎ ((IsUnknownName side fault × MeansNoMember names side text) ⊎ (IsSharedName side fault × MeansTwo names side text))
@@ -88,15 +89,15 @@ abbrev pub IsTextFault : CaseParts → Option (List ℕ) → Asked → WhyFault 
 IsTextFault c key question fault = (fault ≡ Docket docket.Memory)
     ⊎ (IsSomeAnd key (λ bytes. HasBadRow c.docket (unnamed c.docket) bytes fault) ⊎ IsUnmet c key question fault)
 
--- why nothing was told over the docket of these bytes within these limits
+-- why no answer was given over the docket of these bytes within these limits
 abbrev pub IsTellFault : Limits → Option (List ℕ) → Option (List ℕ) → Asked → WhyFault → Type 0
 IsTellFault limits bytes key question fault = IsCaseFaultWithin limits bytes fault
     ⊎ ((c : CaseParts) × (IsReadWithin limits bytes c.docket c.written × ((c.docket.sheet ≡ Some c.sheet) × IsTextFault c key question fault)))
 
--- why nothing is answered over the docket with these bytes, or a fault of the writer
+-- a fault of the writer, or why nothing is answered over the docket with these bytes within these limits
 abbrev pub IsServeFaultWithin : Limits → Option (List ℕ) → Option (List ℕ) → Asked → WhyFault → Type 0
 IsServeFaultWithin limits bytes key question fault = (fault ≡ Docket docket.Write) ⊎ IsTellFault limits bytes key question fault
 
--- so within the standard limits
+-- a fault of the writer, or why nothing is answered over the docket with these bytes within the standard limits
 abbrev pub IsServeFault : Option (List ℕ) → Option (List ℕ) → Asked → WhyFault → Type 0
 IsServeFault bytes key question fault = IsServeFaultWithin Standard bytes key question fault

@@ -28,28 +28,29 @@ pub record AnswersFilesWithin (limits : Limits) (docket sheet : List ℕ) (key :
   pub joins : Joins docket sheet joined
   pub answers : AnswersWithin limits (Some joined) key question without_ranks text
 
--- so within the standard limits
+-- the text answers the question over the docket and the sheet of these files within the standard limits
 abbrev pub AnswersFiles : List ℕ → List ℕ → Option (List ℕ) → Asked → Bool → List ℕ → Type 0
 AnswersFiles docket sheet key question without_ranks text = AnswersFilesWithin Standard docket sheet key question without_ranks text
 
--- the fault is the first record that belongs to another part or to none
+-- the fault is the first record that belongs to another file or to no file
 pub record HasPartFault (docket sheet : List ℕ) (fault : WhyFault) : Type 0 where
   pub first : PartFault
   pub is_first : fault_of_all docket sheet [] ≡ Some first
   pub is_told : fault ≡ Part first
 
--- a fault of a docket; with its file, if the fault has a record
+-- a fault of a docket, told with the file if the fault has a record
 abbrev pub placed : DocketFault → Option FileFault → WhyFault
 placed fault None = Docket fault
 placed fault (Some there) = Records there.file there.fault
 
--- a fault of the joined records, told with its file; the docket and the sheet have these numbers of records
+-- a fault of the joined records, told with its file; the numbers of records in the docket and in the sheet are given
 abbrev pub in_its_file : ℕ → ℕ → WhyFault → WhyFault
 in_its_file docket sheet (Docket fault) = placed fault (file_fault docket sheet fault)
 in_its_file docket sheet NoSheet = EmptySheet
 in_its_file docket sheet fault = fault
 
--- the fault is one of the docket's and the sheet's records put together within these limits, told in its file
+-- the records of the docket and of the sheet, put together, have this fault within these limits; the fault is told with
+-- its file
 pub record HasJoinedFault (limits : Limits) (docket sheet : List ℕ) (key : Option (List ℕ)) (question : Asked) (fault : WhyFault) : Type 0 where
   pub joined : List ℕ
   pub joins : Joins docket sheet joined
@@ -57,11 +58,11 @@ pub record HasJoinedFault (limits : Limits) (docket sheet : List ℕ) (key : Opt
   pub holds : IsServeFaultWithin limits (Some joined) key question whole
   pub is_told : fault ≡ in_its_file (length (rows_of docket)) (length (rows_of sheet)) whole
 
--- why nothing, or not all, was told over files within these limits
+-- why an answer over files was not written, or not all of it, within these limits
 abbrev pub IsFilesFaultWithin : Limits → List ℕ → List ℕ → Option (List ℕ) → Asked → WhyFault → Type 0
 IsFilesFaultWithin limits docket sheet key question fault =
     (fault ≡ Docket Memory) ⊎ (HasPartFault docket sheet fault ⊎ HasJoinedFault limits docket sheet key question fault)
 
--- and within the standard ones
+-- why an answer over files was not written, or not all of it, within the standard limits
 abbrev pub IsFilesFault : List ℕ → List ℕ → Option (List ℕ) → Asked → WhyFault → Type 0
 IsFilesFault docket sheet key question fault = IsFilesFaultWithin Standard docket sheet key question fault

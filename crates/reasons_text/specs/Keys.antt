@@ -37,7 +37,7 @@ unfoldable pub is_blank_below : Fields → ℕ → Bool
 is_blank_below row zero = true
 is_blank_below row (suc n) = is_blank_below row n && length (field row n) == 0
 
--- whether no field of a row has a word
+-- whether all fields of a row are empty
 abbrev pub is_blank : Fields → Bool
 is_blank row = is_blank_below row (length row)
 
@@ -77,7 +77,7 @@ side_fault d side names place row =
     else if not (is_utf8 (field row 2) && is_utf8 (sign_in row)) then Some (BadKey place)
     else None
 
--- the fault of a row of one side or of neither, after the rows that gave these names
+-- the fault of a row, which belongs to one side or to none, after the rows that gave these names
 abbrev pub fault_by_side : Contents → KeyNames → ℕ → Fields → Option Side → Option WhyFault
 fault_by_side d key place row None = if is_blank row then None else Some (BadKey place)
 fault_by_side d key place row (Some Programmes) = side_fault d Programmes key.programmes place row
@@ -86,7 +86,7 @@ fault_by_side d key place row (Some Residents) = side_fault d Residents key.resi
 abbrev pub row_fault : Contents → KeyNames → ℕ → Fields → Option WhyFault
 row_fault d key place row = fault_by_side d key place row (row_side row)
 
--- the names with those of a row added; a row without a word is skipped
+-- the names with those of a row added; a row of empty fields is skipped
 abbrev pub added_by_side : Contents → KeyNames → Fields → Option Side → KeyNames
 added_by_side d key row None = key
 added_by_side d key row (Some Programmes) = record key { programmes = with_row d Programmes row key.programmes }
@@ -105,14 +105,14 @@ unfoldable pub fault_from : Contents → KeyNames → ℕ → List Fields → Op
 fault_from d key before [] = None
 fault_from d key before (row ∷ rest) = option_or (row_fault d key (before + 1) row) (fault_from d (added d key row) (before + 1) rest)
 
--- the names of a side before any row: no member has one
+-- the names of a side before any row of a key: no member has a name yet
 abbrev pub unnamed_side : ℕ → SideNames
 unnamed_side count = record { names = replicate count []; signs = replicate count []; labels = [] }
 
 abbrev pub unnamed : Contents → KeyNames
 unnamed d = record { residents = unnamed_side (member_count d Residents); programmes = unnamed_side (member_count d Programmes) }
 
--- whether there is a text and the text is this one
+-- whether there is a text, and it equals this one
 abbrev pub is_this : Option (List ℕ) → List ℕ → Bool
 is_this None name = false
 is_this (Some text) name = bytes_eq text name
@@ -125,7 +125,7 @@ own_name d side n = if nat_lt n (member_count d side) then Some (docket_name d s
 unfoldable pub has_name : Contents → Side → List (List ℕ) → List ℕ → ℕ → Bool
 has_name d side names name n = is_this (own_name d side n) name || is_this (text_at names n) name
 
--- another member of the side has the name too
+-- another member of the side also has the name
 abbrev pub IsShared : Contents → Side → List (List ℕ) → List ℕ → ℕ → Type 0
 IsShared d side names name n = (k : ℕ) × ((k ≢ n) × (has_name d side names name k ≡ true))
 
@@ -158,7 +158,7 @@ pub record AddsAll (d : Contents) (bytes : List ℕ) (old new : KeyNames) : Type
   pub faultless : fault_from d old 0 rows ≡ None
   pub added : new ≡ all_added d old rows
 
--- the fault is that of the first bad row
+-- the fault is the fault of the first bad row
 pub record HasBadRow (d : Contents) (old : KeyNames) (bytes : List ℕ) (fault : WhyFault) : Type 0 where
   pub rows : List Fields
   pub are_first : AreFirstRows bytes rows

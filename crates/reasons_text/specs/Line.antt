@@ -54,8 +54,8 @@ pub record AsksNone (rows : List Row) : Type 0 where
   pub both : IsFlagged (codes "all") rows → first_of (codes "resident") rows ≢ None
   pub neither : IsUnflagged (codes "all") rows → first_of (codes "resident") rows ≡ None
 
--- the words ask no question, and this is why: memory ran out, the parser refuses them, or they ask about nobody or
--- about too much
+-- the words ask no question, for this reason: memory ran out, the parser refuses the words, or the words ask about
+-- nobody or about too much
 abbrev pub Refuses : List Text → LineFault → Type 0
 Refuses words fault = IsErrorOf (λ kind. IsAmong kind (fault_of why_app words)) fault
     ⊎ (AsksNone (matches_of why_app words) × IsErrorOf (λ kind. (kind ≡ ArgumentConflict) ⊎ (kind ≡ MissingRequiredArgument)) fault)

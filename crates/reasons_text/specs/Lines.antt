@@ -11,7 +11,7 @@ use Rattle.reasons_text.specs.Naming.{Naming, shown_programme}
 abbrev pub from_one : ℕ → ℕ
 from_one rank = min (rank + 1) (2 ^ 64 - 1)
 
--- the letters after that number
+-- the letters after the number of a rank, such as `st` in 1st
 unfoldable pub ending : ℕ → List ℕ
 ending rank =
     if nat_lt 9 (rank % 100) && nat_lt (rank % 100) 13 then codes "th"
@@ -64,18 +64,18 @@ sentence names without_ranks r Blocking =
 unfoldable pub line : Naming → Bool → ℕ → ℕ → Why → List ℕ
 line names without_ranks r p reason = shown_programme names p ++ codes ": " ++ sentence names without_ranks r reason ++ codes "\n"
 
--- one line for each of these programmes, in order, from the answer at the same place
+-- one line for each of these programmes, in order, each from the answer about its programme
 abbrev pub lines : Naming → Bool → ℕ → List ℕ → List Why → List ℕ
 lines names without_ranks r programmes reasons =
     flat_map (λ (told : ℕ × Why). line names without_ranks r told.0 told.1) (zip programmes reasons)
 
--- the words for a resident's own programme, and for its place among the resident's choices
+-- the words for a resident's own programme, and for its number among the resident's choices
 unfoldable pub as_choice : List ℕ → ℕ → ℕ → List ℕ
 as_choice name choice listed =
     codes "You are matched with " ++ (name ++ (codes ", your " ++ (place_text choice ++ (codes " choice of " ++ (decimal listed ++ codes ".")))))
 
--- How the match ended for a resident with a programme, from this answer. The sheet is wrong if the programme withdrew
--- or didn't rank the resident.
+-- How the match ended for a resident with a programme, from the answer about this programme. The sheet is wrong if the
+-- programme withdrew or didn't rank the resident.
 unfoldable pub given : List ℕ → ℕ → ℕ → Option Why → List ℕ
 given name choice listed None = as_choice name choice listed
 given name choice listed (Some Withdrawn) =
@@ -88,8 +88,8 @@ given name choice listed (Some (PrefersOwn own own_rank rank)) = as_choice name 
 given name choice listed (Some (Full rank last_rank quota)) = as_choice name choice listed
 given name choice listed (Some Blocking) = as_choice name choice listed
 
--- How the match ended for a resident with this programme. Its choice number is given if the resident ranked it, and
--- these are the answers for all choices.
+-- How the match ended for a resident with this programme, from the answers for all choices. The programme's choice
+-- number is given if the resident ranked the programme.
 unfoldable pub matched : List ℕ → Option ℕ → List Why → List ℕ
 matched name None reasons = codes "You are matched with " ++ (name ++ codes ", which is not on your list.")
 matched name (Some choice) reasons = given name choice (length reasons) (slice_get reasons choice)

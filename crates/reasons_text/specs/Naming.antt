@@ -1,4 +1,4 @@
--- The names that are shown for members, and by which questions name them.
+-- The names that are shown for members, and the names that a question may use.
 use Rattle.std.specs.Prelude.{◌≡◌, ◌≢◌, ℕ, ◌<◌, ◌==◌, nat_lt, ◌&&◌, ◌||◌, Bool, true, false, if◌then◌else◌, Option, Some, None, List, [], ◌++◌, codes, length, map, slice_get, unwrap_or, string_bytes}
 use Rattle.std.specs.Str.{bytes_eq}
 use Rattle.docket.specs.Contents.{Contents}
@@ -12,7 +12,8 @@ use Rattle.reasons_text.specs.declared.side.Side.{Side}
 use Rattle.reasons_text.specs.declared.side.Side.TheVariants.{Programmes, Residents}
 
 -- The names of one side in a key, for each member: the real name, the sign, and the label. The sign separates members
--- with the same name. The label is shown if another member has the name. Each is empty if it is missing.
+-- with the same name. The label is shown if another member has the name. A missing name, sign or label is an empty
+-- text.
 pub record SideNames : Type 0 where
   pub names : List (List ℕ)
   pub signs : List (List ℕ)
@@ -85,7 +86,7 @@ abbrev pub unless_empty : Option (List ℕ) → Option (List ℕ)
 unless_empty None = None
 unless_empty (Some text) = if length text == 0 then None else Some text
 
--- the text at this place, if there is one
+-- the text at this position, if there is one
 unfoldable pub text_at : List (List ℕ) → ℕ → Option (List ℕ)
 text_at texts place = unless_empty (slice_get texts place)
 
@@ -117,13 +118,13 @@ means names side text n =
     (nat_lt n (member_count names.docket side) && bytes_eq (docket_name names.docket side n) text)
     || is_by_key (text_at (names_in names side).names n) (text_at (names_in names side).signs n) text
 
--- among the first n members of a side, the text means nobody, this member alone, or more than one
+-- whom the text means among the first n members of a side: nobody, this member alone, or more than one
 abbrev pub IsMeantBelow : (ℕ → Bool) → ℕ → Meant → Type 0
 IsMeantBelow test n Nobody = (k : ℕ) → k < n → test k ≡ false
 IsMeantBelow test n (One r) = (r < n) × ((test r ≡ true) × ((k : ℕ) → k < n → test k ≡ true → k ≡ r))
 IsMeantBelow test n Several = (a : ℕ) × ((b : ℕ) × ((a < b) × ((b < n) × ((test a ≡ true) × (test b ≡ true)))))
 
--- whom the text means if it means this member too
+-- whom a text means, if it also means this member
 abbrev pub also_of : Meant → ℕ → Meant
 also_of Nobody n = One n
 also_of (One r) n = Several

@@ -28,7 +28,7 @@ owner_with Nobody n = One n
 owner_with (One r) n = if r == n then One r else Several
 owner_with Several n = Several
 
--- these members and rows of the side have the name
+-- who has the name, among members and rows of the side: nobody, one alone, or more than one
 pub record IsOwner (d : Contents) (side : Side) (names : List (List ℕ)) (name : List ℕ) (owner : Meant) : Type 0 where
   pub named : ℕ
   pub all : (k : ℕ) → has_name d side names name k ≡ true → k < named

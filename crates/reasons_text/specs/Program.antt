@@ -36,12 +36,13 @@ abbrev pub AnswersBeside : Limits → Question → Option (List ℕ) → Option 
 AnswersBeside limits question input key old new =
     (files : Beside input) × AppendsText (AnswersFilesWithin limits files.docket files.sheet key question.asked question.without_ranks) old new
 
--- why nothing was written over the two, or not all of it
+-- why the answer over the docket and the sheet's file was not written, or not all of it
 abbrev pub FailsBeside : Limits → Question → Option (List ℕ) → Option (List ℕ) → WhyFault → Type 0
 FailsBeside limits question input key fault =
     IsUnreadSheet fault ⊎ (IsUnreadInput fault ⊎ ((files : Beside input) × IsFilesFaultWithin limits files.docket files.sheet key question.asked fault))
 
--- The text answers the question over the input. If the question names a sheet's file, the text answers over both.
+-- The text answers the question over the input. If the question names a sheet's file, the text answers over the input
+-- and this file.
 abbrev pub AnswersOver : {A : Type 0} → Limits → Option A → Question → Option (List ℕ) → Option (List ℕ) → Option (List ℕ) → Option (List ℕ) → Type 0
 AnswersOver limits None question input key old new = AppendsText (AnswersWithin limits input key question.asked question.without_ranks) old new
 AnswersOver limits (Some path) question input key old new = AnswersBeside limits question input key old new
@@ -57,7 +58,7 @@ pub record IsAnswered (limits : Limits) (question : Question) (input old new : O
   pub keyed : is_some key ≡ is_some question.key
   pub told : AnswersOver limits question.sheet question input key old new
 
--- The question was not answered, and the fault is true. Before any fault other than the writer's, nothing was
+-- The question was not answered, and the fault is true. If the writer did not fail, nothing was written.
 pub record IsFailed (limits : Limits) (question : Question) (input old new : Option (List ℕ)) (fault : WhyFault) : Type 0 where
   -- the bytes of the file that the question names, and none where it names none
   pub key : Option (List ℕ)
@@ -65,7 +66,7 @@ pub record IsFailed (limits : Limits) (question : Question) (input old new : Opt
   pub holds : FailsOver limits question.sheet question input key fault ⊎ IsUnreadKey question fault
   pub before : fault ≢ Docket docket.Write → new ≡ old
 
--- the status is 0 for an answer, and else the status of the fault
+-- the status is 0 for an answer, and for a fault the status of the fault
 abbrev pub EndsTold : Limits → Question → Option (List ℕ) → Option (List ℕ) → Option (List ℕ) → ℕ → Type 0
 EndsTold limits question input old new status = ((status ≡ 0) × IsAnswered limits question input old new)
     ⊎ ((fault : WhyFault) × ((status ≡ fault_status_of fault) × IsFailed limits question input old new fault))
@@ -75,6 +76,6 @@ abbrev pub EndsWithin : {A E : Type 0} → Limits → Result (Vec (String A)) E 
 EndsWithin limits words input old new status = EndsRefused Refuses words old new status
     ⊎ ((question : Question) × (IsOrderOf Asks words question × EndsTold limits question input old new status))
 
--- so within the standard limits
+-- the words ask nothing, or what they ask was answered within the standard limits
 abbrev pub Ends : {A E : Type 0} → Result (Vec (String A)) E → Option (List ℕ) → Option (List ℕ) → Option (List ℕ) → ℕ → Type 0
 Ends words input old new status = EndsWithin Standard words input old new status

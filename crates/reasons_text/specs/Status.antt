@@ -6,15 +6,15 @@ use Rattle.program_shell.specs.Status.{docket_status_of}
 use Rattle.reasons_text.specs.declared.fault.WhyFault.{WhyFault}
 use Rattle.reasons_text.specs.declared.fault.WhyFault.TheVariants.{Docket, NoSheet, KeyUnread, BadKey, DoubledKey, NoResident, NoProgramme, ManyResidents, ManyProgrammes, Part, Records, EmptySheet, SheetUnread, InputUnread}
 
--- the status for a fault of a part: 3 if a record belongs elsewhere, 1 if memory ran out
+-- the status for a fault of a part: 3 if a record belongs to another file, 1 if memory ran out
 abbrev pub part_status_of : PartFault → ℕ
 part_status_of (part.AnotherPart file place) = 3
 part_status_of (part.UnknownKind file place) = 3
 part_status_of part.Memory = 1
 
 -- The status for a fault. A docket's fault has its own status. It is 1 if a file or the input can't be read. It is 3
--- for a bad row of the key, a record that belongs elsewhere, a missing sheet, or a name that does not mean exactly
--- one member.
+-- for a bad row of the key, a record that belongs to another file, a missing sheet, or a name that does not mean
+-- exactly one member.
 abbrev pub fault_status_of : WhyFault → ℕ
 fault_status_of (Docket fault) = docket_status_of fault
 fault_status_of NoSheet = 3
@@ -31,7 +31,7 @@ fault_status_of EmptySheet = 3
 fault_status_of SheetUnread = 1
 fault_status_of InputUnread = 1
 
--- the status for the outcome: 0 for an answer, else that of the fault
+-- the status for the outcome: 0 for an answer, else the status of the fault
 abbrev pub exit_status_of : {A : Type 0} → Result A WhyFault → ℕ
 exit_status_of (Ok answered) = 0
 exit_status_of (Err fault) = fault_status_of fault

@@ -1,4 +1,4 @@
--- The rows of the table about all residents.
+-- The rows of the table that `why --all` writes about all residents.
 use Rattle.std.specs.Prelude.{ℕ, Bool, if◌then◌else◌, Option, Some, None, List, [], ◌∷◌, codes, decimal}
 use Rattle.std.specs.List.{enumerate_from, flat_map, zip}
 use Rattle.match_reasons.specs.declared.reason.Why.{Why}
@@ -21,7 +21,7 @@ word (PrefersOwn own own_rank rank) = codes "better"
 word (Full rank last_rank quota) = codes "full"
 word Blocking = codes "blocking"
 
--- the field for the resident's rank, if the places were taken
+-- the field for the resident's rank, if the answer is that the places were taken
 unfoldable pub rank_field : Bool → Why → List ℕ
 rank_field without_ranks Withdrawn = []
 rank_field without_ranks NotListed = []
@@ -36,7 +36,7 @@ abbrev pub rank_text : Option ℕ → List ℕ
 rank_text None = []
 rank_text (Some rank) = decimal (from_one rank)
 
--- the field for the last rank that got a place, if the places were taken
+-- the field for the last rank that got a place, if the answer is that the places were taken
 unfoldable pub last_field : Bool → Why → List ℕ
 last_field without_ranks Withdrawn = []
 last_field without_ranks NotListed = []
@@ -46,7 +46,7 @@ last_field without_ranks (PrefersOwn own own_rank rank) = []
 last_field without_ranks (Full rank last_rank quota) = if without_ranks then [] else rank_text last_rank
 last_field without_ranks Blocking = []
 
--- the field for the quota, if the places were taken
+-- the field for the quota, if the answer is that the places were taken
 unfoldable pub quota_field : Why → List ℕ
 quota_field Withdrawn = []
 quota_field NotListed = []
@@ -62,7 +62,7 @@ answer_row names without_ranks r choice p reason =
     row (shown_resident names r ∷ shown_programme names p ∷ decimal choice ∷ word reason
     ∷ rank_field without_ranks reason ∷ last_field without_ranks reason ∷ quota_field reason ∷ [])
 
--- one row for each of these programmes, in order, from the answer at the same place
+-- one row for each of these programmes, in order, each from the answer about its programme
 abbrev pub rows_on : Naming → Bool → ℕ → List ℕ → List Why → List ℕ
 rows_on names without_ranks r programmes reasons =
     flat_map (λ (told : ℕ × (ℕ × Why)). answer_row names without_ranks r told.0 told.1.0 told.1.1) (enumerate_from 1 (zip programmes reasons))

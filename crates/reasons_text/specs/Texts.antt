@@ -23,7 +23,8 @@ use Rattle.reasons_text.specs.declared.answering.Told.TheVariants.{All, Resident
 use Rattle.reasons_text.specs.declared.question.Asked.{Asked}
 use Rattle.reasons_text.specs.declared.question.Asked.TheVariants as asked
 
--- What resident r is told: the programmes of r's R record, in order, and for each the first answer that holds.
+-- What the program answers to resident r: the programmes of r's R record, in order, and for each programme the first
+-- answer that is true.
 pub record RecordAnswers (c : CaseParts) (r : ℕ) : Type 0 where
   pub programmes : List ℕ
   pub reasons : List Why
@@ -63,8 +64,8 @@ IsTextOf c names without_ranks All text = IsTable c names without_ranks text
 IsTextOf c names without_ranks (Resident r) text = IsTextOn c names without_ranks r text
 IsTextOf c names without_ranks (Pair r p) text = IsLineOn c names without_ranks r p text
 
--- The question is about all, about the only resident whom its name means, or about the only resident and the only
--- programme that its names mean.
+-- The question is about all residents, about the only resident whom its name means, or about the only resident and the
+-- only programme that its names mean.
 abbrev pub Asks : Naming → Asked → Told → Type 0
 Asks names asked.All All = Unit {0}
 Asks names (asked.Resident name) (Resident r) = MeansAlone names Residents name.now r
@@ -95,7 +96,7 @@ pub record AnswersWithin (limits : Limits) (bytes key : Option (List ℕ)) (ques
   pub sheet : case.docket.sheet ≡ Some case.sheet
   pub answers : Answers case key question without_ranks text
 
--- so within the standard limits
+-- the text answers the question over the docket of these bytes within the standard limits
 abbrev pub AnswersFrom : Option (List ℕ) → Option (List ℕ) → Asked → Bool → List ℕ → Type 0
 AnswersFrom bytes key question without_ranks text = AnswersWithin Standard bytes key question without_ranks text
 
@@ -112,7 +113,7 @@ pub record AddsOwnRows {W : Type 0} (contents : W → Option (List ℕ)) (c : Ca
   pub rows : AreRowsOn c (own_names c.docket) false r text
   pub added : Adds contents old new text
 
--- the text that was appended, if it is known, is of this kind
+-- the text that was appended, if it is known, has this property
 pub record AppendsText (Wanted : List ℕ → Type 0) (old new : Option (List ℕ)) : Type 0 where
   pub text : List ℕ
   pub wanted : Wanted text

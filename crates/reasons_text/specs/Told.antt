@@ -3,7 +3,7 @@ use Rattle.match_model.specs.Instance.{Instance, IsProgramme, IsResident}
 use Rattle.reasons_text.specs.declared.answering.Told.{Told}
 use Rattle.reasons_text.specs.declared.answering.Told.TheVariants.{All, Resident, Pair}
 
--- each member that is named belongs to the instance
+-- each member that a question names belongs to the instance
 abbrev pub IsTold : Instance → Told → Type 0
 IsTold inst All = Unit {0}
 IsTold inst (Resident r) = IsResident inst r

@@ -1,4 +1,4 @@
-//! From bytes to sentences and rows.
+//! From a docket's bytes to sentences and rows of a table.
 ghost use Rattle.std.specs.Prelude.{◌≡◌, ◌≢◌, ◌++◌, length, IfErr, IfOk, IfSome, IsSomeAnd, None, OnOk, Some, option_copied, string_bytes};
 ghost use Rattle.reasons_text.specs.Keys.{IsKeyOf};
 ghost use Rattle.match_model.specs.Instance.{IsProgramme, IsResident};
@@ -27,14 +27,14 @@ use std::hash::RandomState;
 use std::io::{Read, Write};
 use std::random::RandomSource;
 
-// How answers are written: with these names, and with or without ranks of the programmes' lists.
+// How answers are written: which names are shown for members, and whether ranks on programmes' lists are shown.
 #[derive(Clone, Copy)]
 struct Manner<'a> {
     names: Names<'a>,
     without_ranks: bool,
 }
 
-// Whom the question is about, by number.
+// Whom the question is about, by the members' numbers.
 #[derive(Clone, Copy)]
 enum Told {
     All,
@@ -42,7 +42,7 @@ enum Told {
     Pair(ResidentNo, ProgrammeNo),
 }
 
-// Adds a line for each of these programmes, from the answer at the same place.
+// Adds one line for each of these programmes. The reason in the line about programme `i` is reason `i`.
 fn push_each(
     alloc: Global,
     text: &mut String,
@@ -69,7 +69,7 @@ fn push_each(
     Ok(())
 }
 
-// Adds the first line about a resident, and the line about each programme of the R record.
+// Adds the first line about a resident, and one line for each programme on the resident's list.
 fn push_lines(
     alloc: Global,
     text: &mut String,
@@ -89,7 +89,7 @@ fn push_lines(
     push_each(alloc, text, manner, resident, list, reasons)
 }
 
-// Adds a row for each of these programmes, from the answer at the same place.
+// Adds one row for each of these programmes. The reason in the row about programme `i` is reason `i`.
 fn push_rows<W: Write>(
     rows: &mut RowWriter<'_, W>,
     manner: &Manner,
@@ -115,7 +115,7 @@ fn push_rows<W: Write>(
     Ok(())
 }
 
-// Adds the rows about all residents.
+// Adds all residents' rows.
 fn push_all_rows<W: Write>(
     alloc: Global,
     rows: &mut RowWriter<'_, W>,
@@ -135,7 +135,7 @@ fn push_all_rows<W: Write>(
     Ok(())
 }
 
-/// Adds the rows about one resident, with the docket's own names and with ranks.
+/// Adds one resident's rows, with the names of the docket and with ranks on programmes' lists.
 pub fn push_rows_on<W: Write>(
     alloc: Global,
     rows: &mut RowWriter<'_, W>,
@@ -160,7 +160,7 @@ pub fn push_rows_on<W: Write>(
     Ok(())
 }
 
-// Writes the names of the columns, and the rows about all residents.
+// Writes the row with the columns' names, and then all residents' rows.
 fn write_table<W: Write>(
     alloc: Global,
     writer: &mut W,
@@ -178,7 +178,8 @@ fn write_table<W: Write>(
     Ok(())
 }
 
-// The names of the columns, and the rows about all residents. They go to memory, so the only fault is out of memory.
+// The row with the columns' names, and then all residents' rows. The text is made in memory, so the only fault is out
+// of memory.
 fn table_of(alloc: Global, case: &Case, manner: &Manner) -> Result<Vec<u8>, AllocError>
     ensures { IfOk result (λ text. IsTable case.now (naming_of manner.now.names) manner.now.without_ranks text.items) }
 {
@@ -242,8 +243,8 @@ fn told_text(alloc: Global, case: &Case, manner: &Manner, told: Told) -> Result<
     }
 }
 
-// The only member of a side whom a name means. If a name means nobody, the fault has near names. If it means more
-// than one, the fault has their labels.
+// The only member of this side whom the name means. If the name means nobody, the fault lists similar names. If the
+// name means more than one member, the fault lists these members' labels.
 fn named(alloc: Global, names: &Names, side: Side, name: &str) -> Result<u32, WhyFault>
     ensures name { IfOk result (MeansAlone (naming_of names.now) side name.now) }
     ensures fault { IfErr result (IsNameFault (naming_of names.now) side name.now) }
@@ -277,7 +278,7 @@ fn told_of(alloc: Global, names: &Names, asked: Asked) -> Result<Told, WhyFault>
     }
 }
 
-// The real names of a key, or none.
+// The real names that the key has for members. Without a key there are none.
 fn key_of(
     alloc: Global,
     keys: RandomState,
@@ -294,7 +295,7 @@ fn key_of(
     }
 }
 
-// The whole answer.
+// The text of the whole answer.
 fn text_of(
     alloc: Global,
     keys: RandomState,
@@ -317,9 +318,10 @@ fn text_of(
     Ok(told_text(alloc, case, &manner, told)?)
 }
 
-/// Reads a docket with a sheet within the standard limits, and writes why. Of a resident it writes the first line and one on each programme of its
-/// programme of the R record. For a resident and a programme it writes one line, and for all the rows. The key's
-/// bytes have the members' real names. Before a fault that is not the writer's, nothing is written.
+/// Reads a docket with a sheet within the standard limits, and writes the answer to the question. A question about a
+/// resident is answered by a first line, and a line for each programme on the resident's list. A question about a
+/// resident and a programme is answered by one line. A question about all residents is answered by the rows of the
+/// table. The bytes of the key have the members' real names. If the fault is not the writer's, nothing was written.
 pub fn serve_why<R: Read + Drop, W: Write, H: RandomSource>(
     rt: &H,
     alloc: Global,
@@ -346,7 +348,7 @@ pub fn serve_why<R: Read + Drop, W: Write, H: RandomSource>(
     )
 }
 
-/// Does what `serve_why` does, within these limits.
+/// Does what `serve_why` does, but within these limits.
 pub fn serve_why_within<R: Read + Drop, W: Write, H: RandomSource>(
     rt: &H,
     alloc: Global,
@@ -372,7 +374,7 @@ pub fn serve_why_within<R: Read + Drop, W: Write, H: RandomSource>(
     }
 }
 
-// Reads a docket with a sheet within these limits, and makes the whole answer.
+// Reads a docket with a sheet within these limits, and makes the text of the whole answer.
 fn read_and_tell<R: Read + Drop, H: RandomSource>(
     rt: &H,
     alloc: Global,

@@ -1,20 +1,21 @@
-//! What a resident is told, with counts of the answers.
+//! The answers that a resident gets, and counts of these answers.
 ghost use Rattle.std.specs.Prelude.{◌≡◌, length, count_by};
 ghost use Rattle.reasons_text.specs.Answers.{ranked_back, withdrew};
 
 use match_model::ProgrammeNo;
 use match_reasons::Why;
 
-/// What a resident is told: the programmes of the R record, in order, and the reason for each.
+/// The answers that a resident gets: the programmes on the resident's R record, in order, and a reason for each.
 #[derive(Drop)]
 pub struct Answers {
     /// The programmes of the resident's R record, in order.
     pub programmes: Vec<ProgrammeNo>,
-    /// The reason for each.
+    /// The reason for each of these programmes, in the same order.
     pub reasons: Vec<Why>,
 }
 
-/// How many programmes were asked about, how many of them ranked the resident, and how many answers are a withdrawal.
+/// How many programmes the answers are about, how many of these programmes ranked the resident, and how many answers
+/// say that the programme or the resident withdrew.
 #[derive(Clone, Copy, Debug)]
 pub(crate) struct Tally {
     pub(crate) listed: usize,
@@ -32,7 +33,7 @@ fn is_ranked_back(reason: &Why) -> bool
     }
 }
 
-// Whether this answer is a withdrawal.
+// Whether this answer says that the programme or the resident withdrew.
 fn is_withdrawal(reason: &Why) -> bool
     ensures { result ≡ withdrew reason.now }
 {
@@ -42,7 +43,7 @@ fn is_withdrawal(reason: &Why) -> bool
     }
 }
 
-/// Counts the answers.
+/// Counts the answers of each kind.
 pub(crate) fn count_answers(reasons: &[Why]) -> Tally
     ensures listed { result.listed ≡ length reasons.now }
     ensures ranked_back { result.ranked_back ≡ count_by ranked_back reasons.now }

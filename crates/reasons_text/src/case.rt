@@ -1,4 +1,4 @@
-//! What every answer is made from: a docket with a sheet, and its lists as they were written.
+//! What every answer is made from: a docket with a sheet, and the members' lists as they were written.
 ghost use Rattle.std.specs.Prelude.{◌≡◌, IfErr, IfOk, Some};
 ghost use Rattle.docket.specs.WithLists.{IsReadWithLists, IsReadWithin};
 ghost use Rattle.match_model.specs.Instance.{IsProgramme, IsResident, list_at};
@@ -17,7 +17,8 @@ use std::io::Read;
 use std::marker::Model;
 use std::random::RandomSource;
 
-/// A docket with a sheet, its lists as they were written and, of some of the first programmes, how their places are taken.
+/// A docket with a sheet, and the members' lists as they were written. For some of the first programmes, the case also
+/// has how their places are taken.
 pub struct Case {
     docket: Docket,
     lists: WrittenLists,
@@ -35,7 +36,7 @@ impl Model for Case {
     ghost invariant = { λ c. IsCase (case_of c.docket (unwrap_or c.docket.sheet []) c.lists c.takens.items) };
 }
 
-// As one call, so that whoever lets a case go proves nothing of its parts.
+// One function drops the whole case. So a caller that drops a case need not prove anything about its parts.
 impl Drop for Case {
     fn drop(self) {
         let Case {
@@ -62,7 +63,7 @@ fn all_taken(
     Ok(takens)
 }
 
-// How a programme's places are taken, which is looked up where it is known.
+// How a programme's places are taken. If this was counted before, it is only looked up.
 fn taken_of(listed: &Listed, sheet: &Assignment, takens: &[Taken], programme: ProgrammeNo) -> Taken
     requires { AreTaken listed.now.written sheet.now takens.now }
     ensures { IsTaken (list_at listed.now.written.programme_lists programme) sheet.now programme result }
@@ -73,7 +74,7 @@ fn taken_of(listed: &Listed, sheet: &Assignment, takens: &[Taken], programme: Pr
     }
 }
 
-// What a resident is told of one programme.
+// The answer for a resident about one programme.
 fn reason_from(
     docket: &Docket,
     sheet: &Assignment,
@@ -92,7 +93,7 @@ fn reason_from(
     why(&listed, sheet, &taken, resident, programme)
 }
 
-// What a resident is told of each programme of its list.
+// The answers for a resident about each programme on the resident's list.
 fn answers_from(
     alloc: Global,
     docket: &Docket,
@@ -107,7 +108,7 @@ fn answers_from(
         resident answers.programmes.items answers.reasons.items) }
     ensures record { IfOk result (λ answers. AreOfRecord docket.now lists.now resident answers.programmes.items) }
 {
-    // For the proof alone: the docket is whole.
+    // For the proof alone: the docket has a name for each member, and a sheet of its own members.
     let _inst = docket.instance();
     let mut programmes = Vec::new(alloc);
     let mut reasons = Vec::new(alloc);
@@ -125,8 +126,8 @@ fn answers_from(
 }
 
 impl Case {
-    /// Reads a docket that has a sheet, with its lists, within the standard limits. Where all residents are told, it is counted
-    /// at once how the places of each programme are taken.
+    /// Reads a docket that has a sheet, with its lists, within the standard limits. If all residents get answers, the
+    /// call counts at once how each programme's places are taken.
     pub fn read<R: Read + Drop, H: RandomSource>(
         rt: &H,
         alloc: Global,
@@ -140,7 +141,7 @@ impl Case {
         Case::read_within(rt, alloc, Limits::Standard, reader, are_all_told)
     }
 
-    /// Does what `read` does, within these limits.
+    /// Does what `read` does, but within these limits.
     pub fn read_within<R: Read + Drop, H: RandomSource>(
         rt: &H,
         alloc: Global,
@@ -190,17 +191,17 @@ impl Case {
         sheet
     }
 
-    /// Where the sheet places a resident.
+    /// The programme with which the sheet matches a resident, or none.
     pub fn place_of(&self, resident: ResidentNo) -> Option<ProgrammeNo>
         requires { IsResident self.now.docket.instance resident }
         ensures { result ≡ programme_of self.now.sheet resident }
     {
-        // For the proof alone: the sheet has a place for each resident.
+        // For the proof alone: the sheet has an entry for each resident.
         let _inst = self.docket.instance();
         self.sheet().get(resident)
     }
 
-    /// What a resident is told of one programme: the first answer that holds.
+    /// The answer for a resident about one programme: the first of the possible answers that is true.
     pub fn reason(&self, resident: ResidentNo, programme: ProgrammeNo) -> Why
         requires resident { IsResident self.now.docket.instance resident }
         requires programme { IsProgramme self.now.docket.instance programme }
@@ -217,13 +218,14 @@ impl Case {
         )
     }
 
-    /// What a resident is told of each programme of its record, in order, and of no other.
+    /// The answers for a resident about each programme on the resident's R record, in order, and about no other
+    /// programme.
     pub fn answers(&self, alloc: Global, resident: ResidentNo) -> Result<Answers, AllocError>
         requires { IsResident self.now.docket.instance resident }
         ensures first { IfOk result (λ answers.
             AreAnswers self.now resident answers.programmes.items answers.reasons.items) }
 
-        // Their names are the fields of the resident's R record, whatever bytes were read.
+        // The names of the answers' programmes are the fields of the resident's R record, whatever bytes were read.
         ensures record { IfOk result (λ answers.
             AreOfRecord self.now.docket self.now.written resident answers.programmes.items) }
     {

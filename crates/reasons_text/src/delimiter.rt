@@ -2,14 +2,14 @@
 ghost use Rattle.std.specs.Prelude.{◌≡◌};
 ghost use Rattle.reasons_text.specs.Delimiter as spec;
 
-/// How often each mark stands in the bytes so far, outside quotes, and whether a quote is open.
+/// How often each mark was counted outside quotes in the bytes read so far, and whether a quote is open.
 #[derive(Clone, Copy, Debug, PartialEq, Eq)]
 pub(crate) struct Marks {
-    /// How many commas.
+    /// How many commas were counted.
     pub commas: u64,
-    /// How many semicolons.
+    /// How many semicolons were counted.
     pub semicolons: u64,
-    /// How many tabs.
+    /// How many tabs were counted.
     pub tabs: u64,
     /// Whether a quote is open.
     pub is_quoted: bool,
@@ -28,7 +28,7 @@ impl Marks {
         }
     }
 
-    // Whether the byte ends a line in which a mark was counted.
+    // Whether the byte ends a line in which some mark was counted.
     fn ends_line(&self, byte: u8) -> bool
         ensures { result ≡ spec.ends_line self.now byte }
     {
@@ -36,7 +36,7 @@ impl Marks {
         byte == b'\n' && !self.is_quoted && has_mark
     }
 
-    // Counts one more byte.
+    // Counts the next byte.
     #[tactic(auto, unfolding(crate::specs::Delimiter::counted))]
     fn count(&mut self, byte: u8)
         ensures { self.new ≡ spec.counted self.old byte }
@@ -80,8 +80,8 @@ fn marks_of(bytes: &[u8]) -> Marks
     marks
 }
 
-/// The mark that separates the fields of a key: comma, semicolon or tab. The first line that has any of them outside
-/// quotes decides; the most frequent mark wins.
+/// The mark that separates the fields of a key: comma, semicolon or tab. The first line with one of these marks outside
+/// quotes decides. The mark that is most frequent in this line is the answer.
 pub(crate) fn delimiter_of(bytes: &[u8]) -> u8
     ensures { result ≡ spec.delimiter_of bytes.now }
 {

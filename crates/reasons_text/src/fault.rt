@@ -1,4 +1,4 @@
-//! Why nothing was written, or not all of it.
+//! Why no answer was written, or only a part of the answer.
 ghost use Rattle.std.specs.Prelude.{◌≡◌};
 ghost use Rattle.docket.specs.declared.fault.DocketFault.TheVariants as docket_fault;
 ghost use Rattle.reasons_text.specs.declared.fault.WhyFault.TheVariants.{Docket};
@@ -22,39 +22,39 @@ pub enum WhyFault {
     /// The file with the real names could not be read.
     #[error("the key could not be read")]
     KeyUnread,
-    /// A row of the key isn't a side, a name and a real name.
+    /// A row of the key does not begin with a side, a name and a real name.
     #[error("record {place} of the key: not a side, a name and a real name")]
     BadKey {
         /// The number of the record, from 1.
         place: u64,
     },
-    /// A member already has a row of the key.
+    /// An earlier row of the key has the same member.
     #[error("record {place} of the key: that member has a row before")]
     DoubledKey {
         /// The number of the record, from 1.
         place: u64,
     },
-    /// No resident has the name; with the text of the message.
+    /// No resident has the name of the question. The text is the message for the user.
     #[error("{0}")]
     NoResident(String),
-    /// No programme has the name; with the text of the message.
+    /// No programme has the name of the question. The text is the message for the user.
     #[error("{0}")]
     NoProgramme(String),
-    /// More than one resident has the name; with their labels.
+    /// More than one resident has the name of the question. The text has the labels of these members.
     #[error("{0}")]
     ManyResidents(String),
-    /// More than one programme has the name; with their labels.
+    /// More than one programme has the name of the question. The text has the labels of these members.
     #[error("{0}")]
     ManyProgrammes(String),
-    /// A record of the docket, or of the sheet's file, belongs to another part or to none.
+    /// A record in the docket's file or in the sheet's file belongs to the other file, or to none of them.
     #[error(transparent)]
     Part(PartFault),
-    /// The records of docket and sheet have this fault, in this file, with the record's number there.
+    /// A record has this fault. The fault says the record's number in this file.
     #[error("{fault}")]
     Records {
-        /// The docket's file or the sheet's.
+        /// The file of the record: the docket's file or the sheet's file.
         file: Part,
-        /// The fault.
+        /// The fault of the record.
         fault: DocketFault,
     },
     /// The sheet's file has no record.
@@ -63,13 +63,13 @@ pub enum WhyFault {
     /// The sheet's file could not be read.
     #[error("the sheet could not be read")]
     SheetUnread,
-    /// The docket could not be read, with the sheet in its own file.
+    /// The docket could not be read. The sheet is in its own file.
     #[error("the input could not be read")]
     InputUnread,
 }
 
 impl WhyFault {
-    // The fault as a text by these limits.
+    // The fault as a text. The text names these limits.
     pub(crate) fn within(&self, limits: Limits) -> FaultWithin<'_> {
         FaultWithin {
             fault: self,
@@ -77,7 +77,7 @@ impl WhyFault {
         }
     }
 
-    // The file at fault, if it is the docket's or the sheet's.
+    // The file with the fault: the docket's, the sheet's, or none.
     pub(crate) fn file(&self) -> Option<Part> {
         match self {
             WhyFault::Part(PartFault::AnotherPart { file, .. })
@@ -89,7 +89,7 @@ impl WhyFault {
     }
 }
 
-/// A fault by these limits. Its text names the number that is passed.
+/// A fault within these limits. Where a limit was exceeded, the text names this limit.
 #[derive(Clone, Copy)]
 pub(crate) struct FaultWithin<'a> {
     fault: &'a WhyFault,

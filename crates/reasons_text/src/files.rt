@@ -14,7 +14,7 @@ use std::alloc::Global;
 use std::io::Write;
 use std::random::RandomSource;
 
-// A fault of the joined records, with its file.
+// A fault of the joined records, with the file in which the record stands.
 fn in_its_file(joined: &Joined, fault: WhyFault) -> WhyFault
     ensures { result ≡ spec.in_its_file joined.now.docket joined.now.sheet fault }
 {
@@ -31,9 +31,9 @@ fn in_its_file(joined: &Joined, fault: WhyFault) -> WhyFault
     }
 }
 
-/// Reads a docket and a sheet within the standard limits, each of its own file and as its own part, and writes why, as
-/// `serve_why` does over both. A record of another part is a fault, and each fault is told in its file. Nothing is written before
-/// a fault other than the writer's own.
+/// Reads a docket and a sheet, each from its own file, within the standard limits. Writes the answer as `serve_why`
+/// does for the records of both files together. A record in the wrong file is a fault. Each fault names the file in
+/// which it is. If the fault is not the writer's, nothing was written.
 pub fn serve_why_files<W: Write, H: RandomSource>(
     rt: &H,
     alloc: Global,
@@ -62,7 +62,7 @@ pub fn serve_why_files<W: Write, H: RandomSource>(
     )
 }
 
-/// Does what `serve_why_files` does, within these limits.
+/// Does what `serve_why_files` does, but within these limits.
 pub fn serve_why_files_within<W: Write, H: RandomSource>(
     rt: &H,
     alloc: Global,

@@ -1,4 +1,4 @@
-//! The members' names as people know them.
+//! The members' real names, as people know them, from the office's key.
 ghost use Rattle.std.specs.Prelude.{◌≡◌, ◌⊎◌, ◌==◌, ◌&&◌, if◌then◌else◌, [], IfErr, IfOk, None, OnOk, Some, length, map, true, option_copied, option_map, replicate, slice_set, string_bytes};
 ghost use Rattle.std.specs.Str.{is_utf8};
 ghost use Rattle.csv.specs.Reading.{ReadRecord, Ready, reader_config, reader_state, reader_trim, source_of, strip_bom};
@@ -24,26 +24,27 @@ use docket::{Docket, DocketFault};
 use std::alloc::{AllocError, Global};
 use std::hash::RandomState;
 
-/// The names of one side's members, by number. After them come the names of rows whose member is not in the docket.
-/// Without a row, name and sign are empty. If nobody else has the name, the label is empty.
+/// The names that the key has for one side's members, ordered by the members' numbers. After them come the names in
+/// rows whose member is not in the docket. A member without a row has an empty name and an empty sign. A member whose
+/// name nobody else has gets an empty label.
 #[derive(Drop)]
 pub(crate) struct SideKey {
     /// The real names.
     pub(crate) names: Vec<String>,
-    /// The sign, which separates members with the same name: the ID, or without an ID the docket's name.
+    /// The sign, which tells members of the same name apart: the ID, or the docket's name if there is no ID.
     pub(crate) signs: Vec<String>,
-    /// The label of a member if another member has the same name: `NAME (ID)`.
+    /// The label `NAME (ID)`, for each member whose name another member has too; an empty text for all others.
     pub(crate) labels: Vec<String>,
 }
 
-/// The names of both sides.
+/// The key's names of both sides.
 #[derive(Drop)]
 pub(crate) struct Key {
     pub(crate) residents: SideKey,
     pub(crate) programmes: SideKey,
 }
 
-// Field `i` of a row, from 0, or an empty field past the end.
+// Field `i` of a row, counted from 0, or an empty field past the row's end.
 #[tactic(auto, unfolding(docket::specs::Fields::field))]
 fn field(row: &ByteRecord, i: usize) -> &[u8]
     ensures { result.now ≡ field_in (fields_of row.now) i }
@@ -54,7 +55,7 @@ fn field(row: &ByteRecord, i: usize) -> &[u8]
     }
 }
 
-// This many empty texts.
+// A vector of `count` empty texts.
 fn empty_texts(alloc: Global, count: u32) -> Result<Vec<String>, AllocError>
     ensures { IfOk result (λ texts. map string_bytes texts.items ≡ replicate count []) }
 {
@@ -65,7 +66,7 @@ fn empty_texts(alloc: Global, count: u32) -> Result<Vec<String>, AllocError>
     Ok(names)
 }
 
-/// The text at this place, unless it is empty or missing.
+/// The text at index `place`, or none if this text is empty or missing.
 #[tactic(auto, unfolding(crate::specs::Naming::text_at))]
 pub(crate) fn text_in(texts: &[String], place: usize) -> Option<&str>
     ensures { option_copied result ≡ text_at (map string_bytes texts.now) place }
@@ -84,7 +85,7 @@ pub(crate) fn label_text(alloc: Global, name: &str, sign: &str) -> Result<String
     format!(in alloc; "{name} ({sign})")
 }
 
-// A text of a row, as it is shown, if it is a text.
+// A field of a row in the form in which it is shown, or none if the field's bytes are no text.
 #[tactic(auto, using(crate::proofs::TextFacts::is_text, crate::proofs::TextFacts::no_text))]
 fn row_text(alloc: Global, text: &[u8]) -> Result<Option<String>, AllocError>
     ensures { IfOk result (λ shown. option_map string_bytes shown ≡ (if is_utf8 text.now then Some (shown_text text.now) else None)) }
@@ -97,7 +98,7 @@ fn row_text(alloc: Global, text: &[u8]) -> Result<Option<String>, AllocError>
     Ok(Some(shown))
 }
 
-// The sign of a row's member: the ID, or without an ID the docket's name.
+// The sign of the member in a row: the ID, or the docket's name if there is no ID.
 fn sign(row: &ByteRecord) -> &[u8]
     ensures { result.now ≡ sign_in (fields_of row.now) }
 {
@@ -117,14 +118,14 @@ fn side_of_row(row: &ByteRecord) -> Option<Side>
     }
 }
 
-// Whether there was no word so far, and none in this text.
+// Whether all fields before were empty, and this text is empty too.
 fn both_blank(blank: bool, text: &[u8]) -> bool
     ensures { result ≡ (blank && length text.now == 0) }
 {
     blank && text.is_empty()
 }
 
-// Whether no field of a row has a word.
+// Whether all fields of a row are empty.
 fn is_blank(row: &ByteRecord) -> bool
     ensures { result ≡ is_blank_row (fields_of row.now) }
 {
@@ -135,7 +136,7 @@ fn is_blank(row: &ByteRecord) -> bool
     blank
 }
 
-// Puts a text at this place, if there is such a place.
+// Puts a text at index `place`, if there is such an index.
 fn put(texts: &mut Vec<String>, place: usize, text: String)
     ensures { map string_bytes texts.new.items ≡ slice_set (map string_bytes texts.old.items) place (string_bytes text) }
 {
@@ -145,7 +146,7 @@ fn put(texts: &mut Vec<String>, place: usize, text: String)
 }
 
 impl SideKey {
-    // No names.
+    // A side without any names.
     fn none(alloc: Global) -> SideKey
         ensures { HasNoNames result }
     {
@@ -156,7 +157,7 @@ impl SideKey {
         }
     }
 
-    // This many members, without names.
+    // A side with `count` members, all without names.
     fn empty(alloc: Global, count: u32) -> Result<SideKey, AllocError>
         ensures { IfOk result (λ key. side_of key ≡ unnamed_side count) }
     {
@@ -167,7 +168,7 @@ impl SideKey {
         })
     }
 
-    // Notes the name and the sign of a member. If the docket does not have the member, they come after all members.
+    // Notes the name and the sign of a member. If the docket lacks the member, both stand after those of all members.
     fn note(&mut self, number: Option<u32>, name: String, sign: String) -> Result<(), AllocError>
         ensures { OnOk result (side_of self.new ≡ noted (side_of self.old) number (string_bytes name) (string_bytes sign)) }
     {
@@ -181,7 +182,7 @@ impl SideKey {
         Ok(())
     }
 
-    // Whether the member has no row yet.
+    // Whether no earlier row gave this member a name.
     fn is_free(&self, number: Option<u32>) -> bool
         ensures { result ≡ is_free (side_of self.now) number }
     {
@@ -191,7 +192,7 @@ impl SideKey {
         }
     }
 
-    // Adds a row of this side.
+    // Adds a row with a member of this side.
     #[tactic(auto, unfolding(crate::specs::Keys::side_fault))]
     fn add(
         &mut self,
@@ -239,7 +240,7 @@ fn rows_of(alloc: Global, bytes: &[u8]) -> Reader<&[u8]>
         .from_reader(alloc, bytes)
 }
 
-// Reads the next row, and says whether there was one. A reader of bytes in memory can only fail if memory runs out.
+// Reads the next row, and says whether there was a row. A reader of bytes in memory can only fail if memory runs out.
 fn next_row(reader: &mut Reader<&[u8]>, row: &mut ByteRecord) -> Result<bool, WhyFault>
     requires plain { reader_trim reader.old ≡ trim.None }
     requires ready { Ready reader.old }
@@ -255,7 +256,7 @@ fn next_row(reader: &mut Reader<&[u8]>, row: &mut ByteRecord) -> Result<bool, Wh
 }
 
 impl Key {
-    /// No real names.
+    /// A key without any names.
     pub(crate) fn none(alloc: Global) -> Key
         ensures { HasNoNames result.residents × HasNoNames result.programmes }
     {
@@ -265,7 +266,7 @@ impl Key {
         }
     }
 
-    // The docket's members, without names.
+    // A key in which all members of the docket are without names.
     fn unnamed(alloc: Global, docket: &Docket) -> Result<Key, AllocError>
         ensures { IfOk result (λ key. both_of key ≡ unnamed docket.now) }
     {
@@ -275,8 +276,9 @@ impl Key {
         })
     }
 
-    /// The names in a key's rows: `P,programme,name` and `R,resident,name`, with an optional ID. Rows without a word
-    /// are skipped. If the docket does not have a row's member, the row's name still counts as taken.
+    /// The names in a key's rows: `P,programme,name` and `R,resident,name`, with an optional ID. Rows with only empty
+    /// fields are skipped. If the member of a row is not in the docket, the name of this row is still a name that
+    /// another member may share.
     pub(crate) fn read(
         alloc: Global,
         keys: RandomState,
@@ -318,7 +320,7 @@ impl Key {
         Err(WhyFault::Docket(DocketFault::Memory))
     }
 
-    // Adds one row, unless it has no word at all.
+    // Adds one row, unless all fields of the row are empty.
     fn add(
         &mut self,
         alloc: Global,

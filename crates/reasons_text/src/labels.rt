@@ -1,4 +1,4 @@
-//! Which members are shown with their signs: those who share a name with another.
+//! Which members are shown with a label: those whose name another member has too.
 ghost use Rattle.std.specs.Prelude.{◌≡◌, ◌≤◌, if◌then◌else◌, IfOk, List, OnOk, length, map, option_copied, string_bytes, ℕ};
 ghost use Rattle.reasons_text.specs.Keys.{AreLabels, has_name, is_this};
 ghost use Rattle.reasons_text.specs.Keys.{own_name as own_name_in};
@@ -14,10 +14,11 @@ use std::alloc::{AllocError, Global};
 use std::collections::HashMap;
 use std::hash::RandomState;
 
-// For each name, the docket's member or the key's row that has it.
+// For each name, who has this name: nobody, one member or several. A row of the key whose member is not in the docket
+// counts as a member.
 type Owners<'a> = HashMap<&'a str, Meant, RandomState>;
 
-// Who has a name once this member has it too.
+// Who has a name, if this member has the name besides those noted before.
 fn owner_with(owner: Meant, number: usize) -> Meant
     ensures { result ≡ spec.owner_with owner number }
 {
@@ -28,7 +29,7 @@ fn owner_with(owner: Meant, number: usize) -> Meant
     }
 }
 
-// Who has a name.
+// Who has this name, by the map.
 fn owner(owners: &Owners, name: &str) -> Meant
     ensures { result ≡ owner_in owners.now name.now }
 {
@@ -38,7 +39,7 @@ fn owner(owners: &Owners, name: &str) -> Meant
     }
 }
 
-// Notes that a member has a name, if there is one.
+// Notes that a member has this name. If the name is none, the map stays as it is.
 fn note<'a>(owners: &mut Owners<'a>, name: Option<&'a str>, number: usize) -> Result<(), AllocError>
     ensures { OnOk result ((text : List ℕ) → owner_in owners.new text
         ≡ (if is_this (option_copied name.entry) text then spec.owner_with (owner_in owners.old text) number else owner_in owners.old text)) }
@@ -51,7 +52,7 @@ fn note<'a>(owners: &mut Owners<'a>, name: Option<&'a str>, number: usize) -> Re
     Ok(())
 }
 
-// The docket's name of a member, if the member belongs to the docket.
+// The docket's name of the member with this number, if the docket has such a member.
 fn own_name(docket: &Docket, side: Side, number: usize) -> Option<&str>
     ensures { option_copied result ≡ own_name_in docket.now side number }
 {
@@ -62,7 +63,7 @@ fn own_name(docket: &Docket, side: Side, number: usize) -> Option<&str>
     }
 }
 
-// Notes a member's names, in the docket and in the key's row.
+// Notes both names of a member: the docket's name, and the name in the key's row.
 fn note_both<'a>(
     owners: &mut Owners<'a>,
     docket: &'a Docket,
@@ -78,7 +79,7 @@ fn note_both<'a>(
     note(owners, text_in(names, number), number)
 }
 
-// How many members of a side may have names: the docket's, and those that only the key has.
+// The number of members on a side that may have names: those of the docket, and those whom only the key has.
 fn named(docket: &Docket, side: Side, names: &[String]) -> usize
     ensures members { members_of docket.now side ≤ result }
     ensures rows { length names.now ≤ result }
@@ -87,7 +88,7 @@ fn named(docket: &Docket, side: Side, names: &[String]) -> usize
     members.max(names.len())
 }
 
-// Who has each name of a side.
+// The map that says for each name of a side who has this name.
 fn owners<'a>(
     alloc: Global,
     keys: RandomState,
@@ -104,7 +105,7 @@ fn owners<'a>(
     Ok(owners)
 }
 
-// The label of a member, if another member has the same name.
+// The label of a member if another member has the same name, else an empty text.
 fn label_if(
     alloc: Global,
     owners: &Owners,
@@ -126,7 +127,7 @@ fn label_if(
     }
 }
 
-/// The labels of a side's members who share a name with another.
+/// The labels of the members of a side. A label is empty if no other member has the same name.
 pub(crate) fn labels(
     alloc: Global,
     keys: RandomState,

@@ -1,7 +1,8 @@
-//! Answers residents who ask why: reads a docket with a sheet, and writes plain sentences or rows to any writer.
+//! Answers residents who ask why the match ended as it did: reads a docket with a sheet, and writes plain sentences or
+//! rows to any writer.
 //!
-//! The program is `tell_words` over its words and streams. Only tests show which names are near an unknown one, and
-//! compare the texts of faults.
+//! The program is `tell_words`, called with the command line's words and the standard streams. No contract says which
+//! names are similar to an unknown name, or says the texts of faults; tests show both.
 #![tactic(auto)]
 
 mod answering;

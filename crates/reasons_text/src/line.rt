@@ -58,7 +58,7 @@ fn programme_argument<'a>(alloc: Global) -> Arg<'a>
     )
 }
 
-// Whether the answer is for all residents.
+// The option for an answer about all residents.
 fn all_option<'a>(alloc: Global) -> Arg<'a>
     ensures rule { rule_of result ≡ flag_rule (codes "all") }
     ensures own { result.global ≡ false }
@@ -69,7 +69,7 @@ fn all_option<'a>(alloc: Global) -> Arg<'a>
         .action(ArgAction::SetTrue)
 }
 
-// Whether ranks are left out.
+// The option that leaves ranks out of the answer.
 fn without_ranks_option<'a>(alloc: Global) -> Arg<'a>
     ensures rule { rule_of result ≡ flag_rule (codes "without-ranks") }
     ensures own { result.global ≡ false }
@@ -90,7 +90,7 @@ fn key_option<'a>(alloc: Global) -> Arg<'a>
     )
 }
 
-// The file with the sheet, if the docket does not have it.
+// The file with the sheet, if the sheet is not in the docket.
 fn sheet_option<'a>(alloc: Global) -> Arg<'a>
     ensures rule { rule_of result ≡ value_rule (codes "sheet") }
     ensures own { result.global ≡ false }
@@ -101,7 +101,7 @@ fn sheet_option<'a>(alloc: Global) -> Arg<'a>
         .help("The sheet's own file; standard input is then the docket alone")
 }
 
-// The program, without its words and options.
+// The description of the program for the command line's parser, without its words and options.
 fn program<'a>(alloc: Global) -> Result<Command<'a>, AllocError>
     ensures { IfOk result (λ command. app_of command ≡ program_app) }
 {
@@ -118,7 +118,7 @@ fn program<'a>(alloc: Global) -> Result<Command<'a>, AllocError>
     )
 }
 
-// The program.
+// The description of the program for the command line's parser, with its words and options.
 fn command<'a>(alloc: Global) -> Result<Command<'a>, AllocError>
     ensures { IfOk result (λ command. app_of command ≡ why_app) }
 {
@@ -143,7 +143,7 @@ fn matches_of<'a, S: AsStr>(
     command.try_get_matches_from_mut(words)
 }
 
-// Whom the words ask about, unless they ask about nobody, or about both one and all.
+// Whom the command line's words ask about. None if they ask about nobody, or about one resident and about all.
 fn asked<'a>(matches: &ArgMatches<'a>) -> Option<Asked<'a>>
     ensures all { IfSome result (λ asked. IsFlagged (codes "all") (rows_of (found_of matches.now)) → asked ≡ Asked.All) }
     ensures one { IfSome result (λ asked. IsUnflagged (codes "all") (rows_of (found_of matches.now))
@@ -164,7 +164,7 @@ fn asked<'a>(matches: &ArgMatches<'a>) -> Option<Asked<'a>>
     }
 }
 
-// The message for words that ask about nobody, or about both one and all.
+// The message for words that ask about nobody, or about one resident and about all.
 fn nobody_asked(command: &mut Command, is_all: bool) -> LineFault
     ensures { IsErrorOf (λ kind. (kind ≡ ErrorKind.ArgumentConflict) ⊎ (kind ≡ ErrorKind.MissingRequiredArgument)) result }
 {
@@ -185,7 +185,7 @@ fn nobody_asked(command: &mut Command, is_all: bool) -> LineFault
     }
 }
 
-/// The question of the words, without the program's own name.
+/// The question that the command line's words ask. The words are those after the program's own name.
 pub fn read_line<'a, S: AsStr>(alloc: Global, words: &'a [S]) -> Result<Question<'a>, LineFault>
     ensures question { IfOk result (Asks (map S.text words.entry.now)) }
     ensures refused { IfErr result (Refuses (map S.text words.entry.now)) }

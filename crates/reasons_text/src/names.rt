@@ -1,4 +1,4 @@
-//! The members' names, as they are shown and as questions use them.
+//! The members' names: those that answers show, and those that questions may use.
 ghost use Rattle.std.specs.Prelude.{◌≡◌, ◌≤◌, length, IfOk};
 ghost use Rattle.reasons_text.specs.Lines.{has_withdrawn};
 ghost use Rattle.reasons_text.specs.Naming.{IsMeant, also_of, means, naming_of, names_in, shown, shown_programme, shown_resident, side_of};
@@ -17,19 +17,19 @@ pub(crate) enum Meant {
     Nobody,
     /// Exactly one member.
     One(usize),
-    /// More than one.
+    /// More than one member.
     Several,
 }
 
-/// The members' names as they are shown: the key's if it has one, else the docket's. If another member has the same
-/// name, the label is shown.
+/// The members' names as answers show them: the key's name of a member, or the docket's name if the key has none. If
+/// another member has the same name, the label is shown.
 #[derive(Clone, Copy)]
 pub(crate) struct Names<'a> {
     pub(crate) docket: &'a Docket,
     pub(crate) key: &'a Key,
 }
 
-// Whom a text means if it means this member too.
+// Whom a text means, if the text means this member and also the members found before.
 fn also(meant: Meant, number: usize) -> Meant
     ensures { result ≡ also_of meant number }
 {
@@ -40,7 +40,7 @@ fn also(meant: Meant, number: usize) -> Meant
 }
 
 impl Names<'_> {
-    // The key's names of a side.
+    // The names that the key has for this side.
     fn side(&self, side: Side) -> &SideKey
         ensures { side_of result.now ≡ names_in (naming_of self.now) side }
     {
@@ -50,7 +50,7 @@ impl Names<'_> {
         }
     }
 
-    // How many members have names: the docket's, and those that only the key has.
+    // The number of members on a side that may have names: those of the docket, and those whom only the key has.
     pub(crate) fn named(&self, side: Side) -> usize
         ensures members { member_count_in self.now.docket.now side ≤ result }
         ensures rows { length (names_in (naming_of self.now) side).names ≤ result }
@@ -75,7 +75,7 @@ impl Names<'_> {
         }
     }
 
-    /// The real name of a member, or else the docket's name.
+    /// The key's real name of a member, or the docket's name if the key has none.
     pub(crate) fn real(&self, side: Side, number: u32) -> &str {
         match text_in(self.side(side).names.as_slice(), number as usize) {
             Some(name) => name,
@@ -83,14 +83,14 @@ impl Names<'_> {
         }
     }
 
-    /// The name of a resident.
+    /// The name that is shown for a resident.
     pub(crate) fn resident(&self, resident: ResidentNo) -> &str
         ensures { result.now ≡ shown_resident (naming_of self.now) resident }
     {
         self.shown(Side::Residents, resident.0)
     }
 
-    /// The name of a programme.
+    /// The name that is shown for a programme.
     pub(crate) fn programme(&self, programme: ProgrammeNo) -> &str
         ensures { result.now ≡ shown_programme (naming_of self.now) programme }
     {
@@ -105,7 +105,8 @@ impl Names<'_> {
         resident.0 < inst.residents() && inst.resident_withdrawn(resident)
     }
 
-    /// How a member is called if its name does not identify it: the label, or without a row the docket's name.
+    /// The name in a list of members of the same name: the label, or the docket's name if the key has no row for the
+    /// member.
     pub(crate) fn label(
         &self,
         alloc: Global,
@@ -123,7 +124,8 @@ impl Names<'_> {
         label_text(alloc, name, sign)
     }
 
-    /// Whether a text means a member: it is the docket's name, the real name, the ID, or the label.
+    /// Whether a text means a member: the text is the docket's name, the real name, the ID, or the label of this
+    /// member.
     #[tactic(auto, unfolding(crate::specs::Naming::means, crate::specs::Naming::is_by_key))]
     pub(crate) fn means(
         &self,
@@ -150,7 +152,7 @@ impl Names<'_> {
         Ok(label.as_str() == text)
     }
 
-    /// Whom a text means.
+    /// Whom on this side a text means.
     pub(crate) fn meant(&self, alloc: Global, side: Side, text: &str) -> Result<Meant, AllocError>
         ensures { IfOk result (IsMeant (naming_of self.now) side text.now) }
     {

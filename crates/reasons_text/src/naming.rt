@@ -1,4 +1,4 @@
-//! Finding a member by its name.
+//! How a member is found by the docket's name.
 ghost use Rattle.std.specs.Prelude.{◌≡◌, if◌then◌else◌, IfOk, List, None, OnOk, Some, bytes_eq, ℕ};
 ghost use Rattle.std.specs.Option.{option_or};
 ghost use Rattle.reasons_text.specs.Keys.{first_named};
@@ -11,10 +11,11 @@ use std::alloc::{AllocError, Global};
 use std::collections::HashMap;
 use std::hash::RandomState;
 
-// The members' numbers, by their names. The names are hashed with random keys, as in a docket.
+// For each name of a docket, the number of the member with this name. The names are hashed with random keys, as in a
+// docket.
 type Numbers<'a> = HashMap<&'a [u8], u32, RandomState>;
 
-/// The members' numbers by their names, on both sides of a docket.
+/// For each name on both sides of a docket, the number of the member with this name.
 #[derive(Drop)]
 pub(crate) struct MemberNumbers<'a> {
     /// The docket.
@@ -23,14 +24,14 @@ pub(crate) struct MemberNumbers<'a> {
     programmes: Numbers<'a>,
 }
 
-// The number for a name.
+// The number of the member with this name, if there is such a member.
 fn number_at(numbers: &Numbers, name: &[u8]) -> Option<u32>
     ensures { result ≡ number_in numbers.now name.now }
 {
     numbers.get(name).copied()
 }
 
-// Sets the number for a name, unless it has one.
+// Sets the number for this name, unless the name already has a number.
 fn put_first<'a>(numbers: &mut Numbers<'a>, name: &'a [u8], number: u32) -> Result<(), AllocError>
     ensures { OnOk result ((text : List ℕ) → number_in numbers.new text
         ≡ option_or (number_in numbers.old text) (if bytes_eq text name.entry.now then Some number else None)) }
@@ -42,7 +43,7 @@ fn put_first<'a>(numbers: &mut Numbers<'a>, name: &'a [u8], number: u32) -> Resu
     Ok(())
 }
 
-// The numbers of a side's members, by their names.
+// The number of the member with each name, for one side of a docket.
 fn numbers_of<'a>(
     alloc: Global,
     keys: RandomState,
@@ -60,7 +61,7 @@ fn numbers_of<'a>(
 }
 
 impl<'a> MemberNumbers<'a> {
-    /// The numbers of a docket's members, by their names.
+    /// The number of the member with each name, for both sides of a docket.
     pub(crate) fn of(
         alloc: Global,
         keys: RandomState,
@@ -76,7 +77,7 @@ impl<'a> MemberNumbers<'a> {
         })
     }
 
-    /// The first member of a side that has this name in the docket.
+    /// The number of the first member of this side whose name in the docket is this name.
     pub(crate) fn number(&self, side: Side, name: &[u8]) -> Option<u32>
         requires { AreNumbers self.now }
         ensures { result ≡ first_named self.now.docket.now side name.now (member_count_in self.now.docket.now side) }

@@ -1,4 +1,4 @@
-//! The message for a name that means nobody, or more than one member.
+//! The message for a name that means nobody, or means several members.
 ghost use Rattle.std.specs.Prelude.{IfOk};
 ghost use Rattle.reasons_text.specs.Faults.{IsSharedName, IsUnknownName};
 
@@ -9,21 +9,22 @@ use crate::side::{Side, member_count};
 use std::alloc::{AllocError, Global};
 use strsim::levenshtein;
 
-// The greatest number of near names in a message.
+// The greatest number of similar names in a message.
 const MOST_NEAR: usize = 3;
 
-// The greatest number of members in a message, if a name means several.
+// The greatest number of members that a message lists, if a name means several members.
 const MOST_MEANT: usize = 10;
 
-// The greatest length of a name, in bytes, for which near names are searched.
+// The greatest length in bytes of a name for which similar names are searched.
 const MOST_ASKED: usize = 64;
 
-// How many edits away a near name may be: a third of the letters asked for, or two, and fewer than all of them.
+// How many edits may separate a similar name from the name asked for: two, or a third of the letters asked for if that
+// is more, but fewer than all these letters.
 fn reach(letters: usize) -> usize {
     (letters / 3).max(2).min(letters.saturating_sub(1))
 }
 
-// How many edits away a name is, if it is near.
+// How many edits separate a name from the name asked for, or none if the two names are not similar.
 fn edits(alloc: Global, asked: &str, name: &str) -> Result<Option<usize>, AllocError> {
     if asked.len() > MOST_ASKED {
         return Ok(None);
@@ -37,7 +38,7 @@ fn edits(alloc: Global, asked: &str, name: &str) -> Result<Option<usize>, AllocE
     Ok(if edits <= reach { Some(edits) } else { None })
 }
 
-// How many edits away a member is, by the real or the shown name, if one of them is near.
+// How many edits separate a member's real or shown name from the name asked for, or none if neither name is similar.
 fn edits_of(
     alloc: Global,
     names: &Names,
@@ -59,7 +60,7 @@ fn edits_of(
     })
 }
 
-// Adds a near name to the question `is it ..?`.
+// Adds a similar name to the question `is it ..?`.
 fn push_meant(text: &mut String, name: &str) -> Result<(), AllocError> {
     if text.is_empty() {
         text.push_str("; did you mean ")?;
@@ -69,7 +70,7 @@ fn push_meant(text: &mut String, name: &str) -> Result<(), AllocError> {
     text.push_str(name)
 }
 
-// The end of that question, if there is one.
+// Ends the question `is it ..?`, if the text has begun this question.
 fn end_meant(text: &mut String) -> Result<(), AllocError> {
     if text.is_empty() {
         return Ok(());
@@ -77,14 +78,14 @@ fn end_meant(text: &mut String) -> Result<(), AllocError> {
     text.push_str("?")
 }
 
-// The name that was asked for, as it is shown.
+// The name asked for, in the form in which it is shown.
 fn shown(alloc: Global, asked: &str) -> Result<String, AllocError> {
     let mut text = String::new(alloc);
     push_shown(&mut text, asked)?;
     Ok(text)
 }
 
-// The question about near names, or nothing if no name is near.
+// The question that lists similar names, or an empty text if no name is similar.
 fn near_names(alloc: Global, names: &Names, side: Side, asked: &str) -> Result<String, AllocError> {
     let mut near = Vec::new(alloc);
     for number in 0..member_count(names.docket, side) {
@@ -101,7 +102,7 @@ fn near_names(alloc: Global, names: &Names, side: Side, asked: &str) -> Result<S
     Ok(meant)
 }
 
-/// The fault that no member of a side has this name, with up to three near names.
+/// The fault that no member of this side has this name, with at most three similar names.
 pub(crate) fn unknown(
     alloc: Global,
     names: &Names,
@@ -122,7 +123,7 @@ pub(crate) fn unknown(
     })
 }
 
-// The labels of the members that a name means, up to ten, and the number of the others.
+// The labels of at most ten members whom a name means, and the number of the remaining members.
 fn labels_of(alloc: Global, names: &Names, side: Side, asked: &str) -> Result<String, AllocError> {
     let mut text = String::new(alloc);
     let mut meant = 0usize;
@@ -143,7 +144,7 @@ fn labels_of(alloc: Global, names: &Names, side: Side, asked: &str) -> Result<St
     Ok(text)
 }
 
-/// The fault that more than one member of a side has this name, with the labels of up to ten.
+/// The fault that more than one member of this side has this name, with the labels of at most ten members.
 pub(crate) fn several(
     alloc: Global,
     names: &Names,

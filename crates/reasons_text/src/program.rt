@@ -1,4 +1,5 @@
-//! The program, over any streams. It answers the question of its words, and its exit status says how this ended.
+//! The program, over any streams. The program answers the question that the command line's words ask. The program's
+//! exit status says whether the question was answered, and if not, why.
 ghost use Rattle.std.specs.Prelude.{◌≡◌, ◌≢◌, ◌⊎◌, IfErr, IfOk, IfSome, OnOk, is_some, option_copied};
 ghost use Rattle.std.specs.Process.{exit_status as exit_status_in};
 ghost use Rattle.reasons_text.specs.Program.{AnswersBeside, Ends, EndsTold, EndsWithin, FailsBeside, IsAnswered, IsFailed, IsUnreadInput, IsUnreadKey};
@@ -20,7 +21,7 @@ use std::random::RandomSource;
 use std::rt::Files;
 use std::{fs, io};
 
-// The bytes of a file, or the fault that it can't be read.
+// The bytes of a file. If the file can't be read, the fault is `unread`.
 fn bytes_of<H: Files + AllocGlobal>(
     rt: &H,
     path: &str,
@@ -37,7 +38,7 @@ fn bytes_of<H: Files + AllocGlobal>(
     }
 }
 
-// The bytes of the key, if the question names one.
+// The bytes of the key, if the question names a key.
 fn key_of<H: Files + AllocGlobal>(rt: &H, question: &Question) -> Result<Option<Vec<u8>>, WhyFault>
     ensures named { IfOk result (λ key. is_some key ≡ is_some question.now.key) }
     ensures fault { IfErr result (IsUnreadKey question.now) }
@@ -51,7 +52,7 @@ fn key_of<H: Files + AllocGlobal>(rt: &H, question: &Question) -> Result<Option<
     }
 }
 
-// A borrow of a key's bytes, if there is a key.
+// A view of the key's bytes, if there is a key.
 fn lent(key: &Option<Vec<u8>>) -> Option<&[u8]>
     ensures { is_some (option_copied result) ≡ is_some key.now }
 {
@@ -77,7 +78,7 @@ fn input_of<R: Read + Drop>(alloc: Global, reader: R) -> Result<Vec<u8>, WhyFaul
     }
 }
 
-// Answers a question over a docket and a sheet's own file, within these limits.
+// Answers a question over a docket from the reader and a sheet from its own file, within these limits.
 fn serve_beside<R: Read + Drop, W: Write, H: RandomSource + Files + AllocGlobal>(
     rt: &H,
     alloc: Global,
@@ -145,7 +146,8 @@ fn serve<R: Read + Drop, W: Write, H: RandomSource + Files + AllocGlobal>(
     }
 }
 
-// Tells why a question wasn't answered, by these limits. No exit status depends on whether that text could be written.
+// Writes why a question wasn't answered. The text names these limits. No exit status depends on whether this text could
+// be written.
 fn tell<T: Eprint>(told: &T, limits: Limits, question: &Question, fault: &WhyFault) {
     let text = fault.within(limits);
     let _ = match (fault.file(), question.sheet) {
@@ -155,7 +157,7 @@ fn tell<T: Eprint>(told: &T, limits: Limits, question: &Question, fault: &WhyFau
     };
 }
 
-// Answers a question within these limits, and tells why it couldn't.
+// Answers a question within these limits, or writes why the question wasn't answered.
 fn serve_and_tell<R, W, T, H>(
     rt: &H,
     alloc: Global,
@@ -179,9 +181,9 @@ where
     ExitCode::from(exit_status(&answer))
 }
 
-/// Answers the question of the words within the standard limits, and gives the exit status. It is 0 for an answer, 1 where memory, reading or writing
-/// writing failed, and 2 for a wrong command line. It is 3 for a bad key, a docket or a sheet at fault, a missing
-/// sheet, and a missing name.
+/// Answers the question that the words ask, within the standard limits, and returns the exit status. The status is 0
+/// for an answer, 1 if memory, reading or writing failed, and 2 for a wrong command line. The status is 3 for a bad
+/// key, a docket or a sheet at fault, a missing sheet, and an unknown name.
 ///
 /// The words are those after the program's own name. Help and the version go to standard output. The reason for a
 /// missing answer goes to standard error.
@@ -203,7 +205,7 @@ where
     tell_words_within(rt, alloc, Limits::Standard, words, reader, writer, told)
 }
 
-/// Does what `tell_words` does, within these limits.
+/// Does what `tell_words` does, but within these limits.
 pub fn tell_words_within<R, W, T, H>(
     rt: &H,
     alloc: Global,

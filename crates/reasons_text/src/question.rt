@@ -1,13 +1,13 @@
-//! The question of a command line.
+//! The question that a command line asks.
 
 /// Whom the question is about.
 #[derive(Clone, Copy, Debug, PartialEq, Eq)]
 pub enum Asked<'a> {
-    /// Every resident, with each programme of each R record.
+    /// Every resident, with each programme on each resident's R record.
     All,
-    /// The resident with this name, and each programme of the R record.
+    /// The resident with this name, and each programme on the resident's R record.
     Resident(&'a str),
-    /// The resident with the first name, and the programme with the second.
+    /// The resident with the first name, and the programme with the second name.
     Pair(&'a str, &'a str),
 }
 
@@ -20,6 +20,6 @@ pub struct Question<'a> {
     pub without_ranks: bool,
     /// The file with the members' real names, if there is one.
     pub key: Option<&'a str>,
-    /// The file with the sheet, if the docket does not have it.
+    /// The file with the sheet, if the sheet is not in the docket.
     pub sheet: Option<&'a str>,
 }

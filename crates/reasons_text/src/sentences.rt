@@ -1,4 +1,4 @@
-//! The sentences of answers.
+//! The sentences that answer a question.
 ghost use Rattle.std.specs.Prelude.{◌≡◌, ◌++◌, ◌==◌, IfOk, OnOk, string_bytes};
 ghost use Rattle.std.specs.List.{position_from};
 ghost use Rattle.reasons_text.specs.Lines as said;
@@ -12,12 +12,12 @@ use match_reasons::Why;
 use std::alloc::{AllocError, Global};
 use std::fmt;
 
-// A rank in words: 1st, 2nd, 3rd. It is kept as a number from 0.
+// A rank in words: 1st, 2nd, 3rd. The rank is stored as a number that counts from 0.
 #[derive(Clone, Copy)]
 pub(crate) struct Place(pub(crate) usize);
 
 impl Place {
-    // The letters after the number.
+    // The letters after a rank's number: st, nd, rd or th.
     #[tactic(auto, unfolding(crate::specs::Lines::ending))]
     fn ending(&self) -> &'static str
         ensures { result.now ≡ ending self.now.0 }
@@ -46,7 +46,7 @@ impl fmt::Display for Place {
     }
 }
 
-// A count as a text; zero is a word.
+// A count as a text. The count zero is written as a word.
 #[derive(Clone, Copy)]
 struct Count(usize);
 
@@ -65,7 +65,7 @@ impl fmt::Display for Count {
     }
 }
 
-// The sentence for a resident when all places went to residents ranked higher.
+// The sentence for a resident if the programme gave all its places to residents whom it ranked higher.
 #[tactic(auto, unfolding(crate::specs::Lines::full_sentence))]
 fn full_sentence(
     alloc: Global,
@@ -94,7 +94,7 @@ fn full_sentence(
     )
 }
 
-// The sentence when the programme or the resident withdrew.
+// The sentence about a programme if the programme or the resident withdrew.
 #[tactic(auto, unfolding(crate::specs::Lines::withdrawn_sentence))]
 fn withdrawn_sentence(
     alloc: Global,
@@ -110,7 +110,7 @@ fn withdrawn_sentence(
     }
 }
 
-// The sentence about one programme.
+// The sentence for a resident about one programme.
 #[tactic(auto, unfolding(crate::specs::Lines::sentence))]
 fn sentence(
     alloc: Global,
@@ -147,7 +147,7 @@ fn sentence(
     }
 }
 
-/// Adds the line about one programme: its name, and the sentence.
+/// Adds the line about one programme: the programme's name, and the sentence.
 #[tactic(auto, unfolding(crate::specs::Lines::line))]
 pub(crate) fn push_line(
     alloc: Global,
@@ -168,15 +168,15 @@ pub(crate) fn push_line(
     text.push_str("\n")
 }
 
-// The place of a programme on this list, from 0.
+// At which index of the list a programme stands, counted from 0.
 fn choice_of(list: &[ProgrammeNo], programme: ProgrammeNo) -> Option<usize>
     ensures { result ≡ position_from (λ p. p == programme) 0 list.now }
 {
     list.iter().position(|listed| *listed == programme)
 }
 
-// How the match ended for a resident with this programme, which is this choice of the list. If the programme withdrew
-// or didn't rank the resident, the sheet is wrong.
+// How the match ended for a resident who is matched with this programme. `choice` is the programme's index on the
+// resident's list. If the programme withdrew or didn't rank the resident, the sheet is wrong, and the text says so.
 #[tactic(auto, unfolding(crate::specs::Lines::matched, crate::specs::Lines::given, crate::specs::Lines::as_choice))]
 fn matched(
     alloc: Global,
@@ -204,7 +204,7 @@ fn matched(
     }
 }
 
-// How the match ended for a resident who did not withdraw: matched or not, and with which choice.
+// How the match ended for a resident who did not withdraw: whether the resident is matched, and with which choice.
 #[tactic(auto, unfolding(crate::specs::Lines::outcome))]
 fn outcome(
     alloc: Global,
@@ -221,7 +221,7 @@ fn outcome(
     }
 }
 
-// How the match ended for a resident.
+// How the match ended for a resident, withdrawn or not.
 #[tactic(auto, unfolding(crate::specs::Lines::ended))]
 fn ended(
     alloc: Global,
@@ -240,7 +240,7 @@ fn ended(
     }
 }
 
-// The word for this number of programmes.
+// The word `programme` or `programmes`, as this number needs.
 #[tactic(auto, unfolding(crate::specs::Lines::programmes_word))]
 fn programmes_word(listed: usize) -> &'static str
     ensures { result.now ≡ said.programmes_word listed }
@@ -252,7 +252,7 @@ fn programmes_word(listed: usize) -> &'static str
     }
 }
 
-// How many programmes a resident ranked, and how many of them ranked the resident or withdrew.
+// How many programmes a resident ranked, how many of them ranked the resident, and how many of them withdrew.
 #[tactic(auto, unfolding(crate::specs::Lines::ranked))]
 fn ranked(alloc: Global, has_withdrawn: bool, tally: Tally) -> Result<String, AllocError>
     ensures { IfOk result (λ text. string_bytes text
@@ -273,8 +273,8 @@ fn ranked(alloc: Global, has_withdrawn: bool, tally: Tally) -> Result<String, Al
     )
 }
 
-/// Adds the first line: how the match ended for the resident, how many programmes the resident ranked, and how many
-/// of these ranked back or withdrew.
+/// Adds the first line. The line says how the match ended for the resident, how many programmes the resident ranked,
+/// how many of these ranked the resident, and how many withdrew.
 pub(crate) fn push_first_line(
     alloc: Global,
     text: &mut String,

@@ -1,4 +1,4 @@
-//! The two sides of a market, and the docket's names on each.
+//! The two sides of a market, and the docket's names of the members on each side.
 ghost use Rattle.std.specs.Prelude.{◌≡◌};
 ghost use Rattle.docket.specs.Texts as texts;
 ghost use Rattle.reasons_text.specs.Naming.{docket_name as name_in, member_count as members_of};

@@ -6,8 +6,9 @@ use crate::fault::WhyFault;
 use docket_parts::PartFault;
 use program_shell::docket_status;
 
-/// The exit status of the program after a question. It is 0 for an answer, and 1 if memory, reading or writing
-/// failed. It is 3 for a docket at fault, a missing sheet, a missing name, and a name that means several members.
+/// The exit status of the program after a question. The status is 0 for an answer, and 1 if memory, reading or writing
+/// failed. The status is 3 for a docket at fault, a missing sheet, an unknown name, and a name that means several
+/// members.
 pub fn exit_status(answer: &Result<(), WhyFault>) -> u8
     ensures { result ≡ exit_status_of answer.now }
 {

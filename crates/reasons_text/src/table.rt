@@ -11,7 +11,7 @@ use match_model::{ProgrammeNo, ResidentNo};
 use match_reasons::Why;
 use std::io::Write;
 
-/// Adds the names of the columns.
+/// Adds the row with the columns' names.
 pub(crate) fn push_columns<W: Write>(rows: &mut RowWriter<'_, W>) -> Result<(), WriteFailed>
     ensures { OnOk result (Adds W.contents rows.old rows.new (row table.columns)) }
 {
@@ -26,7 +26,7 @@ pub(crate) fn push_columns<W: Write>(rows: &mut RowWriter<'_, W>) -> Result<(), 
     ])
 }
 
-// The word for an answer.
+// The word that stands for an answer in the table.
 #[tactic(auto, unfolding(crate::specs::Table::word))]
 fn word(reason: &Why) -> &'static str
     ensures { result.now ≡ table.word reason.now }
@@ -42,14 +42,15 @@ fn word(reason: &Why) -> &'static str
     }
 }
 
-// A rank as it is shown, written into this buffer. It is kept as a number from 0.
+// A rank as the table shows it, counted from 1 and written into the buffer `room`. The argument `rank` counts from 0.
 fn rank_text(room: &mut itoa::Buffer, rank: usize) -> &str
     ensures { result.now ≡ table.rank_text (Some rank) }
 {
     room.format((rank as u64).saturating_add(1))
 }
 
-// The resident's rank, written into this buffer, if the places were taken.
+// The resident's rank on the programme's list, written into the buffer `room`. The text is empty unless the answer is
+// that all places were taken.
 #[tactic(auto, unfolding(crate::specs::Table::rank_field))]
 fn rank_field<'a>(room: &'a mut itoa::Buffer, reason: &Why, without_ranks: bool) -> &'a str
     ensures { result.now ≡ table.rank_field without_ranks reason.now }
@@ -60,7 +61,8 @@ fn rank_field<'a>(room: &'a mut itoa::Buffer, reason: &Why, without_ranks: bool)
     }
 }
 
-// The last rank that got a place, written into this buffer, if the places were taken.
+// The last rank that got a place, written into the buffer `room`. The text is empty unless the answer is that all
+// places were taken.
 #[tactic(auto, unfolding(crate::specs::Table::last_field))]
 fn last_field<'a>(room: &'a mut itoa::Buffer, reason: &Why, without_ranks: bool) -> &'a str
     ensures { result.now ≡ table.last_field without_ranks reason.now }
@@ -74,7 +76,8 @@ fn last_field<'a>(room: &'a mut itoa::Buffer, reason: &Why, without_ranks: bool)
     }
 }
 
-// The quota, written into this buffer, if the places were taken.
+// The programme's quota, written into the buffer `room`. The text is empty unless the answer is that all places were
+// taken.
 #[tactic(auto, unfolding(crate::specs::Table::quota_field))]
 fn quota_field<'a>(room: &'a mut itoa::Buffer, reason: &Why) -> &'a str
     ensures { result.now ≡ table.quota_field reason.now }
@@ -102,7 +105,7 @@ fn push_fields<'a, W: Write>(
     rows.push(&[resident, programme, choice, word, rank, last, quota])
 }
 
-/// Adds the row about one programme, with its choice number for the resident, from 1.
+/// Adds the row about one programme. `choice` is the programme's number on the resident's list, counted from 1.
 #[tactic(auto, unfolding(crate::specs::Table::answer_row))]
 pub(crate) fn push_row<W: Write>(
     rows: &mut RowWriter<'_, W>,

@@ -1,4 +1,5 @@
-//! One question from bytes to bytes, and the words for ranks. `tests/why/run` compares the answers in each case.
+//! Tests of one question, from a docket's bytes to an answer's bytes, and of the words for ranks. `tests/why/run`
+//! compares the answers in each case.
 use crate::sentences::Place;
 use crate::{Asked, serve_why};
 use std::test::Fail;

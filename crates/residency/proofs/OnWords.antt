@@ -1,11 +1,11 @@
--- The orders that given words have by the definitions, computed for written-out words: with options that are given
--- and options that are not.
+-- What certain words ask the program to do by the definitions, computed for words with options and for words without
+-- options.
 use Rattle.std.proofs.Common.{◌≡◌, refl, codes, List, [], ◌∷◌, Option, Some, option_map}
 use Rattle.clap.specs.Words.{Text, first_of, one_of, subcommand_of}
 use Rattle.clap.proofs.OnLiterals.{clap_on_literals}
 use Rattle.residency.specs.Line.{commands_app}
 
--- the command and the values of its options
+-- the command that the words name, and the values of its options
 abbrev values_of : List Text → Option (Text × (Option Text × (Option Text × (Option Text × Option Text))))
 values_of words = option_map (λ found. (
   found.0,

@@ -31,21 +31,21 @@ names_members inst cap j legal = λ k d within. named (slice_index_or j k d) (me
     named (Hear p r k) h = record { programme = h.0; resident = h.1 }
     named Close h = tt
 
--- one text is appended after another
+-- two texts that were appended one after another are appended as one text
 pub appends_both : (old mid new : Option (List ℕ)) (xs ys : List ℕ) → Appends old mid xs → Appends mid new ys → Appends old new (xs ++ ys)
 appends_both None mid new xs ys first second = tt
 appends_both (Some o) None new xs ys first second = absurd first
 appends_both (Some o) (Some m) None xs ys first second = absurd second
 appends_both (Some o) (Some m) (Some n) xs ys first second = second ∙ ap (λ (zs : List ℕ). zs ++ ys) first ∙ append_assoc o xs ys
 
--- a sheet for the docket
+-- a stable assignment of a docket's instance is a sheet for the docket
 pub sheet_of : (d : Contents) (m : List (Option ℕ)) → IsWhole d → IsInstance d.instance → IsStable d.instance m → IsSheetOf d m
 sheet_of d m whole instance stable = record {
   one_entry_each = stable.is_assignment.one_place_each ∙ sym whole.residents;
   members = λ r p h. rw whole.programmes (programme_of_acceptable d.instance r p instance (stable.is_assignment.pairs_acceptable r p h));
 }
 
--- the result of a closed run with valid options
+-- a run that closed, with valid options, has the result that a match promises
 abbrev pub closed_run : (d : Contents) (o : MatchOptions) (inst : Instance) (journal : List Event) (who entered : List ℕ) (m : List (Option ℕ)) →
     inst ≡ d.instance → OneSettledLaw → IsWithinLimits o → IsLegal inst o.capacity journal → IsClosed journal → m ≡ given inst journal →
     IsSettledRun inst journal m → AreCounted o.workers journal who entered → ClosedRun d o

@@ -51,7 +51,8 @@ GivesWorkers rows workers = (n : ℕ) → 1 ≤ n → n ≤ 8 → one_of (codes 
 abbrev pub GivesRoom : List Row → Capacity → Type 0
 GivesRoom rows room = (text : Text) → first_of (codes "capacity") rows ≡ Some text → capacity_of text ≡ Some room
 
--- The values ask for this form of the journal. By worker wins over plain, and plain wins over none.
+-- The values ask for this form of the journal. If both forms are asked for, the form by worker is given; if no form is
+-- asked for, there is no journal.
 pub record GivesJournal (rows : List Row) (form : JournalForm) : Type 0 where
   pub by_worker : IsFlagged (codes "journal-by-worker") rows → form ≡ ByWorker
   pub plain : IsUnflagged (codes "journal-by-worker") rows → IsFlagged (codes "journal") rows → form ≡ Plain
@@ -87,11 +88,11 @@ pub record HasBadRoom (found : Option (Text × List Row)) : Type 0 where
   pub room : first_of (codes "capacity") rows ≡ Some text
   pub bad : capacity_of text ≡ None
 
--- the command is none of the three
+-- the command is not `match`, not `audit` and not `replay`
 abbrev pub NamesNone : Option (Text × List Row) → Type 0
 NamesNone found = (order : Order) (rows : List Row) → found ≡ Some (command_of order, rows) → ⊥
 
--- the words give no order, and this is why: memory ran out, the parser refuses them, they name no command, or the
+-- the words give no order, for this reason: memory ran out, the parser refuses the words, they name no command, or the
 -- capacity is bad
 abbrev pub Refuses : List Text → LineFault → Type 0
 Refuses words fault = IsErrorOf (λ kind. IsAmong kind (fault_of commands_app words)) fault

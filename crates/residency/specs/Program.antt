@@ -20,7 +20,8 @@ pub record EndsServingWithin (limits : Limits) (order : Order) (input old new : 
   pub answers : (bytes : List ℕ) → input ≡ Some bytes → IsAnswerWithin limits order bytes old new answer
   pub tells : status ≡ exit_status_of answer
 
--- so within the standard limits
+-- an order was served within the standard limits over an input of these bytes, if they are known, and the status is
+-- that of the answer
 abbrev pub EndsServing : Order → Option (List ℕ) → Option (List ℕ) → Option (List ℕ) → ℕ → Type 0
 EndsServing order input old new status = EndsServingWithin Standard order input old new status
 

@@ -92,17 +92,19 @@ AreDocketWithin limits P bytes = (fault_within limits bytes ≡ None) × P (dock
 abbrev pub AreDocket : (Contents → Type 0) → List ℕ → Type 0
 AreDocket P bytes = AreDocketWithin Standard P bytes
 
--- the fault is want of memory, the reader's, or the first fault of the bytes within these limits
+-- the fault is want of memory, a fault of the reader, or the first fault of the bytes within these limits
 abbrev pub IsReadFault : Limits → List ℕ → ServeFault → Type 0
 IsReadFault limits bytes (Docket fault) =
     (fault ≡ docket.Memory) ⊎ (((place : ℕ) × (fault ≡ docket.Read place)) ⊎ (fault_within limits bytes ≡ Some fault))
 IsReadFault limits bytes fault = ⊥
 
--- the fault came in reading the bytes within these limits, or they are a docket with this fault
+-- the fault came up in reading the bytes within these limits, or the bytes are a docket and this is a fault of the
+-- order over it
 abbrev pub IsFaultWithin : Limits → (Contents → ServeFault → Type 0) → List ℕ → ServeFault → Type 0
 IsFaultWithin limits IsFault bytes fault = IsReadFault limits bytes fault ⊎ AreDocketWithin limits (λ d. IsFault d fault) bytes
 
--- the fault came in reading the bytes within the standard limits, or they are a docket with this fault
+-- the fault came up in reading the bytes within the standard limits, or the bytes are a docket and this is a fault of
+-- the order over it
 abbrev pub IsFaultOf : (Contents → ServeFault → Type 0) → List ℕ → ServeFault → Type 0
 IsFaultOf IsFault bytes fault = IsFaultWithin Standard IsFault bytes fault
 
@@ -123,8 +125,8 @@ IsOrderFault (Match o) = IsMatchFault o
 IsOrderFault Audit = IsAuditFault
 IsOrderFault Replay = IsReplayFault
 
--- the answer to an order over these bytes within these limits: their docket was served, or this is why not; then nothing
--- was written, unless the writer failed
+-- The answer to an order over these bytes within these limits. Either the order was served over their docket, or the
+-- answer is the fault. With a fault, nothing was written, unless the writer failed.
 abbrev pub IsAnswerWithin : Limits → Order → List ℕ → Option (List ℕ) → Option (List ℕ) → Result Status ServeFault → Type 0
 IsAnswerWithin limits order bytes old new (Ok status) = AreDocketWithin limits (λ d. Serves order d status old new) bytes
 IsAnswerWithin limits order bytes old new (Err fault) = IsFaultWithin limits (IsOrderFault order) bytes fault × (IsBeforeWriting fault → new ≡ old)

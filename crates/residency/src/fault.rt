@@ -1,11 +1,11 @@
-//! Why nothing was written, or not all of it.
+//! Why no answer was written, or only a part of the answer.
 
 use audit_text::AnswerFault;
 use docket::DocketFault;
 use match_pool::RunFault;
 use thiserror::Error;
 
-/// Why a docket was not served.
+/// Why the answer about a docket was not written.
 #[derive(Debug, Drop, PartialEq, Eq, Error)]
 pub enum ServeFault {
     /// The docket could not be read, or the answer could not be written.
@@ -17,7 +17,7 @@ pub enum ServeFault {
     /// The docket has no journal.
     #[error("no journal in the docket")]
     NoJournal,
-    /// The run had no result.
+    /// The run of the exchange had no result.
     #[error(transparent)]
     Run(RunFault),
     /// The memory could not grow in an audit or a replay.

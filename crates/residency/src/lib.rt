@@ -1,9 +1,10 @@
-//! From bytes to bytes. A docket from any reader is matched, audited or replayed, and the answer goes to any writer.
+//! From a docket's bytes to an answer's bytes. A docket from any reader is matched, audited or replayed, and the answer
+//! goes to any writer.
 //!
-//! The program is `serve_words`, over its words and streams.
+//! The program is `serve_words`, called with the command line's words and the standard streams.
 //!
-//! Contracts say nothing about the texts of faults, help and version, nor about a number of workers written as `+1`.
-//! Tests compare these.
+//! Contracts say nothing about the texts of faults, help and version, nor about a number of workers that is written as
+//! `+1`. Tests compare these texts and this number.
 #![tactic(auto)]
 
 mod fault;

@@ -58,7 +58,7 @@ Exit status: 0 for a good journal; 4 for a bad one; 3 for a docket at fault or w
 
 Example: cat examples/market.csv result.csv | residency replay";
 
-// A command, with its usage and its help.
+// The description of a command: its name, its usage and its help.
 fn described<'a>(
     alloc: Global,
     name: &'a str,
@@ -72,7 +72,7 @@ fn described<'a>(
     command.about(about).after_help(help)
 }
 
-// How many threads work on a match.
+// The option that says how many threads work on a match.
 fn workers_option<'a>(alloc: Global) -> Arg<'a>
     ensures rule { rule_of result ≡ workers_rule }
     ensures own { result.global ≡ false }
@@ -85,7 +85,7 @@ fn workers_option<'a>(alloc: Global) -> Arg<'a>
         .default_value("2")
 }
 
-// The room of each mailbox of a match.
+// The option that says how many messages each mailbox of a match has room for.
 fn capacity_option<'a>(alloc: Global) -> Arg<'a>
     ensures rule { rule_of result ≡ valued_rule (codes "capacity") (codes "full") }
     ensures own { result.global ≡ false }
@@ -97,7 +97,7 @@ fn capacity_option<'a>(alloc: Global) -> Arg<'a>
         .default_value("full")
 }
 
-// Whether a match writes its journal.
+// The option that asks for the journal of a match.
 fn journal_option<'a>(alloc: Global) -> Arg<'a>
     ensures rule { rule_of result ≡ flag_rule (codes "journal") }
     ensures own { result.global ≡ false }
@@ -108,7 +108,7 @@ fn journal_option<'a>(alloc: Global) -> Arg<'a>
         .action(ArgAction::SetTrue)
 }
 
-// Whether the journal of a match has the worker of each event.
+// The option that asks for the journal of a match with the worker of each event.
 fn by_worker_option<'a>(alloc: Global) -> Arg<'a>
     ensures rule { rule_of result ≡ flag_rule (codes "journal-by-worker") }
     ensures own { result.global ≡ false }
@@ -119,7 +119,7 @@ fn by_worker_option<'a>(alloc: Global) -> Arg<'a>
         .action(ArgAction::SetTrue)
 }
 
-// The command that runs a match, with its options.
+// The description of the command that runs a match, with its options.
 fn match_command<'a>(alloc: Global) -> Result<Command<'a>, AllocError>
     ensures { IfOk result (λ command. app_of command ≡ match_app) }
 {
@@ -132,7 +132,7 @@ fn match_command<'a>(alloc: Global) -> Result<Command<'a>, AllocError>
     command.arg(by_worker_option(alloc))
 }
 
-// The command that audits a sheet.
+// The description of the command that audits a sheet.
 fn audit_command<'a>(alloc: Global) -> Command<'a>
     ensures { app_of result ≡ new_app (codes "audit") }
 {
@@ -141,7 +141,7 @@ fn audit_command<'a>(alloc: Global) -> Command<'a>
     described(alloc, "audit", call, about, AUDIT_HELP)
 }
 
-// The command that replays a journal.
+// The description of the command that replays a journal.
 fn replay_command<'a>(alloc: Global) -> Command<'a>
     ensures { app_of result ≡ new_app (codes "replay") }
 {
@@ -150,7 +150,7 @@ fn replay_command<'a>(alloc: Global) -> Command<'a>
     described(alloc, "replay", call, about, REPLAY_HELP)
 }
 
-// The program's command line, without its commands.
+// The description of the program's command line, without its commands.
 fn program<'a>(alloc: Global) -> Result<Command<'a>, AllocError>
     ensures { IfOk result (λ command. app_of command ≡ program_app) }
 {
@@ -166,7 +166,7 @@ fn program<'a>(alloc: Global) -> Result<Command<'a>, AllocError>
     )
 }
 
-// A program with one more command.
+// The description of a program with this command added.
 fn with_command<'a>(program: Command<'a>, command: Command<'a>) -> Result<Command<'a>, AllocError>
     requires { (app_of command).top.is_plain ≡ true }
     ensures { IfOk result (λ both. app_of both ≡ with_subcommand (app_of program.entry) (app_of command.entry).top) }
@@ -174,7 +174,7 @@ fn with_command<'a>(program: Command<'a>, command: Command<'a>) -> Result<Comman
     program.subcommand(command)
 }
 
-// The program with its commands.
+// The description of the program's command line, with its commands.
 fn commands<'a>(alloc: Global) -> Result<Command<'a>, AllocError>
     ensures { IfOk result (λ command. app_of command ≡ commands_app) }
 {
@@ -183,7 +183,7 @@ fn commands<'a>(alloc: Global) -> Result<Command<'a>, AllocError>
     with_command(auditing, replay_command(alloc))
 }
 
-// The number of workers, from 1 to 8, with the default 2.
+// The number of workers that the words name, from 1 to 8. The number is 2 if the words do not name a number.
 fn workers_of(matches: &ArgMatches) -> usize
     ensures some { 1 ≤ result }
     ensures few { result ≤ 8 }
@@ -195,7 +195,7 @@ fn workers_of(matches: &ArgMatches) -> usize
     }
 }
 
-// The room of each mailbox, with the default full.
+// The capacity of each mailbox that the words name. The capacity is full if the words do not name a capacity.
 fn room_of(matches: &ArgMatches) -> Result<Capacity, LineFault>
     ensures admitted { IfOk result (λ room. is_capacity room ≡ true) }
     ensures given { IfOk result (GivesRoom (rows_of (found_of matches.now))) }
@@ -239,7 +239,7 @@ fn match_options(matches: &ArgMatches) -> Result<MatchOptions, LineFault>
     })
 }
 
-// What the parser finds in the words, for these commands.
+// What the parser finds in the words, by these descriptions of commands.
 fn matches_of<'a, S: AsStr>(
     commands: &mut Command<'a>,
     words: &'a [S],
@@ -251,7 +251,7 @@ fn matches_of<'a, S: AsStr>(
     commands.try_get_matches_from_mut(words)
 }
 
-// The order of these matches, if they name a command.
+// What the words ask the program to do, if they name a command.
 fn order_named(matches: &ArgMatches) -> Result<Option<Order>, LineFault>
     ensures order { IfOk result (λ named. IfSome named IsOrder) }
     ensures named { IfOk result (λ named. IfSome named (IsNamed (subcommand_rows_of matches.now))) }
@@ -270,7 +270,7 @@ fn order_named(matches: &ArgMatches) -> Result<Option<Order>, LineFault>
     }
 }
 
-// The message if no command is named.
+// The message for words that name no command.
 fn nothing_named(commands: &mut Command) -> LineFault
     ensures { IsErrorOf (λ kind. kind ≡ MissingSubcommand) result }
 {
@@ -280,7 +280,7 @@ fn nothing_named(commands: &mut Command) -> LineFault
     }
 }
 
-/// The order of the words, without the program's own name.
+/// What the words ask the program to do. The words are those after the program's own name.
 pub fn read_line<'a, S: AsStr>(alloc: Global, words: &'a [S]) -> Result<Order, LineFault>
     ensures order { IfOk result (Orders (map S.text words.entry.now)) }
     ensures limits { IfOk result IsOrder }

@@ -1,4 +1,4 @@
-//! The orders of a command line.
+//! What a command line can ask the program to do.
 
 use exchange_core::Capacity;
 
@@ -7,9 +7,9 @@ use exchange_core::Capacity;
 pub enum JournalForm {
     /// No journal.
     Absent,
-    /// The events.
+    /// The events of the journal.
     Plain,
-    /// The events, each with the number of the worker that entered it.
+    /// The events of the journal, each with the number of the worker that entered it.
     ByWorker,
 }
 
@@ -20,7 +20,7 @@ pub struct MatchOptions {
     pub workers: usize,
     /// The capacity of the mailboxes.
     pub capacity: Capacity,
-    /// The journal that is written after the sheet.
+    /// The journal that the match writes after the sheet.
     pub journal: JournalForm,
 }
 
@@ -45,6 +45,6 @@ pub enum Order {
     Match(MatchOptions),
     /// Say what keeps the sheet of a docket from being stable.
     Audit,
-    /// Say whether the journal of a docket is a good exchange, and whether it gives the docket's sheet.
+    /// Say whether the journal of a docket is a good exchange, and whether the journal leads to the docket's sheet.
     Replay,
 }

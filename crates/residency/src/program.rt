@@ -1,4 +1,5 @@
-//! The program, over any streams. It serves the order of its words, and its exit status says how this ended.
+//! The program, over any streams. The program does what the command line's words ask. The program's exit status says
+//! what was found, or why no answer was written.
 ghost use Rattle.std.specs.Process.{exit_status as exit_status_in};
 ghost use Rattle.residency.specs.Program.{Ends, EndsWithin, EndsServingWithin};
 
@@ -18,7 +19,8 @@ use std::random::RandomSource;
 use std::sync::Wait;
 use std::thread::Threads;
 
-// Tells why an order was not served, by these limits. No exit status depends on whether that text could be written.
+// Writes why there is no answer, or only a part of it. The text names these limits. No exit status depends on whether
+// this text could be written.
 fn tell<T: Eprint>(told: &T, limits: Limits, fault: &ServeFault) {
     let _ = match fault {
         ServeFault::Docket(fault) => eprintln!(told; "residency: {}", fault.within(limits)),
@@ -26,7 +28,7 @@ fn tell<T: Eprint>(told: &T, limits: Limits, fault: &ServeFault) {
     };
 }
 
-// Serves an order within these limits, or tells why it couldn't.
+// Does what the words ask within these limits, or writes why there is no answer.
 fn serve_and_tell<R, W, T, H>(
     rt: H,
     alloc: Global,
@@ -50,11 +52,11 @@ where
     ExitCode::from(exit_status(&answer))
 }
 
-/// Serves the order of the words within the standard limits over a reader and a writer, and gives the exit status.
+/// Does what the words ask within the standard limits, over a reader and a writer, and returns the exit status.
 ///
 /// The words are those after the program's own name. Help and the version go to standard output. The reason for a
-/// missing or partial answer goes to standard error. The handle starts the threads of a match, and gives the random
-/// bytes for reading a docket.
+/// missing or partial answer goes to standard error. The handle `rt` starts the threads of a match, and gives the
+/// random bytes for reading a docket.
 pub fn serve_words<R, W, T, H>(
     rt: H,
     alloc: Global,
@@ -73,7 +75,7 @@ where
     serve_words_within(rt, alloc, Limits::Standard, words, reader, writer, told)
 }
 
-/// Does what `serve_words` does, within these limits.
+/// Does what `serve_words` does, but within these limits.
 pub fn serve_words_within<R, W, T, H>(
     rt: H,
     alloc: Global,

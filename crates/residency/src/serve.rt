@@ -1,4 +1,4 @@
-//! The calls from bytes to bytes.
+//! The calls that read a docket's bytes and write an answer's bytes.
 ghost use Rattle.std.specs.Prelude.{◌≡◌, ◌≢◌, ℕ, List, Some, false, IfOk, IfErr, OnOk};
 ghost use Rattle.std.specs.List.{All};
 ghost use Rattle.row_writer.specs.RowText.{Adds, Writes};
@@ -25,7 +25,7 @@ use std::random::RandomSource;
 use std::sync::Wait;
 use std::thread::Threads;
 
-// Adds the journal of an exchange, in the form that is wanted.
+// Adds the journal of an exchange, in the form that the options ask for.
 fn push_wanted<W: Write>(
     rows: &mut RowWriter<'_, W>,
     docket: &Docket,
@@ -44,8 +44,9 @@ fn push_wanted<W: Write>(
     }
 }
 
-// Writes the sheet of a closed exchange over the docket, and its journal if that is wanted. Both go through one
-// buffer, made before the first byte is written. So if memory runs out, nothing is half written.
+// Writes the sheet of a closed exchange over the docket, and the journal if the options ask for it. The sheet and the
+// journal go through one buffer, which is made before the first byte is written. So if memory runs out, nothing is half
+// written.
 fn write_match<W: Write>(
     alloc: Global,
     docket: &Docket,
@@ -70,7 +71,7 @@ fn write_match<W: Write>(
     Ok(())
 }
 
-// Runs the exchange over a docket to its close. Writes its sheet, and its journal if that is wanted.
+// Runs the exchange over a docket to its close. Writes the sheet, and the journal if the options ask for it.
 fn match_docket<W, G, H>(
     rt: H,
     alloc: Global,
@@ -92,7 +93,7 @@ where
 {
     law_one_settled();
     let inst = docket.instance();
-    // Only for the proof: the rankings of an instance are mutual and within the limits.
+    // For the proof alone: the rankings of an instance are mutual and within the limits.
     let _instance = inst.residents();
     let done = match run(rt, alloc, inst, options.capacity, options.workers, gate) {
         Ok(done) => done,
@@ -137,8 +138,8 @@ fn write_audit<W: Write>(
     }
 }
 
-// Writes whether a docket's journal is a good exchange. If there is a sheet, also writes whether the journal gives
-// this sheet.
+// Writes whether a docket's journal is a good exchange. If there is a sheet, the answer also says whether the journal
+// leads to this sheet.
 fn write_answer<W: Write>(
     alloc: Global,
     docket: &Docket,
@@ -154,8 +155,8 @@ fn write_answer<W: Write>(
     }
 }
 
-// Does what `serve_match_within` promises. `spent` says whether the docket, the mailboxes and the agents are given back
-// or left to the system.
+// Does what `serve_match_within` promises. `spent` says what happens to the memory of the docket, the mailboxes and the
+// agents: it is freed, or left to the operating system.
 fn match_read<R, W, G, H>(
     rt: H,
     alloc: Global,
@@ -188,9 +189,9 @@ where
 }
 
 /// Reads a docket within the standard limits, runs its exchange to the close by threads, and writes its sheet. If the
-/// options want it, the journal of this very run follows. The gate never stops a run.
+/// options ask for the journal, the journal of this very run follows. The gate never stops a run.
 ///
-/// A sheet or a journal in the docket is read and must be well formed, but is not used. Nothing is written before the
+/// A sheet or a journal in the docket is read and must be well formed, but is not used. No byte is written before the
 /// exchange has closed.
 pub fn serve_match<R, W, G, H>(
     rt: H,
@@ -215,7 +216,7 @@ where
     serve_match_within(rt, alloc, Limits::Standard, reader, writer, options, gate)
 }
 
-/// Does what `serve_match` does, within these limits.
+/// Does what `serve_match` does, but within these limits.
 pub fn serve_match_within<R, W, G, H>(
     rt: H,
     alloc: Global,
@@ -266,7 +267,7 @@ pub fn serve_audit<R: Read + Drop, W: Write, H: RandomSource>(
     serve_audit_within(rt, alloc, Limits::Standard, reader, writer)
 }
 
-/// Does what `serve_audit` does, within these limits.
+/// Does what `serve_audit` does, but within these limits.
 pub fn serve_audit_within<R: Read + Drop, W: Write, H: RandomSource>(
     rt: &H,
     alloc: Global,
@@ -285,8 +286,8 @@ pub fn serve_audit_within<R: Read + Drop, W: Write, H: RandomSource>(
     }
 }
 
-/// Reads a docket within the standard limits, and writes whether its journal is a good exchange. If it has a sheet, it also
-/// writes whether the exchange gives that sheet.
+/// Reads a docket within the standard limits, and writes whether its journal is a good exchange. If the docket has a
+/// sheet, the answer also says whether the journal leads to this sheet.
 pub fn serve_replay<R: Read + Drop, W: Write, H: RandomSource>(
     rt: &H,
     alloc: Global,
@@ -301,7 +302,7 @@ pub fn serve_replay<R: Read + Drop, W: Write, H: RandomSource>(
     serve_replay_within(rt, alloc, Limits::Standard, reader, writer)
 }
 
-/// Does what `serve_replay` does, within these limits.
+/// Does what `serve_replay` does, but within these limits.
 pub fn serve_replay_within<R: Read + Drop, W: Write, H: RandomSource>(
     rt: &H,
     alloc: Global,
@@ -320,8 +321,9 @@ pub fn serve_replay_within<R: Read + Drop, W: Write, H: RandomSource>(
     }
 }
 
-/// Serves an order within these limits, for a program that ends right after it. A match doesn't give back what it used
-/// piece by piece: the system takes it back faster. The gate never stops a run.
+/// Does what a command line asks, within these limits, for a program that ends right afterwards. A match leaves its
+/// memory to the operating system instead of freeing it piece by piece, since that is faster. The gate never stops a
+/// run.
 pub fn serve_within<R, W, G, H>(
     rt: H,
     alloc: Global,

@@ -1,9 +1,9 @@
-//! What happens to values that are no longer needed.
+//! What happens to the memory of values that are no longer needed.
 
 use std::mem;
 
-/// What happens to used memory: it is given back piece by piece, or a program that is about to end leaves it to the
-/// system.
+/// What happens to used memory: it is freed piece by piece, or a program that is about to end leaves it to the
+/// operating system.
 #[derive(Clone, Copy, Debug)]
 pub(crate) enum Spent {
     GivenBack,
@@ -11,7 +11,7 @@ pub(crate) enum Spent {
 }
 
 impl Spent {
-    /// Drops a value, or leaves it to the system.
+    /// Drops a value, or leaves its memory to the operating system.
     pub(crate) fn let_go<T: Drop>(self, value: T) {
         match self {
             Spent::GivenBack => drop(value),

@@ -5,7 +5,7 @@ ghost use Rattle.residency.specs.Status.{exit_status_of};
 use crate::fault::ServeFault;
 use program_shell::docket_status;
 
-/// The outcome of a call that wrote its whole answer.
+/// What a call found that wrote its whole answer.
 #[derive(Clone, Copy, Debug, PartialEq, Eq)]
 pub enum Status {
     /// The exchange closed, and its sheet was written.
@@ -14,9 +14,9 @@ pub enum Status {
     Stable,
     /// The sheet isn't stable.
     Unstable,
-    /// The journal is a good exchange, and gives the sheet.
+    /// The journal is a good exchange, and leads to the sheet if the docket has a sheet.
     ReplayGood,
-    /// The journal is not a good exchange, or does not give the sheet.
+    /// The journal is not a good exchange, or does not lead to the sheet.
     ReplayBad,
 }
 

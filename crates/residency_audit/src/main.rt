@@ -1,4 +1,4 @@
-//! The auditor's program. Its words name the files of the docket, the sheet and the journal.
+//! The auditor's program. The command line names the files of the docket, the sheet and the journal.
 #![tactic(auto)]
 
 use audit_files::audit_words;

@@ -1,5 +1,5 @@
-//! The main program. Its words say what to do with the docket on standard input, and the answer goes to standard
-//! output.
+//! The main program. The command line says what to do with the docket on standard input, and the answer goes to
+//! standard output.
 #![tactic(auto)]
 
 use residency::serve_words;

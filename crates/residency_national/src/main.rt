@@ -1,4 +1,4 @@
-//! The program for markets of a whole nation: as `residency`, within the national limits.
+//! The program for markets of a whole nation. This program does what `residency` does, but within the national limits.
 #![tactic(auto)]
 
 use match_model::Limits;

@@ -1,4 +1,4 @@
-//! The program of sealed lists: it seals a docket, hands out receipts, and checks one.
+//! The program of sealed lists: it seals a docket, makes receipts for members, and checks a receipt.
 #![tactic(auto)]
 
 use seal_text::seal_words;

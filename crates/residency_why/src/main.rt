@@ -1,5 +1,5 @@
-//! The program for residents who ask why. Its words name the resident. The docket with its sheet is on standard
-//! input.
+//! The program for residents who ask why the match ended as it did. The command line names the resident. The docket
+//! with its sheet is on standard input.
 #![tactic(auto)]
 
 use reasons_text::tell_words;

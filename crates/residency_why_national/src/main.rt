@@ -1,4 +1,5 @@
-//! The program that tells residents why in markets of a whole nation: as `residency-why`, within the national limits.
+//! The program for residents who ask why, in markets of a whole nation. This program does what `residency-why` does,
+//! but within the national limits.
 #![tactic(auto)]
 
 use match_model::Limits;

@@ -9,11 +9,11 @@ use Rattle.csv.proofs.WriteFacts.{quoted-step, row-step}
 use Rattle.row_writer.specs.RowText.{row_setup, row, row_end, Adds, IsOver, Writes}
 use Rattle.row_writer.specs.declared.writer.RowWriter.{RowWriter}
 
--- nothing was added
+-- the text of a row writer after nothing was added
 pub adds_none : {W : Type 0} (contents : W → Option (List ℕ)) (a : RowWriter W) → Adds contents a a []
 adds_none contents a = (refl, Appends-nil _)
 
--- one text was added after another
+-- the text of a row writer after two texts were added, one after the other
 pub adds_both : {W : Type 0} (contents : W → Option (List ℕ)) (a b c : RowWriter W) (first second : List ℕ) → Adds contents a b first →
     Adds contents b c second → Adds contents a c (first ++ second)
 adds_both contents a b c first second h k = (k.0 ∙ h.0, Appends-trans _ _ _ _ _ h.1 k.1)
@@ -50,14 +50,14 @@ pub escaped_other : (b : ℕ) → b ≢ quote_mark → escaped row_setup (b ∷ 
 unfolding escaped
 escaped_other b n = let e = ne_eqb b quote_mark n in rw e refl
 
--- one more byte of a quoted field
+-- the text of a quoted field after one more byte
 pub quoted_next : {W : Type 0} (contents : W → Option (List ℕ)) (a b c : RowWriter W) (field : List ℕ) (i : ℕ) → i < length field
     → Adds contents a b (quote_mark ∷ escaped row_setup (take i field)) → Adds contents b c (escaped row_setup (get_or field i 0 ∷ []))
     → Adds contents a c (quote_mark ∷ escaped row_setup (take (i + 1) field))
 quoted_next contents a b c field i lt h k =
     subst (Adds contents a c) (quoted-step row_setup quote_mark field i lt) (adds_both contents a b c _ _ h k)
 
--- one more field of a row
+-- the text of a row after one more field
 pub fields_next : {W : Type 0} (contents : W → Option (List ℕ)) (a b c d : RowWriter W) (fields : List (List ℕ)) (field : List ℕ) (i : ℕ) →
     i < length fields → Adds contents a b (row_body row_setup (take i fields)) → Adds contents b c (next_sep row_setup i)
     → Adds contents c d (field_text row_setup field) → field ≡ get_or fields i [] → Adds contents a d (row_body row_setup (take (i + 1) fields))
@@ -79,7 +79,7 @@ known_sent (Some o) (Some m) None none rows text e first second = absurd second
 known_sent (Some o) (Some m) (Some n) none rows text e first second =
     second ∙ first ∙ ap (λ (start : List ℕ). (o ++ start) ++ text) e ∙ ap (λ (start : List ℕ). start ++ text) (append-nil o)
 
--- a text was added to no rows, and then the buffer was sent to the writer
+-- a text was added to an empty buffer, and then the buffer was sent to the writer
 pub sent : {W : Type 0} (contents : W → Option (List ℕ)) (start last : RowWriter W) (lent : MutBor W) (new : W) (none text : List ℕ) → IsOver start lent none
     → none ≡ [] → Adds contents start last text → Writes contents last.writer.now new last.waiting.now.items → Writes contents lent.now new text
 sent contents start last lent new none text over empty added handed =

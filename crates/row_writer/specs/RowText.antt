@@ -28,11 +28,11 @@ abbrev pub IsOver : {W : Type 0} → RowWriter W → MutBor W → List ℕ → T
 IsOver rows lent waiting =
     (rows.writer.ghost_name ≡ lent.ghost_name) × (rows.writer.now ≡ lent.now) × (rows.waiting.now.items ≡ waiting)
 
--- The writer is the same one. The bytes that it holds, with those that wait, grew by exactly this text.
+-- The rows still go to the same writer. The writer's bytes, followed by the bytes that wait, grew by exactly this text.
 abbrev pub Adds : {W : Type 0} → (W → Option (List ℕ)) → RowWriter W → RowWriter W → List ℕ → Type 0
 Adds contents old new text = (new.writer.ghost_name ≡ old.writer.ghost_name) × Appends (held contents old) (held contents new) text
 
--- the writer is the same one, and holds the same bytes
+-- the rows still go to the same writer, and the writer's bytes are unchanged
 abbrev pub Keeps : {W : Type 0} → RowWriter W → RowWriter W → Type 0
 Keeps old new = (new.writer.ghost_name ≡ old.writer.ghost_name) × (new.writer.now ≡ old.writer.now)
 

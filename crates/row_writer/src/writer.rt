@@ -1,4 +1,4 @@
-//! A writer of rows of CSV. Its buffer is made before the first byte goes out. From then on only the writer can fail.
+//! A writer of rows of CSV. The buffer is made before the first byte is written. From then on only the writer can fail.
 ghost use Rattle.std.specs.Prelude.{◌≡◌, ◌∷◌, [], map, OnOk, IfOk};
 ghost use Rattle.csv.specs.Writing.{needs_byte, needs_quotes, escaped, quoted, field_text, next_sep, is_blank as shows_nothing};
 ghost use Rattle.row_writer.specs.RowText.{Adds, IsOver, Writes, row_setup, row, row_end};
@@ -13,7 +13,7 @@ const ROOM: usize = 16_384;
 #[derive(Clone, Copy, Debug, PartialEq, Eq)]
 pub struct WriteFailed;
 
-/// A buffer for rows on their way to a writer: 16,384 bytes, which never grow.
+/// A buffer for rows on their way to a writer: 16,384 bytes. The buffer never grows.
 pub fn room_for_rows(alloc: Global) -> Result<Vec<u8>, AllocError>
     ensures { IfOk result (λ room. room.items ≡ []) }
 {
@@ -21,28 +21,29 @@ pub fn room_for_rows(alloc: Global) -> Result<Vec<u8>, AllocError>
     Ok(room)
 }
 
-/// A writer, and a buffer with rows on their way to it.
+/// A writer, and a buffer with the rows on their way to this writer.
 #[derive(Drop)]
 pub struct RowWriter<'a, W> {
     writer: &'a mut W,
     waiting: &'a mut Vec<u8>,
 }
 
-// Whether a field with this byte needs quotes.
+// Whether a field with this byte has to be written between quotes.
 fn is_marked(b: u8) -> bool
     ensures { result ≡ needs_byte row_setup b }
 {
     b == b',' || b == b'"' || b == b'\r' || b == b'\n'
 }
 
-// Whether a field needs quotes.
+// Whether a field has to be written between quotes.
 fn is_quoted(field: &[u8]) -> bool
     ensures { result ≡ needs_quotes row_setup field.now }
 {
     field.iter().any(|b| is_marked(*b))
 }
 
-// Whether the row would be empty. Then two quotes stand for its one empty field.
+// Whether a row of these fields would be written as an empty line. In such a row two quotes stand for the one empty
+// field.
 fn is_blank(fields: &[&[u8]]) -> bool
     ensures { result ≡ shows_nothing row_setup (map (λ f. f.now) fields.now) }
 {
@@ -53,7 +54,7 @@ fn is_blank(fields: &[&[u8]]) -> bool
 }
 
 impl<'a, W: Write> RowWriter<'a, W> {
-    /// No rows yet, with an empty buffer.
+    /// A row writer over this writer and this buffer, which is emptied.
     pub fn new(writer: &'a mut W, room: &'a mut Vec<u8>) -> RowWriter<'a, W>
         ensures { IsOver result writer.entry room.old.items }
     {
@@ -63,8 +64,8 @@ impl<'a, W: Write> RowWriter<'a, W> {
         }
     }
 
-    // Sends the buffer to the writer, and then these bytes if the buffer still has no room for them. This is a
-    // separate function, so that the test for room in `put` is inlined.
+    // Sends the buffer to the writer. If the empty buffer is too small for these bytes, sends them too. This is a
+    // function of its own, so that only the test for room in `put` is inlined.
     #[cold]
     #[inline(never)]
     fn put_past(&mut self, bytes: &[u8]) -> Result<(), WriteFailed>
@@ -86,7 +87,7 @@ impl<'a, W: Write> RowWriter<'a, W> {
         Ok(())
     }
 
-    // Adds bytes.
+    // Adds these bytes to the buffer.
     #[inline]
     fn put(&mut self, bytes: &[u8]) -> Result<(), WriteFailed>
         ensures { OnOk result (Adds W.contents self.old self.new bytes.now) }
@@ -136,7 +137,7 @@ impl<'a, W: Write> RowWriter<'a, W> {
         }
     }
 
-    // Adds a comma before the field at this place, unless it is the first.
+    // Adds a comma before field `place`, unless the field is the first.
     #[inline]
     fn put_comma(&mut self, place: usize) -> Result<(), WriteFailed>
         ensures { OnOk result (Adds W.contents self.old self.new (next_sep row_setup place)) }
@@ -158,7 +159,7 @@ impl<'a, W: Write> RowWriter<'a, W> {
         }
     }
 
-    /// Adds a row. What does not fit into the buffer goes to the writer.
+    /// Adds a row to the buffer. If the buffer is full, its bytes go to the writer.
     pub fn push(&mut self, fields: &[&[u8]]) -> Result<(), WriteFailed>
         ensures { OnOk result (Adds W.contents self.old self.new (row (map (λ f. f.now) fields.now))) }
     {
@@ -169,7 +170,7 @@ impl<'a, W: Write> RowWriter<'a, W> {
         self.put_end(fields)
     }
 
-    /// Sends the rest of the buffer to the writer.
+    /// Sends the remaining bytes of the buffer to the writer.
     pub fn send(self) -> Result<(), WriteFailed>
         ensures { OnOk result (Writes W.contents self.entry.writer.now self.exit.0.now self.entry.waiting.now.items) }
     {

@@ -1,4 +1,4 @@
--- All levels of a tree in one list: its beginning, its continuation and its end.
+-- All levels of a tree in one list: how the list begins, how it goes on and how it ends.
 use Rattle.std.proofs.Common.{◌≡◌, ℕ, zero, suc, ◌-◌, ◌/◌, ◌<◌, ◌≤◌, true, nat_lt, if◌then◌else◌, List, [], ◌∷◌, ◌++◌, length, take, get_or, slice_get, Some, arith, refl, sym, ap, ◌∙◌, subst, inl, inr, length-append}
 use Rattle.std.specs.List.{cons_option}
 use Rattle.std.proofs.Math.Seq.{take-append_seam, take-length, get_or-append_right}
@@ -22,7 +22,7 @@ levels_from_enough n (suc m) hs l le = elim (cases_lt m n) [
   | inr c ↦ levels_from_enough n m hs l c ∙ levels_from_more m hs (omega arith)
 ]
 
--- a level with another level above it
+-- the list of all levels is the lowest level, followed by all levels of the tree above it
 pub all_levels_on : (hs : List (List ℕ)) → 1 < length hs → all_levels hs ≡ hs ++ all_levels (pair_up hs)
 all_levels_on [] l = absurd (omega arith)
 all_levels_on (a ∷ rest) l =
@@ -30,13 +30,13 @@ all_levels_on (a ∷ rest) l =
     let test : nat_lt 1 (length (a ∷ rest)) ≡ true = lt-ltb 1 (length (a ∷ rest)) l in
     rw test (ap (λ z. (a ∷ rest) ++ z) (sym (levels_from_enough (length (pair_up (a ∷ rest))) (length rest) (pair_up (a ∷ rest)) (omega arith) (omega arith))))
 
--- the top level
+-- if a level has at most one node, it is the last level
 pub all_levels_top : (hs : List (List ℕ)) → length hs ≤ 1 → all_levels hs ≡ hs
 all_levels_top [] l = refl
 all_levels_top (h ∷ []) l = refl
 all_levels_top (a ∷ b ∷ rest) l = absurd (omega arith)
 
--- the leaves come first
+-- the list of all levels begins with the leaves
 pub take_all_levels : (hs : List (List ℕ)) → take (length hs) (all_levels hs) ≡ hs
 take_all_levels hs = elim (cases_lt 1 (length hs)) [
   | inl c ↦ rw (all_levels_on hs c) (take-append_seam hs (all_levels (pair_up hs)))
@@ -65,7 +65,7 @@ path_from_enough n (suc m) i hs w l le = elim (cases_lt m n) [
   | inr c ↦ path_from_enough n m i hs w l c ∙ path_from_more m i hs w (omega arith)
 ]
 
--- a path begins with the sibling if there is one, and goes on from the parent
+-- a leaf's path is its sibling, if it has one, followed by its parent's path
 pub path_on : (i : ℕ) (hs : List (List ℕ)) → i < length hs → 1 < length hs →
     path_of i hs ≡ cons_option (sibling i hs) (path_of (i / 2) (pair_up hs))
 path_on i [] w l = absurd (omega arith)
@@ -88,7 +88,7 @@ one_level : (n : ℕ) (h : List ℕ) → levels_from n (h ∷ []) ≡ h ∷ []
 one_level zero h = refl
 one_level (suc n) h = refl
 
--- the last of all nodes is the top
+-- the last node in the list of all levels is the node at the top
 last_is_top : (n : ℕ) (hs : List (List ℕ)) (d : List ℕ) → 0 < length hs → length hs ≤ suc n →
     (0 < length (levels_from n hs)) × (get_or (levels_from n hs) (length (levels_from n hs) - 1) d ≡ top (levels_up n hs))
 last_is_top n [] d l le = absurd (omega arith)
@@ -108,7 +108,7 @@ last_is_top (suc n) (a ∷ b ∷ rest) d l le =
           ∙ ap (λ k. get_or (levels_from n (pair_up (a ∷ b ∷ rest))) k d) last ∙ above.1,
     )
 
--- the root stands last; a tree without nodes has no leaves
+-- the last node in the list of all levels is the root, unless the tree has no leaves
 pub last_is_root : (hs : List (List ℕ)) (d : List ℕ) → 0 < length (all_levels hs) →
     get_or (all_levels hs) (length (all_levels hs) - 1) d ≡ root hs
 last_is_root [] d l = absurd (omega arith)
@@ -118,7 +118,7 @@ pub no_leaves : (hs : List (List ℕ)) → length (all_levels hs) ≡ 0 → hs �
 no_leaves [] e = refl
 no_leaves (h ∷ rest) e = absurd (let l = length-all_levels (h ∷ rest) in omega arith)
 
--- the node that is read last is the root
+-- the node that is read at the end of the list of all levels is the root
 pub last_read : (nodes whole hs : List (List ℕ)) (x : List ℕ) → nodes ≡ whole → whole ≡ all_levels hs →
     Some x ≡ slice_get nodes (length nodes - 1) → x ≡ root hs
 last_read nodes whole hs x same e read =

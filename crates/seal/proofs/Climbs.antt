@@ -1,4 +1,4 @@
--- Why the path made for a hash climbs to the root: each step of the climb reaches the parent.
+-- Why the path that is made for a hash climbs to the root: each step of the climb reaches the parent.
 use Rattle.std.proofs.Common.{◌≡◌, ℕ, zero, suc, ◌+◌, ◌-◌, ◌/◌, ◌%◌, ◌≤◌, true, false, nat_lt, List, [], ◌∷◌, length, slice_get, Some, None, arith, refl, subst, inl, inr}
 use Rattle.std.proofs.lemmas.Option.{slice_get_within, slice_get_cases}
 use Rattle.std.proofs.lemmas.Bool.{lt-ltb, le-ltb}
@@ -8,7 +8,8 @@ use Rattle.seal.specs.Tree.{pair_up, levels_up, top, Left, Right, side, sides_fr
 use Rattle.seal.specs.SealLaws.{CompleteLaw}
 use Rattle.seal.proofs.Parents.{twice, twice_is, length-pair_up, parent_of_pair, parent_of_last}
 
--- where the parent of a place stands, and the sibling
+-- the parent of the node at place i stands at half this place; it is a hash over the node and its sibling, or the node
+-- itself
 data Parent (hs : List (List ℕ)) (i : ℕ) (h : List ℕ) : Type 0 where
   on_left : (l : List ℕ) → side i (length hs) ≡ Some Left → sibling i hs ≡ Some l → slice_get (pair_up hs) (i / 2) ≡ Some (node l h) → Parent hs i h
   on_right : (r : List ℕ) → side i (length hs) ≡ Some Right → sibling i hs ≡ Some r → slice_get (pair_up hs) (i / 2) ≡ Some (node h r) → Parent hs i h
@@ -38,7 +39,7 @@ parent hs i h e = elim (eqb_tells (i % 2) 1) [
       ]
 ]
 
--- the climb over one more level, from the climb of each parent
+-- if the path of each parent climbs to the top of the level above, the path of a node climbs to the same top
 climb_on : (levels i : ℕ) (hs : List (List ℕ)) (h : List ℕ) →
     ((k : List ℕ) → slice_get (pair_up hs) (i / 2) ≡ Some k →
     climb_by (sides_from levels (i / 2) (length (pair_up hs))) k (path_from levels (i / 2) (pair_up hs)) ≡ Some (top (levels_up levels (pair_up hs)))) →

@@ -1,4 +1,4 @@
--- How a path is read from all levels: the sibling comes from its level, and the next level follows.
+-- How a path is read from the list of all levels: a sibling is read from each level, and then the level above is read.
 use Rattle.std.proofs.Common.{◌≡◌, ℕ, ◌+◌, ◌-◌, ◌/◌, ◌%◌, ◌<◌, ◌≤◌, List, [], ◌∷◌, ◌++◌, length, take, drop, get_or, slice_get, Option, Some, None, arith, sym, ap, ◌∙◌, subst, inl, inr, append_assoc}
 use Rattle.std.specs.List.{cons_option}
 use Rattle.std.proofs.Math.Seq.{drop-append_seam}
@@ -9,7 +9,7 @@ use Rattle.seal.specs.Tree.{pair_up, all_levels, sibling, path_of}
 use Rattle.seal.proofs.Parents.{length-pair_up}
 use Rattle.seal.proofs.AllLevels.{all_levels_on, take_all_levels, length-all_levels, path_on}
 
--- the next level follows a level in the list of all levels
+-- in the list of all levels, the nodes behind a level begin with the level above it
 pub record IsNext (level behind : List (List ℕ)) (m : ℕ) : Type 0 where
   pub fits : m ≤ length behind
   pub is_whole : behind ≡ all_levels (take m behind)
@@ -35,7 +35,7 @@ next_level rest n m le one is whole =
       is_above = front;
     }
 
--- an item read after the start is an item of the level
+-- a node that is read from the nodes after `start` is a node of the level that begins there
 pub read_level : (nodes : List (List ℕ)) (start n i j : ℕ) (x : List ℕ) → start + n ≤ length nodes → j < n → i ≡ start + j →
     x ≡ get_or nodes i x → slice_get (take n (drop start nodes)) j ≡ Some x
 read_level nodes start n i j x le l place read =
@@ -56,12 +56,13 @@ no_sibling nodes start n i le even last =
     let size = length-take-le n (drop start nodes) (omega (arith, length-drop start nodes)) in
     sibling_right i _ None even (slice_get_past (take n (drop start nodes)) (i + 1) (omega (arith, size)))
 
--- a path is continued with the sibling, if there is one
+-- a path that ends with the sibling, if there is one, goes on with the path of the parent
 goes_on : (path after : List (List ℕ)) (o : Option (List ℕ)) → (path ++ cons_option o []) ++ after ≡ path ++ cons_option o after
 goes_on path after None = append_assoc path [] after
 goes_on path after (Some x) = append_assoc path (x ∷ []) after
 
--- the remaining nodes, and the path so far, after one more level
+-- what is true of the nodes and the path after each level: the path so far, followed by the rest of it, is the whole
+-- path
 pub record IsRead (nodes path whole : List (List ℕ)) (start n i : ℕ) : Type 0 where
   pub in_level : i < n
   pub in_nodes : start + n ≤ length nodes

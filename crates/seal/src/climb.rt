@@ -5,8 +5,8 @@ ghost use Rattle.seal.specs.Tree.{climb};
 
 use crate::hashes::node_of;
 
-/// Whether the hash of a leaf climbs to this root by this path, from this place in a tree with this many leaves. A
-/// place past the count, or a path of the wrong length, never does.
+/// Whether the hash of a leaf climbs to this root by this path. The leaf stands at place `index` of a tree with `count`
+/// leaves. The answer is false if the place is past the count, or if the path has a wrong length.
 pub fn opens(
     root: &[u8; 32],
     count: usize,

@@ -1,4 +1,5 @@
-//! The hashes: of a leaf with its salt, which makes it impossible to guess, and of a node over two others.
+//! The hashes of a tree: the hash of a leaf with its salt, and the hash of a node over two hashes. The salt makes it
+//! impossible to guess a leaf from its hash.
 
 ghost use Rattle.std.specs.Prelude.{◌≡◌, ◌∷◌, ◌++◌};
 ghost use Rattle.std.specs.Int.{w64, to_be_bytes};
@@ -8,7 +9,7 @@ ghost use Rattle.seal.specs.Hashes as hashes;
 
 use sha2::{Digest, Sha256};
 
-/// The salt of a leaf: the digest of the secret, the tree's tag and the leaf's place, from 0.
+/// The salt of a leaf: the digest of the secret, the tree's tag and the place of the leaf, counted from 0.
 pub fn salt(secret: &[u8; 32], tag: u8, index: u64) -> [u8; 32]
     ensures { result ≡ sha256 (secret.now ++ tag ∷ to_be_bytes w64 index) }
 {
@@ -19,7 +20,7 @@ pub fn salt(secret: &[u8; 32], tag: u8, index: u64) -> [u8; 32]
     hasher.finalize()
 }
 
-/// The hash of a leaf: of the byte 0, the salt and the text.
+/// The hash of a leaf: the digest of the byte 0, the salt and the text.
 pub fn leaf_hash(salt: &[u8; 32], text: &[u8]) -> [u8; 32]
     ensures { result ≡ hashes.leaf_hash (record { salt = salt.now; text = text.now }) }
 {
@@ -30,7 +31,7 @@ pub fn leaf_hash(salt: &[u8; 32], text: &[u8]) -> [u8; 32]
     hasher.finalize()
 }
 
-// The hash of a node over two others: of the byte 1 and the two hashes.
+// The hash of a node over two hashes: the digest of the byte 1 and these two hashes.
 pub(crate) fn node_of(left: &[u8; 32], right: &[u8; 32]) -> [u8; 32]
     ensures { result ≡ node left.now right.now }
 {

@@ -1,4 +1,4 @@
-//! The root of a tree, level by level.
+//! The root of a tree, computed level by level.
 
 ghost use Rattle.std.specs.Prelude.{◌≡◌, IfOk};
 ghost use Rattle.seal.specs.Tree.{pair_up};
@@ -8,7 +8,7 @@ use crate::hashes::node_of;
 use sha2::{Digest, Sha256};
 use std::alloc::{AllocError, Global};
 
-// Turns a level into the next one, in place.
+// Replaces a level by the level above it.
 fn pair_level(level: &mut Vec<[u8; 32]>)
     ensures { level.new.items ≡ pair_up level.old.items }
 {
@@ -22,8 +22,8 @@ fn pair_level(level: &mut Vec<[u8; 32]>)
     level.truncate(count / 2 + count % 2);
 }
 
-/// The root of the tree over these leaf hashes. Without leaves it is the digest of no bytes. The only error is out of
-/// memory.
+/// The root of the tree over these leaf hashes. The root of a tree without leaves is the digest of no bytes. The only
+/// error is out of memory.
 pub fn root(alloc: Global, hashes: &[[u8; 32]]) -> Result<[u8; 32], AllocError>
     ensures { IfOk result (λ r. r ≡ tree.root hashes.now) }
 {

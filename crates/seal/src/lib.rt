@@ -1,4 +1,4 @@
-//! Hash trees over SHA-256: a root, the openings of its leaves, and the check that a leaf opens a root.
+//! Hash trees over SHA-256: the root of a tree, the path that opens the root for a leaf, and the check of such a path.
 #![tactic(auto)]
 
 mod climb;

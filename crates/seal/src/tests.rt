@@ -1,5 +1,5 @@
-//! The published roots of RFC 9162's tree, openings of small trees, and a sealed docket whose roots were made by
-//! another program.
+//! Tests with the published roots of RFC 9162's tree, with openings of small trees, and with a sealed docket whose
+//! roots were made by another program.
 
 use crate::{Tree, leaf_hash, opens, root, salt};
 use sha2::{Digest, Sha256};
@@ -7,7 +7,8 @@ use std::alloc::Global;
 use std::process::Abort;
 use std::test::Fail;
 
-// The leaves of Certificate Transparency's test vectors, each with the root of the leaves up to it.
+// The leaves of Certificate Transparency's test vectors. Beside each leaf stands the root of the tree of all leaves
+// before it.
 const PUBLISHED: [(&[u8], &str); 9] = [
     (
         b"",
@@ -50,7 +51,8 @@ const PUBLISHED: [(&[u8], &str); 9] = [
 // The root of the leaves "0", "1" and so on up to "999", by the recursion of RFC 9162.
 const OF_A_THOUSAND: &str = "638afa98022925bacfddadb15ef22fd0199c1ac99c2973b6158243d13fce05c2";
 
-// The sealed texts of the members of examples/nrmp.csv, before the match, and after it with examples/nrmp-sheet.csv.
+// The sealed texts of the members of examples/nrmp.csv: before the match, and after the match with
+// examples/nrmp-sheet.csv.
 const SEALED: [(&[u8], &[u8]); 8] = [
     (b"Q,Mercy,2\nP,Mercy,Darrius,Joseph\n", b"F,Mercy,0,2\n"),
     (
@@ -100,7 +102,8 @@ fn plain(text: &[u8]) -> [u8; 32] {
     hasher.finalize()
 }
 
-// The root is this one, also for a whole tree. Each leaf opens the root only in its own place and by its own path.
+// Tests that the root of these hashes is `wanted`, also for a tree that is stored whole. Each leaf opens the root only
+// from its own place and by its own path.
 fn opens_each<R: Abort>(
     rt: &R,
     alloc: Global,

@@ -1,4 +1,4 @@
-//! A whole tree. One vector has all its levels, and each path is read from it.
+//! A tree that is stored whole. One vector has all levels of the tree, and each path is read from this vector.
 
 ghost use Rattle.std.specs.Prelude.{◌≡◌, ◌<◌, ◌≤◌, ◌++◌, ℕ, List, length, take, drop, vec_len, IfOk, OnOk};
 ghost use Rattle.seal.specs.Tree.{pair_up, all_levels, path_of};
@@ -9,11 +9,11 @@ use sha2::{Digest, Sha256};
 use std::alloc::{AllocError, Global};
 use std::marker::Model;
 
-/// A tree over leaf hashes. Clauses see a tree as its leaf hashes.
+/// A tree over leaf hashes. Clauses see the tree as the list of its leaf hashes.
 #[derive(Drop)]
 pub struct Tree {
     count: usize,
-    // Level after level, the leaf hashes first and the root last.
+    // All levels one after another: the leaf hashes first, and the root last.
     nodes: Vec<[u8; 32]>,
 }
 
@@ -28,7 +28,7 @@ impl Model for Tree {
     ghost invariant = { λ t. (t.count ≤ length t.nodes.items) × (t.nodes.items ≡ all_levels (take t.count t.nodes.items)) };
 }
 
-// Appends the parents of the nodes from `start` on.
+// Appends the level above the last level, which begins at `start`.
 fn push_parents(nodes: &mut Vec<[u8; 32]>, start: usize) -> Result<(), AllocError>
     requires { start ≤ vec_len nodes.old }
     ensures { OnOk result (nodes.new.items ≡ nodes.old.items ++ pair_up (drop start nodes.old.items)) }
@@ -46,8 +46,8 @@ fn push_parents(nodes: &mut Vec<[u8; 32]>, start: usize) -> Result<(), AllocErro
 }
 
 impl Tree {
-    /// The tree over these leaf hashes. The only error is out of memory. It takes two hashes for each leaf, and one
-    /// for each level.
+    /// The tree over these leaf hashes. The tree needs memory for two hashes for each leaf, and for one hash for each
+    /// level. The only error is out of memory.
     pub fn new(alloc: Global, hashes: &[[u8; 32]]) -> Result<Tree, AllocError>
         ensures { IfOk result (λ t. t ≡ hashes.now) }
     {
@@ -64,7 +64,7 @@ impl Tree {
         })
     }
 
-    /// The root. Without leaves it is the digest of no bytes.
+    /// The root of the tree. The root of a tree without leaves is the digest of no bytes.
     pub fn root(&self) -> [u8; 32]
         ensures { result ≡ tree.root self.now }
     {
@@ -74,8 +74,8 @@ impl Tree {
         }
     }
 
-    /// The path by which the leaf at this place climbs to the root: its siblings, lowest first. The only error is out
-    /// of memory.
+    /// The path by which the leaf at place `index` climbs to the root: the siblings on the way, the lowest first. The
+    /// only error is out of memory.
     pub fn opening(&self, alloc: Global, index: usize) -> Result<Vec<[u8; 32]>, AllocError>
         requires { index < length self.now }
         ensures { IfOk result (λ p. p.items ≡ path_of index self.now) }

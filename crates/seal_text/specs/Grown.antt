@@ -8,7 +8,7 @@ use Rattle.seal_text.specs.declared.leaves.Section.TheVariants.{Lists, Outcome}
 use Rattle.seal_text.specs.declared.receipts.Trees.{Trees}
 use Rattle.docket.specs.Contents.{Contents}
 
--- the texts that vectors have
+-- the texts in these vectors of bytes
 abbrev pub texts_of : List (Vec ℕ) → List (List ℕ)
 texts_of texts = map (λ (text : Vec ℕ). text.items) texts
 
@@ -20,7 +20,7 @@ texts_in grown = texts_of grown.texts.items
 abbrev pub IsGrown : List ℕ → Grown → Type 0
 IsGrown secret grown = grown.tree ≡ hashes_of secret grown.section (texts_in grown)
 
--- the tree of this section over so many texts
+-- the tree belongs to this section, and has this many texts
 pub record IsGrownAs (secret : List ℕ) (section : Section) (count : ℕ) (grown : Grown) : Type 0 where
   pub is_grown : IsGrown secret grown
   pub section_is : grown.section ≡ section

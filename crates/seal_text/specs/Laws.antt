@@ -1,4 +1,4 @@
--- The laws of receipts and of texts: each is the contract of the function of its name.
+-- The laws of receipts and of texts. Each law is proved as the contract of one function.
 use Rattle.std.specs.Prelude.{◌≡◌, ℕ, ◌<◌, ◌≤◌, List, Some, codes, length, slice_get}
 use Rattle.match_model.specs.Instance.{is_withdrawn, quota}
 use Rattle.docket.specs.Contents.{Contents}
@@ -28,7 +28,8 @@ pub record IsOneResident (d d' : Contents) (rows rows' : List Fields) (r : ℕ) 
   pub list : slice_get (records_of (codes "R") rows) r ≡ slice_get (records_of (codes "R") rows') r
   pub withdrawn : is_withdrawn d.instance.residents_withdrawn r ≡ is_withdrawn d'.instance.residents_withdrawn r
 
--- two dockets of as many programmes, whose members' texts are the same, have as many residents, and the same members
+-- Take two dockets with the same number of programmes, whose members have the same texts. The two dockets have the same
+-- number of residents, and the same members.
 pub record AreOneDocket (d d' : Contents) (rows rows' : List Fields) : Type 0 where
   pub count : length d.instance.resident_lists ≡ length d'.instance.resident_lists
   pub programmes : (p : ℕ) → p < length d.instance.quotas → IsOneProgramme d d' rows rows' p

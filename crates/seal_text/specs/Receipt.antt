@@ -18,7 +18,7 @@ pub record IsDigest (digest : List ℕ) : Type 0 where
   pub size : length digest ≡ 32
   pub bytes : IsBytes digest
 
--- the digits write this number, of at most nine digits and without zeros before it
+-- the digits are this number in base ten, with at most nine digits and no zeros before it
 pub record IsPlain (number : ℕ) (digits : List ℕ) : Type 0 where
   pub small : number < 1000000000
   pub digits_are : digits ≡ decimal number
@@ -35,8 +35,8 @@ pub record TellsPlace (word : List ℕ) (index : ℕ) (row : Fields) : Type 0 wh
   pub small : index < 1000000000
   pub row_is : row ≡ codes "opens" ∷ word ∷ decimal index ∷ drop 3 row
 
--- the first row tells the root and this count, and the second this place, a salt and a path. The rest, a line each, is the
--- text of a leaf, which climbs to the root by this path from this place of this count
+-- The first row has the root and this number of leaves. The second row has this place, a salt and a path. All other
+-- rows are the text of a leaf. The leaf climbs by this path from this place to the root.
 pub record Opens (word root : List ℕ) (count index : ℕ) (rows : List Fields) : Type 0 where
   pub root_row : Fields
   pub opening : Fields
@@ -66,13 +66,13 @@ pub record IsRowOf (kind name : List ℕ) (row : Fields) : Type 0 where
   pub kind_is : field row 0 ≡ kind
   pub name_is : field row 1 ≡ name
 
--- the row that withdraws a member of this side, or none
+-- the row that withdraws a member of this side, or no row
 abbrev pub IsWithdrawalIf : Kind → List ℕ → List Fields → Type 0
 IsWithdrawalIf kind name [] = ⊤
 IsWithdrawalIf kind name (row ∷ []) = row ≡ codes "W" ∷ letter_of kind ∷ name ∷ []
 IsWithdrawalIf kind name (row ∷ next ∷ rest) = ⊥
 
--- the row of a programme's list, or none
+-- the row of a programme's list, or no row
 abbrev pub IsListIf : List ℕ → Option Fields → List Fields → Type 0
 IsListIf name list [] = list ≡ None
 IsListIf name list (row ∷ []) = IsRowOf (codes "P") name row × (list ≡ Some row)
@@ -102,14 +102,14 @@ pub record AreResidentLists (name : List ℕ) (list : Option Fields) (rows : Lis
   pub list_is : list ≡ Some row
   pub gone_is : IsWithdrawalIf Resident name gone
 
--- a member's rows before the match, which tell a programme's quota and a member's list
+-- a member's rows before the match; they have a programme's quota, and the member's list
 abbrev pub AreLists : Kind → List ℕ → List ℕ → Option Fields → List Fields → Type 0
 AreLists Programme name quota list rows = AreProgrammeLists name quota list rows
 AreLists Resident name quota list rows = AreResidentLists name list rows
 
 -- Point 3: a resident's reasons can stand where they stand.
 
--- the row of a reason is of this resident, this programme and this choice
+-- the row is this resident's reason for this programme, with this choice number
 pub record IsReason (name programme : List ℕ) (choice : ℕ) (row : Fields) : Type 0 where
   pub width : length row ≡ 7
   pub resident : field row 0 ≡ name
@@ -121,14 +121,15 @@ pub record AreChoices (name : List ℕ) (list : Fields) (rows : List Fields) : T
   pub each : length rows + 2 ≡ length list
   pub are : (k : ℕ) → k < length rows → IsReason name (field list (k + 2)) (k + 1) (slice_index_or rows k [])
 
--- the answer is this word, and has no numbers
+-- the row's answer is this word, and the row's fields for numbers are empty
 pub record IsBare (word : List ℕ) (row : Fields) : Type 0 where
   pub word_is : field row 3 ≡ word
   pub no_rank : field row 4 ≡ []
   pub no_last : field row 5 ≡ []
   pub no_quota : field row 6 ≡ []
 
--- the programme's places have gone to residents whom it ranks before this one: the last of them has a lower rank
+-- the programme's places went to residents whom it ranks before this resident; the last rank among them is smaller than
+-- this resident's rank
 pub record HasLastBefore (row : Fields) : Type 0 where
   pub rank : ℕ
   pub last : ℕ
@@ -140,7 +141,7 @@ pub record HasLastBefore (row : Fields) : Type 0 where
   pub counted : 0 < last
   pub has_places : 0 < quota
 
--- the programme has no places, so no last rank either
+-- the programme has no places, so the row has no last rank
 pub record HasNoPlaces (row : Fields) : Type 0 where
   pub rank : ℕ
   pub rank_is : number_of (field row 4) ≡ Some rank
@@ -148,26 +149,28 @@ pub record HasNoPlaces (row : Fields) : Type 0 where
   pub quota_is : number_of (field row 6) ≡ Some 0
   pub counted : 0 < rank
 
--- the programme is full of residents whom it ranks before this one
+-- the programme is full of residents whom it ranks before this resident
 pub record IsFull (row : Fields) : Type 0 where
   pub word_is : field row 3 ≡ codes "full"
   pub is_full : HasLastBefore row ⊎ HasNoPlaces row
 
--- a reason of a programme that the resident would have taken: one before its own, or any where it is unmatched
+-- a reason for a programme that the resident would have taken: a programme before the resident's own, or any programme
+-- of an unmatched resident
 abbrev pub IsPassedOver : Fields → Type 0
 IsPassedOver row = IsBare (codes "withdrawn") row ⊎ (IsBare (codes "unranked") row ⊎ IsFull row)
 
--- a reason of a programme after the resident's own
+-- a reason for a programme after the resident's own
 abbrev pub IsLater : Fields → Type 0
 IsLater row = IsBare (codes "better") row ⊎ (IsBare (codes "unranked") row ⊎ IsBare (codes "withdrawn") row)
 
--- the reasons of a resident with this programme: up to its row each is passed over, its row is matched, each later one is later
+-- The reasons of a resident with this programme. The rows before the programme's row are passed over, the programme's
+-- row is `matched`, and the rows after it are of later programmes.
 abbrev pub AreUpTo : List ℕ → List Fields → Type 0
 AreUpTo own [] = ⊥
 AreUpTo own (row ∷ rest) =
     MatchBool (bytes_eq (field row 1) own) (IsBare (codes "matched") row × All IsLater rest) (IsPassedOver row × AreUpTo own rest)
 
--- the answers of a resident's reasons, with this programme if it is matched
+-- the answers in a resident's reasons, of an unmatched resident or of one with this programme
 abbrev pub AreAnswers : Option (List ℕ) → List Fields → Type 0
 AreAnswers None rows = All IsPassedOver rows
 AreAnswers (Some own) rows = AreUpTo own rows
@@ -197,7 +200,7 @@ pub record IsMember (name : List ℕ) (list : Option Fields) (row : Fields) : Ty
   pub row_is : row ≡ codes "M" ∷ field row 1 ∷ name ∷ []
   pub listed : IsListed list (field row 1)
 
--- the rows of a programme's residents, none of whom stands twice
+-- the rows of a programme's residents; no resident has two rows
 pub record AreMembers (name : List ℕ) (list : Option Fields) (rows : List Fields) : Type 0 where
   pub each : All (IsMember name list) rows
   pub none_twice : AllPairs (λ row later. field row 1 ≢ field later 1) rows
@@ -213,7 +216,7 @@ pub record AreProgrammeRows (name quota : List ℕ) (list : Option Fields) (rows
   pub fits : length members ≤ places
   pub are_members : AreMembers name list members
 
--- a member's rows after the match, where its quota and its list were these
+-- a member's rows after the match, of a member with this quota and this list
 abbrev pub AreResultRows : Kind → List ℕ → List ℕ → Option Fields → List Fields → Type 0
 AreResultRows Programme name quota list rows = AreProgrammeRows name quota list rows
 AreResultRows Resident name quota None rows = ⊥
@@ -221,18 +224,18 @@ AreResultRows Resident name quota (Some list) rows = AreResidentRows name list r
 
 -- The whole.
 
--- the rows after the match open the root at the place of the lists, and are the member's
+-- the rows after the match open the root at the same place as the lists, and belong to this member
 pub record IsGoodResult (root : List ℕ) (kind : Kind) (name quota : List ℕ) (list : Option Fields) (count index : ℕ) (rows : List Fields) : Type 0 where
   pub opens : Opens (codes "result") root count index rows
   pub are : AreResultRows kind name quota list (drop 2 rows)
 
--- where no root of a result was published, there are no rows of one
+-- if the root of a result was published, the rows after the match are good; else there are no such rows
 abbrev pub IsGoodResultIf : Option (List ℕ) → Kind → List ℕ → List ℕ → Option Fields → ℕ → ℕ → List Fields → Type 0
 IsGoodResultIf None kind name quota list count index rows = rows ≡ []
 IsGoodResultIf (Some root) kind name quota list count index rows = IsGoodResult root kind name quota list count index rows
 
--- the rows are a good receipt of a member: the first row names it, its lists open their root, and its result opens its own
--- root at the same place of as many leaves
+-- The rows are a good receipt of a member. The first row names the member. The rows of the lists open the root of the
+-- lists. The rows of the result open the result's root, at the same place in a tree of the same size.
 pub record AreGoodRows (lists_root : List ℕ) (result_root : Option (List ℕ)) (rows : List Fields) : Type 0 where
   pub kind : Kind
   pub name : List ℕ
@@ -247,12 +250,12 @@ pub record AreGoodRows (lists_root : List ℕ) (result_root : Option (List ℕ))
   pub lists : AreLists kind name quota list (drop 2 lists_rows)
   pub result : IsGoodResultIf result_root kind name quota list count index result_rows
 
--- a good receipt under the published roots: each of its rows is written as its fields are, and the rows are good
+-- a good receipt under the published roots: its bytes are its rows as csv writes them, and the rows are good
 pub record IsGoodReceipt (lists_root : List ℕ) (result_root : Option (List ℕ)) (bytes : List ℕ) : Type 0 where
   pub written : bytes ≡ lines (rows_of bytes)
   pub rows : AreGoodRows lists_root result_root (rows_of bytes)
 
--- what follows where the receipt is wrong, and not where memory or the writer failed
+-- if the receipt is wrong, this fact holds; nothing is said if memory or the writer failed
 abbrev pub IfWrong : ReceiptFault → Type 0 → Type 0
 IfWrong (faults.Wrong place wrong) P = P
 IfWrong faults.Memory P = ⊤

@@ -9,22 +9,22 @@ use Rattle.seal_text.specs.declared.records.ListRecords.{ListRecords}
 abbrev pub rows_in : List Row → List Fields
 rows_in records = map fields_of records
 
--- these are the list records of the rows
+-- these are the rank lists among the rows
 pub record AreListsOf (rows : List Fields) (lists : ListRecords) : Type 0 where
   pub programmes : rows_in lists.programmes.items ≡ records_of (codes "P") rows
   pub residents : rows_in lists.residents.items ≡ records_of (codes "R") rows
 
--- where the rows are known, these are their list records
+-- if the rows are known, these are the rank lists among the rows
 abbrev pub AreListsIn : Option (List Fields) → ListRecords → Type 0
 AreListsIn None lists = ⊤
 AreListsIn (Some rows) lists = AreListsOf rows lists
 
--- where the rows are known, these are the records
+-- if the rows are known, these are the records
 abbrev pub AreRowsIn : Option (List Fields) → List Row → Type 0
 AreRowsIn None records = ⊤
 AreRowsIn (Some rows) records = rows_in records ≡ rows
 
--- a record was kept, if it is a list
+-- a record was kept, if the record is a rank list
 pub record Keeps (old new : ListRecords) (row : Fields) : Type 0 where
   pub programmes : rows_in new.programmes.items ≡ rows_in old.programmes.items ++ records_of (codes "P") (row ∷ [])
   pub residents : rows_in new.residents.items ≡ rows_in old.residents.items ++ records_of (codes "R") (row ∷ [])

@@ -1,4 +1,4 @@
--- What the program writes of a docket, a sheet and a secret.
+-- What the program writes about a docket, a sheet and a secret.
 use Rattle.std.specs.Prelude.{◌≡◌, ◌⊎◌, ℕ, Option, Some, None, Ok, Err, List, []}
 use Rattle.match_model.specs.Written.{written_of}
 use Rattle.docket.specs.Contents.{draft_of}
@@ -16,24 +16,24 @@ use Rattle.seal_text.specs.declared.fault.SealFault.TheVariants.{Secret, Files}
 use Rattle.seal_text.specs.declared.serve.Wanted.{Wanted}
 use Rattle.seal_text.specs.declared.serve.Wanted.TheVariants.{Roots, Receipts}
 
--- the docket and the sheet that two files say, each read as its own part, with the lists as they were written
+-- the docket and the sheet that two files give, each file read as its own part, with the lists as they were written
 pub record IsCaseIn (docket sheet : List ℕ) (c : CaseParts) : Type 0 where
   pub read : IsDocketIn docket sheet [] c.docket
   pub has_sheet : c.docket.sheet ≡ Some c.sheet
   pub written : c.written ≡ written_of (draft_of (rows_of_all docket sheet []))
 
--- what is wanted of texts: the rows of the roots, or all receipts
+-- the text to write for these leaves: the rows of the roots, or all receipts
 abbrev pub text_of : Wanted → List ℕ → Contents → List (List ℕ) → Option (List (List ℕ)) → List ℕ
 text_of Roots secret d lists results = roots_text secret lists results
 text_of Receipts secret d lists results = receipts_text secret d lists results
 
--- the text that is wanted of a docket alone
+-- the text to write for a docket alone
 pub record IsEarlyText (wanted : Wanted) (docket secret text : List ℕ) : Type 0 where
   pub d : Contents
   pub read : IsDocketIn docket [] [] d
   pub text_is : text ≡ text_of wanted secret d (lists_texts d (rows_of docket)) None
 
--- the text that is wanted of a docket and its sheet
+-- the text to write for a docket and its sheet
 pub record IsFullText (wanted : Wanted) (docket sheet secret text : List ℕ) : Type 0 where
   pub c : CaseParts
   pub read : IsCaseIn docket sheet c
@@ -41,18 +41,18 @@ pub record IsFullText (wanted : Wanted) (docket sheet secret text : List ℕ) : 
   pub are_results : AreResultTexts c results
   pub text_is : text ≡ text_of wanted secret c.docket (lists_texts c.docket (rows_of docket)) (Some results)
 
--- the text that is wanted of a docket and, if there is one, its sheet
+-- the text to write for a docket and, if there is one, its sheet
 abbrev pub IsTextFrom : Wanted → List ℕ → Option (List ℕ) → List ℕ → List ℕ → Type 0
 IsTextFrom wanted docket None secret text = IsEarlyText wanted docket secret text
 IsTextFrom wanted docket (Some sheet) secret text = IsFullText wanted docket sheet secret text
 
--- the file has a secret, and this is the text that is wanted
+-- the file has a secret, and this is the text to write
 pub record IsServed (wanted : Wanted) (docket : List ℕ) (sheet : Option (List ℕ)) (secret_text text : List ℕ) : Type 0 where
   pub secret : List ℕ
   pub is_secret : secret_of secret_text ≡ Ok secret
   pub text_is : IsTextFrom wanted docket sheet secret text
 
--- the files say a docket without a sheet
+-- the files give a docket without a sheet
 pub record HasNoSheet (docket sheet : List ℕ) : Type 0 where
   pub d : Contents
   pub read : IsDocketIn docket sheet [] d
@@ -62,12 +62,12 @@ pub record HasNoSheet (docket sheet : List ℕ) : Type 0 where
 abbrev pub IsCaseFault : List ℕ → List ℕ → FilesFault → Type 0
 IsCaseFault docket sheet fault = IsReadingFault docket sheet [] fault ⊎ ((fault ≡ files.NoSheet) × HasNoSheet docket sheet)
 
--- the same, where there may be no sheet's file
+-- why nothing was made of the files, of which the sheet's file may be missing
 abbrev pub IsFilesFault : List ℕ → Option (List ℕ) → FilesFault → Type 0
 IsFilesFault docket None fault = IsReadingFault docket [] [] fault
 IsFilesFault docket (Some sheet) fault = IsCaseFault docket sheet fault
 
--- why nothing was written: the secret is none, the files are at fault, or the writer failed
+-- why nothing was written: the first file has no secret, the files are at fault, or the writer failed
 abbrev pub IsSealFault : List ℕ → Option (List ℕ) → List ℕ → SealFault → Type 0
 IsSealFault docket sheet secret_text (Secret fault) = secret_of secret_text ≡ Err fault
 IsSealFault docket sheet secret_text (Files fault) = (fault ≡ files.Write) ⊎ IsFilesFault docket sheet fault

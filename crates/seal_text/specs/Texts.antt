@@ -36,14 +36,14 @@ list_of_programme d rows p = find (λ row. bytes_eq (field row 1) (programme_nam
 abbrev pub quota_row : List ℕ → ℕ → List ℕ
 quota_row name places = row (codes "Q" ∷ name ∷ decimal places ∷ [])
 
--- what is sealed of programme p before the match: its name and quota, its list, and whether it is withdrawn
+-- what is sealed of programme p before the match: p's name and quota, p's list, and whether p is withdrawn
 unfoldable pub programme_lists : Contents → List Fields → ℕ → List ℕ
 programme_lists d rows p =
     quota_row (programme_name d p) (quota d.instance p)
     ++ (line_if (list_of_programme d rows p)
     ++ withdrawal_if (is_withdrawn d.instance.programmes_withdrawn p) (codes "P") (programme_name d p))
 
--- what is sealed of resident r before the match: its list, which is the `R` record in its place, and whether it is withdrawn
+-- what is sealed of resident r before the match: the `R` record with r's name and list, and whether r is withdrawn
 unfoldable pub resident_lists : Contents → List Fields → ℕ → List ℕ
 resident_lists d rows r =
     line_if (slice_get (records_of (codes "R") rows) r)
@@ -55,7 +55,7 @@ lists_texts d rows =
     map (programme_lists d rows) (range_with_len 0 (length d.instance.quotas))
     ++ map (resident_lists d rows) (range_with_len 0 (length d.instance.resident_lists))
 
--- the `M` row of resident r, where it has programme p
+-- the `M` row of resident r, if r has programme p
 abbrev pub member_row : Contents → List (Option ℕ) → ℕ → ℕ → List ℕ
 member_row d m p r = if holds p (programme_of m r) then mark_row d r (Some p) else []
 
@@ -67,12 +67,13 @@ member_rows d m p n = flat_map (member_row d m p) (range_with_len 0 n)
 unfoldable pub programme_result : Contents → List (Option ℕ) → ℕ → List ℕ
 programme_result d m p = filled_row d m p ++ member_rows d m p (length d.instance.resident_lists)
 
--- the docket keeps what every docket does, and the sheet is one of its members
+-- the docket has what every docket has, and the sheet is a sheet of this docket
 pub record HasSheet (c : CaseParts) : Type 0 where
   pub whole : IsWhole c.docket
   pub sheet_of : IsSheetOf c.docket c.sheet
 
--- what is sealed of resident r after the match: where it is placed, and the rows of reasons that all are told
+-- what is sealed of resident r after the match: where r is placed, and r's rows of the table of reasons for all
+-- residents
 pub record IsResidentResult (c : CaseParts) (r : ℕ) (text : List ℕ) : Type 0 where
   pub reasons : List ℕ
   pub rows : AreRowsOn c (own_names c.docket) Bool.false r reasons

@@ -1,4 +1,4 @@
--- Why the placement at the close is stable, and why each programme's members are its best.
+-- Why the placement of a closed exchange is stable, and why each programme gets its best achievable residents.
 use Rattle.std.proofs.Common.{◌≡◌, ℕ, ◌+◌, ◌⊎◌, Bool, true, false, not, List, ◌∷◌, length, get_or, arith, refl, sym, ap, ◌∙◌, inl, inr, subst, true≢false}
 use Rattle.std.specs.Prelude.{Option, Some, None}
 use Rattle.std.specs.List.{count_by, filter, All}
@@ -16,15 +16,15 @@ use Rattle.settle_law.proofs.Counting.{different_among, different_pass, count_by
 use Rattle.settle_law.proofs.Placements.{same_from_holds, members_of, length-members_of, members_differ, member_from_listed, member_listed}
 use Rattle.settle_law.proofs.NeverRejects.{best_taken, has_turned_down, Standing, SparesAll, offered_is_listed, offered_before, offered_first, crowd_within, best_is_kept}
 
--- a property of each item of a list also holds for a listed number
+-- if each item of a list has a property, a number that stands in the list has it
 pub at_listed : (P : ℕ → Type 0) (xs : List ℕ) (x : ℕ) → All P xs → IsListed xs x → P x
 at_listed P xs x h l = subst P (get_or-place xs x 0 l) (h (place xs x) 0 l)
 
 pub all_listed : (P : ℕ → Type 0) (xs : List ℕ) → ((x : ℕ) → IsListed xs x → P x) → All P xs
 all_listed P xs h k d l = h (get_or xs k d) (IsListed-get_or xs k d l)
 
--- every offer was taken, each programme is full or has offered to its whole list, and each resident holds its best
--- offer
+-- every offer was taken; each programme is full or has offered to its whole list; each resident holds the best offer
+-- that came
 pub record Closing (inst : Instance) (offers taken : ℕ → List ℕ) (m : List (Option ℕ)) : Type 0 where
   pub standing : Standing inst offers taken
   pub spares_all : SparesAll inst taken
@@ -35,7 +35,7 @@ pub record Closing (inst : Instance) (offers taken : ℕ → List ℕ) (m : List
   pub best_given : (r : ℕ) → programme_of m r ≡ best_taken inst taken r
 
 module _ (inst : Instance) (good : IsInstance inst) (offers taken : ℕ → List ℕ) (m : List (Option ℕ)) (c : Closing inst offers taken m) where
-  -- the members of a programme are the residents who got its offer and didn't reject it
+  -- the members of a programme are the residents to whom it offered and who didn't turn it down
   pub member_was_offered : (p r : ℕ) → IsMemberOf m r p →
       IsListed (offers p) r × (has_turned_down inst taken p r ≡ false)
   member_was_offered p r e =
@@ -78,7 +78,7 @@ module _ (inst : Instance) (good : IsInstance inst) (offers taken : ℕ → List
     quotas_kept = λ p. omega (arith, members_are_the_rest p, c.standing.within_quota p);
   }
 
-  -- a programme that hasn't offered to its whole list is full
+  -- a programme that hasn't offered to its whole list has as many members as its quota
   pub full_or_offered_all : (p : ℕ) → (member_count m p ≡ quota inst p) ⊎ (offers p ≡ list_of_programme inst p)
   full_or_offered_all p = elim (c.no_wish p) [ inl d ↦ inl (omega (arith, members_are_the_rest p)) | inr d ↦ inr d ]
 

@@ -1,4 +1,4 @@
--- What holds for a legal list at rest, and so also after its close.
+-- What is true after a legal list of events at rest, and so also after its close.
 use Rattle.std.proofs.Common.{◌≡◌, ℕ, ◌+◌, ◌<◌, ◌≤◌, true, ◌⊎◌, inl, inr, List, [], ◌∷◌, ◌++◌, length, drop, None, refl, ap, sym, ◌∙◌, subst, arith, length-drop, sum_by}
 use Rattle.std.proofs.lemmas.Bool.{cases_lt}
 use Rattle.std.proofs.lemmas.List.{get_or_past}
@@ -29,11 +29,11 @@ rest_after_close inst j rest = record {
   no_wish = λ p m. rw (out_same p j Close refl refl, offers_of_same p j Close refl) (rest.no_wish p m);
 }
 
--- a closed list is at rest, even with its close
+-- a closed legal list of events is still at rest
 pub closed_is_at_rest : (inst : Instance) (cap : Capacity) (j : List Event) → IsLegal inst cap j → is_closed j ≡ true → IsAtRest inst j
 closed_is_at_rest inst cap j legal closed = let c = closed_parts inst cap j legal closed in subst (λ (t : List Event). IsAtRest inst t) (sym c.1) (rest_after_close inst c.0 c.3)
 
--- ---- the placement that was given
+-- ---- the placement that a list of events leads to
 
 pub length-given : (inst : Instance) (j : List Event) → length (given inst j) ≡ length inst.resident_lists
 unfolding given
@@ -50,10 +50,10 @@ given_past inst j r n = get_or_past (given inst j) r None (let e = length-given 
     step e (inl l) = absurd (n l)
     step e (inr l) = omega (arith, e, l)
 
--- ---- at rest
+-- ---- what is true at rest
 
 module _ (inst : Instance) (cap : Capacity) (j : List Event) (legal : IsLegal inst cap j) (rest : IsAtRest inst j) where
-  -- a number that is no member's has sent and got nothing
+  -- at rest a resident has taken every offer made to the resident; a number that is no resident's got no offer
   pub rest_taken : (r : ℕ) → takes r j ≡ offers_to r j
   rest_taken r = step (cases_lt r (length inst.resident_lists)) (cases_lt 0 (length (offers_to r j)))
     where
@@ -79,12 +79,12 @@ module _ (inst : Instance) (cap : Capacity) (j : List Event) (legal : IsLegal in
       prefix_whole (answers_of r j) (calls (list_of_resident inst r) (takes r j)) (answers_in_order inst cap j legal r) (omega (arith, l, z))
       ∙ ap (calls (list_of_resident inst r)) (rest_taken r)
 
-  -- each resident holds the best of its offers
+  -- at rest each resident holds the best offer made to the resident
   pub rest_held : (r : ℕ) → IsResident inst r → held_by r j ≡ best_of (list_of_resident inst r) (offers_to r j)
   unfolding held_by
   rest_held r m = ap last_hold (rest_answered r m) ∙ last_hold-calls (list_of_resident inst r) (offers_to r j)
 
-  -- every rejection that was due was also heard
+  -- at rest a programme's offers are its offers out plus the rejections sent to it
   pub rest_out : IsInstance inst → (p : ℕ) → out p j + sum_by (λ r. rejections_of p (answers_of r j)) (offers_of p j) ≡ length (offers_of p j)
   rest_out is_instance p =
       let e = out_and_rejections inst cap is_instance j legal p in

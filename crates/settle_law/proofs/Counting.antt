@@ -1,5 +1,5 @@
--- Counts in lists of numbers: different numbers in a list are no more than its items, and ordered terms have ordered
--- totals.
+-- Counts in lists of numbers. Different numbers that stand in a list are at most as many as the list's items. Sums keep
+-- the order of their terms.
 use Rattle.std.proofs.Common.{◌≡◌, ℕ, ◌+◌, ◌<◌, ◌≤◌, Bool, true, false, cond, not, eqb, List, [], ◌∷◌, length, arith, refl, sym, ap, ◌∙◌, inl, inr, subst, eqb-true, eq-eqb}
 use Rattle.std.specs.List.{sum_by, count_by, filter, range_with_len}
 use Rattle.std.proofs.lemmas.List.Sums.{sum_by-cons, length-filter, count_by-le-length}
@@ -16,7 +16,7 @@ pub one_if_le : (b c : Bool) → (b ≡ true → c ≡ true) → one_if b ≤ on
 one_if_le true c h = rw (h refl) (omega arith)
 one_if_le false c h = omega arith
 
--- two tests, of which at most one passes, and only if a third test passes
+-- if at most one of two tests passes, and each only where a third test passes, their number is at most the third test's
 pub one_if_apart : (b c d : Bool) → (b ≡ true → d ≡ true) → (c ≡ true → d ≡ true) → (b ≡ true → c ≡ true → ⊥) →
     one_if b + one_if c ≤ one_if d
 one_if_apart true true d h k n = absurd (n refl refl)
@@ -24,7 +24,7 @@ one_if_apart true false d h k n = rw (h refl) (omega arith)
 one_if_apart false true d h k n = rw (k refl) (omega arith)
 one_if_apart false false d h k n = omega arith
 
--- ordered terms have ordered totals
+-- if each term of one sum is at most the term of another sum, the first sum is at most the second sum
 pub sum_by-le_listed : (f g : ℕ → ℕ) (xs : List ℕ) → ((x : ℕ) → IsListed xs x → f x ≤ g x) → sum_by f xs ≤ sum_by g xs
 sum_by-le_listed f g [] h = omega arith
 sum_by-le_listed f g (x ∷ xs) h =
@@ -32,7 +32,7 @@ sum_by-le_listed f g (x ∷ xs) h =
     let first : f x ≤ g x = h x (IsListed-cons_same x xs) in
     omega (arith, sum_by-cons f x xs, sum_by-cons g x xs)
 
--- if terms are ordered one way and their totals the other way, the terms are equal
+-- if each term of one sum is at most that of another, and the second sum is at most the first, all terms are equal
 pub same_terms : (f g : ℕ → ℕ) (xs : List ℕ) → ((x : ℕ) → IsListed xs x → f x ≤ g x) → sum_by g xs ≤ sum_by f xs →
     (x : ℕ) → IsListed xs x → f x ≡ g x
 same_terms f g [] h t x l = absurd (IsListed-nil x l)
@@ -46,23 +46,24 @@ same_terms f g (y ∷ ys) h t x l =
       | inr c ↦ same_terms f g ys (λ z m. h z (IsListed-cons y ys z m)) (omega arith) x c
     ]
 
--- a sum of terms that are all 0
+-- a sum is 0 if all its terms are 0
 pub sum_by_zeros : (f : ℕ → ℕ) (xs : List ℕ) → ((x : ℕ) → f x ≡ 0) → sum_by f xs ≡ 0
 sum_by_zeros f [] h = refl
 sum_by_zeros f (x ∷ xs) h = omega (arith, sum_by-cons f x xs, h x, sum_by_zeros f xs h)
 
--- the sum of sums
+-- the sum of two functions together is the sum of the first plus the sum of the second
 pub sum_by-plus : (f g : ℕ → ℕ) (xs : List ℕ) → sum_by (λ x. f x + g x) xs ≡ sum_by f xs + sum_by g xs
 sum_by-plus f g [] = refl
 sum_by-plus f g (x ∷ xs) =
     omega (arith, sum_by-plus f g xs, sum_by-cons f x xs, sum_by-cons g x xs, sum_by-cons (λ y. f y + g y) x xs)
 
--- a weaker test passes for at least as many items
+-- if every item that passes one test passes a second test, the second test counts at least as many items
 pub count_by-le_listed : (f g : ℕ → Bool) (xs : List ℕ) → ((x : ℕ) → IsListed xs x → f x ≡ true → g x ≡ true) →
     count_by f xs ≤ count_by g xs
 count_by-le_listed f g xs h = sum_by-le_listed (λ x. one_if (f x)) (λ x. one_if (g x)) xs (λ x l. one_if_le (f x) (g x) (h x l))
 
--- items that pass one of two tests that never both pass
+-- if no item passes both of two tests, and each passing item passes a third test, the two counts together are at most
+-- the third count
 pub count_by-apart : (f g h : ℕ → Bool) (xs : List ℕ) → ((x : ℕ) → f x ≡ true → h x ≡ true) →
     ((x : ℕ) → g x ≡ true → h x ≡ true) → ((x : ℕ) → f x ≡ true → g x ≡ true → ⊥) →
     count_by f xs + count_by g xs ≤ count_by h xs
@@ -71,7 +72,7 @@ count_by-apart f g h xs p q n =
     let sums = sum_by-plus (λ x. one_if (f x)) (λ x. one_if (g x)) xs in
     omega arith
 
--- each item passes a test or fails it
+-- the items that pass a test and the items that fail it are together all items
 pub count_by-not : (f : ℕ → Bool) (xs : List ℕ) → count_by f xs + count_by (λ x. not (f x)) xs ≡ length xs
 count_by-not f [] = refl
 count_by-not f (x ∷ xs) =
@@ -85,7 +86,7 @@ count_by-not f (x ∷ xs) =
     both true = refl
     both false = refl
 
--- a listed item that passes is counted
+-- if some item of a list passes a test, the test counts at least one item
 pub count_by_pos : (f : ℕ → Bool) (xs : List ℕ) (x : ℕ) → IsListed xs x → f x ≡ true → 1 ≤ count_by f xs
 count_by_pos f [] x l p = absurd (IsListed-nil x l)
 count_by_pos f (y ∷ ys) x l p =
@@ -95,7 +96,7 @@ count_by_pos f (y ∷ ys) x l p =
       | inr c ↦ let h = count_by_pos f ys x c p in omega arith
     ]
 
--- Different numbers that stand in a list are no more than the items of the list that are among them.
+-- If all different numbers of list xs stand in list ys, then xs has at most as many items as ys has items from xs.
 pub different_among : (xs ys : List ℕ) → HasNoRepeats xs → ((x : ℕ) → IsListed xs x → IsListed ys x) →
     length xs ≤ count_by (is_listed xs) ys
 different_among [] ys n h = omega arith
@@ -108,7 +109,8 @@ different_among (x ∷ xs) ys n h =
     (λ z e d. no_repeats_head x xs n (is_listed-true xs x (subst (λ w. is_listed xs w ≡ true) (sym (eqb-true x z e)) d))) in
     omega arith
 
--- Different numbers that stand in a list and pass a test are no more than the items that pass.
+-- If all different numbers of list xs stand in list ys and pass a test, then xs has at most as many items as pass the
+-- test in ys.
 pub different_pass : (xs ys : List ℕ) (f : ℕ → Bool) → HasNoRepeats xs →
     ((x : ℕ) → IsListed xs x → IsListed ys x × (f x ≡ true)) → length xs ≤ count_by f ys
 different_pass xs ys f n h =

@@ -1,4 +1,4 @@
--- A legal list has at most six events for each acceptable pair, and one close.
+-- A legal list of events has at most six events for each acceptable pair, and one close.
 use Rattle.std.proofs.Common.{◌≡◌, ℕ, zero, suc, ◌+◌, ◌*◌, ◌≤◌, List, [], ◌∷◌, length, arith, sum_by}
 use Rattle.std.proofs.lemmas.List.Sums.{sum_by-cons}
 use Rattle.match_model.specs.Instance.{Instance, pair_count, list_at, list_of_programme, list_of_resident}
@@ -17,7 +17,7 @@ sum_below_first : (f : ℕ → ℕ) (n : ℕ) → sum_below f (suc n) ≡ f 0 + 
 sum_below_first f zero = omega arith
 sum_below_first f (suc n) = omega (arith, sum_below_first f n)
 
--- the lists of some members have at most as many items as all lists
+-- the lists of some members together have at most as many items as all members' lists together
 lists_within : (lists : List (List ℕ)) (n : ℕ) → sum_below (λ i. length (list_at lists i)) n ≤ sum_by (λ (xs : List ℕ). length xs) lists
 lists_within [] n = omega (arith, sum_below_zero n)
 lists_within (xs ∷ rest) zero = omega arith
@@ -57,7 +57,7 @@ module _ (inst : Instance) (cap : Capacity) (j : List Event) (legal : IsLegal in
   hears_within : over_programmes inst (λ p. length (hears p j)) ≤ over_programmes inst (λ p. length (answers_to p j))
   hears_within = sum_below-le _ _ (length inst.quotas) (λ p l. prefix_length (hears p j) (answers_to p j) (hears_in_order inst cap j legal p))
 
-  -- there are at most E offers and E takes, and at most 2E answers and 2E hears
+  -- with E acceptable pairs there are at most E offers, E takes, 2E answers, 2E hears and one close
   pub bound : length j ≤ 6 * pair_count inst + 1
   bound =
       let offers = offers_of_total inst cap j legal in

@@ -1,4 +1,5 @@
--- What legal lists of events show about offers and takes. So no rejection of an achievable programme is ever due.
+-- What legal lists of events show about offers and takes. From this it follows that no rejection of an achievable
+-- programme is ever due.
 use Rattle.std.proofs.Common.{◌<◌, ◌≡◌, ℕ, ◌+◌, ◌≤◌, Bool, true, false, cond, not, ◌&&◌, List, [], ◌∷◌, ◌++◌, length, get_or, arith, refl, sym, ap, ◌∙◌, inl, inr, subst, true≢false, eqb, eq-eqb, le_of_eq}
 use Rattle.std.specs.Prelude.{Option, Some, None}
 use Rattle.std.specs.List.{count_by, sum_by, All}
@@ -38,11 +39,11 @@ offered j p = offers_of p j
 abbrev pub taken : List Event → ℕ → List ℕ
 taken j r = takes r j
 
--- how often r's takes made a rejection of p due
+-- how many rejections of programme p the takes of resident r made due
 abbrev pub called_to_reject : Instance → List Event → ℕ → ℕ → ℕ
 called_to_reject inst j p r = rejections_of p (calls (list_of_resident inst r) (takes r j))
 
--- two ways to write the test of an optional number
+-- two ways to test whether an option has a number give the same answer
 number_test : (o : Option ℕ) (p : ℕ) → is_number o p ≡ holds p o
 number_test None p = refl
 number_test (Some q) p = refl
@@ -56,7 +57,7 @@ true_from_one : (b : Bool) → 1 ≤ one_if b → b ≡ true
 true_from_one true h = refl
 true_from_one false h = absurd (omega arith)
 
--- a rejection counts among those of its own programme
+-- a rejection among the answers counts as a rejection of the programme that it names
 counted_rejection : (answers : List Answered) (k : ℕ) (d : Answered) → k < length answers →
     is_rejection (get_or answers k d) ≡ true → 1 ≤ rejections_of (get_or answers k d).0 answers
 counted_rejection answers k d l t =
@@ -66,7 +67,7 @@ counted_rejection answers k d l t =
     omega arith
 
 module _ (inst : Instance) (cap : Capacity) (good : IsInstance inst) where
-  -- r owed a rejection of p once if r has turned p down, and else never
+  -- resident r owed one rejection of programme p if r has turned p down, and no rejection of p otherwise
   pub called_rejections : (j : List Event) → IsLegal inst cap j → (r p : ℕ) →
       called_to_reject inst j p r ≡ one_if (has_turned_down inst (taken j) p r)
   called_rejections j legal r p =
@@ -91,7 +92,7 @@ module _ (inst : Instance) (cap : Capacity) (good : IsInstance inst) where
         omega arith;
   }
 
-  -- if an event does not change what a resident took, it does not change what it has turned down
+  -- an event that does not change what a resident took does not change which programmes the resident has turned down
   unmoved : (j : List Event) (e : Event) → SparesAll inst (taken j) → (r p : ℕ) → taken_by r e ≡ [] →
       has_turned_down inst (taken (j ++ e ∷ [])) p r ≡ true → ¬ IsAchievable inst r p
   unmoved j e ih r p none t = ih.spares r p (subst (λ l. has_turned_down inst (λ s. l) p r ≡ true) (takes_same r j e none) t)
@@ -104,7 +105,7 @@ module _ (inst : Instance) (cap : Capacity) (good : IsInstance inst) where
     | inr other ↦ unmoved j (Take q b) ih r p (where_same_apart q r b (λ e. other (sym e))) t
   ]
 
-  -- by induction on the events; only a take can turn a programme down
+  -- no legal list of events makes a resident turn down an achievable programme; only a take can turn a programme down
   pub spares_all : (j : List Event) → IsLegal inst cap j → SparesAll inst (taken j)
   spares_all = legal_induction inst cap (λ j. SparesAll inst (taken j)) nil push
     where
@@ -119,7 +120,7 @@ module _ (inst : Instance) (cap : Capacity) (good : IsInstance inst) where
       push j (Hear q b k) legal may ih = record { spares = λ r p. unmoved j (Hear q b k) ih r p refl }
       push j Close legal may ih = record { spares = λ r p. unmoved j Close ih r p refl }
 
-  -- a rejection that was due is for a programme that was turned down, so this programme isn't achievable
+  -- if a rejection of a programme was due, the programme is not achievable for the resident
   pub never_rejects : (j : List Event) → IsLegal inst cap j → (r : ℕ) →
       All (SparesAchievable inst r) (calls (list_of_resident inst r) (takes r j))
   never_rejects j legal r k d l rejects =
@@ -129,12 +130,12 @@ module _ (inst : Instance) (cap : Capacity) (good : IsInstance inst) where
       let called = called_rejections j legal r p in
       (spares_all j legal).spares r p (true_from_one (has_turned_down inst (taken j) p r) (omega arith))
 
-  -- a resident to whom a programme offered is one of the instance's
+  -- a resident to whom a programme offered belongs to the instance
   offered_is_resident : (j : List Event) → IsLegal inst cap j → (p r : ℕ) → IsListed (offers_of p j) r →
       IsResident inst r
   offered_is_resident j legal p r l = acceptable_resident inst good r p (offer_acceptable inst cap good j legal p r l)
 
-  -- a legal list at rest has everything that the argument about the close needs
+  -- a legal list of events at rest has everything that the argument about the close needs
   pub closing : (j : List Event) → IsLegal inst cap j → IsAtRest inst j →
       Closing inst (offered j) (taken j) (given inst j)
   closing j legal rest = record {
@@ -168,7 +169,7 @@ module _ (inst : Instance) (cap : Capacity) (good : IsInstance inst) where
           let within = (standing j legal).within_quota p in
           omega arith
 
-  -- a closed list has it too
+  -- a closed legal list of events has everything that the argument about the close needs
   pub closing_of_closed : (j : List Event) → IsLegal inst cap j → is_closed j ≡ true →
       Closing inst (offered j) (taken j) (given inst j)
   closing_of_closed j legal closed = closing j legal (closed_is_at_rest inst cap j legal closed)

@@ -1,4 +1,4 @@
--- Every instance has a settled assignment: that of a closed list, continued from the empty list.
+-- Every instance has a settled assignment: the placement of a closed list of events that continues the empty list.
 use Rattle.std.proofs.Common.{[], refl}
 use Rattle.match_model.specs.Instance.{Instance, IsInstance}
 use Rattle.exchange_core.specs.declared.event.Event.{Event}

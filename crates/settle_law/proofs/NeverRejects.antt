@@ -1,4 +1,5 @@
--- Why no achievable programme is turned down, whatever offers were made in order and within the quotas.
+-- Why no resident turns down an achievable programme, if programmes offer in the order of their lists and within their
+-- quotas.
 use Rattle.std.proofs.Common.{◌≡◌, ℕ, ◌+◌, ◌<◌, ◌≤◌, Bool, true, false, not, ◌&&◌, List, ◌∷◌, ◌++◌, length, arith, refl, sym, ap, ◌∙◌, inl, inr, subst, true≢false, length-append}
 use Rattle.std.specs.Prelude.{Option, Some, None}
 use Rattle.std.specs.List.{count_by}
@@ -16,26 +17,27 @@ use Rattle.settle_law.proofs.Places.{listed_cases, before_from_not_after, place-
 use Rattle.settle_law.proofs.Counting.{different_pass, count_by-not}
 use Rattle.settle_law.proofs.Placements.{holds_true, members_of, length-members_of, members_differ, member_from_listed}
 
--- the best programme among the offers that r took
+-- the best programme among those whose offers resident r took
 abbrev pub best_taken : Instance → (ℕ → List ℕ) → ℕ → Option ℕ
 best_taken inst taken r = best_of (list_of_resident inst r) (taken r)
 
--- whether r took an offer by p, and has another programme as its best
+-- whether resident r took an offer of programme p, and another programme is r's best
 abbrev pub has_turned_down : Instance → (ℕ → List ℕ) → ℕ → ℕ → Bool
 has_turned_down inst taken p r = is_listed (taken r) p && not (holds p (best_taken inst taken r))
 
--- the residents to whom each programme offered, and the offers that each resident took: in order, and never above the
--- quota
+-- what is known about offers: programmes offer in the order of their lists, residents take only what was offered, and
+-- no programme has more open offers than its quota
 pub record Standing (inst : Instance) (offers taken : ℕ → List ℕ) : Type 0 where
   pub in_order : (p : ℕ) → (rest : List ℕ) × (offers p ++ rest ≡ list_of_programme inst p)
   pub taken_was_offered : (r p : ℕ) → IsListed (taken r) p → IsListed (offers p) r
   pub within_quota : (p : ℕ) → length (offers p) ≤ quota inst p + count_by (has_turned_down inst taken p) (offers p)
 
--- no resident has turned down a programme that is achievable for it
+-- no resident has turned down a programme that is achievable for this resident
 pub record SparesAll (inst : Instance) (taken : ℕ → List ℕ) : Type 0 where
   pub spares : (r p : ℕ) → has_turned_down inst taken p r ≡ true → ¬ IsAchievable inst r p
 
--- in a stable assignment, a programme that a resident prefers is full of residents that stand before this one
+-- if a resident prefers a programme in a stable assignment, the programme is full of residents who stand before this
+-- resident on its list
 pub record IsFullOfBetter (inst : Instance) (m : List (Option ℕ)) (p r : ℕ) : Type 0 where
   pub full : quota inst p ≤ member_count m p
   pub better : (s : ℕ) → IsMemberOf m s p → IsBefore (list_of_programme inst p) s r
@@ -53,7 +55,7 @@ full_of_better inst m r p st ac np pr = record {
 }
 
 module _ (inst : Instance) (good : IsInstance inst) (offers taken : ℕ → List ℕ) (st : Standing inst offers taken) where
-  -- a resident who got an offer stands among the first of the programme's list, as many as got one
+  -- if programme p offered to n residents, a resident who got an offer is among the first n on p's list
   pub offered_is_listed : (p r : ℕ) → IsListed (offers p) r →
       Acceptable inst r p × (place (list_of_programme inst p) r < length (offers p))
   offered_is_listed p r l =
@@ -62,13 +64,13 @@ module _ (inst : Instance) (good : IsInstance inst) (offers taken : ℕ → List
       let size : length (offers p) ≤ length (list_of_programme inst p) = subst (λ xs. length (offers p) ≤ length xs) o.1 (omega (arith, length-append (offers p) o.0)) in
       (omega arith, omega arith)
 
-  -- a resident without an offer stands after them
+  -- if programme p offered to n residents, a resident without an offer is not among the first n on p's list
   others_are_behind : (p r : ℕ) → (IsListed (offers p) r → ⊥) → length (offers p) ≤ place (list_of_programme inst p) r
   others_are_behind p r n =
       let o = st.in_order p in
       subst (λ xs. length (offers p) ≤ place xs r) o.1 (place-append_other (offers p) o.0 r n)
 
-  -- a resident who stands before one with an offer also got an offer
+  -- if a resident got an offer, each resident before this one on the programme's list got an offer too
   pub offered_before : (p r s : ℕ) → IsListed (offers p) r → IsBefore (list_of_programme inst p) s r → IsListed (offers p) s
   offered_before p r s l b = elim (listed_cases (offers p) s) [
     | inl c ↦ c
@@ -78,14 +80,14 @@ module _ (inst : Instance) (good : IsInstance inst) (offers taken : ℕ → List
         absurd (omega arith)
   ]
 
-  -- a resident with an offer stands before a resident without
+  -- a resident with an offer stands before a resident without an offer on the programme's list
   pub offered_first : (p r s : ℕ) → IsListed (offers p) s → (IsListed (offers p) r → ⊥) → IsBefore (list_of_programme inst p) s r
   offered_first p r s l n =
       let within = (offered_is_listed p s l).1 in
       let behind = others_are_behind p r n in
       omega arith
 
-  -- different residents who got an offer and haven't turned it down are at most as many as the quota
+  -- at most as many different residents got an offer of p and haven't turned p down as p has places
   pub crowd_within : (p : ℕ) (xs : List ℕ) → HasNoRepeats xs →
       ((x : ℕ) → IsListed xs x → IsListed (offers p) x × (has_turned_down inst taken p x ≡ false)) →
       length xs ≤ quota inst p
@@ -95,12 +97,12 @@ module _ (inst : Instance) (good : IsInstance inst) (offers taken : ℕ → List
       let c = st.within_quota p in
       omega arith
 
-  -- the best programme isn't turned down
+  -- a resident does not turn down the best programme among those taken
   pub best_is_kept : (r b : ℕ) → best_taken inst taken r ≡ Some b → has_turned_down inst taken b r ≡ false
   best_is_kept r b e =
       and_right (is_listed (taken r) b) (not (holds b (best_taken inst taken r))) (ap not (holds_true b (best_taken inst taken r) e))
 
-  -- a programme that r turned down stands after r's best
+  -- a programme that resident r turned down stands behind r's best programme on r's list
   pub best_is_before : (r q b : ℕ) → best_taken inst taken r ≡ Some b → has_turned_down inst taken q r ≡ true →
       (b ≡ q → ⊥) × IsBefore (list_of_resident inst r) b q
   best_is_before r q b e t =
@@ -115,7 +117,7 @@ module _ (inst : Instance) (good : IsInstance inst) (offers taken : ℕ → List
         ],
       )
 
-  -- if all other residents spare what is achievable for them, so does r
+  -- if no other resident has turned down an achievable programme, resident r has turned down none either
   pub spares_one : (r : ℕ) →
       ((s p : ℕ) → (s ≡ r → ⊥) → has_turned_down inst taken p s ≡ true → ¬ IsAchievable inst s p) → (q : ℕ) →
       has_turned_down inst taken q r ≡ true → ¬ IsAchievable inst r q

@@ -12,7 +12,7 @@ use Rattle.match_model.proofs.Counts.{sum_by_same}
 use Rattle.settle_law.proofs.Places.{range_has, HasNoRepeats-range, HasNoRepeats-filter, IsListed-filter, filter_keeps}
 use Rattle.settle_law.proofs.Counting.{one_if, sum_by_zeros, sum_by-plus, count_by-range_same}
 
--- the test for p, and what it means
+-- the test whether an option is programme p passes exactly if it is p
 pub holds_true : (p : ℕ) (o : Option ℕ) → o ≡ Some p → holds p o ≡ true
 holds_true p None e = absurd (cc)
 holds_true p (Some q) e = eq-eqb q p (same_Some q p e)
@@ -21,14 +21,14 @@ pub same_from_holds : (p : ℕ) (o : Option ℕ) → holds p o ≡ true → o �
 same_from_holds p None e = absurd (cc)
 same_from_holds p (Some q) e = ap Some (eqb-true q p e)
 
--- a resident with a programme has a place in the list
+-- a resident who has a programme has an entry in the placement
 pub member_within : (m : List (Option ℕ)) (r p : ℕ) → IsMemberOf m r p → r < length m
 member_within m r p e = elim (cases_lt r (length m)) [
   | inl c ↦ c
   | inr c ↦ let none = get_or_past m r None c in absurd (cc)
 ]
 
--- a count over the places of a list is a count over its numbers
+-- the entries of a placement that pass a test are as many as the residents whose entries pass this test
 count_by_places : (f : Option ℕ → Bool) (xs before ms : List (Option ℕ)) (k : ℕ) → xs ≡ before ++ ms →
     length before ≡ k → count_by f ms ≡ count_by (λ r. f (get_or xs r None)) (range_with_len k (length ms))
 count_by_places f xs before [] k e l = refl
@@ -44,7 +44,7 @@ pub count_by-numbers : (f : Option ℕ → Bool) (m : List (Option ℕ)) →
     count_by f m ≡ count_by (λ r. f (programme_of m r)) (range_with_len 0 (length m))
 count_by-numbers f m = count_by_places f m [] m 0 refl refl
 
--- the residents whom the placement gives to p
+-- the residents whom the placement matches with programme p
 abbrev pub members_of : List (Option ℕ) → ℕ → List ℕ
 members_of m p = filter (λ r. holds p (programme_of m r)) (range_with_len 0 (length m))
 
@@ -62,13 +62,13 @@ member_listed m p r e =
     let w = member_within m r p e in
     filter_keeps (λ s. holds p (programme_of m s)) (range_with_len 0 (length m)) r (range_has 0 (length m) r (omega arith) (omega arith)) (holds_true p (programme_of m r) e)
 
--- a programme below n is one of the numbers below n, exactly once
+-- among the numbers below n, exactly one is the programme of a resident, if the resident has a programme
 placed_once : (n : ℕ) (o : Option ℕ) → ((p : ℕ) → o ≡ Some p → p < n) →
     sum_by (λ p. one_if (holds p o)) (range_with_len 0 n) ≡ one_if (is_some o)
 placed_once n None h = sum_by_zeros (λ p. one_if (holds p None)) (range_with_len 0 n) (λ p. refl)
 placed_once n (Some q) h = count_by-range_same n q (h q refl)
 
--- the members of all programmes are the residents with a programme
+-- the members of all programmes together are the residents who have a programme
 pub members_add_up : (n : ℕ) (m : List (Option ℕ)) → ((r p : ℕ) → IsMemberOf m r p → p < n) →
     sum_by (member_count m) (range_with_len 0 n) ≡ count_by is_some m
 members_add_up n [] h = sum_by_zeros (member_count []) (range_with_len 0 n) (λ p. refl)

@@ -1,4 +1,4 @@
--- Places in a list of numbers: which numbers stand in it, which stands first, and that none stands twice.
+-- Places of numbers in a list: which numbers the list has, which comes first, and that no number stands twice.
 use Rattle.std.proofs.Common.{◌≡◌, ℕ, zero, suc, ◌+◌, ◌<◌, ◌≤◌, ◌⊎◌, Bool, true, false, cond, eqb, List, [], ◌∷◌, ◌++◌, length, get_or, arith, refl, sym, ap, ◌∙◌, inl, inr, subst, eqb-true}
 use Rattle.std.specs.List.{filter, range_with_len}
 use Rattle.std.proofs.lemmas.Bool.{eqb-false, cases_lt}
@@ -6,7 +6,7 @@ use Rattle.std.proofs.lemmas.Option.{get_or_from_slice_get}
 use Rattle.match_model.specs.Ranking.{place, IsListed, IsBefore, HasNoRepeats}
 use Rattle.match_model.proofs.Listed.{place-head, slice_get_place, same_from_place, no_repeats_tail, no_repeats_head}
 
--- whether an item is the head, and what this says about its place
+-- an item is the first of the list and has place 0, or its place is one more than in the rest of the list
 pub place_cases : (y : ℕ) (ys : List ℕ) (x : ℕ) →
     ((y ≡ x) × (place (y ∷ ys) x ≡ 0)) ⊎ ((y ≡ x → ⊥) × (place (y ∷ ys) x ≡ 1 + place ys x))
 place_cases y ys x = go (eqb y x) refl
@@ -16,11 +16,11 @@ place_cases y ys x = go (eqb y x) refl
     go true e = inl (eqb-true y x e, rw e refl)
     go false e = inr (eqb-false y x e, rw e refl)
 
--- the item at the place of a listed item is that item
+-- the item at the place of a listed number is this number
 pub get_or-place : (xs : List ℕ) (x d : ℕ) → IsListed xs x → get_or xs (place xs x) d ≡ x
 get_or-place xs x d l = get_or_from_slice_get xs (place xs x) x d (slice_get_place xs x l)
 
--- if a listed item doesn't stand after another, and is a different one, it stands before it
+-- if listed item x does not stand after item y and differs from y, then x stands before y
 pub before_from_not_after : (xs : List ℕ) (x y : ℕ) → IsListed xs x → (x ≡ y → ⊥) → (IsBefore xs y x → ⊥) →
     IsBefore xs x y
 before_from_not_after xs x y l n h = elim (cases_lt (place xs x) (place xs y)) [
@@ -31,7 +31,7 @@ before_from_not_after xs x y l n h = elim (cases_lt (place xs x) (place xs y)) [
   ]
 ]
 
--- an item at a place within the list is listed
+-- the place of an item is at most the index at which it was found
 pub place-get_or-le : (xs : List ℕ) (k d : ℕ) → k < length xs → place xs (get_or xs k d) ≤ k
 place-get_or-le [] k d l = absurd (omega arith)
 place-get_or-le (y ∷ ys) zero d l = rw (place-head y ys) (omega arith)
@@ -42,7 +42,7 @@ place-get_or-le (y ∷ ys) (suc k) d l =
 pub IsListed-get_or : (xs : List ℕ) (k d : ℕ) → k < length xs → IsListed xs (get_or xs k d)
 IsListed-get_or xs k d l = let h = place-get_or-le xs k d l in omega arith
 
--- which numbers stand in a list with one more item at its head
+-- which numbers stand in a list to which one item is added in front
 pub IsListed-cons_same : (y : ℕ) (ys : List ℕ) → IsListed (y ∷ ys) y
 IsListed-cons_same y ys = let e = place-head y ys in omega arith
 
@@ -58,7 +58,7 @@ IsListed-nil x l = omega arith
 pub listed_cases : (xs : List ℕ) (x : ℕ) → IsListed xs x ⊎ (IsListed xs x → ⊥)
 listed_cases xs x = elim (cases_lt (place xs x) (length xs)) [ inl c ↦ inl c | inr c ↦ inr (λ l. omega arith) ]
 
--- a number that is new in a longer list stands after the old ones
+-- a number that isn't in the first of two joined lists has a place behind the first list
 pub place-append_other : (xs ys : List ℕ) (x : ℕ) → (IsListed xs x → ⊥) → length xs ≤ place (xs ++ ys) x
 place-append_other [] ys x n = omega arith
 place-append_other (y ∷ xs) ys x n = elim (place_cases y (xs ++ ys) x) [
@@ -66,7 +66,7 @@ place-append_other (y ∷ xs) ys x n = elim (place_cases y (xs ++ ys) x) [
   | inr d ↦ let h : length xs ≤ place (xs ++ ys) x = place-append_other xs ys x (λ l. n (IsListed-cons y xs x l)) in omega arith
 ]
 
--- a list without repeats, item by item
+-- when a list has no repeats: the empty list, and a list with one item in front
 pub HasNoRepeats-nil : HasNoRepeats []
 HasNoRepeats-nil i j d l m = absurd (omega arith)
 
@@ -76,7 +76,7 @@ HasNoRepeats-cons y ys n h zero (suc j) d l m =
     λ e. n (subst (IsListed ys) (sym e) (IsListed-get_or ys j d (omega arith)))
 HasNoRepeats-cons y ys n h (suc i) (suc j) d l m = h i j d (omega arith) (omega arith)
 
--- what a filter keeps
+-- which items a filter selects, and that it makes no repeats
 pub IsListed-filter : (f : ℕ → Bool) (xs : List ℕ) (x : ℕ) → IsListed (filter f xs) x → IsListed xs x × (f x ≡ true)
 IsListed-filter f [] x l = absurd (omega arith)
 IsListed-filter f (y ∷ ys) x l = go (f y) refl l (IsListed-filter f ys x)
@@ -108,7 +108,7 @@ HasNoRepeats-filter f (y ∷ ys) h = go (f y) (HasNoRepeats-filter f ys (no_repe
     go true m = HasNoRepeats-cons y (filter f ys) (λ l. no_repeats_head y ys h (IsListed-filter f ys y l).0) m
     go false m = m
 
--- the numbers from a on, in order
+-- which numbers stand in the list of n numbers from a on
 pub IsListed-range : (a n x : ℕ) → IsListed (range_with_len a n) x → (a ≤ x) × (x < a + n)
 IsListed-range a zero x l = absurd (omega arith)
 IsListed-range a (suc n) x l = elim (IsListed-cons_cases a (range_with_len (a + 1) n) x l) [

@@ -1,5 +1,5 @@
--- Why every stable assignment matches the same residents, and gives each resident nothing worse than its held
--- programme.
+-- Why every stable assignment matches the same residents as a closed exchange, and gives no resident a programme that
+-- is ranked below the programme held.
 use Rattle.std.proofs.Common.{◌≡◌, ℕ, ◌≤◌, ◌↔◌, Bool, true, false, List, length, arith, refl, sym, ap, ◌∙◌, inl, inr, subst}
 use Rattle.std.specs.Prelude.{Option, Some, None, is_some, IsSome}
 use Rattle.std.specs.List.{count_by, sum_by, range_with_len}
@@ -18,12 +18,12 @@ use Rattle.settle_law.proofs.Placements.{members_of, length-members_of, members_
 use Rattle.settle_law.proofs.NeverRejects.{has_turned_down, full_of_better}
 use Rattle.settle_law.proofs.AtClose.{Closing, all_listed, given_is_stable, given_is_assignment, member_is_best, best_is_member, offered_is_member, full_or_offered_all}
 
--- a programme in an assignment is one of the instance's
+-- a programme in an assignment belongs to the instance
 pub given_is_programme : (inst : Instance) → IsInstance inst → (m : List (Option ℕ)) → IsAssignment inst m → (r p : ℕ) →
     IsMemberOf m r p → IsProgramme inst p
 given_is_programme inst good m a r p e = acceptable_programme inst good r p (a.pairs_acceptable r p e)
 
--- two tests with the same number are equal
+-- two tests are equal if they give the same number
 same_tests : (b c : Bool) → one_if b ≡ one_if c → b ≡ c
 same_tests true true e = refl
 same_tests true false e = absurd (omega arith)
@@ -39,7 +39,7 @@ is_some_from_not_none None n = absurd (n refl)
 is_some_from_not_none (Some p) n = refl
 
 module _ (inst : Instance) (good : IsInstance inst) (offers taken : ℕ → List ℕ) (m : List (Option ℕ)) (c : Closing inst offers taken m) where
-  -- a member prefers its own programme to that of another stable assignment
+  -- a resident never prefers the programme of the closed exchange to the programme of another stable assignment
   pub none_is_better_off : (n : List (Option ℕ)) → IsStable inst n → (r p : ℕ) → IsMemberOf m r p → ¬ IsMemberOf n r p →
       ¬ Prefers (list_of_resident inst r) p (programme_of n r)
   none_is_better_off n st r p e ne would =
@@ -52,7 +52,7 @@ module _ (inst : Instance) (good : IsInstance inst) (offers taken : ℕ → List
       let is_member = member_from_listed n p s l in
       record { before = f.better s is_member; achievable = record { matching = n; is_stable = st; has_both = is_member } }))
 
-  -- a matched resident is matched in every stable assignment
+  -- a resident matched in the closed exchange is matched in every stable assignment
   pub matched_everywhere : (n : List (Option ℕ)) → IsStable inst n → (r : ℕ) → is_some (programme_of m r) ≡ true →
       is_some (programme_of n r) ≡ true
   matched_everywhere n st r s = go (programme_of m r) refl s
@@ -62,7 +62,7 @@ module _ (inst : Instance) (good : IsInstance inst) (offers taken : ℕ → List
       go (Some p) e t = is_some_from_not_none (programme_of n r)
           (λ none. none_is_better_off n st r p e (λ same. absurd (cc)) (subst (Prefers (list_of_resident inst r) p) (sym none) tt))
 
-  -- no programme has more members in another stable assignment
+  -- no programme has more members in a stable assignment than in the closed exchange
   pub no_more_members : (n : List (Option ℕ)) → IsStable inst n → (p : ℕ) → member_count n p ≤ member_count m p
   no_more_members n st p = elim (full_or_offered_all inst good offers taken m c p) [
     | inl full ↦ omega (arith, st.is_assignment.quotas_kept p)
@@ -118,7 +118,7 @@ module _ (inst : Instance) (good : IsInstance inst) (offers taken : ℕ → List
     pub same_matched : (r : ℕ) → IsResident inst r → IsSome (programme_of n r) ↔ IsSome (programme_of m r)
     same_matched r i = (λ s. same_matched_here r i ∙ s, matched_everywhere n st r)
 
-  -- each resident has its worst achievable programme
+  -- each resident gets the last-ranked of the resident's achievable programmes
   pub has_worst : (r : ℕ) → IsResident inst r → IsWorst inst r (programme_of m r)
   has_worst r i = go (programme_of m r) refl
     where

@@ -1,4 +1,4 @@
--- The laws of an exchange's placement, proved from what legal lists show.
+-- The laws about the placement of a closed exchange, proved from what legal lists of events show.
 use Rattle.exchange_core.specs.Left.{given}
 use Rattle.settle_law.specs.SettledLaws.{NeverRejectsLaw, SettledLaw, SameResidentsLaw}
 use Rattle.settle_law.proofs.FromLegal.{offered, taken, never_rejects, closing_of_closed}

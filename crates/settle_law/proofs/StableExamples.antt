@@ -1,4 +1,4 @@
--- Small instances that show that the definitions of stable and settled mean what they say.
+-- Small instances that show what the definitions of stable and settled mean.
 use Rattle.std.proofs.Common.{◌≡◌, ℕ, zero, suc, ◌<◌, ◌≤◌, ◌⊎◌, false, List, [], ◌∷◌, length, get_or, arith, refl, sym, ap, ◌∙◌, inl, inr, subst}
 use Rattle.std.specs.Prelude.{Option, Some, None}
 use Rattle.std.specs.List.{All}
@@ -14,7 +14,7 @@ use Rattle.settle_law.proofs.Placements.{members_of, length-members_of, members_
 use Rattle.settle_law.proofs.AtClose.{all_listed, at_listed}
 use Rattle.settle_law.proofs.OneSettled.{one_settled}
 
--- bounds on how many members a programme has
+-- an upper bound and a lower bound on the number of a programme's members
 members_within : (m : List (Option ℕ)) (p : ℕ) (xs : List ℕ) → ((r : ℕ) → IsMemberOf m r p → IsListed xs r) →
     member_count m p ≤ length xs
 members_within m p xs h =
@@ -27,19 +27,19 @@ members_at_least m p xs n h =
     let among = different_among xs (members_of m p) n (λ r l. member_listed m p r (h r l)) in
     omega (arith, length-members_of m p, count_by-le-length (is_listed xs) (members_of m p))
 
--- which numbers stand in a list of one or two
+-- which numbers stand in a list with one item, and in a list with two items
 is_the_one : (a x : ℕ) → IsListed (a ∷ []) x → a ≡ x
 is_the_one a x l = elim (IsListed-cons_cases a [] x l) [ inl c ↦ c | inr c ↦ absurd (IsListed-nil x c) ]
 
 is_one_of_two : (a b x : ℕ) → IsListed (a ∷ b ∷ []) x → (a ≡ x) ⊎ (b ≡ x)
 is_one_of_two a b x l = elim (IsListed-cons_cases a (b ∷ []) x l) [ inl c ↦ inl c | inr c ↦ inr (is_the_one b x c) ]
 
--- nobody comes before the first of a list
+-- if no resident stands before r on programme p's list, a list of residents who come first has no item
 nobody_first : (inst : Instance) (p r : ℕ) (first : List ℕ) → ((s : ℕ) → IsBefore (list_of_programme inst p) s r → ⊥) →
     0 < length first → ¬ All (ComesFirst inst p r) first
 nobody_first inst p r first n l all = n (get_or first 0 0) (all 0 0 l).before
 
--- the residents who come first are no more than a list that has all of them
+-- the residents who come first are at most as many as the items of a list that has all of them
 few_first : (inst : Instance) (p r : ℕ) (first ys : List ℕ) → HasNoRepeats first → All (ComesFirst inst p r) first →
     ((s : ℕ) → ComesFirst inst p r s → IsListed ys s) → length first ≤ length ys
 few_first inst p r first ys n all h =
@@ -49,7 +49,8 @@ few_first inst p r first ys n all h =
 achievable_pair : (inst : Instance) (r p : ℕ) → IsAchievable inst r p → Acceptable inst r p
 achievable_pair inst r p a = a.is_stable.is_assignment.pairs_acceptable r p a.has_both
 
--- two programmes with one place each and two residents, where the two sides disagree
+-- two programmes with one place each, and two residents; the residents rank the programmes in the opposite order to the
+-- programmes' own rankings
 abbrev two_each : Instance
 two_each = record {
   quotas = 1 ∷ 1 ∷ [];
@@ -59,14 +60,14 @@ two_each = record {
   residents_withdrawn = false ∷ false ∷ [];
 }
 
--- the matching that is best for both programmes, and the one that is best for both residents
+-- the matching that is best for both programmes, and the matching that is best for both residents
 abbrev best_for_programmes : List (Option ℕ)
 best_for_programmes = Some 0 ∷ Some 1 ∷ []
 
 abbrev best_for_residents : List (Option ℕ)
 best_for_residents = Some 1 ∷ Some 0 ∷ []
 
--- the acceptable pairs: all four
+-- all four pairs of this instance are acceptable
 two_each_pairs : (P : ℕ → ℕ → Type 0) → P 0 0 → P 0 1 → P 1 0 → P 1 1 → (r p : ℕ) → Acceptable two_each r p → P r p
 two_each_pairs P a b c d r zero l = elim (is_one_of_two 0 1 r l) [ inl e ↦ subst (λ z. P z 0) e a | inr e ↦ subst (λ z. P z 0) e c ]
 two_each_pairs P a b c d r (suc zero) l = elim (is_one_of_two 1 0 r l) [ inl e ↦ subst (λ z. P z 1) e d | inr e ↦ subst (λ z. P z 1) e b ]
@@ -94,7 +95,7 @@ second_kept (suc zero) = omega arith
 second_kept (suc (suc p)) = members_within best_for_residents (suc (suc p)) [] (λ r e.
     let low : suc (suc p) < 2 = second_members (λ s q. q < 2) (omega arith) (omega arith) r (suc (suc p)) e in absurd (omega arith))
 
--- each programme has its first resident, so it prefers no other
+-- each programme has the first resident of its list, so it prefers no other resident
 first_has_no_room : (r p : ℕ) → (p < 2) → (IsMemberOf best_for_programmes r p → ⊥) →
     HasRoomFor two_each best_for_programmes p r → ⊥
 first_has_no_room r zero l n (inl free) = omega arith
@@ -103,7 +104,7 @@ first_has_no_room r (suc zero) l n (inl free) = omega arith
 first_has_no_room r (suc zero) l n (inr w) = first_members (λ s q. q ≡ 1 → IsBefore (list_of_programme two_each q) r s → ⊥) (λ e b. omega arith) (λ e b. omega arith) w.0 1 w.1 refl w.2
 first_has_no_room r (suc (suc p)) l n room = omega arith
 
--- each resident has its first programme, so it prefers no other
+-- each resident has the first programme of the resident's list, so the resident prefers no other programme
 second_would_not : (r p : ℕ) → Acceptable two_each r p → (IsMemberOf best_for_residents r p → ⊥) →
     Prefers (get_or two_each.resident_lists r []) p (programme_of best_for_residents r) → ⊥
 second_would_not = two_each_pairs (λ r p. (IsMemberOf best_for_residents r p → ⊥) → Prefers (get_or two_each.resident_lists r []) p (programme_of best_for_residents r) → ⊥)
@@ -129,11 +130,11 @@ second_is_stable = record {
   nothing_blocks = λ r p b. second_would_not r p b.acceptable b.not_placed b.resident_would;
 }
 
--- if nobody is placed, each acceptable pair blocks, since there is a free place
+-- if nobody is placed, each acceptable pair blocks, since each programme has a free place
 pub nobody_placed_is_not_stable : ¬ IsStable two_each (None ∷ None ∷ [])
 nobody_placed_is_not_stable s = s.nothing_blocks 0 0 (record { acceptable = omega arith; not_placed = λ e. absurd (cc); resident_would = tt; programme_would = inl (omega arith) })
 
--- so all four pairs are achievable
+-- all four pairs of this instance are achievable
 both_achievable : (r p : ℕ) → Acceptable two_each r p → IsAchievable two_each r p
 both_achievable = two_each_pairs (IsAchievable two_each)
     (record { matching = best_for_programmes; is_stable = first_is_stable; has_both = refl })
@@ -141,13 +142,13 @@ both_achievable = two_each_pairs (IsAchievable two_each)
     (record { matching = best_for_residents; is_stable = second_is_stable; has_both = refl })
     (record { matching = best_for_programmes; is_stable = first_is_stable; has_both = refl })
 
--- one achievable resident comes before the other
+-- if an achievable resident comes before r on the list of a programme with one place, r is not the programme's best
 other_first : (p r s : ℕ) → quota two_each p ≡ 1 → Acceptable two_each s p →
     IsBefore (list_of_programme two_each p) s r → IsBest two_each p r → ⊥
 other_first p r s q l b best = best.no_quota_first (s ∷ []) (HasNoRepeats-cons s [] (IsListed-nil s) HasNoRepeats-nil) (sym q)
     (all_listed (ComesFirst two_each p r) (s ∷ []) (λ x m. subst (ComesFirst two_each p r) (is_the_one s x m) (record { before = b; achievable = both_achievable s p l })))
 
--- only the first matching is settled
+-- of the two stable matchings only the one that is best for both programmes is settled
 pub first_is_settled : IsSettled two_each best_for_programmes
 first_is_settled = record { one_place_each = refl; members_are_best = λ p r. (best r p, back p r); residents_have_worst = worst }
   where
@@ -180,7 +181,7 @@ only_first_is_settled m s = one_settled two_each m best_for_programmes s first_i
 pub second_is_not_settled : ¬ IsSettled two_each best_for_residents
 second_is_not_settled s = other_first 1 0 1 refl (omega arith) (omega arith) ((s.members_are_best 1 0).0 refl)
 
--- a programme with two places and a programme with one; only the first resident lists the second programme
+-- a first programme with two places and a second with one place; only the first resident lists the second programme
 abbrev two_and_one : Instance
 two_and_one = record {
   quotas = 2 ∷ 1 ∷ [];
@@ -225,8 +226,8 @@ one_and_two_is_stable = record {
       (λ n w. omega arith) (λ n w. n refl) (λ n w. n refl) (λ n w. n refl) r p b.acceptable b.not_placed b.resident_would;
 }
 
--- The first resident is never placed with the first programme: it and the second programme would both rather be
--- together.
+-- The first resident is never placed with the first programme, since the first resident and the second programme prefer
+-- each other.
 first_not_with_first : ¬ IsAchievable two_and_one 0 0
 first_not_with_first a =
     let n = a.matching in
@@ -285,7 +286,7 @@ one_and_two_is_settled = record { one_place_each = refl; members_are_best = λ p
     )
     worst (suc (suc (suc r))) l = absurd (omega arith)
 
--- one programme that both residents list, with three places and with one
+-- one programme with n places, which both residents list
 abbrev with_places : ℕ → Instance
 with_places n = record {
   quotas = n ∷ [];
@@ -299,7 +300,7 @@ with_places_pairs : (n : ℕ) (P : ℕ → ℕ → Type 0) → P 0 0 → P 1 0 �
 with_places_pairs n P a b r zero l = elim (is_one_of_two 0 1 r l) [ inl e ↦ subst (λ z. P z 0) e a | inr e ↦ subst (λ z. P z 0) e b ]
 with_places_pairs n P a b r (suc p) l = absurd (IsListed-nil r l)
 
--- with more places than residents, both residents are placed, and both are among the best three
+-- with three places both residents are placed, and both are among the three best
 abbrev both_placed : List (Option ℕ)
 both_placed = Some 0 ∷ Some 0 ∷ []
 
@@ -341,7 +342,7 @@ both_is_settled = record { one_place_each = refl; members_are_best = λ p r. (be
     worst (suc zero) l = (here 1 0 refl, λ q a. inl (with_places_pairs 3 (λ r s. s ≡ 0) refl refl 1 q (achievable_pair (with_places 3) 1 q a)))
     worst (suc (suc r)) l = absurd (omega arith)
 
--- with one place the first resident gets it, and no programme is achievable for the second
+-- with one place the first resident gets the place, and no programme is achievable for the second resident
 abbrev first_placed : List (Option ℕ)
 first_placed = Some 0 ∷ None ∷ []
 

@@ -1,4 +1,5 @@
--- The laws of legal lists. Each law is the contract of the function of the same name.
+-- Laws of legal lists of events. Each law is proved as the contract of a function with a like name: `ClosesLaw` as the
+-- contract of `law_closes`.
 use Rattle.std.specs.Prelude.{◌≡◌, ◌+◌, ◌*◌, ◌≤◌, ◌++◌, false, List, length}
 use Rattle.match_model.specs.Instance.{Instance, IsInstance, pair_count}
 use Rattle.exchange_core.specs.declared.event.Event.{Event}
@@ -26,7 +27,7 @@ NoJamLaw =
     IsInstance inst → IsCapacity cap → IsLegal inst cap j → is_closed j ≡ false →
     (e : Event) × MayFollow inst cap j e
 
--- the list can be continued to a closed legal list
+-- the list of events can be continued to a closed legal list
 pub record GoesOn (inst : Instance) (cap : Capacity) (j : List Event) : Type 0 where
   pub rest : List Event
   pub legal : IsLegal inst cap (j ++ rest)

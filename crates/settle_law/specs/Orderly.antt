@@ -7,8 +7,8 @@ use Rattle.exchange_core.specs.declared.event.Event.TheVariants.{Close}
 use Rattle.exchange_core.specs.Mail.{offers_of, offers_to, takes, answers_of, answers_to, hears}
 use Rattle.exchange_core.specs.Calls.{calls, rejections, out}
 
--- What a desk took begins what was sent to it, and what it answered begins what it owed. A programme's offers out are
--- from 0 to its quota.
+-- The messages that a desk took are the first of those that were sent to the desk. The answers that a resident gave are
+-- the first of those that the resident owed. A programme's offers out are from 0 to its quota.
 pub record IsInOrder (inst : Instance) (j : List Event) : Type 0 where
   pub offers_follow_the_ranking : (p : ℕ) → IsPrefix (offers_of p j) (list_of_programme inst p)
   pub takes_follow_the_offers : (r : ℕ) → IsPrefix (takes r j) (offers_to r j)
@@ -17,7 +17,7 @@ pub record IsInOrder (inst : Instance) (j : List Event) : Type 0 where
   pub rejections_within_offers : (p : ℕ) → rejections (hears p j) ≤ length (offers_of p j)
   pub out_within_quota : (p : ℕ) → out p j ≤ quota inst p
 
--- every beginning of the list is in order, and nothing stands after a close
+-- every beginning of the list of events is in order, and no event stands after a close
 pub record IsOrderly (inst : Instance) (j : List Event) : Type 0 where
   pub every_front : (n : ℕ) → IsInOrder inst (take n j)
   pub close_is_last : (i : ℕ) → slice_get j i ≡ Some Close → i + 1 ≡ length j

@@ -1,4 +1,5 @@
--- The laws of the placement that an exchange gives. Each law is the contract of the function of the same name.
+-- Laws of the placement that an exchange gives. Each law is proved as the contract of a function with a like name:
+-- `HasSettledLaw` as the contract of `law_has_settled`.
 use Rattle.std.specs.Prelude.{◌≡◌, ℕ, ◌↔◌, IsSome, IsTrue, List, Option}
 use Rattle.std.specs.List.{All}
 use Rattle.match_model.specs.Instance.{Instance, IsInstance, IsResident, IsProgramme, list_of_resident}
@@ -15,7 +16,7 @@ use Rattle.settle_law.specs.Stable.{IsStable, IsAchievable, IsSettled}
 abbrev pub SparesAchievable : Instance → ℕ → Answered → Type 0
 SparesAchievable inst r answer = IsTrue (is_rejection answer) → ¬ IsAchievable inst r answer.0
 
--- in a legal list, a resident never owes a rejection of a programme that is achievable for it
+-- in a legal list, a resident never owes a rejection of a programme that is achievable for this resident
 abbrev pub NeverRejectsLaw : Type 0
 NeverRejectsLaw =
     (inst : Instance) (cap : Capacity) (j : List Event) → IsInstance inst → IsLegal inst cap j → (r : ℕ) →
@@ -27,7 +28,8 @@ SettledLaw =
     (inst : Instance) (cap : Capacity) (j : List Event) → IsInstance inst → IsLegal inst cap j → IsClosed j →
     IsStable inst (given inst j) × IsSettled inst (given inst j)
 
--- every stable assignment matches the same residents as a closed legal list, and the same number at each programme
+-- every stable assignment matches the same residents as the placement that a closed legal list gives, and has the same
+-- number of residents at each programme
 abbrev pub SameResidentsLaw : Type 0
 SameResidentsLaw =
     (inst : Instance) (cap : Capacity) (j : List Event) → IsInstance inst → IsLegal inst cap j → IsClosed j →

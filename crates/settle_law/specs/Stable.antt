@@ -1,11 +1,12 @@
--- Stable and settled placements. These definitions read the instance only, and know no offers, steps or messages.
+-- Stable and settled placements. These definitions speak of the instance and of placements only, and not of offers,
+-- steps or messages.
 use Rattle.std.specs.Prelude.{◌≡◌, ℕ, ◌<◌, ◌⊎◌, ◌↔◌, Option, Some, None, List, length}
 use Rattle.std.specs.List.{All}
 use Rattle.match_model.specs.Ranking.{IsBefore, HasNoRepeats}
 use Rattle.match_model.specs.Instance.{Instance, IsResident, Acceptable, quota, list_of_programme, list_of_resident}
 use Rattle.match_model.specs.Placement.{programme_of, IsMemberOf, member_count, IsAssignment}
 
--- the owner of this ranking prefers p: it has no programme, or p stands before its programme
+-- the owner of this ranking prefers p: the owner has no programme, or p stands before the owner's programme
 abbrev pub Prefers : List ℕ → ℕ → Option ℕ → Type 0
 Prefers ranking p None = Unit {0}
 Prefers ranking p (Some q) = IsBefore ranking p q

@@ -1,19 +1,21 @@
-//! The placement that an exchange gives. No achievable programme is rejected, and a closed exchange is settled.
+//! The placement that an exchange leads to. No achievable programme is rejected, and the placement of a closed exchange
+//! is settled.
 
 ghost use Rattle.settle_law.specs.SettledLaws.{NeverRejectsLaw, SettledLaw, SameResidentsLaw, OneSettledLaw, HasSettledLaw};
 
-/// In a legal list, a resident never has to reject a programme that is achievable for it.
+/// In a legal list of events, a resident never owes a rejection to a programme that is achievable for this resident.
 pub fn law_never_rejects()
     ensures { NeverRejectsLaw }
 {}
 
-/// A closed legal list gives a stable and settled placement. Each programme has its best achievable residents, up to
-/// its quota. Each resident has its worst achievable programme.
+/// A closed legal list of events leads to a stable and settled placement. Each programme has its best achievable
+/// residents, up to its quota. Each resident has the last-ranked of the resident's achievable programmes.
 pub fn law_settled()
     ensures { SettledLaw }
 {}
 
-/// Every stable assignment matches the same residents as a closed legal list, and the same number at each programme.
+/// Every stable assignment matches the same residents as a closed legal list of events, and the same number of
+/// residents at each programme.
 pub fn law_same_residents()
     ensures { SameResidentsLaw }
 {}
@@ -23,7 +25,7 @@ pub fn law_one_settled()
     ensures { OneSettledLaw }
 {}
 
-/// Every instance has a settled assignment, and it is stable.
+/// Every instance has a settled assignment, and a settled assignment is stable.
 pub fn law_has_settled()
     ensures { HasSettledLaw }
 {}

@@ -17,13 +17,13 @@ pub const Y: ResidentNo = ResidentNo(1);
 /// The third resident.
 pub const Z: ResidentNo = ResidentNo(2);
 
-/// The offer is kept for now.
+/// The answer that holds an offer.
 pub const HOLD: AnswerKind = AnswerKind::Hold;
 
-/// The offer is refused at once.
+/// The answer that rejects an offer at once.
 pub const DECLINE: AnswerKind = AnswerKind::Decline;
 
-/// A held offer is given back, for a better one.
+/// The answer that gives back a held offer, because a better offer came.
 pub const RELEASE: AnswerKind = AnswerKind::Release;
 
 /// A programme offers a place to a resident.
@@ -60,8 +60,8 @@ pub fn hear(programme: ProgrammeNo, resident: ResidentNo, kind: AnswerKind) -> E
     }
 }
 
-/// The events of an exchange of two programmes and two residents. The residents' rankings are the opposite of the
-/// programmes'.
+/// The events of an exchange between two programmes and two residents. The residents rank the programmes in the
+/// opposite order to the programmes' own rankings.
 pub fn nine_events() -> [Event; 9] {
     [
         offer(A, X),
@@ -76,8 +76,8 @@ pub fn nine_events() -> [Event; 9] {
     ]
 }
 
-/// The events of an exchange in which `B` displaces `X` from `A`, a programme with two places. `Y` takes before `X`,
-/// although `X` was sent an offer first.
+/// The events of an exchange in which `X` leaves `A`, a programme with two places, for `B`. `Y` takes an offer before
+/// `X`, although `X` was sent an offer first.
 pub fn nineteen_events() -> [Event; 19] {
     [
         offer(A, X),
@@ -102,7 +102,7 @@ pub fn nineteen_events() -> [Event; 19] {
     ]
 }
 
-/// The desk that an event belongs to; none for the close.
+/// The desk that an event belongs to, or none for the close.
 pub fn desk_of(event: &Event) -> Option<Desk> {
     match event {
         Event::Take { resident, .. } | Event::Answer { resident, .. } => {

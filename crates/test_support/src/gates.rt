@@ -1,4 +1,4 @@
-//! Gates that hold up a run, or stop it.
+//! Gates that keep workers of a run waiting, or stop the run.
 mod counter;
 mod holding;
 mod resting;
@@ -11,13 +11,13 @@ use std::sync::atomic::{AtomicU64, Ordering};
 use std::thread;
 pub use stopping::{StopsAtOnce, StopsFrom};
 
-/// How often a gate tests whether another worker has gone on.
+/// How often a gate tests whether another worker has entered an event.
 const TURNS: u32 = 10_000_000;
 
-/// How many turns a gate waits for workers that may already be done.
+/// How often a gate tests for workers that may already be done.
 const LINGER: u32 = 100;
 
-/// How many events each of at most eight workers has entered, as the gate sees them.
+/// For each of at most eight workers, how many events the worker has entered, as the gate counts them.
 #[derive(Drop)]
 struct Counts([AtomicU64; 8]);
 
@@ -56,7 +56,7 @@ impl Counts {
         sum
     }
 
-    // Waits until nobody has entered an event for a long time. Returns how many events were entered by then.
+    // Waits until no worker has entered an event for a long time. Returns how many events were entered by then.
     fn at_rest(&self) -> u64 {
         let mut seen = self.of_all();
         let mut turns = 0;

@@ -1,7 +1,7 @@
 //! Tests on the members of an instance.
 use match_model::{Instance, ProgrammeNo, ResidentNo};
 
-/// Whether a programme has this many places and this list.
+/// Whether a programme has this quota and this list.
 pub fn is_programme(
     instance: &Instance,
     programme: ProgrammeNo,

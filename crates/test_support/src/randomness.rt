@@ -2,7 +2,7 @@
 use std::io;
 use std::random::RandomSource;
 
-/// Gives one byte over and over.
+/// A source that gives the same byte again and again.
 #[derive(Clone, Copy)]
 pub struct OneByte(pub u8);
 
@@ -15,7 +15,7 @@ impl RandomSource for OneByte {
     }
 }
 
-/// Has none to give.
+/// A source that has no random bytes to give.
 #[derive(Clone, Copy)]
 pub struct NoRandomness;
 

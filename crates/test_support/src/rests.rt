@@ -1,4 +1,4 @@
-//! Gates that hold workers until, by the clock, nobody has entered an event for a long time.
+//! Gates that keep workers waiting until no worker has entered an event for a long time, by the clock.
 ghost use Rattle.std.specs.Prelude.{true, false};
 
 use exchange_core::Desk;
@@ -8,19 +8,19 @@ use std::sync::Wait;
 use std::sync::atomic::{AtomicBool, AtomicU32, AtomicU64, Ordering};
 use std::time::Duration;
 
-/// The microseconds between two tests of a gate for new entries.
+/// The microseconds between two tests of a gate whether an event was entered.
 const PERIOD: u64 = 10_000;
 
-/// How many tests in a row see no new entry when all other workers sleep. A nap takes at most a hundred milliseconds.
+/// After this number of tests without a new entry, all other workers sleep. A nap takes at most a hundred milliseconds.
 const UNTIL_ASLEEP: u32 = 15;
 
-/// How many tests in a row see no new entry when the run is at rest.
+/// After this number of tests without a new entry, the run is at rest.
 const AT_REST: u32 = 25;
 
-/// The greatest number of tests of a gate.
+/// The greatest number of tests that a gate makes.
 const MOST_LOOKS: u32 = 500;
 
-/// What a gate saw of a run at rest: how many events were entered, and each worker that the gate held.
+/// What a gate saw of a run at rest: how many events were entered, and which workers the gate kept waiting.
 #[derive(Drop)]
 struct Rest<R: Wait + Copy> {
     rt: R,
@@ -54,8 +54,8 @@ impl<R: Wait + Copy> Rest<R> {
         sum
     }
 
-    // Waits until this many tests in a row see no new entry and no new pass, or until the rest is over. Returns how
-    // many events were entered by then.
+    // Waits until this number of tests in a row saw no new entry and no new call of `pass`, or until the rest is over.
+    // Returns how many events were entered by then.
     fn until_quiet(&self, looks: u32) -> u64 {
         let mut seen = (0, 0);
         let mut quiet = 0_u32;
@@ -76,7 +76,7 @@ impl<R: Wait + Copy> Rest<R> {
         seen.0
     }
 
-    // Holds a worker at this desk until the run is at rest.
+    // Keeps the worker of this desk waiting until the run is at rest.
     fn hold(&self, worker: usize, desk: u32) {
         if self.over.load(Ordering::SeqCst) {
             return;
@@ -125,9 +125,9 @@ fn desk_in(noted: &AtomicU32) -> Option<Desk> {
     }
 }
 
-/// A gate for up to four workers. It holds one pass, chosen by its number among the passes of one desk or of all.
-/// This pass lasts until each other worker has done what it can and sleeps. Later passes of other desks are held
-/// until the run is at rest, one for each worker but one.
+/// A gate for at most four workers. The gate keeps one call of `pass` waiting, chosen by its number among the calls for
+/// one desk or for all desks. This wait lasts until each other worker has done what it can and sleeps. Later calls for
+/// other desks are kept waiting until the run is at rest, for all workers but one.
 #[derive(Drop)]
 pub struct RestsInPass<R: Wait + Copy> {
     rest: Rest<R>,
@@ -140,8 +140,9 @@ pub struct RestsInPass<R: Wait + Copy> {
 }
 
 impl<R: Wait + Copy> RestsInPass<R> {
-    /// A gate that has seen nothing. `place` is the number, from 1, of the last pass that isn't held, among all
-    /// passes or those of one desk. With 0 all passes are held. At most `most` passes are held.
+    /// A gate before a run. `place` is the number, from 1, of the last call of `pass` that isn't kept waiting, among
+    /// all calls or among the calls for one desk. If `place` is 0, all calls are kept waiting. At most `most` calls are
+    /// kept waiting.
     pub fn new(rt: R, of: Option<Desk>, place: u64, most: u64) -> RestsInPass<R> {
         RestsInPass {
             rest: Rest::new(rt),
@@ -157,25 +158,25 @@ impl<R: Wait + Copy> RestsInPass<R> {
         }
     }
 
-    /// How many events were entered at rest, if a worker was held until then.
+    /// How many events were entered when the run was at rest, if a worker was kept waiting until then.
     pub fn entered(&self) -> Option<u64> {
         let is_over = self.rest.over.load(Ordering::SeqCst);
         is_over.then_some(self.rest.entered.load(Ordering::SeqCst))
     }
 
-    /// The desk of each held worker.
+    /// For each worker that was kept waiting, the desk of its call.
     pub fn held(&self) -> [Option<Desk>; 4] {
         let [a, b, c, d] = &self.rest.desks;
         [desk_in(a), desk_in(b), desk_in(c), desk_in(d)]
     }
 
-    // Whether this is the pass after which others are held.
+    // Whether this is the call of `pass` after which calls are kept waiting.
     fn is_last_free(&self, desk: u32) -> bool {
         (self.of == 0 || self.of == desk)
             && self.passed.fetch_add(1, Ordering::SeqCst).saturating_add(1) == self.place
     }
 
-    // Whether this pass is held, because it begins after the pass with that number.
+    // Whether this call is kept waiting, because it comes after the call with the number `place`.
     fn is_held(&self, desk: u32) -> bool {
         self.of != desk && self.held.fetch_add(1, Ordering::SeqCst) < self.most
     }

@@ -1,5 +1,5 @@
-//! The version of this repository's programs, manual pages, Python package and archive. It stands here alone: `tools/version`
-//! prints it for whatever isn't Rattle.
+//! The version of this repository's programs, manual pages, Python package and archive. The version stands only here:
+//! `tools/version` prints it for everything that isn't written in Rattle.
 #![tactic(auto)]
 
 /// The version, as `major.minor.patch`.

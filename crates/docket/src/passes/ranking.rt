@@ -1,4 +1,4 @@
-//! The second pass: the lists as numbers, and the withdrawals.
+//! The second pass over the rows: it reads the lists as lists of numbers, and the withdrawals.
 ghost use Rattle.std.specs.Prelude.{◌≡◌, ◌<◌, ◌+◌, [], length, take, drop, codes, OnOk, IfOk};
 ghost use Rattle.match_model.specs.Draft.{instance_of as made_of};
 ghost use Rattle.std.specs.List.{list_all};
@@ -20,7 +20,7 @@ use crate::vocabulary::{PROGRAMME_LIST, RESIDENT_LIST, Side, WITHDRAWAL};
 use match_model::{Instance, InstanceBuilder, ProgrammeNo, ResidentNo, WrittenLists};
 use std::alloc::Global;
 
-// The residents on the list of row `k`.
+// Reads the numbers of the residents on the list of row `k`.
 fn listed_residents(
     tables: &Tables,
     k: usize,
@@ -42,7 +42,7 @@ fn listed_residents(
     Ok(())
 }
 
-// The programmes on the list of row `k`.
+// Reads the numbers of the programmes on the list of row `k`.
 fn listed_programmes(
     tables: &Tables,
     k: usize,
@@ -64,7 +64,7 @@ fn listed_programmes(
     Ok(())
 }
 
-// Adds `P,programme,resident,..`.
+// Gives the builder the list in a row `P,programme,resident,..`.
 fn rank_residents(
     tables: &Tables,
     k: usize,
@@ -89,7 +89,7 @@ fn rank_residents(
     }
 }
 
-// Adds `R,resident,programme,..`.
+// Gives the builder the list in a row `R,resident,programme,..`.
 fn rank_programmes(
     tables: &Tables,
     k: usize,
@@ -114,7 +114,7 @@ fn rank_programmes(
     }
 }
 
-// Adds `W,P,programme`.
+// Gives the builder the withdrawal in a row `W,P,programme`.
 fn withdraw_programme(
     tables: &Tables,
     k: usize,
@@ -138,7 +138,7 @@ fn withdraw_programme(
     }
 }
 
-// Adds `W,R,resident`.
+// Gives the builder the withdrawal in a row `W,R,resident`.
 fn withdraw_resident(
     tables: &Tables,
     k: usize,
@@ -162,7 +162,7 @@ fn withdraw_resident(
     }
 }
 
-// Adds `W,P,programme` or `W,R,resident`.
+// Gives the builder the withdrawal in a row `W,P,programme` or `W,R,resident`.
 fn withdraw(
     tables: &Tables,
     k: usize,
@@ -183,7 +183,7 @@ fn withdraw(
     }
 }
 
-// One more row of the second pass.
+// Gives the builder what row `k` says, if the row is a list or a withdrawal.
 fn rank_row(
     tables: &Tables,
     k: usize,
@@ -205,7 +205,7 @@ fn rank_row(
     }
 }
 
-// Gives the lists and withdrawals to the builder, in the order of the rows.
+// Gives the builder all lists and withdrawals, in the order of the rows.
 fn rank(alloc: Global, tables: &Tables, builder: &mut InstanceBuilder) -> Result<(), DocketFault>
     requires { IsRanked builder.old tables.now [] }
     ensures ranked { OnOk result (IsRanked builder.new tables.now tables.now) }
@@ -220,7 +220,7 @@ fn rank(alloc: Global, tables: &Tables, builder: &mut InstanceBuilder) -> Result
     Ok(())
 }
 
-// The instance of the builder after the last record, and the lists if they are kept.
+// The instance that the builder makes after the last record, and the lists if `keeps_lists` is set.
 fn finished(
     builder: InstanceBuilder,
     tables: &Tables,
@@ -239,7 +239,7 @@ fn finished(
     }
 }
 
-/// The instance from the lists and withdrawals, and the lists if they are kept.
+/// The instance that the builder makes from the lists and withdrawals, and the lists if `keeps_lists` is set.
 pub(crate) fn instance_of(
     alloc: Global,
     tables: &Tables,

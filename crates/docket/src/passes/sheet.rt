@@ -1,4 +1,4 @@
-//! The third pass: the sheet.
+//! The third pass over the rows: it reads the sheet.
 ghost use Rattle.std.specs.Prelude.{◌≡◌, ◌<◌, ◌+◌, ◌&&◌, [], false, None, replicate, length, take, IfOk, IfErr, OnOk};
 ghost use Rattle.std.specs.List.{list_all};
 ghost use Rattle.std.specs.Option.{option_or};
@@ -16,14 +16,14 @@ use docket_names::digits_worth;
 use match_model::{Assignment, Instance, ProgrammeNo, ResidentNo};
 use std::alloc::{AllocError, Global};
 
-// This many flags, all false.
+// A vector of `count` flags, all false.
 fn flags(alloc: Global, count: usize) -> Result<Vec<bool>, AllocError>
     ensures { IfOk result (λ flags. flags.items ≡ replicate count false) }
 {
     vec![in alloc; false; count]
 }
 
-// This many counts, all 0.
+// A vector of `count` numbers, all 0.
 fn zeros(alloc: Global, count: usize) -> Result<Vec<u32>, AllocError>
     ensures { IfOk result (λ counts. counts.items ≡ replicate count 0) }
 {
@@ -37,22 +37,22 @@ fn all_set(flags: &[bool]) -> bool
     flags.iter().all(|flag| *flag)
 }
 
-// The sheet, as far as its rows were read.
+// What is known from those rows of the sheet that were read so far.
 #[derive(Drop)]
 struct Marks {
     sheet: Assignment,
-    // For each resident, whether there is an M or U row.
+    // For each resident, whether an M or U row of this resident was read.
     marked: Vec<bool>,
-    // For each programme, whether there is an F row.
+    // For each programme, whether an F row of this programme was read.
     filled: Vec<bool>,
-    // For each programme, the number of its M rows.
+    // For each programme, the number of M rows with this programme.
     counts: Vec<u32>,
 }
 
 impl Marks {
     ghost use Rattle.docket.specs.Marks.{IsMarked};
 
-    // The marks before any row.
+    // The marks before any row of the sheet is read.
     fn new(alloc: Global, tables: &Tables) -> Result<Marks, DocketFault>
         ensures marked { IfOk result (λ marks. IsMarked marks tables.now []) }
         ensures memory { IfErr result (λ e. e ≡ DocketFault.Memory) }
@@ -73,7 +73,7 @@ impl Marks {
         })
     }
 
-    // Adds `M,resident,programme`.
+    // Enters a row `M,resident,programme` into the marks.
     fn add_matched(&mut self, tables: &Tables, k: usize) -> Result<(), DocketFault>
         requires place { k < length tables.now }
         requires kind { kind_of (row_at tables.now k) ≡ MATCHED }
@@ -97,7 +97,7 @@ impl Marks {
         Ok(())
     }
 
-    // Adds `U,resident`.
+    // Enters a row `U,resident` into the marks.
     fn add_unmatched(&mut self, tables: &Tables, k: usize) -> Result<(), DocketFault>
         requires place { k < length tables.now }
         requires kind { kind_of (row_at tables.now k) ≡ UNMATCHED }
@@ -116,7 +116,7 @@ impl Marks {
         Ok(())
     }
 
-    // Adds `F,programme,filled,quota`.
+    // Enters a row `F,programme,filled,quota` into the marks.
     fn add_filled(&mut self, tables: &Tables, k: usize) -> Result<(), DocketFault>
         requires place { k < length tables.now }
         requires kind { kind_of (row_at tables.now k) ≡ FILLED }
@@ -135,7 +135,7 @@ impl Marks {
         Ok(())
     }
 
-    // One more row of the first walk.
+    // Enters row `k` into the marks, if the row is an M, U or F row.
     fn add_row(&mut self, tables: &Tables, k: usize) -> Result<(), DocketFault>
         requires place { k < length tables.now }
         requires marked { IsMarked self.old tables.now (take k tables.now) }
@@ -150,7 +150,7 @@ impl Marks {
         }
     }
 
-    // The first walk: M, U and F rows.
+    // The first walk over the rows: it enters the M, U and F rows into the marks.
     fn add_rows(&mut self, tables: &Tables) -> Result<(), DocketFault>
         requires { IsMarked self.old tables.now [] }
         ensures marked { OnOk result (IsMarked self.new tables.now tables.now) }
@@ -162,14 +162,14 @@ impl Marks {
         Ok(())
     }
 
-    // Whether each resident has an M or U row, and each programme an F row.
+    // Whether each resident has an M or U row, and each programme has an F row.
     fn is_complete(&self) -> bool
         ensures { result ≡ (list_all (λ flag. flag) self.now.marked.items && list_all (λ flag. flag) self.now.filled.items) }
     {
         all_set(self.marked.as_slice()) && all_set(self.filled.as_slice())
     }
 
-    // Whether an F row agrees with the M rows and with the quota.
+    // Whether the F row `k` agrees with the number of M rows and with the quota.
     fn is_right(&self, tables: &Tables, k: usize, instance: &Instance) -> bool
         requires place { k < length tables.now }
         requires kind { kind_of (row_at tables.now k) ≡ FILLED }
@@ -178,7 +178,7 @@ impl Marks {
         requires known { first_from (mark_fault tables.now) [] tables.now ≡ None }
         ensures { filled_fault tables.now (take k tables.now) (row_at tables.now k) ≡ unless result (DocketFault.BadSheet (k + 1)) }
     {
-        // Only for the proof: rows of the first pass have no fault.
+        // For the proof alone: the rows passed the first pass, so they have no fault of their own.
         let _sound = tables.place(k);
         let Some(programme) = tables.programme(k, 1) else {
             unreachable!("the first walk knew the programme");
@@ -188,7 +188,7 @@ impl Marks {
         filled == self.counts[programme.0 as usize] && quota == instance.quota(programme)
     }
 
-    // The third walk: F rows that are wrong.
+    // The third walk over the rows: it finds the first F row whose numbers are wrong.
     fn check_filled(&self, tables: &Tables, instance: &Instance) -> Result<(), DocketFault>
         requires marked { IsMarked self.now tables.now tables.now }
         requires quotas { instance.now.quotas ≡ quotas_of tables.now }
@@ -208,7 +208,7 @@ impl Marks {
     }
 }
 
-/// The sheet of a docket with a sheet.
+/// The sheet of a docket that has a sheet.
 pub(crate) fn sheet_of(
     alloc: Global,
     tables: &Tables,

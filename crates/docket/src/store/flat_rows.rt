@@ -1,4 +1,4 @@
-//! Rows, one after another, with the place where each ends.
+//! Rows that stand one after another, and where each row ends.
 ghost use Rattle.std.specs.Prelude.{◌≡◌, ◌<◌, ◌≤◌, ◌++◌, ◌∷◌, [], Some, true, length, take, drop, slice_get, IfSome, IfNone, IfOk, OnOk};
 ghost use Rattle.csv.specs.Records.{fields_of};
 ghost use Rattle.docket.specs.Fields as fields;
@@ -15,7 +15,7 @@ use std::alloc::{AllocError, Global};
 use std::hash::RandomState;
 use std::marker::Model;
 
-/// Rows in one long record of numbers of texts, with the place where each row ends.
+/// Rows as one long sequence of numbers. Each number stands for a text, and each row's end is noted.
 #[derive(Drop)]
 pub(crate) struct FlatRows {
     texts: Texts,
@@ -34,7 +34,7 @@ impl Model for FlatRows {
     ghost invariant = { λ a. AreFlat a.texts a.fields a.ends };
 }
 
-// Adds the number of a text.
+// Adds the number of this text to the fields.
 #[inline(always)]
 fn append_text(texts: &mut Texts, fields: &mut Numbers, text: &[u8]) -> Result<(), AllocError>
     requires name { is_name text.now ≡ true }
@@ -47,7 +47,7 @@ fn append_text(texts: &mut Texts, fields: &mut Numbers, text: &[u8]) -> Result<(
     Ok(())
 }
 
-// Adds the numbers of a row's fields, from field `from` on.
+// Adds the numbers of a row's fields, beginning with field `from`.
 #[inline(always)]
 fn append(
     texts: &mut Texts,
@@ -68,8 +68,8 @@ fn append(
     Ok(())
 }
 
-// Adds the numbers of the fields of a row with a list. It stops once there are more texts than this, but not before
-// the kind and the owner. Returns how many fields were added.
+// Adds the numbers of the fields of a row with a list. The call always adds the kind and the owner, and stops once
+// there are more than `most` texts. The call returns how many fields were added.
 fn append_list(
     texts: &mut Texts,
     fields: &mut Numbers,
@@ -100,7 +100,7 @@ fn append_list(
 }
 
 impl FlatRows {
-    /// No rows yet. Texts will be hashed with these keys.
+    /// An object without rows. Texts that are added later are hashed with these keys.
     pub(crate) fn new(alloc: Global, keys: RandomState) -> FlatRows
         ensures { result.rows ≡ [] }
     {
@@ -111,7 +111,7 @@ impl FlatRows {
         }
     }
 
-    /// Removes every row. The texts stay.
+    /// Removes every row, but no text.
     pub(crate) fn clear(&mut self)
         ensures { self.new.rows ≡ [] }
     {
@@ -119,7 +119,8 @@ impl FlatRows {
         self.ends.clear();
     }
 
-    /// Adds the fields of a row, from field `from` on, as a row. If memory runs out, no row is kept.
+    /// Adds the fields of a row, beginning with field `from`, as a new row. If memory runs out, every row is
+    /// removed.
     #[inline(always)]
     pub(crate) fn push(&mut self, row: &ByteRecord, from: usize) -> Result<(), AllocError>
         requires { AreNamed (fields_of row.now) }
@@ -139,8 +140,8 @@ impl FlatRows {
         Ok(())
     }
 
-    /// Adds a row with a list. It stops once there are more texts than this, but not before the kind and the owner.
-    /// Returns how many fields were added. If memory runs out, no row is kept.
+    /// Adds a row with a list. The call always adds the kind and the owner, and stops once there are more than `most`
+    /// texts. The call returns how many fields were added. If memory runs out, every row is removed.
     pub(crate) fn push_list(&mut self, row: &ByteRecord, most: usize) -> Result<usize, AllocError>
         requires names { AreNamed (fields_of row.now) }
         requires owner { 2 ≤ length (fields_of row.now) }
@@ -162,7 +163,7 @@ impl FlatRows {
         Ok(count)
     }
 
-    /// The number of a text. A new text is added. The rows stay the same.
+    /// The number of this text. If the text is new, it is added to the texts. No row changes.
     pub(crate) fn text_number(&mut self, text: &[u8]) -> Result<usize, AllocError>
         requires { is_name text.now ≡ true }
         ensures rows { self.new.rows ≡ self.old.rows }
@@ -179,7 +180,7 @@ impl FlatRows {
         &self.texts
     }
 
-    /// The different texts of the rows. The rows are dropped.
+    /// The different texts of the rows. The rows themselves are dropped.
     pub(crate) fn into_texts(self) -> Texts
         ensures { result ≡ self.texts }
     {
@@ -199,7 +200,7 @@ impl FlatRows {
         self.ends.get(k) - start_of(&self.ends, k)
     }
 
-    /// The number of the text in field `i` of row `k`. None past the row's end.
+    /// The number of the text in field `i` of row `k`, or none past the row's end.
     #[inline(always)]
     pub(crate) fn number(&self, k: usize, i: usize) -> Option<usize>
         requires { k < length self.now.rows }

@@ -5,8 +5,8 @@ ghost use Rattle.csv.specs.Records.{prev};
 use std::alloc::{AllocError, Global};
 use std::marker::Model;
 
-/// Numbers, in order. While all fit into two bytes, each takes two. From the first larger one on each takes four.
-/// From the first that needs more than four on each takes eight.
+/// A list of numbers. A number is stored in two bytes until a number comes that needs more. From then on each number is
+/// stored in four bytes, or in eight bytes if four are too few.
 #[derive(Drop)]
 pub(crate) struct Numbers {
     count: usize,
@@ -26,7 +26,7 @@ impl Model for Numbers {
 }
 
 impl Numbers {
-    /// No numbers yet.
+    /// An empty list of numbers.
     pub(crate) fn new(alloc: Global) -> Numbers
         ensures { result ≡ [] }
     {
@@ -38,14 +38,14 @@ impl Numbers {
         }
     }
 
-    /// How many numbers there are.
+    /// How many numbers the list has.
     pub(crate) fn len(&self) -> usize
         ensures { result ≡ length self.now }
     {
         self.count
     }
 
-    /// Removes every number.
+    /// Removes every number from the list.
     pub(crate) fn clear(&mut self)
         ensures { self.new ≡ [] }
     {
@@ -55,7 +55,7 @@ impl Numbers {
         self.large.clear();
     }
 
-    /// Adds a number.
+    /// Adds a number at the end of the list.
     #[inline(always)]
     pub(crate) fn push(&mut self, number: usize) -> Result<(), AllocError>
         ensures { OnOk result (self.new ≡ self.old ++ number ∷ []) }
@@ -74,7 +74,7 @@ impl Numbers {
         Ok(())
     }
 
-    /// Number `k`, from 0.
+    /// The number at index `k`, counted from 0.
     pub(crate) fn get(&self, k: usize) -> usize
         requires { k < length self.now }
         ensures { result ≡ slice_index_or self.now k 0 }
@@ -92,7 +92,7 @@ impl Numbers {
     }
 }
 
-/// The start of item `k`, from the ends of the items.
+/// Where item `k` starts: at the end of the item before, or at 0.
 pub(crate) fn start_of(ends: &Numbers, k: usize) -> usize
     requires { k < length ends.now }
     ensures { result ≡ prev 0 ends.now k }

@@ -1,4 +1,4 @@
-//! Writing a sheet.
+//! How a sheet is written.
 ghost use Rattle.std.specs.Prelude.{◌≡◌, ◌≢◌, ◌⊎◌, ◌<◌, ℕ, length, OnOk, IfOk, IfErr, Some, Option, List};
 ghost use Rattle.match_model.specs.Instance.{IsProgramme, IsResident};
 ghost use Rattle.match_model.specs.Placement.{IsMemberOf};
@@ -15,7 +15,7 @@ use row_writer::{RowWriter, WriteFailed};
 use std::alloc::{AllocError, Global};
 use std::io::Write;
 
-// Adds a resident's row.
+// Adds the M or U row of this resident.
 fn push_mark<W: Write>(
     rows: &mut RowWriter<'_, W>,
     docket: &Docket,
@@ -56,7 +56,7 @@ fn member_counts(
     Ok(counts)
 }
 
-// Adds the row of each resident.
+// Adds an M or U row for each resident.
 fn push_residents<W: Write>(
     rows: &mut RowWriter<'_, W>,
     docket: &Docket,
@@ -72,7 +72,8 @@ fn push_residents<W: Write>(
     Ok(())
 }
 
-/// Adds the rest of a programme's row after its letter: the name, the number of its residents, and its quota.
+/// Adds the fields of a programme's row: its kind, the programme's name, the number of the programme's residents, and
+/// the quota.
 ///
 /// The programme is a member.
 pub fn push_programme<W: Write>(
@@ -92,7 +93,7 @@ pub fn push_programme<W: Write>(
     rows.push(&[kind, name, filled, quota])
 }
 
-// Adds the row of each programme.
+// Adds an F row for each programme.
 fn push_programmes<W: Write>(
     rows: &mut RowWriter<'_, W>,
     docket: &Docket,
@@ -108,11 +109,11 @@ fn push_programmes<W: Write>(
     Ok(())
 }
 
-/// Adds the sheet of an assignment to rows on their way to a writer: a row for each resident, then one for each
+/// Adds the sheet of an assignment to rows on their way to a writer: a row for each resident, and then a row for each
 /// programme.
 ///
 /// The assignment has an entry for each resident, and only programmes of the docket. The faults are `Memory` and
-/// `Write`. Before a fault that is not the writer's, nothing was written.
+/// `Write`. If the fault is not the writer's, nothing was written.
 pub fn push_sheet<W: Write>(
     alloc: Global,
     rows: &mut RowWriter<'_, W>,
@@ -131,8 +132,7 @@ pub fn push_sheet<W: Write>(
     Ok(())
 }
 
-/// Writes the sheet of an assignment, as `push_sheet` describes. Before a fault that is not the writer's, nothing was
-/// written.
+/// Writes the sheet of an assignment, as `push_sheet` describes. If the fault is not the writer's, nothing was written.
 pub fn write_sheet<W: Write>(
     alloc: Global,
     docket: &Docket,

@@ -18,10 +18,10 @@ use std::sync::Wait;
 use std::sync::ledger::Blank;
 use std::test::Fail;
 
-/// More than there are turns to take.
+/// A number of turns that is larger than any exchange here needs.
 const TURNS: u32 = 20;
 
-/// Takes what waits at a resident's desk, and gives what is due.
+/// Takes the offers that wait at a resident's desk, and gives the answers that are due.
 fn serve_resident<
     J: ExchangeIdentity,
     P: PutEnd<OfferNote>,
@@ -51,7 +51,7 @@ fn serve_resident<
     Ok(())
 }
 
-/// Hears what waits at a programme's desk, and offers where it wishes.
+/// Hears the answers that wait at a programme's desk, and makes an offer if the programme has a wish.
 fn serve_programme<
     J: ExchangeIdentity,
     P: PutEnd<OfferNote>,
@@ -81,7 +81,7 @@ fn serve_programme<
     Ok(())
 }
 
-/// A mailbox with room for all that can be sent to a resident, and its agent.
+/// A mailbox with room for all offers that can be sent to a resident, and the resident's agent.
 fn resident_desk<J: ExchangeIdentity, R: Wait + Copy>(
     alloc: Global,
     rt: R,
@@ -126,7 +126,7 @@ fn open_residents<J: ExchangeIdentity, R: Wait + Copy>(
     Ok((puts, desks))
 }
 
-/// A mailbox with room for all that can be sent to a programme, and its agent.
+/// A mailbox with room for all answers that can be sent to a programme, and the programme's agent.
 fn programme_desk<J: ExchangeIdentity, R: Wait + Copy>(
     alloc: Global,
     rt: R,
@@ -177,7 +177,7 @@ fn open_programmes<J: ExchangeIdentity, R: Wait + Copy>(
     Ok((puts, desks))
 }
 
-/// The programmes of the takes by a resident.
+/// The programmes whose offers this resident took, by the journal.
 fn takes(alloc: Global, journal: &[Event], by: ResidentNo) -> Result<Vec<OfferNote>, AllocError> {
     let mut notes = Vec::new(alloc);
     for event in journal {
@@ -193,7 +193,7 @@ fn takes(alloc: Global, journal: &[Event], by: ResidentNo) -> Result<Vec<OfferNo
     Ok(notes)
 }
 
-/// The residents and kinds of the hears by a programme.
+/// The residents and the kinds of the answers that this programme heard, by the journal.
 fn hears(alloc: Global, journal: &[Event], by: ProgrammeNo) -> Result<Vec<AnswerNote>, AllocError> {
     let mut notes = Vec::new(alloc);
     for event in journal {
@@ -210,7 +210,7 @@ fn hears(alloc: Global, journal: &[Event], by: ProgrammeNo) -> Result<Vec<Answer
     Ok(notes)
 }
 
-/// Whether each resident's log is its takes of the journal.
+/// Whether each resident's log has exactly the takes that the journal has for the resident.
 fn have_taken<J: ExchangeIdentity, T: TakeEnd<OfferNote> + Drop>(
     alloc: Global,
     journal: &[Event],
@@ -225,7 +225,7 @@ fn have_taken<J: ExchangeIdentity, T: TakeEnd<OfferNote> + Drop>(
     Ok(true)
 }
 
-/// Whether each programme's log is its hears of the journal.
+/// Whether each programme's log has exactly the hears that the journal has for the programme.
 fn have_heard<J: ExchangeIdentity, U: TakeEnd<AnswerNote> + Drop>(
     alloc: Global,
     journal: &[Event],
@@ -240,7 +240,8 @@ fn have_heard<J: ExchangeIdentity, U: TakeEnd<AnswerNote> + Drop>(
     Ok(true)
 }
 
-/// Serves each programme's desk and then each resident's, as long as there is anything to do, and closes.
+/// Serves each programme's desk and then each resident's desk, again and again until nothing is left to do, and then
+/// closes the exchange.
 fn serve_to_close<
     J: ExchangeIdentity,
     P: PutEnd<OfferNote>,
@@ -271,7 +272,7 @@ fn serve_to_close<
     ledger.close(inst, tally)
 }
 
-/// How many events an exchange has from its beginning to its close, if each desk's log is its list of the journal.
+/// How many events an exchange has from its beginning to its close. None if some desk's log differs from the journal.
 fn exchange<J: ExchangeIdentity, R: Wait + Copy>(
     rt: R,
     alloc: Global,

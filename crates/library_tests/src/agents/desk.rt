@@ -1,4 +1,4 @@
-//! One desk beside its instance.
+//! One desk with its agent and the instance.
 ghost use Rattle.std.specs.Prelude.{◌≡◌, []};
 ghost use Rattle.match_agents.specs.Programmes.{IsProgrammeAgentOf};
 ghost use Rattle.match_agents.specs.Residents.{IsResidentAgentOf};
@@ -9,7 +9,7 @@ use match_agents::{Heard, ProgrammeAgent, ResidentAgent};
 use match_model::{Instance, ProgrammeNo, ResidentNo};
 use std::alloc::Global;
 
-/// A resident's agent beside its instance.
+/// A resident's agent with the instance.
 #[derive(Drop)]
 pub(super) struct ResidentRun<T: TakeEnd<OfferNote>> {
     inst: Instance,
@@ -18,7 +18,7 @@ pub(super) struct ResidentRun<T: TakeEnd<OfferNote>> {
 }
 
 impl<T: TakeEnd<OfferNote> + Drop> ResidentRun<T> {
-    /// None for a resident that is no member, or where memory is refused.
+    /// Opens the agent of a resident. The result is none if the resident is no member, or if memory is refused.
     pub(super) fn open(
         alloc: Global,
         inst: Instance,
@@ -34,7 +34,7 @@ impl<T: TakeEnd<OfferNote> + Drop> ResidentRun<T> {
         Some(ResidentRun { inst, agent })
     }
 
-    /// Takes an offer and decides it, where the agent is ready.
+    /// Takes an offer and decides about it, if the agent is ready.
     pub(super) fn take(&mut self) -> Option<Heard<OfferNote>> {
         if !self.agent.ready() {
             return None;
@@ -46,14 +46,14 @@ impl<T: TakeEnd<OfferNote> + Drop> ResidentRun<T> {
         Some(heard)
     }
 
-    /// Gives the first answer due.
+    /// Gives the first answer that is due.
     pub(super) fn give(&mut self) -> Option<(ProgrammeNo, AnswerKind)> {
         let due = self.agent.due()?;
         self.agent.answered();
         Some(due)
     }
 
-    /// Gives the first two answers due.
+    /// Gives the first two answers that are due.
     pub(super) fn give_two(&mut self) -> [Option<(ProgrammeNo, AnswerKind)>; 2] {
         let first = self.give();
         let second = self.give();
@@ -65,7 +65,7 @@ impl<T: TakeEnd<OfferNote> + Drop> ResidentRun<T> {
     }
 }
 
-/// A programme's agent beside its instance.
+/// A programme's agent with the instance.
 #[derive(Drop)]
 pub(super) struct ProgrammeRun<T: TakeEnd<AnswerNote>> {
     inst: Instance,
@@ -74,7 +74,7 @@ pub(super) struct ProgrammeRun<T: TakeEnd<AnswerNote>> {
 }
 
 impl<T: TakeEnd<AnswerNote> + Drop> ProgrammeRun<T> {
-    /// None for a programme that is no member, or where memory is refused.
+    /// Opens the agent of a programme. The result is none if the programme is no member, or if memory is refused.
     pub(super) fn open(
         alloc: Global,
         inst: Instance,
@@ -90,7 +90,7 @@ impl<T: TakeEnd<AnswerNote> + Drop> ProgrammeRun<T> {
         Some(ProgrammeRun { inst, agent })
     }
 
-    /// Offers to the resident that is wished for, if there is one.
+    /// Makes an offer to the resident to whom the programme offers next, if there is such a resident.
     pub(super) fn offer(&mut self) -> Option<ResidentNo> {
         let wish = self.agent.wish(&self.inst)?;
         self.agent.offered(&self.inst);

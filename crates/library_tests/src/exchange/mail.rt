@@ -1,4 +1,4 @@
-//! What the core tells of the mailboxes after each event.
+//! What the core reports about the mailboxes after each event.
 use super::begin;
 use super::run::Run;
 use crate::instances::TWO_PLACES;
@@ -26,14 +26,14 @@ const BOTH: MailLeft = MailLeft {
     sender_has_more: true,
 };
 
-// What each of the nineteen events leaves. An offer or answer finds its receiver's mailbox empty or not. A hear of a's
-// leaves the answers that came later.
+// What each of the nineteen events leaves in the mailboxes. An offer or an answer finds its receiver's mailbox empty or
+// not. A hear by programme a leaves in the mailbox the answers that came later.
 const AFTER_NINETEEN: [MailLeft; 19] = [
     WAS_EMPTY, WAS_EMPTY, NOTHING, NOTHING, WAS_EMPTY, NOTHING, WAS_EMPTY, NOTHING, WAS_EMPTY,
     NOTHING, MORE, MORE, NOTHING, NOTHING, WAS_EMPTY, NOTHING, WAS_EMPTY, NOTHING, NOTHING,
 ];
 
-// Whether so much is told of each event.
+// Whether the core reports what is expected after each event.
 fn tells_each(run: &mut Run, events: &[Event], wanted: &[MailLeft]) -> bool {
     for (event, mail) in events.iter().zip(wanted) {
         if run.step_and_tell(*event) != Ok(*mail) {
@@ -43,7 +43,8 @@ fn tells_each(run: &mut Run, events: &[Event], wanted: &[MailLeft]) -> bool {
     true
 }
 
-// Whether a core at the beginning tells this of these events, and then refuses a take of b's offer by y for this cause.
+// Whether a new core reports what is expected after each of these events, and then refuses for this cause that y takes
+// an offer of b.
 fn tells_all(alloc: Global, events: &[Event], wanted: &[MailLeft], why: Refused) -> bool {
     match begin(alloc, TWO_PLACES, Capacity::Full) {
         Ok(mut run) => {

@@ -1,4 +1,4 @@
-//! A core beside its instance.
+//! A core with its instance.
 ghost use Rattle.std.specs.Prelude.{◌≡◌, IfOk, length};
 ghost use Rattle.exchange_core.specs.Steps.{IsCoreOf};
 
@@ -6,7 +6,7 @@ use exchange_core::{AnswerKind, Capacity, Core, CoreFault, Event, MailLeft, Pend
 use match_model::{Assignment, Instance, ModelFault, ProgrammeNo, ResidentNo};
 use std::alloc::Global;
 
-/// A core beside its instance.
+/// A core with its instance.
 #[derive(Drop)]
 pub(crate) struct Run {
     pub(super) inst: Instance,
@@ -14,7 +14,8 @@ pub(crate) struct Run {
     ghost core_of: { IsCoreOf inst core },
 }
 
-/// What the core shows: what keeps it from rest, a programme's next offer, and what a resident holds and owes first.
+/// What the core shows: what is still pending, to whom a programme offers next, what a resident holds, and which answer
+/// the resident owes first.
 pub(super) type Seen = (
     Option<Pending>,
     Option<ResidentNo>,
@@ -44,7 +45,7 @@ impl Run {
         self.core.some_enabled(&self.inst)
     }
 
-    /// Nothing is seen of who is no member.
+    /// What the core shows of this programme and this resident. If one of them is no member, nothing is shown of it.
     pub(super) fn seen(&self, programme: ProgrammeNo, resident: ResidentNo) -> Seen {
         if programme.0 >= self.inst.programmes() || resident.0 >= self.inst.residents() {
             return (None, None, None, None);

@@ -1,11 +1,11 @@
-//! The definitions applied by filters over the list of events, each time from its beginning.
+//! The definitions of a legal list of events, applied slowly: each time by filters over the whole list.
 ghost use Rattle.std.specs.Prelude.{◌≡◌};
 ghost use Rattle.exchange_core.specs.Refusal.{strange_desk};
 
 use exchange_core::{AnswerKind, Capacity, Event, Pending, Refused};
 use match_model::{Instance, ProgrammeNo, ResidentNo};
 
-/// One of the six lists of a list of events: what a desk sent, was sent, took or heard.
+/// One of the six lists that a list of events gives for a desk: what the desk sent, was sent, took or heard.
 #[derive(Clone, Copy)]
 enum Mail {
     OffersOf,
@@ -16,15 +16,15 @@ enum Mail {
     Hears,
 }
 
-/// The member at the other end, and the kind of an answer.
+/// What an item of one of these six lists says: the other member, and the kind of an answer.
 type Letter = (u32, Option<AnswerKind>);
 
-/// The letter alone where the two numbers agree, else none.
+/// This item if the two numbers are equal, else none.
 fn where_same(a: u32, b: u32, letter: Letter) -> Option<Letter> {
     if a == b { Some(letter) } else { None }
 }
 
-/// The event's letter, if it is one of this desk's list.
+/// The item that an event adds to a desk's list of this kind, if the event adds an item.
 fn letter(mail: Mail, desk: u32, event: &Event) -> Option<Letter> {
     match event {
         Event::Offer {
@@ -81,14 +81,14 @@ fn hear_letter(mail: Mail, desk: u32, ends: (u32, u32), kind: AnswerKind) -> Opt
     }
 }
 
-/// How many letters the desk's list has.
+/// How many items a desk's list of this kind has.
 fn count(mail: Mail, desk: u32, j: &[Event]) -> usize {
     j.iter()
         .filter(|event| letter(mail, desk, event).is_some())
         .count()
 }
 
-/// The letter at this place of the desk's list.
+/// The item at index `place` in a desk's list of this kind.
 fn item(mail: Mail, desk: u32, j: &[Event], place: usize) -> Option<Letter> {
     let mut left = place;
     for event in j {
@@ -107,7 +107,8 @@ fn place(ranking: &[ProgrammeNo], p: u32) -> usize {
     found.unwrap_or(ranking.len())
 }
 
-/// The place of the best programme whose offer the resident took, or the ranking's length.
+/// The place on the ranking of the best programme whose offer the resident took. The result is the ranking's length if
+/// the resident took no offer.
 fn best_place(ranking: &[ProgrammeNo], r: ResidentNo, j: &[Event]) -> usize {
     let mut best = ranking.len();
     for event in j {
@@ -118,7 +119,7 @@ fn best_place(ranking: &[ProgrammeNo], r: ResidentNo, j: &[Event]) -> usize {
     best
 }
 
-/// What an offer that the resident takes after these events calls for.
+/// The answers that are due for an offer that the resident takes after these events.
 fn calls(ranking: &[ProgrammeNo], r: ResidentNo, earlier: &[Event], p: u32) -> [Option<Letter>; 2] {
     let before = best_place(ranking, r, earlier);
     if place(ranking, p) >= before {
@@ -131,7 +132,7 @@ fn calls(ranking: &[ProgrammeNo], r: ResidentNo, earlier: &[Event], p: u32) -> [
     [Some((p, Some(AnswerKind::Hold))), release]
 }
 
-/// The first answer that the resident was called for and hasn't given.
+/// The first answer that the resident owes and has not given.
 fn first_due(ranking: &[ProgrammeNo], r: ResidentNo, j: &[Event]) -> Option<Letter> {
     let mut given = count(Mail::AnswersOf, r.0, j);
     for (index, event) in j.iter().enumerate() {
@@ -148,12 +149,12 @@ fn first_due(ranking: &[ProgrammeNo], r: ResidentNo, j: &[Event]) -> Option<Lett
     None
 }
 
-/// How many offers the resident was sent and hasn't taken.
+/// How many offers were sent to the resident and not taken.
 fn offers_waiting(r: ResidentNo, j: &[Event]) -> usize {
     count(Mail::OffersTo, r.0, j).saturating_sub(count(Mail::Takes, r.0, j))
 }
 
-/// How many answers the programme was sent and hasn't heard.
+/// How many answers were sent to the programme and not heard.
 fn answers_waiting(p: ProgrammeNo, j: &[Event]) -> usize {
     count(Mail::AnswersTo, p.0, j).saturating_sub(count(Mail::Hears, p.0, j))
 }
@@ -165,7 +166,7 @@ fn room(cap: Capacity, most: usize) -> usize {
     }
 }
 
-/// Whether this is an answer that the programme heard, and that gives the place back.
+/// Whether this event is a hear by the programme of an answer that gives back a place.
 fn is_rejection(p: ProgrammeNo, event: &Event) -> bool {
     match letter(Mail::Hears, p.0, event) {
         Some((_, kind)) => kind != Some(AnswerKind::Hold),
@@ -178,7 +179,7 @@ fn out(p: ProgrammeNo, j: &[Event]) -> usize {
     count(Mail::OffersOf, p.0, j).saturating_sub(freed)
 }
 
-/// The first cause for which the event may not follow the list, or none.
+/// The first cause for which the event may not follow the list of events, or none.
 pub(super) fn refusal(
     inst: &Instance,
     cap: Capacity,
@@ -211,7 +212,7 @@ pub(super) fn refusal(
     }
 }
 
-/// Whether the core told the same.
+/// Whether the core and the slow definitions gave the same answer.
 pub(super) fn is_same(told: Result<(), Refused>, slow: Option<Refused>) -> bool {
     match slow {
         Some(why) => told == Err(why),
@@ -249,7 +250,7 @@ fn offer(
     None
 }
 
-/// Why the letter in front isn't this one, if it isn't.
+/// Why the wanted item isn't the one in front, if it isn't.
 fn front_fault(front: Option<Letter>, wanted: Letter) -> Option<Refused> {
     match front {
         None => Some(Refused::NothingWaiting),

@@ -1,4 +1,4 @@
-//! Random walks: the core beside the filters over the list, on random instances.
+//! Random walks on random instances: the core is compared with the slow definitions after each event.
 ghost use Rattle.std.specs.Prelude.{◌<◌};
 
 use super::run::Run;
@@ -11,7 +11,7 @@ const PROGRAMMES: u32 = 3;
 
 const RESIDENTS: u32 = 5;
 
-/// Random numbers, each made from the last by shifts and exclusive ors.
+/// Random numbers. Each number is made from the number before by shifts and exclusive ors.
 #[derive(Drop)]
 struct Numbers {
     last: u32,
@@ -30,7 +30,7 @@ impl Numbers {
     }
 }
 
-/// Most of the numbers below a prime, in random steps.
+/// Most of the numbers below a prime, in a random order.
 fn some_below(numbers: &mut Numbers, alloc: Global, prime: u32) -> Result<Vec<u32>, AllocError>
     requires { 1 < prime }
 {
@@ -62,7 +62,7 @@ fn some_programmes(numbers: &mut Numbers, alloc: Global) -> Result<Vec<Programme
     Ok(programmes)
 }
 
-/// Quotas up to 3, and lists of most members.
+/// A random instance with quotas up to 3, and with lists that have most members of the other side.
 fn random_instance(numbers: &mut Numbers, alloc: Global) -> Result<Instance, ModelFault> {
     let mut builder = InstanceBuilder::new(alloc);
     for _ in 0..PROGRAMMES {
@@ -82,7 +82,7 @@ fn random_instance(numbers: &mut Numbers, alloc: Global) -> Result<Instance, Mod
     builder.finish().map_err(|refused| refused.fault)
 }
 
-/// An event over the members, or seldom over one who is none.
+/// A random event. Mostly both members of the event exist, and seldom one of the two doesn't.
 fn random_event(numbers: &mut Numbers) -> Event {
     let programme = ProgrammeNo(numbers.below(PROGRAMMES + 1).min(numbers.below(30)));
     let resident = ResidentNo(numbers.below(RESIDENTS));
@@ -114,7 +114,7 @@ fn random_event(numbers: &mut Numbers) -> Event {
     }
 }
 
-/// A random event, or every third time one that may follow.
+/// A random event, or in one of three cases an event that may follow.
 fn next_event(numbers: &mut Numbers, run: &Run) -> Event {
     if numbers.below(3) > 0 {
         return random_event(numbers);
@@ -122,7 +122,8 @@ fn next_event(numbers: &mut Numbers, run: &Run) -> Event {
     run.some_enabled().unwrap_or(Event::Close)
 }
 
-/// Whether the core and the filters agree on an event. If it may follow, it is done and added to the list.
+/// Whether the core and the slow definitions agree on an event. If the event may follow, it is entered and added to the
+/// list.
 fn agrees_once(run: &mut Run, cap: Capacity, list: &mut Vec<Event>, event: Event) -> bool {
     let again = event;
     let more = event;
@@ -139,7 +140,7 @@ fn agrees_once(run: &mut Run, cap: Capacity, list: &mut Vec<Event>, event: Event
     true
 }
 
-/// Whether they agree on each of so many events that are tried.
+/// Whether the core and the slow definitions agree on each of `turns` events that are tried.
 fn agrees_along(
     numbers: &mut Numbers,
     alloc: Global,
@@ -157,7 +158,7 @@ fn agrees_along(
     true
 }
 
-/// Whether they agree on each of so many events that are tried on a random instance.
+/// Whether the core and the slow definitions agree on each of `turns` events that are tried on a random instance.
 pub(super) fn agrees(alloc: Global, seed: u32, cap: Capacity, turns: u32) -> bool {
     let mut numbers = Numbers { last: seed };
     let Ok(inst) = random_instance(&mut numbers, alloc) else {

@@ -1,4 +1,4 @@
-//! Runs by one worker: in which order it does what there is to do.
+//! Runs by one worker, and in which order the worker visits the desks.
 use super::runs::ran;
 use crate::instances::Members;
 use exchange_core::{Capacity, Event};
@@ -7,7 +7,7 @@ use match_pool::OpenGate;
 use std::test::Fail;
 use test_support::events::{A, B, HOLD, RELEASE, X, Y, Z, answer, offer, take};
 
-// Two pairs of a programme with one place and a resident.
+// Two pairs. Each pair is a programme with one place and a resident.
 const TWO_PAIRS: Members = (&[(1, &[0]), (1, &[1])], &[&[0], &[1]]);
 
 #[test]
@@ -28,8 +28,9 @@ fn what_a_visit_woke_comes_before_any_programme(rt: HostRuntime) -> Result<(), F
     Ok(())
 }
 
-// Markets through whose mailboxes of one place a programme waits for room at a resident, while an answer of another one waits
-// at it. When it is called it offers, and then it hears that answer.
+// Markets with mailboxes that have room for one message. In each a programme waits for room at a resident's mailbox,
+// while an answer of another resident waits at the programme. When the programme is called because of the room, it
+// offers first, and then it hears that answer.
 const CALLED: [(Members, Event, Event); 3] = [
     (
         (
@@ -83,7 +84,7 @@ const CALLED: [(Members, Event, Event); 3] = [
     ),
 ];
 
-// Whether one event comes right after another.
+// Whether one event stands right before another event in the journal.
 fn is_followed(journal: &[Event], first: &Event, next: &Event) -> bool {
     let mut is_after = false;
     for event in journal {
@@ -107,7 +108,8 @@ fn a_called_programme_offers_first_and_hears_then(rt: HostRuntime) -> Result<(),
     Ok(())
 }
 
-// The same where another programme has used the room before the one that was called comes: it goes on waiting, and hears.
+// Markets as in `CALLED`, in which another programme uses the room before the called programme comes. The called
+// programme goes on waiting, and hears its answer.
 const REFUSED_AGAIN: [(Members, Event, Event); 2] = [
     (
         (

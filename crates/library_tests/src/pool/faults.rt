@@ -1,4 +1,5 @@
-//! Faults of a run with a real cause: mailboxes that slip.
+//! Faults of a run that have a real cause: mailboxes that slip, which means that they answer what a good mailbox never
+//! answers.
 use super::slips::{PutSlip, Slip, Slipping, TakeSlip};
 use crate::instances::{Members, TWO_BY_TWO, TWO_PLACES, has_places, made};
 use exchange_core::{AnswerKind, AnswerNote, Capacity, Desk, Event, OfferNote};
@@ -10,8 +11,8 @@ use std::thread::Threads;
 use test_support::events::{A, B, DECLINE, HOLD, RELEASE, X, Y, Z, hear, take};
 use test_support::gates::{AfterAnother, Counting};
 
-// What a run by so many workers tells if one mailbox slips: its fault, or whether it is closed and each resident holds
-// its place.
+// What a run with this number of workers returns if one mailbox answers wrongly: its fault, or whether the run closed
+// with each resident at the expected programme.
 fn told_by<G: Gate + Sync, R: Threads + Wait + Sync + Send + Copy>(
     rt: R,
     alloc: Global,
@@ -39,10 +40,11 @@ const SMALL: (Members, &[Option<u32>]) = (TWO_BY_TWO, &[Some(0), Some(1)]);
 
 const LARGER: (Members, &[Option<u32>]) = (TWO_PLACES, &[Some(1), Some(0), Some(0)]);
 
-// A programme that there isn't.
+// A number that no programme has.
 const STRANGE: ProgrammeNo = ProgrammeNo(7);
 
-// Slips after which a run goes on. What was refused as full is put again, and what wasn't there is looked for again.
+// Slips after which a run goes on. A message that was refused as full is put again, and a message that was missing is
+// looked for again.
 const PASSING: [Slip; 8] = [
     Slip::Offer(X, 0, PutSlip::Full),
     Slip::Offer(X, 1, PutSlip::Full),
@@ -68,7 +70,7 @@ fn goes_on_after_full_and_nothing(rt: HostRuntime) {
     }
 }
 
-// Slips that lose a mailbox, and whose it is.
+// Slips in which a mailbox loses its other end, with the desk of this mailbox.
 fn losing() -> [(Slip, Desk); 8] {
     [
         (Slip::Offer(X, 0, PutSlip::Gone), Desk::Resident(X)),
@@ -82,7 +84,7 @@ fn losing() -> [(Slip, Desk); 8] {
     ]
 }
 
-// Whether a run tells that this desk's mailbox is gone.
+// Whether a run has the fault that the other end of this desk's mailbox is gone.
 fn is_gone(told: &Result<bool, RunFault>, desk: &Desk) -> bool {
     match told {
         Err(RunFault::MailGone(gone)) => gone == desk,
@@ -106,8 +108,8 @@ fn tells_whose_mailbox_is_gone(rt: HostRuntime) {
     }
 }
 
-// Slips that last, and the desk that stays pending. An offer of a programme or an answer of a resident finds no room.
-// Or a desk finds nothing in its mailbox, though a message waits.
+// Slips that last until the end of the run, with the desk that stays pending. In some, an offer of a programme or an
+// answer of a resident finds no room. In others, a desk finds no message in its mailbox, though a message waits.
 fn lasting() -> [(Slip, Desk); 8] {
     [
         (Slip::Offer(Y, 0, PutSlip::AlwaysFull), Desk::Programme(A)),
@@ -127,7 +129,7 @@ fn lasting() -> [(Slip, Desk); 8] {
     ]
 }
 
-// Whether a run tells that this desk is torn.
+// Whether a run has the fault that this desk is torn.
 fn is_torn(told: &Result<bool, RunFault>, desk: &Desk) -> bool {
     match told {
         Err(RunFault::Torn(torn)) => torn == desk,
@@ -151,13 +153,15 @@ fn tells_the_desk_that_is_left_pending(rt: HostRuntime) {
     }
 }
 
-// A resident takes the offer of another programme first.
+// A wrong answer of a mailbox: the resident's first take gives an offer of this programme. With it stands the take that
+// the worker then tries to enter.
 fn offer_of(resident: ResidentNo, programme: ProgrammeNo) -> (Slip, Event) {
     let slip = TakeSlip::Gives(OfferNote { programme });
     (Slip::Take(resident, 0, slip), take(resident, programme))
 }
 
-// A programme hears another answer at this call.
+// A wrong answer of a mailbox: the programme's look with this number gives this answer. With it stands the hear that
+// the worker then tries to enter.
 fn answer_of(
     programme: ProgrammeNo,
     call: u32,
@@ -171,7 +175,7 @@ fn answer_of(
     )
 }
 
-// Messages that were never put, or that are given before older ones, and the receipts.
+// Slips that give a message that was never put, or give a message before an older one; each with the receipt.
 fn out_of_step() -> [(Slip, Event); 8] {
     [
         offer_of(X, STRANGE),
@@ -185,7 +189,7 @@ fn out_of_step() -> [(Slip, Event); 8] {
     ]
 }
 
-// Whether a run is out of step at this receipt, with as many events in its journal as were entered, and no close.
+// Whether a run is out of step at this receipt. Its journal has all events that were entered, and no close.
 fn is_out_of_step(told: &Result<bool, RunFault>, gate: &Counting, receipt: &Event) -> bool {
     match told {
         Err(RunFault::OutOfStep { journal, event }) => {
@@ -213,7 +217,7 @@ fn tells_the_receipt_that_is_out_of_step(rt: HostRuntime) {
     }
 }
 
-// Whether a run is out of step at a receipt that its journal has already.
+// Whether a run is out of step at a receipt that already stands in its journal.
 fn is_repeated(told: &Result<bool, RunFault>, gate: &Counting) -> bool {
     match told {
         Err(RunFault::OutOfStep { journal, event }) => {
@@ -243,10 +247,10 @@ fn takes_no_message_twice(rt: HostRuntime) {
     }
 }
 
-// How often a test runs that can miss what it looks for.
+// How often a test is repeated that may miss what it looks for.
 const TRIES: u32 = 5;
 
-// Whether nothing is entered after a receipt that was out of step, though a worker has another one.
+// Whether no event is entered after a receipt that was out of step, though another worker has a receipt to enter.
 fn is_spoiled<R: Threads + Wait + Sync + Send + Copy>(rt: R, alloc: Global) -> bool {
     for _ in 0..TRIES {
         let gate = AfterAnother::new(Desk::Resident(X));

@@ -1,4 +1,5 @@
-//! What a gate promises, seen from inside of runs: when a receipt passes, when an entry is told, and how a run stops.
+//! What a gate promises, tested in runs: when `pass` is called for a receipt, when `entered` is called, and how a run
+//! stops.
 use super::runs::{Told, ran, ran_on};
 use crate::instances::{Members, TWO_BY_TWO, TWO_PLACES, made};
 use crate::markets::{made_chain, made_pairs};
@@ -14,10 +15,10 @@ use test_support::gates::{Hold, HoldsEntered, HoldsVisit, Rested, Stalls, StopsF
 
 const CAPACITIES: [Capacity; 3] = [Capacity::Full, Capacity::Each(1), Capacity::Each(2)];
 
-// How often a test runs that can miss what it looks for.
+// How often a test is repeated that may miss what it looks for.
 const TRIES: u32 = 10;
 
-// Two small instances, a hundred pairs, and a chain of forty links.
+// Four instances: two small ones, a hundred pairs, and a chain of forty links.
 fn made_all(alloc: Global) -> Result<[Instance; 4], ModelFault> {
     Ok([
         made(alloc, TWO_BY_TWO)?,
@@ -38,7 +39,7 @@ fn receipts_of(journal: &[Event]) -> u64 {
     count
 }
 
-// Whether each worker entered as many events as the gate was told of, and the journal has all of them.
+// Whether each worker entered as many events as the gate counted, and the journal has all of them.
 fn is_told(told: &Told, counts: &[u64]) -> bool {
     let mut sum = 0_u64;
     for (entered, count) in told.entered.iter().zip(counts) {
@@ -50,7 +51,7 @@ fn is_told(told: &Told, counts: &[u64]) -> bool {
     told.journal.len() as u64 == sum && told.who.len() == told.journal.len()
 }
 
-// Whether a run that was stopped from this pass on ended as it is to.
+// Whether a run ended as it should that was stopped from the call of `pass` with this number on.
 fn is_stopped_from(told: &Told, gate: &StopsFrom, first: u64, workers: usize) -> bool {
     let counts = [0, 1, 2, 3, 4, 5, 6, 7].map(|worker| gate.count(worker));
     let receipts = receipts_of(&told.journal);
@@ -59,13 +60,14 @@ fn is_stopped_from(told: &Told, gate: &StopsFrom, first: u64, workers: usize) ->
         Ending::Closed => is_closed,
         Ending::Stopped => !is_closed && receipts >= first,
     };
-    // several can close a run while one is stopped at its last receipt
+    // several workers can close a run while one worker is stopped at the run's last receipt
     ends && (workers > 1 || is_closed && receipts < first || !is_closed && receipts == first)
         && gate.all_ended()
         && is_told(told, &counts)
 }
 
-// How a run that was stopped from this pass on ended, if it ended as it is to.
+// How a run ended that was stopped from the call of `pass` with this number on. The result is none if the run did not
+// end as it should.
 fn stopped_from<R: Threads + Wait + Sync + Send + Copy>(
     rt: R,
     alloc: Global,
@@ -85,7 +87,7 @@ fn stopped_from<R: Threads + Wait + Sync + Send + Copy>(
     }
 }
 
-// Whether runs that were stopped from each pass on ended as they are to.
+// Whether runs ended as they should that were stopped from each of these calls of `pass` on.
 fn stop_well<R: Threads + Wait + Sync + Send + Copy>(
     rt: R,
     alloc: Global,
@@ -140,7 +142,7 @@ fn every_worker_heeds_a_stop(rt: HostRuntime) -> Result<(), Fail> {
     Ok(())
 }
 
-// The place in the journal of the event that a worker entered after so many of its own.
+// The index in the journal of the event that a worker entered after `own` earlier events of its own.
 fn place_of(told: &Told, worker: usize, own: u64) -> Option<usize> {
     let mut before = 0_u64;
     for (place, of) in told.who.iter().enumerate() {
@@ -154,7 +156,8 @@ fn place_of(told: &Told, worker: usize, own: u64) -> Option<usize> {
     None
 }
 
-// Whether a held receipt was entered after all that was entered meanwhile, and its desk wasn't visited.
+// Whether a receipt that was kept waiting was entered after all events that were entered meanwhile, and no other worker
+// visited its desk.
 fn is_entered_after(told: &Told, hold: &Hold, workers: usize) -> bool {
     let Some(place) = place_of(told, hold.worker, hold.own) else {
         return false;
@@ -171,7 +174,7 @@ fn is_entered_after(told: &Told, hold: &Hold, workers: usize) -> bool {
         })
 }
 
-// Whether a pass was held, and its receipt was entered after it.
+// Whether a call of `pass` was kept waiting, and its receipt was entered only afterwards.
 fn is_late_enough(told: &Told, gate: &Stalls, workers: usize) -> bool {
     match gate.hold() {
         Some(hold) => is_entered_after(told, &hold, workers),
@@ -179,7 +182,8 @@ fn is_late_enough(told: &Told, gate: &Stalls, workers: usize) -> bool {
     }
 }
 
-// Whether a run whose pass at this place is held ends as it is to, and whether any pass was held.
+// Whether a run ends as it should whose call of `pass` with this number is kept waiting, and whether a call was kept
+// waiting.
 fn is_held<R: Threads + Wait + Sync + Send + Copy>(
     rt: R,
     alloc: Global,
@@ -201,7 +205,7 @@ fn is_held<R: Threads + Wait + Sync + Send + Copy>(
 #[test]
 fn a_receipt_passes_before_it_is_entered(rt: HostRuntime) -> Result<(), Fail> {
     let all = made_all(rt.alloc())?;
-    // the last of these places is the run's last receipt
+    // the last of these numbers is the call for the run's last receipt
     let places: [[u64; 2]; 4] = [[0, 3], [2, 7], [50, 199], [1, 60]];
     for (inst, places) in all.iter().zip(places) {
         for cap in [Capacity::Full, Capacity::Each(1)] {
@@ -218,7 +222,7 @@ fn a_receipt_passes_before_it_is_entered(rt: HostRuntime) -> Result<(), Fail> {
     Ok(())
 }
 
-// Whether another worker went on while the one that entered the event of this number was held.
+// Whether another worker entered events while the worker waited that entered the event with this number.
 fn goes_on<R: Threads + Wait + Sync + Send + Copy>(
     rt: R,
     alloc: Global,
@@ -257,7 +261,7 @@ const ONE_FOR_TEN: Members = (
     &[&[0], &[0], &[0], &[0], &[0], &[0], &[0], &[0], &[0], &[0]],
 );
 
-// Whether another worker did what an offer gave work to, while the worker that entered it was held.
+// Whether another worker did the work that an offer caused, while the worker waited that entered the offer.
 fn goes_on_beside<R: Threads + Wait + Sync + Send + Copy>(
     rt: R,
     alloc: Global,
@@ -277,11 +281,12 @@ fn what_an_entry_woke_is_listed_before_its_worker_is_held(rt: HostRuntime) {
     }
 }
 
-// Two programmes that offer to one resident, who prefers the first. The second is rejected, and offers to another.
+// Two programmes that offer to the same resident, who prefers the first programme. The second programme is rejected,
+// and offers to a second resident.
 const RIVALS: Members = (&[(1, &[0]), (1, &[0, 1])], &[&[0, 1], &[1]]);
 
-// Whether a worker that found nothing to do went on with what was listed, while another stayed at the desk that it saw. That
-// is the desk of the rejected programme, which hears of it and offers again.
+// Whether a worker that found nothing to do was woken for a listed desk, while another worker stayed at its own desk.
+// The listed desk is the rejected programme's, which hears of the rejection and offers again.
 fn is_woken<R: Threads + Wait + Sync + Send + Copy>(rt: R, alloc: Global, cap: Capacity) -> bool {
     let gate = Rested::new(rt, Desk::Programme(ProgrammeNo(1)));
     let told = ran(rt, alloc, RIVALS, cap, 2, &gate);

@@ -1,4 +1,4 @@
-//! Mailboxes whose puts, or whose takes, a gate holds up.
+//! Mailboxes whose puts or takes can be kept waiting by a gate.
 ghost use Rattle.std.specs.Prelude.{◌≡◌, ◌≢◌, [], IfOk, IfErr};
 
 use exchange_core::{AnswerNote, OfferNote};
@@ -11,11 +11,11 @@ use std::sync::Wait;
 use std::sync::atomic::{AtomicBool, AtomicU64, Ordering};
 use std::time::Duration;
 
-/// How often who is held looks whether it may go on, a millisecond apart.
+/// How often a worker that is kept waiting looks whether it may go on. The worker looks once in a millisecond.
 const LOOKS: u32 = 15_000;
 
-/// What a gate and the mailboxes of its run know of one another. A latch of puts holds one put for a while, once a gate has
-/// armed it. One of takes holds a take until it is opened.
+/// What a gate and the mailboxes of its run share. A latch of puts keeps one put waiting for a while, once the gate has
+/// armed the latch. A latch of takes keeps a take waiting until the gate opens the latch.
 #[derive(Drop)]
 pub(super) struct Latch<R: Wait + Copy> {
     rt: R,
@@ -27,7 +27,7 @@ pub(super) struct Latch<R: Wait + Copy> {
 }
 
 impl<R: Wait + Copy> Latch<R> {
-    /// Nothing is seen yet.
+    /// A latch before any put or take.
     pub(super) fn new(rt: R, is_of_puts: bool) -> Latch<R> {
         Latch {
             rt,
@@ -39,13 +39,13 @@ impl<R: Wait + Copy> Latch<R> {
         }
     }
 
-    /// Sleeps so many milliseconds.
+    /// Sleeps for this number of milliseconds.
     pub(super) fn sleep(&self, millis: u64) {
         self.clock
             .park_timeout(&self.rt, 0, Duration::from_millis(millis));
     }
 
-    // Waits until this is so, or for long.
+    // Waits until the flag is set, or until a long time has passed.
     fn wait_for(&self, flag: &AtomicBool) {
         for _ in 0..LOOKS {
             if flag.load(Ordering::SeqCst) {
@@ -55,27 +55,27 @@ impl<R: Wait + Copy> Latch<R> {
         }
     }
 
-    /// A put is held from now on. Whether it is the first time.
+    /// Arms the latch, so that the next put is kept waiting. Returns whether the latch was armed for the first time.
     pub(super) fn arms(&self) -> bool {
         !self.is_armed.swap(true, Ordering::SeqCst)
     }
 
-    /// Waits until a put or a take is held.
+    /// Waits until a put or a take is kept waiting.
     pub(super) fn wait_until_begun(&self) {
         self.wait_for(&self.has_begun);
     }
 
-    /// Whether a put or a take was held.
+    /// Whether a put or a take was kept waiting.
     pub(super) fn has_begun(&self) -> bool {
         self.has_begun.load(Ordering::SeqCst)
     }
 
-    /// Lets go who is held in a take.
+    /// Opens the latch, so that a waiting take goes on.
     pub(super) fn opens(&self) {
         self.is_open.store(true, Ordering::SeqCst);
     }
 
-    // Holds the first put since it was armed, with the ledger's lock in its worker's hands.
+    // Keeps a put waiting: the first put after the latch was armed. The worker of this put has the ledger's lock.
     fn holds_put(&self) {
         let is_armed = self.is_of_puts && self.is_armed.load(Ordering::SeqCst);
         if is_armed && !self.has_begun.swap(true, Ordering::SeqCst) {
@@ -83,14 +83,14 @@ impl<R: Wait + Copy> Latch<R> {
         }
     }
 
-    // Holds a take until it is opened.
+    // Keeps a take waiting until the latch is opened.
     fn holds_take(&self) {
         self.has_begun.store(true, Ordering::SeqCst);
         self.wait_for(&self.is_open);
     }
 }
 
-/// A sending end, the puts of which a latch may hold.
+/// A sending end whose puts a latch may keep waiting.
 #[derive(Drop)]
 pub(super) struct LatchedPut<'a, M: Copy, R: Wait + Copy> {
     end: RuledPut<M, R>,
@@ -118,7 +118,8 @@ impl<'a, M: Copy, R: Wait + Copy> PutEnd<M> for LatchedPut<'a, M, R> {
     }
 }
 
-/// A receiving end. One that is lost says so, once a latch lets it.
+/// A receiving end whose takes a latch may keep waiting. If its mailbox has lost the sending end, a take says so once
+/// the latch is open.
 #[derive(Drop)]
 pub(super) struct LatchedTake<'a, M: Copy, R: Wait + Copy> {
     end: RuledTake<M, R>,
@@ -150,7 +151,7 @@ impl<'a, M: Copy, R: Wait + Copy> TakeEnd<M> for LatchedTake<'a, M, R> {
     }
 }
 
-/// Mailboxes under one latch. The offers of one resident may be lost.
+/// Mailboxes under one latch. The mailbox of one resident may lose its sending end.
 #[derive(Clone, Copy)]
 pub(super) struct Latched<'a, R: Wait + Copy> {
     pub(super) rt: R,
@@ -158,7 +159,7 @@ pub(super) struct Latched<'a, R: Wait + Copy> {
     pub(super) lost: Option<ResidentNo>,
 }
 
-// A mailbox under this latch.
+// The two ends of a mailbox under this latch.
 fn ends_of<'a, M: Copy + Eq, R: Wait + Copy>(
     rt: R,
     alloc: Global,

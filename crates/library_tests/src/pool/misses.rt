@@ -1,5 +1,5 @@
-//! Misses of a run and its troubles, by mailboxes that slip: what is come back to, what is forgotten and what is told. And what a
-//! search finds that no list has.
+//! Misses and faults of a run, made by mailboxes that answer wrongly: which desk is visited again, which misses are
+//! forgotten, and which fault is reported. One test looks at what a search finds when no desk is listed.
 ghost use Rattle.std.specs.Prelude.{true, false};
 
 use super::runs::ran;
@@ -16,7 +16,7 @@ use std::thread::Threads;
 use std::time::Duration;
 use test_support::events::{A, B, X, Y};
 
-// The journal of a run by one worker over mailboxes of which one slips.
+// The journal of a run by one worker, in which one mailbox answers what a good mailbox never answers.
 fn journal_over<R: Threads + Wait + Sync + Send + Copy>(
     rt: R,
     alloc: Global,
@@ -34,7 +34,7 @@ fn journal_over<R: Threads + Wait + Sync + Send + Copy>(
     Ok(Vec::from_slice(alloc, done.journal.as_slice())?)
 }
 
-// Slips of a resident's desk, after which it is come back to before any other.
+// Slips at a resident's desk, after which this desk is visited again before any other desk.
 const PASSING: [Slip; 4] = [
     Slip::Answer(A, 0, PutSlip::Full),
     Slip::Answer(A, 1, PutSlip::Full),
@@ -53,13 +53,13 @@ fn a_desk_that_missed_is_come_back_to_at_once(rt: HostRuntime) -> Result<(), Fai
     Ok(())
 }
 
-// A programme that all of its ten residents answer.
+// A programme with ten residents, all of whom answer.
 const TEN_ANSWERS: Members = (
     &[(10, &[0, 1, 2, 3, 4, 5, 6, 7, 8, 9])],
     &[&[0], &[0], &[0], &[0], &[0], &[0], &[0], &[0], &[0], &[0]],
 );
 
-// Seventy misses, of which no more than seven come between two entries: patience is for those in a row.
+// There are seventy misses, but at most seven between two entries. Only misses in a row count against the patience.
 #[test]
 fn misses_before_an_entry_are_forgotten(rt: HostRuntime) {
     let often = Slip::Answer(A, 0, PutSlip::OftenFull);
@@ -67,7 +67,8 @@ fn misses_before_an_entry_are_forgotten(rt: HostRuntime) {
     assert!(rt; journal.is_ok_and(|journal| journal.len() == 41));
 }
 
-// Holds the pass of one desk for long after it has begun, and the passes of another desk until then.
+// Keeps the call of `pass` for one desk waiting for a long time after it has begun, and keeps the calls for another
+// desk waiting until then.
 #[derive(Drop)]
 struct Later<R: Wait + Copy> {
     rt: R,
@@ -107,7 +108,7 @@ impl<R: Wait + Copy + Sync> Gate for Later<R> {
     fn entered(&self, _worker: usize) {}
 }
 
-// What a run tells in which a mailbox is lost, and then another worker has a receipt that may not follow.
+// What a run reports in which first a mailbox loses an end, and then another worker has a receipt that may not follow.
 fn told_first<R: Threads + Wait + Sync + Send + Copy>(rt: R, alloc: Global) -> Option<RunFault> {
     let Ok(inst) = made(alloc, TWO_PLACES) else {
         return None;
@@ -135,8 +136,8 @@ fn the_first_trouble_is_told(rt: HostRuntime) {
     assert!(rt; told.is_some_and(|told| told == RunFault::MailGone(Desk::Resident(X))));
 }
 
-// A gate that is slow to go on after the first entry, though it says that it isn't: the desk that the entry woke is in no list
-// then. It goes on after three passes of others, or after two seconds.
+// A gate that goes on slowly after the first entry, though it says that it never keeps a worker waiting. The desk that
+// the entry woke is not listed meanwhile. The gate goes on after three calls of `pass` by others, or after two seconds.
 #[derive(Drop)]
 struct Slow<R: Wait + Copy> {
     rt: R,
@@ -173,7 +174,7 @@ impl<R: Wait + Copy + Sync> Gate for Slow<R> {
     }
 }
 
-// Two pairs of a programme with one place and a resident.
+// Two pairs. Each pair is a programme with one place and a resident.
 const TWO_PAIRS: Members = (&[(1, &[0]), (1, &[1])], &[&[0], &[1]]);
 
 #[test]

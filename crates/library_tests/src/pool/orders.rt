@@ -1,5 +1,5 @@
-//! In which order workers heed a stop, keep a trouble, list what they woke and tell the close: by gates, and by mailboxes that
-//! hold a worker while it has the ledger.
+//! In which order workers heed a stop, note a fault, list the desks that they woke, and end the run after the close.
+//! The tests use gates, and mailboxes that keep a worker waiting while it has the ledger's lock.
 ghost use Rattle.std.specs.Prelude.{true, false};
 
 use super::latched::{Latch, Latched};
@@ -16,7 +16,7 @@ use std::thread::Threads;
 use std::time::Duration;
 use test_support::events::{X, Y};
 
-// At which receipt a gate stops a run: the first of one desk, of all residents or of all programmes.
+// At which receipt a gate stops a run: at the first receipt of one desk, of all residents or of all programmes.
 #[derive(Clone, Copy, Debug, PartialEq, Eq)]
 enum At {
     Desk(Desk),
@@ -34,8 +34,8 @@ impl At {
     }
 }
 
-// A gate that stops a run at one receipt, once a put or a take of another worker is held. It counts what is entered from then on,
-// and lets the take go once anything is.
+// A gate that stops a run at one receipt, once another worker's put or take is kept waiting. The gate counts the events
+// that are entered from then on, and lets the take go on once an event was entered.
 #[derive(Drop)]
 struct StopsBeside<R: Wait + Copy> {
     latch: Latch<R>,
@@ -77,7 +77,7 @@ impl<R: Wait + Copy + Sync> Gate for StopsBeside<R> {
     }
 }
 
-// What a run tells that was stopped at one resident, after another resident's mailbox was lost.
+// What a run reports that was stopped at one resident, after another resident's mailbox lost an end.
 fn told_after_a_stop<R: Threads + Wait + Sync + Send + Copy>(
     rt: R,
     alloc: Global,
@@ -102,8 +102,8 @@ fn a_trouble_after_a_stop_is_told(rt: HostRuntime) {
     }
 }
 
-// Ten times two programmes and two residents. Both programmes offer to the first resident, who declines the second one. That one
-// offers to the second resident then.
+// Ten times two programmes and two residents. Both programmes offer to the first resident, who declines the second
+// programme. The second programme then offers to the second resident.
 fn made_rivals(alloc: Global) -> Result<Instance, ModelFault> {
     let mut builder = InstanceBuilder::new(alloc);
     for _ in 0..20 {
@@ -124,8 +124,8 @@ fn made_rivals(alloc: Global) -> Result<Instance, ModelFault> {
     builder.finish().map_err(|refused| refused.fault)
 }
 
-// Whether nothing was begun after a stop, while another worker had the ledger when the stop was said. Only what that worker had
-// begun is entered, and the receipt itself.
+// Whether no worker began an event after a stop, while another worker had the ledger's lock when the gate said stop.
+// Only the event that the other worker had begun is entered, and the receipt at which the gate stopped.
 fn is_heeded_at_once<R: Threads + Wait + Sync + Send + Copy>(
     rt: R,
     alloc: Global,
@@ -143,7 +143,7 @@ fn is_heeded_at_once<R: Threads + Wait + Sync + Send + Copy>(
     is_stopped && gate.latch.has_begun() && gate.entered.load(Ordering::SeqCst) == 2
 }
 
-// A worker may be kept from heeding the stop for long by other work of the machine, but not twice in three runs.
+// Other work of the machine may keep a worker from heeding the stop for long, but not in two of three runs.
 #[test]
 fn a_stop_is_heeded_before_its_receipt_is_entered(rt: HostRuntime) -> Result<(), Fail> {
     let inst = made_rivals(rt.alloc())?;
@@ -158,7 +158,8 @@ fn a_stop_is_heeded_before_its_receipt_is_entered(rt: HostRuntime) -> Result<(),
     Ok(())
 }
 
-// Waits until a number is so large, or for so many milliseconds. Whether it is.
+// Waits until the number is at least this large, or until this number of milliseconds has passed. Returns whether the
+// number is large enough.
 fn wait_for<R: Wait + Copy>(
     rt: R,
     clock: &AtomicU64,
@@ -175,11 +176,12 @@ fn wait_for<R: Wait + Copy>(
     number.load(Ordering::SeqCst) >= least
 }
 
-// How long a gate waits for what has to come, in milliseconds.
+// How long a gate waits for an event that has to come, in milliseconds.
 const LONG: u64 = 15_000;
 
-// A gate for two pairs and two workers, each of whom has one of the two hears when both go on. Who enters its hear first goes on
-// when the other has entered its own, and closes. The other goes on when the close is entered and not yet told to the workers.
+// A gate for two pairs and two workers, where each worker has one of the last two hears. The first worker to enter its
+// hear goes on once the second worker has entered the other hear, and closes the exchange. The second worker goes on
+// once the close is entered, but before the other workers learn that the run ends.
 #[derive(Drop)]
 struct ClosesBeside<R: Wait + Copy> {
     rt: R,
@@ -203,7 +205,7 @@ impl<R: Wait + Copy + Sync> Gate for ClosesBeside<R> {
 
     fn entered(&self, _worker: usize) {
         let told = self.told.fetch_add(1, Ordering::SeqCst).saturating_add(1);
-        // two hears, and then the close, after which nothing is to come
+        // two hears come, then the close, and no event after that
         match told {
             7 | 8 => {
                 wait_for(
@@ -222,7 +224,7 @@ impl<R: Wait + Copy + Sync> Gate for ClosesBeside<R> {
     }
 }
 
-// Two pairs of a programme with one place and a resident.
+// Two pairs. Each pair is a programme with one place and a resident.
 const TWO_PAIRS: Members = (&[(1, &[0]), (1, &[1])], &[&[0], &[1]]);
 
 #[test]
@@ -239,9 +241,10 @@ fn a_close_is_told_once(rt: HostRuntime) -> Result<(), Fail> {
     Ok(())
 }
 
-// A gate for a programme of ten residents and two workers, which holds workers at entries though it says that it doesn't. The
-// programme's worker is held after three offers until the other has an answer of one of them. Then it has one more offer, and
-// a hear, the pass of which lasts until the other has taken and answered all four.
+// A gate for a programme with ten residents and two workers. The gate keeps workers waiting at entries, though it says
+// that it doesn't. After three offers the programme's worker waits until the other worker has answered one of them.
+// Then the programme's worker makes one further offer, and has a hear. The gate's call for this hear lasts until the
+// other worker has taken and answered all four offers.
 #[derive(Drop)]
 struct HoldsHear<R: Wait + Copy> {
     rt: R,

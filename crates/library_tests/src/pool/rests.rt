@@ -1,5 +1,5 @@
-//! Runs in which all workers but one are held until nothing more happens. Then whatever may happen is in the held
-//! hands.
+//! Runs in which all workers but one are kept waiting until no further event is entered. Then each event that may still
+//! follow belongs to a waiting worker's desk.
 ghost use Rattle.std.specs.Prelude.{true, false};
 
 use super::runs::ran_on;
@@ -18,20 +18,20 @@ use std::time::Duration;
 use test_support::events::{DECLINE, HOLD, RELEASE, answer, desk_of, hear, offer, take};
 use test_support::rests::RestsInPass;
 
-// Two programmes of three and two places, and five residents who like the later one better.
+// Two programmes with three and two places, and five residents who prefer the second programme.
 const FIVE: Members = (
     &[(3, &[0, 1, 2, 3, 4]), (2, &[0, 1, 2])],
     &[&[1, 0], &[1, 0], &[0, 1], &[0], &[0]],
 );
 
-// A programme of three places that loses its first three residents to another. If it hears of all three in one visit,
-// it then makes three offers at once.
+// A programme with three places that loses its first three residents to a second programme. If the first programme
+// hears of all three in one visit, it then makes three offers in a row.
 const THREE_LOST: Members = (
     &[(3, &[0, 1, 2, 3, 4, 5]), (3, &[0, 1, 2])],
     &[&[1, 0], &[1, 0], &[1, 0], &[0], &[0], &[0]],
 );
 
-// How often a test is run that can miss what it looks for.
+// How often a test is repeated that may miss what it looks for.
 const TRIES: u32 = 4;
 
 // The events of one programme and one resident.
@@ -48,7 +48,7 @@ fn events_of(programme: ProgrammeNo, resident: ResidentNo) -> [Event; 8] {
     ]
 }
 
-// Whether a desk is held.
+// Whether this desk's worker is kept waiting.
 fn is_among(held: &[Option<Desk>], desk: Option<Desk>) -> bool {
     for other in held {
         if *other == desk {
@@ -58,7 +58,7 @@ fn is_among(held: &[Option<Desk>], desk: Option<Desk>) -> bool {
     false
 }
 
-// Some event that may follow these, of a desk that isn't held.
+// Some event that may follow these events, at a desk whose worker isn't kept waiting.
 fn left_undone(
     alloc: Global,
     inst: Instance,
@@ -87,8 +87,9 @@ fn left_undone(
     Ok(None)
 }
 
-// What a run leaves undone that is in nobody's hands, while all workers but one are held after one pass. The pass is
-// that of one desk or of all. And whether any was held until the run was at rest.
+// Some event that a run leaves undone at a desk that no worker has, while all workers but one are kept waiting after
+// one call of `pass`. The call is chosen among the calls for one desk or for all desks. Also whether a worker was kept
+// waiting until the run was at rest.
 fn rests_in_pass<R: Threads + Wait + Sync + Send + Copy>(
     rt: R,
     alloc: Global,
@@ -136,7 +137,7 @@ fn no_work_is_left_while_workers_are_held_in_passes(rt: HostRuntime) -> Result<(
     Ok(())
 }
 
-// What a worker is told of next, in a market of pairs through full mailboxes.
+// The next entry that a worker makes in a market of pairs, through mailboxes that never fill.
 const A_PUT: u32 = 0;
 
 const A_TAKE: u32 = 1;
@@ -145,14 +146,14 @@ const A_HEAR: u32 = 2;
 
 const ITS_ANSWER: u32 = 3;
 
-// How many pairs there are, each with four events.
+// How many pairs there are. Each pair has four events.
 const PAIRS: u32 = 4;
 
-// How often a gate looks, a millisecond apart, whether what has to come is entered.
+// How often a gate looks whether an expected event is entered. The gate looks once in a millisecond.
 const LOOKS: u32 = 10_000;
 
-// A gate for pairs of a programme with one place and a resident. It holds the worker that is told of the event of one number,
-// from 1, until all is entered that doesn't need its desk.
+// A gate for pairs of a programme with one place and a resident. After the event with this number, counted from 1, the
+// gate keeps the worker waiting until every event is entered that doesn't need the worker's desk.
 #[derive(Drop)]
 struct HoldsTold<R: Wait + Copy> {
     rt: R,
@@ -179,7 +180,7 @@ impl<R: Wait + Copy> HoldsTold<R> {
         }
     }
 
-    // How many events of its pair need a worker that is told of its next event.
+    // How many events of its pair need a worker after whose entry the gate waits.
     fn needed(&self, worker: usize) -> u32 {
         let Some(next) = self.next.get(worker) else {
             return 0;
@@ -192,7 +193,7 @@ impl<R: Wait + Copy> HoldsTold<R> {
         match now {
             A_TAKE => 2,
             A_HEAR | ITS_ANSWER => 0,
-            // an offer, the answer to which only this desk hears
+            // an offer, whose answer only this desk hears
             _ => 1,
         }
     }
@@ -253,7 +254,7 @@ fn each_that_sleeps_is_woken_for_what_one_visit_gave(rt: HostRuntime) -> Result<
         for _ in 0..TRIES {
             let inst = made(rt.alloc(), THREE_LOST)?;
             let form = (Capacity::Full, workers);
-            // the other programme's events are all made while the first one's first pass lasts
+            // all events of the other programme are entered while the first programme's first call of `pass` lasts
             let (left, is_held) = rests_in_pass(rt, rt.alloc(), inst, form, first, 1)?;
             assert!(rt; left.is_none() && is_held, "{workers} workers: {left:?}");
         }
@@ -261,7 +262,8 @@ fn each_that_sleeps_is_woken_for_what_one_visit_gave(rt: HostRuntime) -> Result<
     Ok(())
 }
 
-// One programme that ranks seventy residents and has a place for each. The last is the best.
+// One programme that ranks seventy residents and has a place for each of them. The programme ranks the resident with the
+// highest number first. Every resident ranks only this programme.
 fn made_crowd(alloc: Global) -> Result<Instance, ModelFault> {
     let mut builder = InstanceBuilder::new(alloc);
     let programme = builder.add_programme(70)?;

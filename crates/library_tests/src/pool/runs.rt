@@ -11,7 +11,7 @@ use std::thread::Threads;
 use test_support::events::{A, B, X};
 use test_support::gates::{Firm, Held, Loose, StopsAtOnce};
 
-// What is told of a run, without its ends and agents.
+// What is noted of a run, without its ends and agents.
 #[derive(Drop)]
 pub(super) struct Told {
     pub(super) ending: Ending,
@@ -21,7 +21,7 @@ pub(super) struct Told {
     pub(super) entered: Vec<u64>,
 }
 
-// Runs the exchange of an instance.
+// Runs the exchange of an instance, and notes what happened.
 pub(super) fn ran_on<G: Gate + Sync, R: Threads + Wait + Sync + Send + Copy>(
     rt: R,
     alloc: Global,
@@ -42,7 +42,7 @@ pub(super) fn ran_on<G: Gate + Sync, R: Threads + Wait + Sync + Send + Copy>(
     }
 }
 
-// Runs the exchange of these members.
+// Runs the exchange of these members, and notes what happened.
 pub(super) fn ran<G: Gate + Sync, R: Threads + Wait + Sync + Send + Copy>(
     rt: R,
     alloc: Global,
@@ -57,7 +57,7 @@ pub(super) fn ran<G: Gate + Sync, R: Threads + Wait + Sync + Send + Copy>(
     }
 }
 
-// Whether a run is closed, and each resident holds this at its end.
+// Whether a run closed with each resident at the programme of this number, or at none.
 fn ends_with<R: Threads + Wait + Sync + Send + Copy>(
     rt: R,
     alloc: Global,
@@ -72,8 +72,9 @@ fn ends_with<R: Threads + Wait + Sync + Send + Copy>(
     }
 }
 
-// Markets, and each resident's programme at the end. One has no place, one nobody who ranks anybody, and one leaves a
-// place and a resident. In three of them all rank all, and plain deferred acceptance gave their placements.
+// Markets, with the programme of each resident after the close. One market has no place, one has a member whom nobody
+// ranks, and one leaves a place and a resident over. In three of these markets everybody ranks everybody, and an
+// implementation of plain deferred acceptance gave the placements.
 const MARKETS: [(Members, &[Option<u32>]); 8] = [
     (TWO_BY_TWO, &[Some(0), Some(1)]),
     (TWO_PLACES, &[Some(1), Some(0), Some(0)]),
@@ -150,7 +151,7 @@ fn closes(rt: HostRuntime) {
     }
 }
 
-// Whether a run of two residents is refused for this.
+// Whether a run with two residents is refused with this fault.
 fn is_refused<R: Threads + Wait + Sync + Send + Copy>(
     rt: R,
     alloc: Global,
@@ -181,7 +182,8 @@ fn refuses_a_bad_number_of_workers_or_capacity(rt: HostRuntime) {
     }
 }
 
-// Whether a run was held and is closed, and each worker entered as many events as the gate saw, two of them some.
+// Whether a gate kept a worker of a closed run waiting, each worker entered as many events as the gate counted, and two
+// workers entered some.
 fn is_seen(told: &Told, held: &Held) -> bool {
     let mut busy = 0_usize;
     for (worker, entered) in told.entered.iter().enumerate() {
@@ -199,7 +201,7 @@ fn is_seen(told: &Told, held: &Held) -> bool {
         && told.who.len() == told.journal.len()
 }
 
-// How many events a run has that is seen so by its gate.
+// How many events a run has, if its gate saw what is expected.
 fn seen<G: Gate + Sync, R: Threads + Wait + Sync + Send + Copy>(
     rt: R,
     alloc: Global,
@@ -239,7 +241,7 @@ fn two_at_once(rt: HostRuntime) {
     }
 }
 
-// Whether each 2,000 residents hold the programme of their number.
+// Whether the first 2,000 residents are at the first programme, the next 2,000 at the second, and so on.
 fn is_in_one_order(sheet: &Assignment) -> bool {
     for r in 0..sheet.len() {
         if sheet.get(ResidentNo(r)) != Some(ProgrammeNo(r / 2_000)) {
@@ -260,7 +262,7 @@ fn two_at_once_on_their_way(rt: HostRuntime) -> Result<(), Fail> {
     Ok(())
 }
 
-// Whether a run was stopped after a take, and its workers entered the events of its journal.
+// Whether a run was stopped after a take, and its workers entered exactly the events of its journal.
 fn is_stopped(told: &Told) -> bool {
     let mut takes = 0_usize;
     for event in &told.journal {
@@ -290,7 +292,7 @@ fn says(alloc: Global, fault: RunFault, text: &str) -> Result<bool, AllocError> 
     Ok(fault.to_string(alloc)?.as_str() == text)
 }
 
-// Whether the faults that name an event or a desk print as they are to.
+// Whether the faults that name an event or a desk print the expected texts.
 fn desks_are_told(alloc: Global) -> Result<bool, AllocError> {
     let receipt = RunFault::OutOfStep {
         journal: Vec::new(alloc),

@@ -1,4 +1,5 @@
-//! Mailboxes with an end that does what its contract allows and a good mailbox never does.
+//! Mailboxes that slip, which means that an end answers wrongly: its contract allows the answer, but a good mailbox
+//! never gives it.
 ghost use Rattle.std.specs.Prelude.{◌≡◌, ◌≢◌, ◌≤◌, [], vec_capacity, IfOk, IfErr};
 
 use exchange_core::{AnswerNote, OfferNote};
@@ -10,38 +11,38 @@ use std::marker::Model;
 use std::mem;
 use std::sync::Wait;
 
-/// How many messages an end gives at most.
+/// The greatest number of messages that an end gives.
 const MOST: usize = 64;
 
-/// What a sending end does at one of its calls, or from it on.
+/// What a sending end does at one of its calls, or from this call on.
 #[derive(Clone, Copy, Debug, PartialEq, Eq)]
 pub(super) enum PutSlip {
-    /// It says that there is no room.
+    /// The end says once that the mailbox has no room.
     Full,
-    /// It says that there is no room, from then on.
+    /// The end says from this call on that the mailbox has no room.
     AlwaysFull,
-    /// It says that there is no room, but for each eighth call.
+    /// The end says from this call on that the mailbox has no room, except at each eighth call.
     OftenFull,
-    /// It says that nobody takes, from then on.
+    /// The end says from this call on that the receiving end is gone.
     Gone,
 }
 
-/// What a receiving end does once, after so many messages, or from then on.
+/// What a receiving end does once, or from then on, after it gave a number of messages.
 #[derive(Clone, Copy, Debug, PartialEq, Eq)]
 pub(super) enum TakeSlip<M> {
-    /// It gives nothing, though a message waits.
+    /// The end gives no message once, though a message waits.
     Nothing,
-    /// It gives nothing, from then on.
+    /// The end gives no message from then on.
     AlwaysNothing,
-    /// It says that nobody puts, from then on.
+    /// The end says from then on that the sending end is gone.
     Gone,
-    /// It gives this message, and leaves the one that waits.
+    /// The end gives this message, and leaves the waiting message in the mailbox.
     Gives(M),
-    /// It gives the message before once more, and leaves the one that waits.
+    /// The end gives the last message a second time, and leaves the waiting message in the mailbox.
     Repeats,
 }
 
-/// A sending end that slips at a call, counted from 0.
+/// A sending end that answers wrongly at one of its calls, which are counted from 0.
 #[derive(Drop)]
 pub(super) struct SlippingPut<M: Copy, R: Wait + Copy> {
     end: RuledPut<M, R>,
@@ -77,7 +78,7 @@ impl<M: Copy, R: Wait + Copy> PutEnd<M> for SlippingPut<M, R> {
     }
 }
 
-/// A receiving end that slips when it has given so many messages.
+/// A receiving end that answers wrongly after it has given this number of messages.
 #[derive(Drop)]
 pub(super) struct SlippingTake<M: Copy, R: Wait + Copy> {
     end: RuledTake<M, R>,
@@ -121,7 +122,7 @@ impl<M: Copy, R: Wait + Copy> TakeEnd<M> for SlippingTake<M, R> {
 }
 
 impl<M: Copy, R: Wait + Copy> SlippingTake<M, R> {
-    // What a slip gives in place of a take, once; two kinds last.
+    // The wrong answer to a call that takes a message. Most kinds of wrong answers come once, and two kinds last.
     fn slipped(&mut self, slip: TakeSlip<M>) -> TakeReply<M>
         ensures { self.new ≡ self.old }
     {
@@ -140,27 +141,27 @@ impl<M: Copy, R: Wait + Copy> SlippingTake<M, R> {
     }
 }
 
-/// Whose mailbox slips, at which call of which end, and how.
+/// Whose mailbox answers wrongly, at which end, at which call, and how.
 #[derive(Clone, Copy, Debug, PartialEq, Eq)]
 pub(super) enum Slip {
-    /// An offer is put to a resident.
+    /// The wrong answer comes when an offer is put for this resident.
     Offer(ResidentNo, u32, PutSlip),
-    /// A resident takes.
+    /// The wrong answer comes when this resident takes an offer.
     Take(ResidentNo, u32, TakeSlip<OfferNote>),
-    /// An answer is put to a programme.
+    /// The wrong answer comes when an answer is put for this programme.
     Answer(ProgrammeNo, u32, PutSlip),
-    /// A programme hears.
+    /// The wrong answer comes when this programme takes an answer out of its mailbox.
     Hear(ProgrammeNo, u32, TakeSlip<AnswerNote>),
 }
 
-/// Mailboxes of which one slips, or two.
+/// Mailboxes of which one or two answer wrongly.
 #[derive(Clone, Copy, Debug)]
 pub(super) struct Slipping<R: Wait + Copy> {
     pub(super) rt: R,
     pub(super) slips: [Slip; 2],
 }
 
-// A mailbox whose ends slip so.
+// The two ends of a mailbox. Their wrong answers are those of the two arguments.
 fn ends_of<M: Copy + Eq, R: Wait + Copy>(
     rt: R,
     alloc: Global,

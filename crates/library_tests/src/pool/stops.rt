@@ -1,4 +1,5 @@
-//! Runs that are stopped at each pass: each desk's log, and all that was put for it, beside the journal.
+//! Runs that are stopped at each call of `pass`. Each desk's log, and all messages that were put for the desk, are
+//! compared with the journal.
 use crate::markets::made_chain;
 use exchange_core::{AnswerNote, Capacity, Event, OfferNote};
 use mailbox_rule::{TakeEnd, TakeReply};
@@ -12,7 +13,7 @@ use std::test::Fail;
 use std::thread::Threads;
 use test_support::gates::StopsFrom;
 
-// By a journal, the offers that were sent to a resident, or those of them that it took.
+// The offers that were sent to a resident by the journal, or those of them that the resident took.
 fn offers_of(
     alloc: Global,
     journal: &[Event],
@@ -37,7 +38,7 @@ fn offers_of(
     Ok(offers)
 }
 
-// By a journal, the answers that were sent to a programme, or those of them that it heard.
+// The answers that were sent to a programme by the journal, or those of them that the programme heard.
 fn answers_of(
     alloc: Global,
     journal: &[Event],
@@ -64,7 +65,7 @@ fn answers_of(
     Ok(answers)
 }
 
-// Appends what still waits in a mailbox to what was taken out of it, at most so many messages.
+// Appends the messages that still wait in a mailbox to the messages that were taken out of it, up to this number.
 fn take_the_rest<M: Copy, T: TakeEnd<M> + Drop>(
     messages: &mut Vec<M>,
     mut end: T,
@@ -79,7 +80,8 @@ fn take_the_rest<M: Copy, T: TakeEnd<M> + Drop>(
     Ok(())
 }
 
-// Whether a resident's log is its takes in the journal, and what waits behind it the rest of the offers.
+// Whether a resident's log has exactly the resident's takes of the journal, and the waiting messages are exactly the
+// other offers to the resident.
 fn is_residents_own<T: TakeEnd<OfferNote> + Drop>(
     alloc: Global,
     journal: &[Event],
@@ -92,7 +94,8 @@ fn is_residents_own<T: TakeEnd<OfferNote> + Drop>(
     Ok(is_log && messages == offers_of(alloc, journal, resident, false)?)
 }
 
-// Whether a programme's log is its hears in the journal, and what waits behind it the rest of the answers.
+// Whether a programme's log has exactly the programme's hears of the journal, and the waiting messages are exactly the
+// other answers to the programme.
 fn is_programmes_own<T: TakeEnd<AnswerNote> + Drop>(
     alloc: Global,
     journal: &[Event],
@@ -105,7 +108,7 @@ fn is_programmes_own<T: TakeEnd<AnswerNote> + Drop>(
     Ok(is_log && messages == answers_of(alloc, journal, programme, false)?)
 }
 
-// Whether a replay of a run finds it closed if it ended so, and otherwise no fault but that it isn't closed.
+// Whether a replay of the journal finds a closed exchange if the run closed, and only the fault `NotClosed` otherwise.
 fn is_found(
     alloc: Global,
     inst: &Instance,
@@ -120,7 +123,7 @@ fn is_found(
     }
 }
 
-// Whether each resident's desk is the journal's.
+// Whether each resident's log and mailbox agree with the journal.
 fn are_residents_own<T: TakeEnd<OfferNote> + Drop>(
     alloc: Global,
     journal: &[Event],
@@ -136,7 +139,7 @@ fn are_residents_own<T: TakeEnd<OfferNote> + Drop>(
     Ok(true)
 }
 
-// Whether each programme's desk is the journal's.
+// Whether each programme's log and mailbox agree with the journal.
 fn are_programmes_own<T: TakeEnd<AnswerNote> + Drop>(
     alloc: Global,
     journal: &[Event],
@@ -152,7 +155,7 @@ fn are_programmes_own<T: TakeEnd<AnswerNote> + Drop>(
     Ok(true)
 }
 
-// Whether a run gave its journal at each desk, and a replay finds it as it ended.
+// Whether all logs and mailboxes of a run agree with its journal, and a replay finds that the run ended as reported.
 fn is_its_journal<M: Mailboxes>(
     alloc: Global,
     inst: &Instance,
@@ -180,7 +183,7 @@ fn is_its_journal<M: Mailboxes>(
     )
 }
 
-// Whether a run by two workers that is stopped from this pass on does so.
+// Whether a run by two workers ends well that is stopped from the call of `pass` with this number on.
 fn stops_well<R: Threads + Wait + Sync + Send + Copy>(
     rt: R,
     alloc: Global,
@@ -196,7 +199,7 @@ fn stops_well<R: Threads + Wait + Sync + Send + Copy>(
 
 #[test]
 fn a_run_that_is_stopped_at_any_pass_is_its_journal(rt: HostRuntime) -> Result<(), Fail> {
-    // sixty pairs
+    // a chain of thirty links has sixty acceptable pairs
     let inst = made_chain(rt.alloc(), 30)?;
     for first in 1..=160 {
         for cap in [Capacity::Full, Capacity::Each(1)] {

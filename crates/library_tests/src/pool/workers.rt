@@ -10,7 +10,7 @@ use std::thread::Threads;
 use test_support::gates::{AllButOne, Order};
 use test_support::rests::RestsInPass;
 
-// Whether each event of a run has a worker, and each worker as many events as are told.
+// Whether each event of a run has a worker, and each worker has as many events as the run reports.
 fn is_counted(told: &Told, workers: usize) -> bool {
     for (worker, entered) in told.entered.iter().enumerate() {
         let mut events = 0_u64;
@@ -46,10 +46,10 @@ fn one_worker_and_eight(rt: HostRuntime) {
     }
 }
 
-// A programme with one place and a resident.
+// One programme with one place, and one resident.
 const ONE_PAIR: Members = (&[(1, &[0])], &[&[0]]);
 
-// Pairs of a programme with one place and a resident, who rank one another alone.
+// Pairs of a programme with one place and a resident, who rank only each other.
 const PAIRS: Members = (
     &[
         (1, &[0]),
@@ -89,7 +89,8 @@ const PAIRS: Members = (
     ],
 );
 
-// Whether all workers but one were held and let go in this order, and the run closed after four events for each pair.
+// Whether all workers but one were kept waiting and released in this order, and the run closed after four events for
+// each pair.
 fn goes_on<R: Threads + Wait + Sync + Send + Copy>(
     rt: R,
     alloc: Global,
@@ -118,7 +119,8 @@ fn one_goes_on_while_all_others_are_held(rt: HostRuntime) {
     }
 }
 
-// The run's last receipt is held until the other worker sleeps, so that nothing but the end wakes it.
+// The run's last receipt is kept waiting until the other worker sleeps, so that only the end of the run wakes that
+// worker.
 #[test]
 fn a_worker_that_sleeps_ends_with_the_run(rt: HostRuntime) {
     let gate = RestsInPass::new(rt, None, 1, 1);

@@ -1,4 +1,5 @@
-//! Runs over random small markets through a gate that yields or parks at passes: each gives the sheet that its journal gives.
+//! Runs over random small markets, through a gate that sometimes yields or parks a worker. Each run has to give the
+//! sheet that its journal leads to.
 ghost use Rattle.std.specs.Prelude.{true, false};
 
 use super::runs::ran_on;
@@ -14,7 +15,7 @@ use std::thread;
 use std::thread::Threads;
 use std::time::Duration;
 
-// The number after this one, as if by chance.
+// The next number of a random sequence.
 fn after(number: u64) -> u64 {
     let mut mixed = number.wrapping_add(0x9E37_79B9_7F4A_7C15);
     mixed = (mixed ^ (mixed >> 30)).wrapping_mul(0xBF58_476D_1CE4_E5B9);
@@ -28,7 +29,8 @@ fn drawn(chance: &mut u64) -> u32 {
     ((*chance >> 8) % 7) as u32
 }
 
-// A gate that at one pass or entry in seven parks its worker for a while, and at most others lets others go first.
+// A gate that parks its worker for a while at one of seven calls, and mostly lets other workers go first at the other
+// calls.
 #[derive(Drop)]
 struct Yields<R: Wait + Copy> {
     rt: R,
@@ -37,7 +39,7 @@ struct Yields<R: Wait + Copy> {
 }
 
 impl<R: Wait + Copy> Yields<R> {
-    // What a worker does here is drawn by how many passes and entries were before.
+    // What the worker does at this call is drawn from the number of calls before.
     fn turn(&self) {
         let mut chance = self.passed.fetch_add(1, Ordering::SeqCst);
         match drawn(&mut chance) {
@@ -66,7 +68,7 @@ impl<R: Wait + Copy + Sync> Gate for Yields<R> {
     }
 }
 
-// Gives a programme, or a resident, most of seven in some order.
+// Gives a programme or a resident a list with most of the seven members of the other side, in a random order.
 fn give(
     builder: &mut InstanceBuilder,
     alloc: Global,
@@ -88,7 +90,7 @@ fn give(
     builder.resident_list(ResidentNo(owner), programmes.as_slice())
 }
 
-// Seven programmes of up to two places, and seven residents.
+// A random instance: seven programmes with at most two places each, and seven residents.
 fn made_by_chance(alloc: Global, chance: &mut u64) -> Result<Instance, ModelFault> {
     let mut builder = InstanceBuilder::new(alloc);
     for _ in 0..7 {
@@ -101,7 +103,8 @@ fn made_by_chance(alloc: Global, chance: &mut u64) -> Result<Instance, ModelFaul
     builder.finish().map_err(|refused| refused.fault)
 }
 
-// How many workers made events in a run that closed and gave the sheet that its journal gives; none of any other.
+// How many workers entered events in a run that closed and gave the sheet that its journal leads to. The result is none
+// for any other run.
 fn busy_in<R: Threads + Wait + Sync + Send + Copy>(
     rt: R,
     alloc: Global,
@@ -144,7 +147,7 @@ fn each_journal_of_workers_that_yield_gives_its_sheet(rt: HostRuntime) -> Result
             several = several.saturating_add(busy.is_some_and(|busy| busy > 1) as u32);
         }
     }
-    // of 180 runs
+    // at least 60 of the 180 runs
     assert!(rt; several >= 60, "{several}");
     Ok(())
 }

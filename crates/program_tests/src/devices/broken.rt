@@ -2,7 +2,7 @@
 use std::io;
 use std::io::{Read, Write};
 
-/// Gives its text byte by byte up to `cut`, and then an error.
+/// A reader that gives its text byte by byte up to `cut` bytes, and then an error.
 #[derive(Drop)]
 pub(crate) struct CutReader<'a> {
     text: &'a [u8],
@@ -32,7 +32,7 @@ impl<'a> Read for CutReader<'a> {
     }
 }
 
-/// Gives its text byte by byte, and is interrupted once each time before this many bytes.
+/// A reader that gives its text byte by byte, and is interrupted once before each group of `every` bytes.
 #[derive(Drop)]
 pub(crate) struct InterruptedReader<'a> {
     text: &'a [u8],
@@ -71,7 +71,7 @@ impl<'a> Read for InterruptedReader<'a> {
     }
 }
 
-/// Accepts three bytes in each call, and fails at the call after `good`.
+/// A writer that accepts three bytes in each call, and fails at the call after `good` calls.
 #[derive(Drop)]
 pub(crate) struct CutWriter {
     got: Vec<u8>,

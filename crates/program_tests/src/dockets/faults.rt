@@ -1,4 +1,4 @@
-//! Each fault by itself.
+//! Each fault of a docket, in a docket with this fault alone.
 use super::{first_wrong, first_wrong_of_version_2, is_told};
 use docket::DocketFault;
 use std::test::Fail;

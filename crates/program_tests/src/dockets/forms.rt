@@ -1,4 +1,4 @@
-//! One docket in many forms, fields that are not names, and a reader that fails.
+//! The same docket in many forms, fields that are not names, and a reader that fails.
 use super::{first_wrong, is_told, read, read_slowly};
 use crate::texts::SMALL;
 use docket::{Docket, DocketFault, read_docket};
@@ -20,7 +20,7 @@ const MARK_AND_BLANKS: &str =
 const QUOTES: &str =
     "\"Q\",\"a\",\"1\"\n\"Q\",b,\"1\"\n\"P\",a,x,\"y\"\nP,b,y,x\n\"R\",\"x\",b,a\nR,\"y\",a,b\n";
 
-// Leading zeros, and rows in another order.
+// Numbers with leading zeros, and rows in another order than in `SMALL`.
 const ANOTHER_ORDER: &str = "R,x,b,a\nP,b,y,x\nQ,a,01\nR,y,a,b\nP,a,x,y\nQ,b,000000001\n";
 
 // Whether a programme of the docket has this name.
@@ -33,7 +33,7 @@ fn is_resident_named(docket: &Docket, resident: ResidentNo, name: &str) -> bool 
     resident.0 < docket.instance().residents() && docket.resident_name(resident) == name
 }
 
-// Whether the names are those of `SMALL`.
+// Whether the docket's names are those of `SMALL`.
 fn has_small_names(docket: &Docket) -> bool {
     is_programme_named(docket, A, "a")
         && is_programme_named(docket, B, "b")
@@ -41,7 +41,7 @@ fn has_small_names(docket: &Docket) -> bool {
         && is_resident_named(docket, Y, "y")
 }
 
-// Whether the instance is that of `SMALL`.
+// Whether the instance is the instance of `SMALL`.
 fn is_small_instance(instance: &Instance) -> bool {
     instance.programmes() == 2
         && instance.residents() == 2
@@ -51,7 +51,7 @@ fn is_small_instance(instance: &Instance) -> bool {
         && is_resident(instance, Y, &[A, B])
 }
 
-// Whether the docket that was read is that of `SMALL`.
+// Whether the docket that was read is the docket of `SMALL`.
 fn is_small(answer: Result<Docket, DocketFault>) -> bool {
     match answer {
         Ok(docket) => has_small_names(&docket) && is_small_instance(docket.instance()),
@@ -98,7 +98,7 @@ Q,a,1 \u{feff}Q,b,1 = record 2: unknown kind of row
 \u{feff}Z = record 1: unknown kind of row
 \u{feff} = read";
 
-// Bytes that are not text, and their outcome.
+// Bytes that are not text, and how reading them ends.
 const BYTES: [(&[u8], &str); 5] = [
     (b"Q,\xff,1\n", "record 1: bad name"),
     (b"Q,\x80,1\n", "record 1: bad name"),
@@ -138,7 +138,7 @@ fn a_reader_that_fails(rt: HostRuntime) {
         let answer = read_slowly(rt.alloc(), SMALL, cut);
         assert!(rt; answer.err() == Some(DocketFault::Read { place }), "{cut}");
     }
-    // a fault in a record before the failure comes first
+    // a fault in a record before the reader's failure is reported first
     let answer = read_slowly(rt.alloc(), "Q,a,1\nZ\nQ,b,1\n", 9);
     assert!(rt; answer.err() == Some(DocketFault::UnknownKind { place: 2 }));
 }

@@ -1,4 +1,4 @@
-//! Each limit, and one more.
+//! Dockets at each limit, and dockets one beyond it.
 mod national;
 
 use super::{read, tells};
@@ -10,17 +10,17 @@ use residency::ServeFault;
 use std::alloc::{AllocError, Global};
 use std::test::Fail;
 
-// The list of a resident who ranks all ten programmes, last first.
+// The end of the record of a resident who ranks all ten programmes, the last programme first.
 const TEN: &str = ",p9,p8,p7,p6,p5,p4,p3,p2,p1,p0\n";
 
-// A docket of numbered records.
+// A docket of records with rising numbers.
 fn numbered(alloc: Global, start: &str, count: u32, end: &str) -> Result<String, AllocError> {
     let mut text = String::new(alloc);
     push_all(&mut text, alloc, start, count, end)?;
     Ok(text)
 }
 
-// Ten programmes and 20,000 residents who all rank each other. `last` has the records of the last resident.
+// A docket of ten programmes and 20,000 residents who all rank each other. `last` has the records of the last resident.
 fn ranked(alloc: Global, last: &str) -> Result<String, AllocError> {
     let mut text = numbered(alloc, "Q,p", 10, ",1\n")?;
     push_lists(&mut text, alloc)?;
@@ -29,7 +29,7 @@ fn ranked(alloc: Global, last: &str) -> Result<String, AllocError> {
     Ok(text)
 }
 
-// A capacity and then the same event, in this many records.
+// A capacity followed by closes, in this number of records.
 fn closes(alloc: Global, records: u32) -> Result<String, AllocError> {
     let mut text = String::new(alloc);
     text.push_str("C,full\n")?;
@@ -39,7 +39,7 @@ fn closes(alloc: Global, records: u32) -> Result<String, AllocError> {
     Ok(text)
 }
 
-// The greatest number of programmes, and one more record.
+// A docket with the greatest number of programmes, and one more record.
 fn most_programmes_and(alloc: Global, last: &str) -> Result<String, AllocError> {
     let mut text = numbered(alloc, "Q,p", 2_000, ",10000\n")?;
     text.push_str(last)?;
@@ -48,7 +48,7 @@ fn most_programmes_and(alloc: Global, last: &str) -> Result<String, AllocError> 
 
 #[test]
 fn programmes(rt: HostRuntime) -> Result<(), Fail> {
-    // the quota is tested after the number of programmes, and a second declaration before that
+    // the quota is tested after the number of programmes, and a repeated name before both
     for (last, wanted) in [
         ("", "read"),
         ("Q,q,10001\n", "record 2001: more than 2000 programmes"),
@@ -125,7 +125,7 @@ fn one_record_too_many(rt: HostRuntime) -> Result<(), Fail> {
     Ok(())
 }
 
-// The fault of a docket beyond each limit.
+// For each limit, the fault of a docket beyond it.
 const BEYOND: [DocketFault; 5] = [
     DocketFault::Model {
         place: 2_001,
@@ -146,7 +146,7 @@ const BEYOND: [DocketFault; 5] = [
     DocketFault::TooManyRecords { place: 2_000_001 },
 ];
 
-// The docket beyond a limit, by the limit's place in `BEYOND`.
+// The docket beyond a limit. `limit` is the index of the limit in `BEYOND`.
 fn beyond(alloc: Global, limit: usize) -> Result<String, AllocError> {
     match limit {
         0 => most_programmes_and(alloc, "Q,q,10000\n"),

@@ -1,4 +1,4 @@
-//! Dockets with a fault, or with something missing: each command reports this, and writes nothing.
+//! Dockets with a fault, or with a part missing. Each command reports this, and writes nothing.
 use crate::commands::{MATCH, serves, serves_both};
 use crate::texts::{CLOSE, FULL, SMALL, SMALL_SHEET, THREE, VERSION_2};
 use docket::DocketFault;
@@ -6,7 +6,8 @@ use match_model::ModelFault;
 use residency::{Order, ServeFault, Status};
 use std::test::Fail;
 
-// Faults of each pass of reading. The last four are of the small docket, cut after 3, 20, 34 and 35 bytes.
+// Faults that each pass over the rows finds. The last four are faults of the small docket, cut after 3, 20, 34 and 35
+// bytes.
 const FAULTS: [(&[&str], DocketFault); 17] = [
     (&["Q,a,1\nQ,b,x\n"], DocketFault::BadQuota { place: 2 }),
     (&["Q,a\n"], DocketFault::FieldCount { place: 1 }),
@@ -73,7 +74,7 @@ fn tells_what_a_docket_lacks(rt: HostRuntime) -> Result<(), Fail> {
     Ok(())
 }
 
-// The small docket of version 2 without one programme, cut where it has a fault.
+// The small docket of version 2 without one programme, cut at places where it then has a fault.
 const CUTS: [(&[&str], DocketFault); 6] = [
     (&["V"], DocketFault::FieldCount { place: 1 }),
     (&["V,"], DocketFault::BadVersion { place: 1 }),

@@ -1,4 +1,4 @@
-//! A docket read whole.
+//! A docket with all its parts.
 use super::read;
 use crate::texts::{FULL, OTHER_SHEET, SMALL, SMALL_JOURNAL, joined};
 use docket::{Docket, Journal};
@@ -8,17 +8,17 @@ use std::alloc::{AllocError, Global};
 use std::test::Fail;
 use test_support::events::{A, B, X, Y, nine_events};
 
-// Whether the sheet is that of `OTHER_SHEET`.
+// Whether the sheet is the sheet in `OTHER_SHEET`.
 fn is_right_sheet(sheet: &Assignment) -> bool {
     sheet.len() == 2 && sheet.get(X) == Some(B) && sheet.get(Y) == Some(A)
 }
 
-// Whether the journal is that of `SMALL_JOURNAL`.
+// Whether the journal is the journal in `SMALL_JOURNAL`.
 fn is_right_journal(journal: &Journal) -> bool {
     journal.capacity == Capacity::Full && journal.events.as_slice() == nine_events().as_slice()
 }
 
-// Whether each part of the docket is right.
+// Whether each part of the docket is as expected.
 fn is_whole(docket: &Docket) -> bool {
     let (Some(sheet), Some(journal)) = (docket.sheet(), docket.journal()) else {
         return false;
@@ -26,7 +26,7 @@ fn is_whole(docket: &Docket) -> bool {
     docket.instance().pairs() == 4 && is_right_sheet(sheet) && is_right_journal(journal)
 }
 
-// Whether the docket that is read from the texts has each part.
+// Whether the docket that is read from these texts has each part as expected.
 fn reads_whole(alloc: Global, texts: &[&str]) -> Result<bool, AllocError> {
     let text = joined(alloc, texts)?;
     match read(alloc, text.as_str()) {
@@ -35,7 +35,7 @@ fn reads_whole(alloc: Global, texts: &[&str]) -> Result<bool, AllocError> {
     }
 }
 
-// How many places the sheet has, if there is one, and whether there is a journal.
+// How many entries the sheet has, if there is a sheet, and whether there is a journal.
 fn parts(alloc: Global, input: &str) -> Option<(Option<u32>, bool)> {
     match read(alloc, input) {
         Ok(docket) => Some((
@@ -48,7 +48,7 @@ fn parts(alloc: Global, input: &str) -> Option<(Option<u32>, bool)> {
 
 #[test]
 fn reads_a_docket_whole(rt: HostRuntime) -> Result<(), Fail> {
-    // the rows of the three parts in two orders
+    // the rows of the three parts, in two different orders
     for texts in [
         [SMALL, FULL, SMALL_JOURNAL, OTHER_SHEET],
         [OTHER_SHEET, FULL, SMALL_JOURNAL, SMALL],
@@ -60,7 +60,7 @@ fn reads_a_docket_whole(rt: HostRuntime) -> Result<(), Fail> {
 
 #[test]
 fn reads_what_a_docket_lacks(rt: HostRuntime) {
-    // if nobody is declared, the sheet has no rows
+    // if no member is declared, the sheet has no rows
     for (input, wanted) in [
         (SMALL, (None, false)),
         ("", (Some(0), false)),

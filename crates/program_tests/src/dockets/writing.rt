@@ -17,7 +17,7 @@ use test_support::events::{A, B, X, Y, answer, hear, nine_events, nineteen_event
 // The rows of a docket with a sheet, in a mixed order.
 const SHUFFLED: &str = "Q,a,1\nQ,b,1\nF,b,1,1\nF,a,1,1\nM,y,a\nM,x,b\nR,x,b,a\nR,y,a,b\n";
 
-// More residents than the quota, none of them on a list.
+// More residents at a programme than its quota, none of them on a list.
 const CROWDED: &str = "F,a,02,01\nM,x,a\nU,z\nM,y,a\nR,x\nR,y\nR,z\nQ,a,1\n";
 
 const CROWDED_SHEET: &str = "M,x,a\nM,y,a\nU,z\nF,a,2,1\n";
@@ -89,13 +89,13 @@ fn has_journal(alloc: Global, input: &str, capacity: Capacity, events: &[Event])
     }
 }
 
-// Whether a journal is written as this text, after it was read with a docket.
+// Whether a journal that is read with a docket is written as this text.
 fn writes_journal(alloc: Global, input: &str, journal: &str) -> bool {
     let mut output = Vec::new(alloc);
     journal_written(alloc, input, &mut output) == Ok(()) && output.as_slice() == journal.as_bytes()
 }
 
-// Whether the journal is read, before its members and after them, and written unchanged.
+// Whether a journal is read, before its members' rows and after them, and is written unchanged.
 fn is_kept(
     alloc: Global,
     members: &str,
@@ -119,7 +119,7 @@ fn is_kept(
 fn keeps_journals(rt: HostRuntime) -> Result<(), Fail> {
     let small = nine_events();
     let quotas = nineteen_events();
-    // events that no exchange has
+    // events that no legal list has
     let declines = [
         answer(X, B, AnswerKind::Decline),
         hear(A, Y, AnswerKind::Decline),
@@ -157,7 +157,7 @@ fn keeps_journals(rt: HostRuntime) -> Result<(), Fail> {
     Ok(())
 }
 
-// Whether the docket that is read has a journal by this many workers, with each event's worker in order.
+// Whether the docket that is read has a journal by this number of workers, with this worker for each event.
 fn has_workers(alloc: Global, input: &str, workers: u32, who: &[u8]) -> bool {
     match read(alloc, input) {
         Ok(docket) => is_by(&docket, workers, who),
@@ -165,7 +165,7 @@ fn has_workers(alloc: Global, input: &str, workers: u32, who: &[u8]) -> bool {
     }
 }
 
-// Whether the docket has a journal by these workers.
+// Whether the docket has a journal by this number of workers, with this worker for each event.
 fn is_by(docket: &Docket, workers: u32, who: &[u8]) -> bool {
     match docket.journal() {
         Some(journal) => match &journal.by {
@@ -176,7 +176,7 @@ fn is_by(docket: &Docket, workers: u32, who: &[u8]) -> bool {
     }
 }
 
-// Whether a journal by worker is read with these members, and written unchanged.
+// Whether a journal by worker is read with these members' rows, and is written unchanged.
 fn is_kept_by_worker(
     alloc: Global,
     members: &str,
@@ -225,7 +225,7 @@ fn writes_sheets(rt: HostRuntime) {
 fn a_writer_that_fails(rt: HostRuntime) -> Result<(), Fail> {
     let alloc = rt.alloc();
     let failed = Err(DocketFault::Write);
-    // three bytes in each call: a sheet of 28 bytes, and a journal of 129
+    // the writer accepts three bytes in each call; the sheet has 28 bytes, and the journal 129
     for (good, answer) in [(0, failed), (9, failed), (10, Ok(()))] {
         let mut writer = CutWriter::new(Vec::new(alloc), good);
         assert!(rt;
@@ -244,7 +244,7 @@ fn a_writer_that_fails(rt: HostRuntime) -> Result<(), Fail> {
     Ok(())
 }
 
-// A row with two fields, and a programme's row, as they are sent.
+// The bytes of a row with two fields and of a programme's row, as a writer gets them.
 fn gathered(alloc: Global, docket: &Docket) -> Result<Vec<u8>, DocketFault> {
     let mut output = Vec::new(alloc);
     let mut room = room_for_rows(alloc)?;
@@ -257,7 +257,7 @@ fn gathered(alloc: Global, docket: &Docket) -> Result<Vec<u8>, DocketFault> {
     Ok(output)
 }
 
-// The rows that are gathered for a docket that is read.
+// The bytes of such rows for a docket that is read from this text.
 fn gathered_of(alloc: Global, input: &str) -> Result<Vec<u8>, DocketFault> {
     match read(alloc, input) {
         Ok(docket) => gathered(alloc, &docket),

@@ -1,4 +1,5 @@
-//! What a match with a journal writes. Appended to its docket, the sheet is stable and the replay is good.
+//! What a match writes whose journal is asked for. If the output is appended to its docket, the sheet is stable and the
+//! replay is good.
 use crate::commands::{NARROW_WITH_JOURNAL, WITH_JOURNAL, serve};
 use crate::markets::hundreds;
 use crate::texts::{
@@ -11,7 +12,7 @@ use std::sync::Wait;
 use std::test::Fail;
 use std::thread::Threads;
 
-/// What a match writes for a docket, if it is closed.
+/// What a match writes for a docket, or none if the match does not close.
 pub(super) fn matched<H: Threads + Wait + RandomSource + Sync + Send + Copy>(
     rt: H,
     alloc: Global,
@@ -25,7 +26,7 @@ pub(super) fn matched<H: Threads + Wait + RandomSource + Sync + Send + Copy>(
     }
 }
 
-// Whether an order over a docket ends in this way, and writes this text.
+// Whether a command over a docket ends with this status, and writes this text.
 fn tells<H: Threads + Wait + RandomSource + Sync + Send + Copy>(
     rt: H,
     alloc: Global,
@@ -39,7 +40,7 @@ fn tells<H: Threads + Wait + RandomSource + Sync + Send + Copy>(
     status == Ok(wanted) && output.as_slice() == text.as_bytes()
 }
 
-/// Whether a written sheet and journal, appended to these members, are stable and give a good replay.
+/// Whether a written sheet and journal, appended to these members' rows, are stable and replay well.
 pub(super) fn is_good<H: Threads + Wait + RandomSource + Sync + Send + Copy>(
     rt: H,
     alloc: Global,
@@ -99,7 +100,7 @@ const USED: [&[&str]; 5] = [
     &[OTHER_SHEET, SMALL, "C,7\n", SMALL_JOURNAL, CLOSE],
 ];
 
-// Whether this is exactly the sheet, the row of the capacity, and the nine events of an exchange.
+// Whether the text is exactly the sheet, the row of the capacity, and the nine events of an exchange.
 fn is_new(written: &[u8], capacity: &str) -> bool {
     let (sheet, journal) = written.split_at(written.len().min(SMALL_SHEET.len()));
     sheet == SMALL_SHEET.as_bytes()

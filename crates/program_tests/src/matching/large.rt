@@ -1,4 +1,4 @@
-//! Matches that are held up, and matches of the largest dockets.
+//! Matches in which a worker is kept waiting, and matches of the largest dockets.
 use super::journals::{is_good, matched};
 use crate::commands::{MATCH, NARROW, serve};
 use crate::markets::{in_one_order, sheet_in_one_order, widest};
@@ -12,7 +12,7 @@ use std::test::Fail;
 use std::thread::Threads;
 use test_support::gates::{Firm, Held};
 
-// Runs a match through a gate that holds a pass.
+// Runs a match through a gate that keeps a call of `pass` waiting.
 fn matched_through<H: Threads + Wait + RandomSource + Sync + Send + Copy>(
     rt: H,
     alloc: Global,
@@ -30,7 +30,7 @@ fn matched_through<H: Threads + Wait + RandomSource + Sync + Send + Copy>(
     )
 }
 
-// How many events both workers entered, if the gate held its pass and each entered some.
+// How many events two workers entered together, if the gate kept its call waiting and each worker entered some.
 fn seen(held: &Held) -> Option<u64> {
     let (first, second) = (held.count(0), held.count(1));
     if held.has_held() && first > 0 && second > 0 {
@@ -56,7 +56,7 @@ fn is_widest_sheet(sheet: &[u8]) -> bool {
     residents == 20_000 && rows(sheet, "F,") == 2_000 && rows(sheet, "") == 22_000
 }
 
-// Whether a written sheet, appended to its docket, is read and stable.
+// Whether a written sheet, appended to its docket, is read and is stable.
 fn is_stable<H: Threads + Wait + RandomSource + Sync + Send + Copy>(
     rt: H,
     alloc: Global,
@@ -83,7 +83,7 @@ fn the_widest_docket(rt: HostRuntime) -> Result<(), Fail> {
     Ok(())
 }
 
-// A mailbox with the greatest number of places, and the journal.
+// A match with the greatest number of places in each mailbox, and with the journal.
 const ROOMY: Order = Order::Match(MatchOptions {
     workers: 2,
     capacity: Capacity::Each(1_024),

@@ -17,7 +17,7 @@ const MATCHES: [(&[&str], &str); 7] = [
         &[VERSION_2, QUOTAS, "W,R,x\n"],
         "U,x\nM,y,a\nM,z,a\nF,a,2,2\nF,b,0,1\n",
     ),
-    // everybody, and all of one side
+    // dockets in which all members withdraw, and in which all members of one side withdraw
     (
         &[VERSION_2, QUOTAS, "W,P,a\nW,P,b\nW,R,x\nW,R,y\nW,R,z\n"],
         "U,x\nU,y\nU,z\nF,a,0,2\nF,b,0,1\n",

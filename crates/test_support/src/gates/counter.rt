@@ -1,18 +1,18 @@
-//! A gate that counts entries.
+//! A gate that counts the entries of workers.
 ghost use Rattle.std.specs.Prelude.{true, false};
 
 use super::Counts;
 use exchange_core::Desk;
 use match_pool::{Gate, Go};
 
-/// A gate that counts how often `entered` was called for each worker, and never stops the run.
+/// A gate that counts how often each worker called `entered`. The gate never stops the run.
 #[derive(Drop)]
 pub struct Counting {
     counts: Counts,
 }
 
 impl Counting {
-    /// Nothing is seen yet.
+    /// A gate that has counted no entry yet.
     pub fn new() -> Counting {
         Counting {
             counts: Counts::none(),

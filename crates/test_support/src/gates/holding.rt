@@ -1,4 +1,4 @@
-//! Gates that hold one worker, or all but one, until the others have gone on.
+//! Gates that keep one worker waiting, or all workers but one, until the others have entered events.
 ghost use Rattle.std.specs.Prelude.{true, false};
 
 use super::{Counts, TURNS};
@@ -7,7 +7,7 @@ use match_pool::{Gate, Go};
 use std::sync::atomic::{AtomicBool, AtomicU64, Ordering};
 use std::thread;
 
-/// The record of a gate that holds one pass until other workers have entered two events.
+/// What a gate notes that keeps one call of `pass` waiting until other workers have entered two events.
 #[derive(Drop)]
 pub struct Held {
     place: u64,
@@ -17,7 +17,7 @@ pub struct Held {
 }
 
 impl Held {
-    /// A new record, for a run to come. The gate holds the pass at this place, counted from 0.
+    /// A new record, before the run. The gate keeps the call with the number `place` waiting, counted from 0.
     pub fn new(place: u64) -> Held {
         Held {
             place,
@@ -27,7 +27,7 @@ impl Held {
         }
     }
 
-    /// Whether the gate held the pass and did not give up.
+    /// Whether the gate kept the call waiting, and other workers entered events meanwhile.
     pub fn has_held(&self) -> bool {
         self.held.load(Ordering::SeqCst)
     }
@@ -42,12 +42,12 @@ impl Held {
         self.counts.of_all()
     }
 
-    // How many events the others have entered.
+    // How many events the other workers have entered.
     fn count_others(&self, worker: usize) -> u64 {
         self.counts.of_all().saturating_sub(self.counts.of(worker))
     }
 
-    // Holds the pass at its place. Returns whether the gate has given up on the other workers.
+    // Keeps the chosen call of `pass` waiting. Returns whether the gate has given up waiting for the other workers.
     fn gives_up(&self, worker: usize) -> bool {
         if self.passed.fetch_add(1, Ordering::SeqCst) != self.place {
             return false;
@@ -64,7 +64,7 @@ impl Held {
     }
 }
 
-/// A gate that holds a pass, and never stops the run.
+/// A gate that keeps a call of `pass` waiting, and never stops the run.
 #[derive(Drop)]
 pub struct Firm(pub Held);
 
@@ -83,7 +83,7 @@ impl Gate for Firm {
     }
 }
 
-/// A gate that holds a pass, and stops the run if it gives up.
+/// A gate that keeps a call of `pass` waiting, and stops the run if it gives up.
 #[derive(Drop)]
 pub struct Loose(pub Held);
 
@@ -105,22 +105,22 @@ impl Gate for Loose {
     }
 }
 
-/// The order in which a gate releases the workers that it holds.
+/// The order in which a gate releases the workers that it keeps waiting.
 #[derive(Clone, Copy, Debug, PartialEq, Eq)]
 pub enum Order {
-    /// As they came.
+    /// The worker that came first is released first.
     FirstFirst,
-    /// The worker that came last goes first.
+    /// The worker that came last is released first.
     LastFirst,
-    /// Every other worker first, then the rest.
+    /// Every second worker is released first, and then the rest.
     EveryOther,
 }
 
-/// A gate for a market of pairs: each is a programme with one place and a resident who rank only each other.
+/// A gate for a market of pairs: each pair is a programme with one place and a resident, who rank only each other.
 ///
-/// It holds all workers but the last that comes, each in its own pass. Once everything is entered that doesn't need a
-/// held worker, it releases the first. It releases each later worker when everything is entered that doesn't need
-/// those still held.
+/// The gate keeps all workers but the last one waiting, each in its own call of `pass`. Once every event is entered
+/// that needs no waiting worker, the gate releases the first worker. The gate releases each further worker once every
+/// event is entered that needs none of the workers still waiting.
 #[derive(Drop)]
 pub struct AllButOne {
     pairs: u64,
@@ -135,7 +135,7 @@ pub struct AllButOne {
 }
 
 impl AllButOne {
-    /// A gate that has seen nothing, for a run with this many pairs. It holds this many workers.
+    /// A gate before a run with this number of pairs. The gate keeps `held` workers waiting.
     pub fn new(pairs: u64, held: u64, order: Order) -> AllButOne {
         AllButOne {
             pairs,
@@ -150,12 +150,12 @@ impl AllButOne {
         }
     }
 
-    /// Whether the gate held and released each of these workers, and gave up on none.
+    /// Whether the gate kept `held` workers waiting and released each of them, and gave up on none.
     pub fn has_held_all(&self) -> bool {
         self.gone.load(Ordering::SeqCst) == self.held && !self.gave_up.load(Ordering::SeqCst)
     }
 
-    // When a worker is released, from the place at which it came.
+    // When a worker is released, by the number at which the worker came.
     fn place_of(&self, came: u64) -> u64 {
         match self.order {
             Order::FirstFirst => came,
@@ -165,8 +165,8 @@ impl AllButOne {
         }
     }
 
-    // Whether this place has its turn. All workers to hold have come, those before it were released, and everything
-    // is entered that can be.
+    // Whether the worker at this number is released now: all workers to be kept waiting have come, the workers before
+    // it were released, and every possible event is entered.
     fn is_turn_of(&self, place: u64) -> bool {
         let entered = self.counts.of_all();
         let blocked = self.blocked.load(Ordering::SeqCst);
@@ -175,7 +175,7 @@ impl AllButOne {
             && entered.saturating_add(blocked) >= self.pairs.saturating_mul(4)
     }
 
-    // Holds a worker that this many events need.
+    // Keeps a worker waiting. This number of events can be entered only once this worker goes on.
     fn hold(&self, came: u64, events: u64) {
         self.blocked.fetch_add(events, Ordering::SeqCst);
         self.is_held.fetch_add(1, Ordering::SeqCst);
@@ -200,7 +200,7 @@ impl Gate for AllButOne {
     fn pass(&self, _worker: usize, desk: Desk) -> Go {
         let came = self.came.fetch_add(1, Ordering::SeqCst);
         if came < self.held {
-            // a pair's offer is entered before its take, and its answer too before its hear
+            // the offer of a pair is entered before its take, and the answer of a pair is entered before its hear
             let events = match desk {
                 Desk::Resident(_) => 3,
                 Desk::Programme(_) => 1,

@@ -1,4 +1,4 @@
-//! Gates that hold a worker until the others are at rest, or until another has gone on.
+//! Gates that keep a worker waiting until the others are at rest, or until another worker has entered an event.
 ghost use Rattle.std.specs.Prelude.{true, false};
 
 use super::{Counts, LINGER, TURNS};
@@ -10,22 +10,23 @@ use std::sync::atomic::{AtomicBool, AtomicU32, AtomicU64, Ordering};
 use std::thread;
 use std::time::Duration;
 
-/// Which worker a pass held, and how many events were entered when the hold began and ended.
+/// Which worker was kept waiting in a call of `pass`, and how many events were entered when the wait began and ended.
 #[derive(Clone, Copy, Debug, PartialEq, Eq)]
 pub struct Hold {
-    /// The worker that was held.
+    /// The worker that was kept waiting.
     pub worker: usize,
-    /// The desk of the worker's receipt.
+    /// The desk of the receipt for which the worker called `pass`.
     pub desk: Desk,
-    /// How many events this worker had entered.
+    /// How many events this worker itself had entered.
     pub own: u64,
-    /// How many events all workers had entered when the hold began.
+    /// How many events all workers had entered when the wait began.
     pub from: u64,
-    /// How many events all workers had entered when the hold ended.
+    /// How many events all workers had entered when the wait ended.
     pub to: u64,
 }
 
-/// A gate that holds the pass at one place until nobody has entered an event for a long time, and reports this hold.
+/// A gate that keeps one call of `pass` waiting until no worker has entered an event for a long time. The gate notes
+/// what it saw.
 #[derive(Drop)]
 pub struct Stalls {
     place: u64,
@@ -41,7 +42,7 @@ pub struct Stalls {
 }
 
 impl Stalls {
-    /// A gate that has seen nothing. It holds the pass at this place, counted from 0.
+    /// A gate before the run. The gate keeps the call with the number `place` waiting, counted from 0.
     pub fn new(place: u64) -> Stalls {
         Stalls {
             place,
@@ -62,7 +63,7 @@ impl Stalls {
         self.counts.of(worker)
     }
 
-    /// The hold, if the run had this many passes.
+    /// What the gate noted, or none if the run made too few calls of `pass`.
     pub fn hold(&self) -> Option<Hold> {
         if !self.held.load(Ordering::SeqCst) {
             return None;
@@ -82,7 +83,7 @@ impl Stalls {
         })
     }
 
-    // Notes the worker and the desk of the held pass.
+    // Notes the worker and the desk of the call that is kept waiting.
     fn note(&self, worker: usize, desk: Desk) {
         self.worker.store(worker as u64, Ordering::SeqCst);
         self.own.store(self.counts.of(worker), Ordering::SeqCst);
@@ -117,8 +118,8 @@ impl Gate for Stalls {
     }
 }
 
-/// A gate that holds the worker that entered the event with one number, counted from 1. It holds this worker until
-/// another has entered an event.
+/// A gate that keeps the worker waiting that entered the event with this number, counted from 1. The wait ends when
+/// another worker has entered an event.
 #[derive(Drop)]
 pub struct HoldsEntered {
     number: u64,
@@ -128,7 +129,7 @@ pub struct HoldsEntered {
 }
 
 impl HoldsEntered {
-    /// Nothing is seen yet.
+    /// A gate that has counted no entry yet.
     pub fn new(number: u64) -> HoldsEntered {
         HoldsEntered {
             number,
@@ -143,7 +144,7 @@ impl HoldsEntered {
         self.counts.of(worker)
     }
 
-    /// Whether a worker was held, and another entered an event meanwhile.
+    /// Whether a worker was kept waiting, and another worker entered an event meanwhile.
     pub fn has_held(&self) -> bool {
         self.held.load(Ordering::SeqCst)
     }
@@ -177,9 +178,9 @@ impl Gate for HoldsEntered {
     }
 }
 
-/// A gate that holds the worker that entered the first event. It holds this worker until others have entered two
-/// events, or have entered none for a long time, and then a while longer. It holds the worker again at its next
-/// event, until another has entered one more.
+/// A gate that keeps the worker waiting that entered the first event. The wait ends a while after other workers have
+/// entered two events, or have entered none for a long time. The gate keeps the worker waiting again at its next event,
+/// until another worker has entered one event more.
 #[derive(Drop)]
 pub struct HoldsVisit {
     has_begun: AtomicBool,
@@ -189,7 +190,7 @@ pub struct HoldsVisit {
 }
 
 impl HoldsVisit {
-    /// Nothing is seen yet.
+    /// A gate that has counted no entry yet.
     pub fn new() -> HoldsVisit {
         HoldsVisit {
             has_begun: AtomicBool::new(false),
@@ -199,12 +200,12 @@ impl HoldsVisit {
         }
     }
 
-    /// Whether the worker was held at its second event, and another entered an event meanwhile.
+    /// Whether the worker was kept waiting at its second event, and another worker entered an event meanwhile.
     pub fn has_held(&self) -> bool {
         self.held.load(Ordering::SeqCst)
     }
 
-    // Waits until other workers have entered this many events. Returns whether they have.
+    // Waits until other workers have entered this number of events. Returns whether they have.
     fn wait_for_others(&self, worker: usize, count: u64) -> bool {
         for _ in 0..TURNS {
             if self.counts.of_all().saturating_sub(self.counts.of(worker)) >= count {
@@ -242,15 +243,16 @@ impl Gate for HoldsVisit {
     }
 }
 
-/// For how long, in microseconds, a gate lets others come to rest. By then each worker that found nothing to do has
-/// looked again.
+/// For how long, in microseconds, a gate lets the other workers come to rest. By then each worker that found nothing to
+/// do has looked again.
 const WHILE: u64 = 20_000;
 
-/// How often a gate tests, with a pause between, whether another worker has entered an event.
+/// How often a gate tests, with a pause between two tests, whether another worker has entered an event.
 const LOOKS: u32 = 150;
 
-/// A gate that holds each receipt of one desk for a while. After that receipt it holds the worker again at the next
-/// entry, until another worker has entered an event. After that it holds nobody.
+/// A gate that keeps each receipt of one desk waiting for a while. After such a receipt the gate keeps the worker
+/// waiting again at the next entry, until another worker has entered an event. After that the gate keeps no worker
+/// waiting.
 #[derive(Drop)]
 pub struct Rested<R: Wait + Copy> {
     rt: R,
@@ -264,7 +266,7 @@ pub struct Rested<R: Wait + Copy> {
 }
 
 impl<R: Wait + Copy> Rested<R> {
-    /// A gate that has seen nothing of this desk.
+    /// A gate before a run. The gate looks at the receipts of this desk.
     pub fn new(rt: R, desk: Desk) -> Rested<R> {
         Rested {
             rt,
@@ -278,7 +280,7 @@ impl<R: Wait + Copy> Rested<R> {
         }
     }
 
-    /// Whether a worker was held at an entry, and another has entered an event meanwhile.
+    /// Whether a worker was kept waiting at an entry, and another worker has entered an event meanwhile.
     pub fn has_held(&self) -> bool {
         self.held.load(Ordering::SeqCst)
     }
@@ -335,8 +337,8 @@ impl<R: Wait + Copy + Sync> Gate for Rested<R> {
     }
 }
 
-/// A gate that holds the first pass of another desk until this desk has passed, and for a long time after that. It
-/// holds this desk's pass until another pass is held.
+/// A gate that keeps the first call of `pass` for another desk waiting until a call for this desk was made, and for a
+/// long time after that. The gate keeps the call for this desk waiting until such a call for another desk waits.
 #[derive(Drop)]
 pub struct AfterAnother {
     desk: Desk,
@@ -346,7 +348,7 @@ pub struct AfterAnother {
 }
 
 impl AfterAnother {
-    /// Nothing is seen yet.
+    /// A gate before a run. The gate looks at the receipts of this desk.
     pub fn new(desk: Desk) -> AfterAnother {
         AfterAnother {
             desk,
@@ -356,13 +358,13 @@ impl AfterAnother {
         }
     }
 
-    /// Whether a pass was held, and this desk passed meanwhile.
+    /// Whether a call of `pass` was kept waiting, and a call for this desk was made meanwhile.
     pub fn has_held(&self) -> bool {
         self.held.load(Ordering::SeqCst)
     }
 }
 
-// Waits until the flag is set, or for a long time.
+// Waits until the flag is set, or until a long time has passed.
 fn wait_for(flag: &AtomicBool) -> bool {
     for _ in 0..TURNS {
         if flag.load(Ordering::SeqCst) {
@@ -373,7 +375,7 @@ fn wait_for(flag: &AtomicBool) -> bool {
     false
 }
 
-// Lets others go on for a while.
+// Lets the other workers go on for a while.
 fn linger() {
     for _ in 0..20 * LINGER {
         thread::yield_now();

@@ -7,7 +7,7 @@ use match_pool::{Gate, Go};
 use std::sync::atomic::{AtomicBool, AtomicU64, Ordering};
 use std::thread;
 
-/// A gate that stops the run at its first pass.
+/// A gate that stops the run at the first call of `pass`.
 #[derive(Drop)]
 pub struct StopsAtOnce;
 
@@ -23,9 +23,9 @@ impl Gate for StopsAtOnce {
     fn entered(&self, _worker: usize) {}
 }
 
-/// A gate that stops the run at its pass with one number, counted from 1, and at each later pass. The first worker
-/// that then enters its begun event is held. It goes on when another has entered two events, or when none has for a
-/// long time.
+/// A gate that stops the run at the call of `pass` with this number, counted from 1, and at each later call. The first
+/// worker that then enters its begun event is kept waiting, until another worker has entered two events, or no worker
+/// has entered an event for a long time.
 #[derive(Drop)]
 pub struct StopsFrom {
     first: u64,
@@ -37,7 +37,7 @@ pub struct StopsFrom {
 }
 
 impl StopsFrom {
-    /// Nothing is seen yet.
+    /// A gate that has counted no call yet.
     pub fn new(first: u64) -> StopsFrom {
         StopsFrom {
             first,
@@ -63,7 +63,7 @@ impl StopsFrom {
         self.counts.of(worker)
     }
 
-    /// Whether each worker entered at most one event after the entry of a stopped worker.
+    /// Whether each worker entered at most one event after a stopped worker had entered its event.
     pub fn all_ended(&self) -> bool {
         for worker in 0..8 {
             if self.later.of(worker) > 1 {

@@ -1,4 +1,4 @@
--- An interrupted read takes nothing, and the buffer keeps its length.
+-- An interrupted read takes nothing from the reader, and does not change the length of the buffer.
 use Rattle.std.proofs.Common.{◌≡◌, length}
 use Rattle.std.specs.Io.KnownBytes.{Keeps}
 use Rattle.docket.proofs.retrying.read_again.Given as goal

@@ -1,4 +1,4 @@
-//! The desks of a named exchange.
+//! The desks of the exchange that the type names.
 ghost use Rattle.std.specs.Prelude.{◌≡◌, []};
 ghost use Rattle.match_model.specs.Instance.{IsProgramme, IsResident};
 ghost use Rattle.match_agents.specs.Programmes.{IsProgrammeAgentOf};
@@ -12,7 +12,7 @@ use offer_ledger::ExchangeIdentity;
 use std::alloc::Global;
 use std::marker::PhantomData;
 
-/// A resident's agent of the named exchange.
+/// A resident's agent in the exchange that the type names.
 #[derive(Drop)]
 pub(super) struct Resident<J: ExchangeIdentity, T: TakeEnd<OfferNote>> {
     agent: ResidentAgent<T>,
@@ -38,7 +38,7 @@ impl<J: ExchangeIdentity, T: TakeEnd<OfferNote> + Drop> Resident<J, T> {
         })
     }
 
-    /// Takes an offer and decides it, where the agent is ready and one waits.
+    /// Takes an offer and decides about it, if the agent is ready and an offer waits.
     pub(super) fn take(&mut self, inst: &Instance) -> Option<ProgrammeNo>
         requires { inst.now ≡ J.inst }
     {
@@ -52,7 +52,7 @@ impl<J: ExchangeIdentity, T: TakeEnd<OfferNote> + Drop> Resident<J, T> {
         Some(offer.programme)
     }
 
-    /// Gives the first answer due.
+    /// Gives the first answer that is due.
     pub(super) fn give(&mut self) -> Option<(ProgrammeNo, AnswerKind)> {
         let due = self.agent.due()?;
         self.agent.answered();
@@ -64,7 +64,7 @@ impl<J: ExchangeIdentity, T: TakeEnd<OfferNote> + Drop> Resident<J, T> {
     }
 }
 
-/// A programme's agent of the named exchange.
+/// A programme's agent in the exchange that the type names.
 #[derive(Drop)]
 pub(super) struct Programme<J: ExchangeIdentity, T: TakeEnd<AnswerNote>> {
     agent: ProgrammeAgent<T>,
@@ -90,7 +90,7 @@ impl<J: ExchangeIdentity, T: TakeEnd<AnswerNote> + Drop> Programme<J, T> {
         })
     }
 
-    /// Takes an answer, where one waits.
+    /// Takes an answer out of the mailbox, if an answer waits.
     pub(super) fn hear(&mut self) -> Option<AnswerNote> {
         match self.agent.hear() {
             Heard::Got(answer) => Some(answer),
@@ -98,7 +98,7 @@ impl<J: ExchangeIdentity, T: TakeEnd<AnswerNote> + Drop> Programme<J, T> {
         }
     }
 
-    /// Counts an offer to the resident that is wished for, if there is one.
+    /// Counts an offer to the resident to whom the programme offers next, if there is such a resident.
     pub(super) fn offer(&mut self, inst: &Instance) -> Option<ResidentNo>
         requires { inst.now ≡ J.inst }
     {

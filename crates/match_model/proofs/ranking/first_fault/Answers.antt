@@ -8,7 +8,7 @@ use Rattle.match_model.proofs.Rankings.{has_no_repeats-push, has_no_repeats-appe
 use Rattle.match_model.proofs.Noted.{ArePlaces-more, unlisted_apart}
 use Rattle.match_model.proofs.ranking.first_fault.Goals as goal
 
--- one item more, which stood there before
+-- if item i of a list also stands earlier in the list, the list has a repeat
 repeated : (xs : List ℕ) (i x : ℕ) → take (i + 1) xs ≡ take i xs ++ x ∷ [] → is_listed (take i xs) x ≡ true → has_no_repeats xs ≡ false
 repeated xs i x e h =
     ap has_no_repeats (sym (take-append-drop (i + 1) xs)) ∙ has_no_repeats-append (take (i + 1) xs) (drop (i + 1) xs)

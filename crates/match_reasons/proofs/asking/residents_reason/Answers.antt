@@ -7,7 +7,7 @@ use Rattle.match_reasons.proofs.Kept.{lists_of_pair, written_parts, acceptable_w
 use Rattle.match_reasons.proofs.Firsts.{asks, before_none, before_unlisted, before_later, first_unranked, first_matched, first_better}
 use Rattle.match_reasons.proofs.asking.residents_reason.Goals as goal
 
--- what is told of an instance, or of lists, holds of the one that it is
+-- what is known of an instance or of lists is known of those that are equal to them
 resident_stays : (i j : Instance) (r : ℕ) (b : Bool) → i ≡ j → b ≡ is_withdrawn i.residents_withdrawn r → b ≡ false → is_withdrawn j.residents_withdrawn r ≡ false
 resident_stays i j r b e f g = sym (ap (λ (k : Instance). is_withdrawn k.residents_withdrawn r) e) ∙ sym f ∙ g
 
@@ -20,7 +20,7 @@ rank_mutual i j r p o e f = f ∙ ap (λ (k : Instance). rank (list_of_resident 
 rank_written : (v w : Written) (r p : ℕ) (o : Option ℕ) → v ≡ w → o ≡ rank (list_at v.resident_lists r) p → o ≡ rank (list_at w.resident_lists r) p
 rank_written v w r p o e f = f ∙ ap (λ (x : Written). rank (list_at x.resident_lists r) p) e
 
--- where neither flag is set, neither is withdrawn
+-- if neither flag is set, neither member is withdrawn
 here : (a b : Bool) → a ≡ false → b ≡ false → (a ≡ true) ⊎ (b ≡ true) → ⊥
 here a b e f (inl c) = cc
 here a b e f (inr c) = cc
@@ -36,7 +36,7 @@ returns-in_default-rank_at_resident-clause-first c =
     ((c.instance-inst.ensures.whole.both_rank c.args.programme c.args.resident).0
     (acceptable_written c.args.listed.now.instance c.args.resident c.args.programme (list_at c.args.listed.now.written.resident_lists c.args.resident) (list_at c.args.listed.now.written.programme_lists c.args.programme) w listed ranks resident programme)))
 
--- who has a rank is in an acceptable pair
+-- a resident and a programme that has a rank on the resident's list are an acceptable pair
 acceptable : (inst : Instance) → IsInstance inst → (r p k : ℕ) → Some k ≡ rank (list_of_resident inst r) p → Acceptable inst r p
 acceptable inst is r p k e = (is.both_rank p r).1 (ranked (list_of_resident inst r) p k e).0
 

@@ -1,4 +1,4 @@
-//! The national limits: what is beyond the standard ones, each limit, and one more.
+//! Dockets beyond the standard limits, at each national limit, and one beyond it.
 use super::{ELEVENTH, closes, numbered, ranked};
 use docket::read_docket_within;
 use match_model::Limits;
@@ -8,7 +8,8 @@ use std::alloc::{AllocError, Global};
 use std::test::Fail;
 use test_support::randomness::OneByte;
 
-// Whether this is told of a docket that is read within the national limits: its fault, or `read`.
+// Whether reading a docket within the national limits ends as expected: with a fault of this text, or well if the text
+// is `read`.
 fn tells(alloc: Global, text: &str, wanted: &str) -> Result<bool, AllocError> {
     let limits = Limits::National;
     match read_docket_within(&OneByte(7), alloc, limits, text.as_bytes()) {

@@ -5,12 +5,12 @@ use Rattle.clap.specs.Words.{found_of}
 use Rattle.clap.proofs.WalkLemmas.{one_text-rows}
 use Rattle.residency.proofs.line.workers_of.Goals as goal
 
--- the number, or 0 where there is none
+-- the number that was parsed, or 0 if there is none
 abbrev value_of : Result ℕ (Unit {0}) → ℕ
 value_of (Ok n) = n
 value_of (Err e) = 0
 
--- a number of at most 8 is read as itself, whatever the type of errors
+-- the text of a number up to 8 is parsed as this number, whatever the type of errors
 reads : (r : Result ℕ (Unit {0})) (n : ℕ) → n ≤ 8 → ParsesUnsigned 64 10 (decimal n) r → value_of r ≡ n
 reads r n most read = ap value_of (parse-decimal 64 n (decimal n) r (omega arith) (omega arith) refl read)
 

@@ -2,7 +2,7 @@ use Rattle.std.proofs.Common.{◌≡◌, ◌<◌, ◌≤◌, length, drop}
 use Rattle.seal.specs.Tree.{sides_from, climb_by}
 use Rattle.seal.proofs.climb.opens.Given as goal
 
--- what is left of the climb is the whole climb
+-- the remaining climb from the hash reached so far ends like the whole climb
 abbrev pub invariant-loop-nodes : goal.invariant-loop-nodes
 invariant-loop-nodes l =
     (l.place < l.nodes) × (l.used ≤ length l.path)

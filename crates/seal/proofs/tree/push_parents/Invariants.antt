@@ -2,7 +2,7 @@ use Rattle.std.proofs.Common.{◌≡◌, ◌+◌, ◌*◌, ◌++◌, length, dro
 use Rattle.seal.specs.Tree.{pair_up}
 use Rattle.seal.proofs.tree.push_parents.Given as goal
 
--- the parents that are pushed, and those that will be, are the next level
+-- the parents pushed so far, followed by the parents of the remaining nodes, are the level above
 abbrev pub invariant-loop-k : goal.invariant-loop-k
 invariant-loop-k l =
     (l.start + l.count ≡ length l.fn.nodes.items)

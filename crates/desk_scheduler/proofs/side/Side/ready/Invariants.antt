@@ -4,7 +4,7 @@ use Rattle.desk_scheduler.specs.declared.side.Place.TheVariants.{Idle}
 use Rattle.desk_scheduler.specs.Desks.{place_of}
 use Rattle.desk_scheduler.proofs.side.Side.ready.Given as goal
 
--- the last ones are listed so far, the lowest on top
+-- the desks from the last one down are listed so far, and the lowest of them is in front
 abbrev pub invariant-loop-after : goal.invariant-loop-after
 invariant-loop-after l = record {
   desks : length l.side.places ≡ l.desks;

@@ -4,7 +4,7 @@ use Rattle.desk_scheduler.proofs.Queues.{joined_queues, joined_last, joined_othe
 use Rattle.desk_scheduler.proofs.Waiting.{fewer_wait}
 use Rattle.desk_scheduler.proofs.wait_queues.WaitQueues.join_behind.Goals as goal
 
--- what is required, of the rows
+-- the call's conditions, for the rows that the definitions see
 required : (now view : Waits) (d : ℕ) → view ≡ now → (d < length now.mailbox) → linked_at now.mailbox d ≡ None
     → (d < length view.mailbox) × (linked_at view.mailbox d ≡ None)
 required now view d is within waits_not =

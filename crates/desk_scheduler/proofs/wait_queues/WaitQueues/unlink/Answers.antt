@@ -3,7 +3,7 @@ use Rattle.desk_scheduler.specs.Waits.{Waits, AreQueues, left_rows, linked_at, q
 use Rattle.desk_scheduler.proofs.Queues.{left_queues, left_without, some_waits}
 use Rattle.desk_scheduler.proofs.wait_queues.WaitQueues.unlink.Goals as goal
 
--- what is required, of the rows
+-- the call's condition, for the rows that the definitions see
 required : (now view : Waits) (d m : ℕ) → view ≡ now → linked_at now.mailbox d ≡ Some m → linked_at view.mailbox d ≡ Some m
 required now view d m is waits = subst (λ (w : Waits). linked_at w.mailbox d ≡ Some m) (sym is) waits
 

@@ -16,7 +16,7 @@ use Rattle.exchange_core.proofs.programme_row.ProgrammeRow.receive.Goals as goal
 use Rattle.exchange_core.specs.Mail.{Answered}
 use Rattle.exchange_core.proofs.NoteCodes.{answer_of_note}
 
--- where fewer answers wait than may, the part of the seat has room
+-- where fewer answers wait than the mailbox has room for, the part of the seat has room
 room_left : (notes : List ℕ) (seats : List ProgrammeSeat) (rows : List ProgrammeLeft) (i r : ℕ) (seat : ProgrammeSeat) → map (shown_programme notes) seats ≡ rows → i ≡ r → r < length rows → seat ≡ get_or seats i seat
     → length (get_or rows r (opened_programme 0 0 0)).waiting < (get_or rows r (opened_programme 0 0 0)).room → seat.part.len < seat.part.room
 room_left notes seats rows i r seat view same member is few =

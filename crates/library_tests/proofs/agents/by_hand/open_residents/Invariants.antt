@@ -2,6 +2,6 @@ use Rattle.std.proofs.Common.{◌≡◌, []}
 use Rattle.std.specs.List.{All}
 use Rattle.library_tests.proofs.agents.by_hand.open_residents.Given as goal
 
--- no end has put anything yet
+-- no sending end made so far has put a message
 abbrev pub invariant-loop-r : goal.invariant-loop-r
 invariant-loop-r g l = All (λ end. end.puts ≡ []) l.puts.items

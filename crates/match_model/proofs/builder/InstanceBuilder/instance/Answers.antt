@@ -18,38 +18,38 @@ use Rattle.match_model.proofs.Gathered.{same_err, fault_of_most}
 use Rattle.match_model.proofs.RankTables.{length_tables}
 use Rattle.match_model.proofs.builder.InstanceBuilder.instance.Goals as goal
 
--- the same, of equal flags
+-- equal flags give the same mutual lists
 same_mutual : (ms : List (Option (List ℕ))) (fs fs' : List Bool) (ts : List (Option (List ℕ))) (gs gs' : List Bool) → fs ≡ fs' → gs ≡ gs' → mutual_left ms fs ts gs ≡ mutual_left ms fs' ts gs'
 same_mutual ms fs fs' ts gs gs' f g = λ i. mutual_left ms (f i) ts (g i)
 
--- the rows made for the programmes are the mutual lists of what was read, and so of what the builder has
+-- the rows made for the programmes are the mutual lists of the lists that were read, and so of the builder's lists
 programmes_made : (rows : RowLists ℕ) (ms : List (Option (List ℕ))) (fs fs' : List Bool) (ts : List (Option (List ℕ))) (gs gs' : List Bool) → rows ≡ record { rows = mutual_left ms fs ts gs; begun = [] }
     → fs ≡ fs' → gs ≡ gs' → rows.rows ≡ mutual_left ms fs' ts gs'
 programmes_made rows ms fs fs' ts gs gs' made f g = ap (λ (v : RowLists ℕ). v.rows) made ∙ same_mutual ms fs fs' ts gs gs' f g
 
--- and so are those made for the residents by the rows of the programmes
+-- the rows made for the residents, from the programmes' rows, are the mutual lists of the builder's lists
 residents_made : (rows programmes : RowLists ℕ) (ms : List (Option (List ℕ))) (fs : List Bool) (ts : List (Option (List ℕ))) (gs gs' : List Bool) → programmes.rows ≡ mutual_left ms fs ts gs'
     → rows ≡ record { rows = mutual_lists (lists_left ts gs) programmes.rows; begun = [] } → gs ≡ gs' → rows.rows ≡ mutual_left ts gs' ms fs
 residents_made rows programmes ms fs ts gs gs' theirs made g =
     ap (λ (v : RowLists ℕ). v.rows) made ∙ (λ i. mutual_lists (lists_left ts (g i)) (theirs i)) ∙ mutual_in_turn (lists_left ts gs') (lists_left ms fs)
 
--- the parts of an instance, put in one at a time
+-- two instances are equal if all their parts are equal
 same_instance : (qs qs' : List ℕ) (ps ps' rs rs' : List (List ℕ)) (fs fs' gs gs' : List Bool) → qs ≡ qs' → ps ≡ ps' → rs ≡ rs' → fs ≡ fs' → gs ≡ gs' →
     (let a : Instance = record { quotas = qs; programme_lists = ps; resident_lists = rs; programmes_withdrawn = fs; residents_withdrawn = gs } in let b : Instance = record { quotas = qs'; programme_lists = ps'; resident_lists = rs'; programmes_withdrawn = fs'; residents_withdrawn = gs' } in a ≡ b)
 same_instance qs qs' ps ps' rs rs' fs fs' gs gs' e f g h k = λ i. record { quotas = e i; programme_lists = f i; resident_lists = g i; programmes_withdrawn = h i; residents_withdrawn = k i }
 
--- how many there are of one side, by their mutual lists
+-- there are as many mutual lists of a side as members
 many_mutual : (ms : List (Option (List ℕ))) (fs : List Bool) (ts : List (Option (List ℕ))) (gs : List Bool) → length (mutual_left ms fs ts gs) ≡ length ms
 many_mutual ms fs ts gs = length-mutual_lists (lists_left ms fs) (lists_left ts gs) ∙ length-lists_left ms fs
 
 many_rows : (ms : List (Option (List ℕ))) (fs : List Bool) (ts : List (Option (List ℕ))) (gs : List Bool) (rows : RowLists ℕ) → rows ≡ record { rows = mutual_left ms fs ts gs; begun = [] } → length rows.rows ≡ length ms
 many_rows ms fs ts gs rows e = ap (λ (v : RowLists ℕ). length v.rows) e ∙ many_mutual ms fs ts gs
 
--- the ranks of offers, by lists that are the same
+-- the ranks of offers are right for lists that are equal to the lists read
 same_offer_ranks : (ps ps' rs rs' ranks : List (List ℕ)) → ps ≡ ps' → rs ≡ rs' → AreOfferRanks ps rs ranks → AreOfferRanks ps' rs' ranks
 same_offer_ranks ps ps' rs rs' ranks p r h = subst (λ (ls : List (List ℕ)). AreOfferRanks ls rs' ranks) p (subst (λ (ls : List (List ℕ)). AreOfferRanks ps ls ranks) r h)
 
--- whom a programme lists lists it in turn
+-- a programme stands on the mutual list of each resident on its own mutual list
 back : (ps rs mine theirs : List (List ℕ)) → ps ≡ mutual_lists mine theirs → rs ≡ mutual_lists theirs mine → (p : ℕ) → AreListedBack rs p (list_at ps p)
 back ps rs mine theirs e f p =
     subst (λ (ls : List (List ℕ)). AreListedBack rs p (list_at ls p)) (sym e) (subst (λ (ls : List (List ℕ)). AreListedBack ls p (list_at (mutual_lists mine theirs) p)) (sym f) (listed_back mine theirs p))

@@ -4,7 +4,7 @@ use Rattle.match_model.specs.Rows.{RowLists, parted, last_end, AreEnds}
 use Rattle.match_model.proofs.Parted.{length-parted, get_or-parted, row_there, within_row, ends_at, end_before, parted-set}
 use Rattle.match_model.proofs.rows.Rows.set.Goals as goal
 
--- where the item stands
+-- item k of row i stands between the start and the end of the row
 within : {T : Type 0} (v : RowLists T) (ends : List ℕ) (items : List T) (i k : ℕ) → parted 0 ends items ≡ v.rows → k < length (get_or v.rows i []) → (i < length ends) × (get_or (0 ∷ ends) i 0 + k < get_or ends i 0)
 within v ends items i k same h =
     let here : k < length (get_or (parted 0 ends items) i []) = subst (λ rows. k < length (get_or rows i [])) (sym same) h in
@@ -18,7 +18,7 @@ start_of-requires g c =
     let w = within c.args.self.now c.self.inside.ends.items c.self.inside.items.items c.args.row c.args.place (ap (λ (v : RowLists _). v.rows) c.self.view_is) c.requires in
     omega (arith, w.0, c.deref.ensures.len)
 
--- the place in all items, and that it is before the last row's end
+-- the index of the item in the whole list, which is before the last row's end
 at_is : (ends : List ℕ) (n i k s : ℕ) → AreEnds 0 ends n → i < length ends → get_or (0 ∷ ends) i 0 + k < get_or ends i 0 → s ≡ get_or (0 ∷ ends) i 0 → (s + k < last_end 0 ends) × (s + k < n)
 at_is ends n i k s h l w e =
     let at = ends_at 0 ends n i h l in

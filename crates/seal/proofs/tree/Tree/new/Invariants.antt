@@ -2,7 +2,7 @@ use Rattle.std.proofs.Common.{◌≡◌, ◌≤◌, ◌-◌, ◌++◌, length, t
 use Rattle.seal.specs.Tree.{all_levels}
 use Rattle.seal.proofs.tree.Tree.new.Given as goal
 
--- the levels below the last one, and all from it on, are all levels
+-- the levels before the last one, followed by all levels from the last one up, are all levels of the tree
 abbrev pub invariant-loop-start : goal.invariant-loop-start
 invariant-loop-start l =
     (l.start ≤ length l.nodes.items)
