@@ -77,6 +77,19 @@ impl<R: Wait + Copy + Sync> Gate for StopsBeside<R> {
     }
 }
 
+// How a run by two workers ends, over mailboxes under a latch. The latch's lifetime has a name here, since the borrow checker
+// asks for one at this call.
+fn ended<'a, R: Threads + Wait + Sync + Send + Copy>(
+    rt: R,
+    alloc: Global,
+    mailboxes: &Latched<'a, R>,
+    inst: &Instance,
+    gate: &StopsBeside<R>,
+) -> Result<Ending, RunFault> {
+    let done = run_over(rt, alloc, mailboxes, inst, Capacity::Full, 2, gate)?;
+    Ok(done.ending)
+}
+
 // What a run reports that was stopped at one resident, after another resident's mailbox lost an end.
 fn told_after_a_stop<R: Threads + Wait + Sync + Send + Copy>(
     rt: R,
@@ -91,7 +104,7 @@ fn told_after_a_stop<R: Threads + Wait + Sync + Send + Copy>(
         latch: &gate.latch,
         lost: Some(X),
     };
-    run_over(rt, alloc, &mailboxes, &inst, Capacity::Full, 2, &gate).err()
+    ended(rt, alloc, &mailboxes, &inst, &gate).err()
 }
 
 #[test]
@@ -138,9 +151,10 @@ fn is_heeded_at_once<R: Threads + Wait + Sync + Send + Copy>(
         latch: &gate.latch,
         lost: None,
     };
-    let done = run_over(rt, alloc, &mailboxes, inst, Capacity::Full, 2, &gate);
-    let is_stopped = done.is_ok_and(|done| done.ending == Ending::Stopped);
-    is_stopped && gate.latch.has_begun() && gate.entered.load(Ordering::SeqCst) == 2
+    let ending = ended(rt, alloc, &mailboxes, inst, &gate);
+    ending == Ok(Ending::Stopped)
+        && gate.latch.has_begun()
+        && gate.entered.load(Ordering::SeqCst) == 2
 }
 
 // Other work of the machine may keep a worker from heeding the stop for long, but not in two of three runs.
