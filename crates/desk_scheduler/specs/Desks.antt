@@ -82,8 +82,8 @@ times InHandAgain = 0
 abbrev pub one_for : ℕ → ℕ → ℕ
 one_for d x = cond (x == d) 1 0
 
--- A desk is listed once if its place says so, and else never. It is in the list that its place names. Each list has
--- as many desks as places say, and has room for all.
+-- A desk stands once in the two lists together if its place is `Listed`, and else in neither. The two lists together have
+-- as many desks as there are places `Listed`. Each list has room for all desks.
 pub record AreListed (places : List Place) (listed behind : List ℕ) (reserved reserved_behind : ℕ) : Type 0 where
   pub once : (d : ℕ) → sum_by (one_for d) listed + sum_by (one_for d) behind ≡ times (slice_index_or places d Idle)
   pub as_many : length listed + length behind ≡ sum_by times places

@@ -62,7 +62,7 @@ abbrev pub linked_to : List (Option ℕ) → Option ℕ → Option ℕ → List 
 linked_to row None to = row
 linked_to row (Some desk) to = slice_set row desk to
 
--- the end of a mailbox's queue, set if there is no such desk
+-- the queues' ends after this mailbox's end is set; with a desk, no end changes
 abbrev pub ended_at : List (Option ℕ) → Option ℕ → ℕ → Option ℕ → List (Option ℕ)
 ended_at row None m to = slice_set row m to
 ended_at row (Some desk) m to = row
@@ -110,8 +110,8 @@ pub record AreRows (w : Waits) : Type 0 where
   pub before : length w.before ≡ length w.first
   pub behind : length w.behind ≡ length w.first
 
--- Each mailbox has its queue, and the count is the number of waiting desks. A desk that waits for a mailbox that does
--- not exist has no links.
+-- Each mailbox has its queue, and the count that is kept with the queues is the number of all waiting desks. A desk that
+-- waits for a mailbox that does not exist has no links.
 pub record AreQueues (w : Waits) (count : ℕ) : Type 0 where
   pub counted : count ≡ sum_by one_waits w.mailbox
   pub rows : AreRows w

@@ -107,7 +107,7 @@ impl Scheduler {
         }
     }
 
-    /// A worker takes the first listed desk, until the run ends.
+    /// A worker takes the first listed desk. Once the run has ended, it takes none.
     #[inline(always)]
     pub fn next(&mut self) -> Next
         ensures next { (result, self.new) ≡ next_of self.old }

@@ -6,6 +6,6 @@ pub enum Wake {
     /// The desk may have more to do than to hear a hold.
     #[default]
     Work,
-    /// The desk got a hold, and mostly has nothing to do.
+    /// The desk was sent the answer `hold`, and mostly has nothing to do.
     Hold,
 }

@@ -383,7 +383,7 @@ same_draft l q p r pg rg = λ i. record { limits = l i; quotas = q i; programme_
 ranked_all : (b : Draft) (rows : List Fields) → IsRanked b rows rows → b ≡ record (draft_of rows) { limits = b.limits }
 ranked_all b rows h = same_draft refl h.quotas h.programme_lists h.resident_lists h.programmes_withdrawn h.residents_withdrawn
 
--- so it makes as many pairs
+-- so the builder's instance has as many pairs as the instance of what the rows hand in
 same_pairs : (b : Draft) (rows : List Fields) → IsRanked b rows rows → pair_count (instance_of b) ≡ pair_count (instance_of (draft_of rows))
 same_pairs b rows h = ap (λ (d : Draft). pair_count (instance_of d)) (ranked_all b rows h)
 

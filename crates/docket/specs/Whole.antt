@@ -25,13 +25,13 @@ NamesMembers inst (Answer r p kind) = AreMembers inst p r
 NamesMembers inst (Hear p r kind) = AreMembers inst p r
 NamesMembers inst Close = ⊤
 
--- there are 1 to 8 workers, and each number is below their count
+-- there are 1 to 8 workers, and each number in the list is below the number of workers
 pub record AreWorkers (workers : ℕ) (who : List ℕ) : Type 0 where
   pub some : 1 ≤ workers
   pub few : workers ≤ 8
   pub numbers : All (λ w. w < workers) who
 
--- each event has one number, which is that of one of 1 to 8 workers
+-- there are 1 to 8 workers, and each event has the number of one worker
 pub record IsByWorker (events : List Event) (by : ByWorkerParts) : Type 0 where
   pub one_number_each : length by.who ≡ length events
   pub workers : AreWorkers by.workers by.who

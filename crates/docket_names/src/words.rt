@@ -41,7 +41,7 @@ fn has_name_bytes_by_one(text: &[u8]) -> bool
     text.iter().all(|c| is_name_byte(*c))
 }
 
-// Whether a name may have each of the bytes. They are tested four at a time.
+// Whether a name may have each of the bytes. The bytes are tested four at a time.
 fn has_name_bytes(text: &[u8]) -> bool
     ensures { result ≡ list_all words.is_name_byte text.now }
 {

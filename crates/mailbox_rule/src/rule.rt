@@ -28,7 +28,8 @@ impl<M> Protocol<M, Known<M>> for InOrder {
     ghost first = { known true true 0 [] [] };
 }
 
-// How the receiving pass is split off the first time. The call chooses the capacity.
+// How the channel's first pass, which may put and take, is split into one that may put and one that may take. The call
+// chooses the capacity.
 impl<M> Split<Known<M>> for Brand {
     ghost use Rattle.std.specs.Prelude.{true, false, []};
     ghost use Rattle.mailbox_rule.specs.Rule.{known};

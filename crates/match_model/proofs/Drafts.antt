@@ -10,7 +10,7 @@ use Rattle.match_model.specs.declared.fault.ModelFault.TheVariants.{NoSuchMember
 use Rattle.std.specs.Prelude.{if◌then◌else◌, not}
 use Rattle.std.proofs.lemmas.Bool.{and_parts, and_from, ltb-true, lt-ltb}
 
--- a bound also holds for a smaller number
+-- items that are all below n are all below any m from n on
 pub list_all_below_more : (n m : ℕ) (xs : List ℕ) → n ≤ m → list_all (λ x. ltb x n) xs ≡ true → list_all (λ x. ltb x m) xs ≡ true
 list_all_below_more n m [] h e = refl
 list_all_below_more n m (x ∷ xs) h e =

@@ -35,7 +35,7 @@ impl WrittenLists {
         }
     }
 
-    /// The rank of a resident in a programme's list, from 0, if the resident is listed. It is found by a walk along
+    /// The rank of a resident in a programme's list, from 0, if the resident is listed. The rank is found by a walk along
     /// the list.
     pub fn rank_of_resident(&self, programme: ProgrammeNo, resident: ResidentNo) -> Option<usize>
         ensures { result ≡ rank (list_at self.now.programme_lists programme) resident }
@@ -43,7 +43,7 @@ impl WrittenLists {
         rank_along(self.programme_lists.written(programme.0), resident.0)
     }
 
-    /// The rank of a programme in a resident's list, from 0, if the programme is listed. It is found by a walk along
+    /// The rank of a programme in a resident's list, from 0, if the programme is listed. The rank is found by a walk along
     /// the list.
     pub fn rank_of_programme(&self, resident: ResidentNo, programme: ProgrammeNo) -> Option<usize>
         ensures { result ≡ rank (list_at self.now.resident_lists resident) programme }

@@ -299,7 +299,8 @@ impl<J: ExchangeIdentity, M: Mailboxes> Exchange<J, M> {
 pub(crate) enum Found<C> {
     /// The exchange was at rest, and the close is entered. The end is to be told.
     Closed(C),
-    /// Nothing is entered any more. Another worker closed or was refused a receipt, and tells the end.
+    /// Nothing is entered any more. Another worker closed the exchange, or its receipt was refused. That worker tells the
+    /// others that the run ends.
     Ended,
     /// Some event of this desk may follow.
     Desk(u32),

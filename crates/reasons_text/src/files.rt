@@ -32,8 +32,8 @@ fn in_its_file(joined: &Joined, fault: WhyFault) -> WhyFault
 }
 
 /// Reads a docket and a sheet within the standard limits, each of its own file and as its own part, and writes why, as
-/// `serve_why` does over both. A record of another part is a fault, and each fault is told in its file. Nothing is written before
-/// a fault other than the writer's own.
+/// `serve_why` does over both. A record of another part is a fault, and each fault is told in its file. If the answer is a
+/// fault, and not the writer's own, nothing was written.
 pub fn serve_why_files<W: Write, H: RandomSource>(
     rt: &H,
     alloc: Global,

@@ -12,3 +12,6 @@ pub mod DigitFacts
 pub mod OpeningFacts
 pub mod PointFacts
 pub mod CheckFacts
+pub mod FaultFacts
+pub mod CutFacts
+pub mod GoodFacts

@@ -1,4 +1,4 @@
--- The laws of receipts and of texts: each is the contract of the function of its name.
+-- The laws of receipts and of texts. Each is the contract of one function.
 use Rattle.std.specs.Prelude.{◌≡◌, ℕ, ◌<◌, ◌≤◌, List, Some, codes, length, slice_get}
 use Rattle.match_model.specs.Instance.{is_withdrawn, quota}
 use Rattle.docket.specs.Contents.{Contents}

@@ -1,4 +1,5 @@
--- Why an instance has at most one settled assignment: each resident's worst is one programme, or none.
+-- Why an instance has at most one settled assignment: each resident has exactly one worst achievable programme, or no
+-- achievable one.
 use Rattle.std.proofs.Common.{◌≡◌, ℕ, ◌<◌, ◌⊎◌, length, arith, refl, sym, ap, ◌∙◌, inl, inr}
 use Rattle.std.specs.Prelude.{Option, Some, None}
 use Rattle.std.proofs.lemmas.List.{same_lists, get_or_default}

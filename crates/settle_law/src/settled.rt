@@ -2,7 +2,7 @@
 
 ghost use Rattle.settle_law.specs.SettledLaws.{NeverRejectsLaw, SettledLaw, SameResidentsLaw, OneSettledLaw, HasSettledLaw};
 
-/// In a legal list, a resident never has to reject a programme that is achievable for it.
+/// In a legal list of events, a resident never has to reject a programme that is achievable for this resident.
 pub fn law_never_rejects()
     ensures { NeverRejectsLaw }
 {}

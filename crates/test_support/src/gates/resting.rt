@@ -62,7 +62,7 @@ impl Stalls {
         self.counts.of(worker)
     }
 
-    /// The hold, if the run had this many passes.
+    /// The hold at this gate's place, or none if the run had too few passes to reach that place.
     pub fn hold(&self) -> Option<Hold> {
         if !self.held.load(Ordering::SeqCst) {
             return None;

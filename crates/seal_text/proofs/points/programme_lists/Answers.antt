@@ -1,7 +1,24 @@
 use Rattle.std.proofs.Common.{refl, ◌∙◌, ap, List, ◌∷◌, []}
 use Rattle.csv.specs.Records.{Row, fields_of}
 use Rattle.seal_text.specs.Records.{rows_in}
+use Rattle.seal_text.proofs.CutFacts.{quota_denied, listed_denied, unlisted_denied}
 use Rattle.seal_text.proofs.points.programme_lists.Goals as goal
+
+pub returns-then-not-is_quota_row : goal.returns-then-not-is_quota_row
+returns-then-not-is_quota_row c =
+    quota_denied c.args.name.now c.args.rows.now c.in-Some.rest.now c.in-Some.first.now c.in-Some.ensures.cases.0 c.if-not-is_quota_row.ensures
+
+pub returns-in_err-withdrawn : goal.returns-in_err-withdrawn
+returns-in_err-withdrawn c =
+    rw c.from_residual.ensures
+    (listed_denied c.args.name.now c.args.rows.now c.in-Some.rest.now c.in-Some-split_first.gone.now c.in-Some.first.now c.in-Some-split_first.listed.now c.in-Some.ensures.cases.0
+    c.in-Some-split_first.ensures.cases.0 c.if-is_row_of.ensures c.in_err-withdrawn.ensures)
+
+pub returns-in_err-withdrawn-2 : goal.returns-in_err-withdrawn-2
+returns-in_err-withdrawn-2 c =
+    rw c.from_residual-in_err-withdrawn-2.ensures
+    (unlisted_denied c.args.name.now c.args.rows.now c.in-Some.rest.now c.in-Some-split_first.gone.now c.in-Some.first.now c.in-Some-split_first.listed.now c.in-Some.ensures.cases.0
+    c.in-Some-split_first.ensures.cases.0 c.if-is_row_of.ensures c.in_err-withdrawn-2.ensures)
 
 pub returns-then-is_row_of : goal.returns-then-is_row_of
 returns-then-is_row_of c = record {
