@@ -1,4 +1,4 @@
--- What an audit over files answers. Each file is read as its own part.
+-- What an audit over files answers. Each file is read apart from the others, as the docket, the sheet or the journal.
 use Rattle.std.specs.Prelude.{◌≡◌, ◌⊎◌, ℕ, ◌++◌, [], Bool, true, false, Option, Some, None, List, MatchOption, unwrap_or, length, ⊤}
 use Rattle.settle_law.specs.Stable.{IsSettled}
 use Rattle.match_audit.specs.Result.{IsUnlikeResult}

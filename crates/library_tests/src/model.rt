@@ -211,7 +211,7 @@ fn add_lists(builder: &mut InstanceBuilder) -> Result<(), ModelFault> {
     builder.resident_list(Z, &[A])
 }
 
-// Whether exactly these of two programmes and three residents are withdrawn, and this number of acceptable pairs
+// Whether exactly these members, of two programmes and three residents, are withdrawn, and this number of acceptable pairs
 // remains.
 fn is_left(instance: &Instance, pairs: u32, programmes: [bool; 2], residents: [bool; 3]) -> bool {
     if instance.programmes() != 2 || instance.residents() != 3 {

@@ -30,7 +30,8 @@ flagged_app = with_rule (with_rule (with_rule (with_rule program_app (word_rule 
 abbrev pub why_app : App
 why_app = with_rule (with_rule flagged_app (value_rule (codes "key"))) (value_rule (codes "sheet"))
 
--- The question about these words: a resident, and perhaps a programme. Without words the question is about all.
+-- The question that the words of a command line ask: about a resident, and perhaps a programme. Without words the question
+-- is about all.
 abbrev pub IsAskedBy : Option Text → Option Text → Asked → Type 0
 IsAskedBy resident programme asked.All = ⊥
 IsAskedBy resident programme (asked.Resident name) = (resident ≡ Some name.now) × (programme ≡ None)

@@ -28,7 +28,7 @@ fn tell<T: Eprint>(told: &T, limits: Limits, fault: &ServeFault) {
     };
 }
 
-// Does what the words ask within these limits, or writes why there is no answer.
+// Does what the command line asks within these limits, or writes why there is no answer.
 fn serve_and_tell<R, W, T, H>(
     rt: H,
     alloc: Global,

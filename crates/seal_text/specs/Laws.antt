@@ -10,7 +10,7 @@ use Rattle.seal.specs.Tree.{root, climb, path_of}
 use Rattle.seal_text.specs.Sealed.{leaf_of, hashes_of}
 use Rattle.seal_text.specs.declared.leaves.Section.{Section}
 
--- the opening that a receipt has of a member's leaf climbs from that leaf to the root that the receipt names
+-- the opening in a receipt leads from the member's leaf to the root that the receipt names
 abbrev pub ReceiptOpensLaw : Type 0
 ReceiptOpensLaw =
     (secret : List ℕ) (section : Section) (texts : List (List ℕ)) (i : ℕ) (text : List ℕ) → slice_get texts i ≡ Some text →

@@ -108,7 +108,7 @@ fn good_result<'a>(
     }
 }
 
-// The rows of the result, if a root of one was published. Else there may be none.
+// The rows of the result, if a root of one was published. Without such a root no rows of a result are allowed.
 fn good_result_if<'a>(
     alloc: Global,
     root: Option<&[u8; 32]>,

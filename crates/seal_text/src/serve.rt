@@ -217,8 +217,8 @@ fn serve<W: Write, H: RandomSource>(
     }
 }
 
-/// Writes the root of a docket's lists, and with a sheet that of the result. Each file is read as its own part, and the secret
-/// is 64 hexadecimal digits. Nothing is written before a fault other than the writer's own.
+/// Writes the root of a docket's lists, and with a sheet that of the result. Each file is read apart from the others. The
+/// secret is 64 hexadecimal digits. Nothing is written before a fault other than the writer's own.
 pub fn serve_seal<W: Write, H: RandomSource>(
     rt: &H,
     alloc: Global,
@@ -234,8 +234,8 @@ pub fn serve_seal<W: Write, H: RandomSource>(
     serve(rt, alloc, Wanted::Roots, docket, sheet, secret, writer)
 }
 
-/// Writes the receipt of each member, after a row that names the member. With a sheet a receipt has the result too. Each file
-/// is read as its own part. Nothing is written before a fault other than the writer's own.
+/// Writes the receipt of each member, after a row that names the member. With a sheet a receipt has the result too. Each
+/// file is read apart from the others. Nothing is written before a fault other than the writer's own.
 pub fn serve_receipts<W: Write, H: RandomSource>(
     rt: &H,
     alloc: Global,
