@@ -207,7 +207,8 @@ class Cost(OfficeTest):
             path = self.write_rows(row, count)
             took = self.took("lint", path)
             self.assertEqual(took.status, 3)
-            self.assertLessEqual(len(took.lines), 21)
+            # Twenty faults and how many more there are; where one is over a limit, which program takes more.
+            self.assertLessEqual(len(took.lines), 21 + any("residency-national" in line for line in took.lines))
             self.assertLess(took.megabytes - empty, 60 * path.stat().st_size / 1e6 + 1, row)
 
     def write_rows(self, row: str, count: int) -> Path:
