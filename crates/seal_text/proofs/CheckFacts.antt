@@ -12,7 +12,7 @@ use Rattle.seal_text.proofs.FieldFacts.{rest_is, text_is}
 use Rattle.seal_text.proofs.RecordFacts.{lines_more_of}
 
 -- the fields of the records after a place
-rows_after : (n : ℕ) (records : List Row) → rows_in (drop n records) ≡ drop n (rows_in records)
+pub rows_after : (n : ℕ) (records : List Row) → rows_in (drop n records) ≡ drop n (rows_in records)
 rows_after zero records = refl
 rows_after (suc n) [] = refl
 rows_after (suc n) (x ∷ records) = rows_after n records

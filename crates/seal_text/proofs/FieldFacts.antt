@@ -34,6 +34,12 @@ three_fields (a ∷ b ∷ c ∷ d ∷ rest) e = absurd (omega (arith, e))
 pub triple_is : (row : Fields) (a b c : List ℕ) → length row ≡ 3 → field row 0 ≡ a → field row 1 ≡ b → field row 2 ≡ c → row ≡ a ∷ b ∷ c ∷ []
 triple_is row a b c size p q r = three_fields row size ∙ cc (p, q, r)
 
+-- the fields of a record of three
+pub triple_parts : (row : Fields) (a b c : List ℕ) → row ≡ a ∷ b ∷ c ∷ [] → (length row ≡ 3) × (field row 0 ≡ a) × (field row 1 ≡ b) × (field row 2 ≡ c)
+unfolding field field_at
+triple_parts row a b c e =
+    (ap length e, ap (λ (r : Fields). field r 0) e, ap (λ (r : Fields). field r 1) e, ap (λ (r : Fields). field r 2) e)
+
 -- a record of two fields, and one of four
 pub pair_is : (row : Fields) (a b : List ℕ) → length row ≡ 2 → field row 0 ≡ a → field row 1 ≡ b → row ≡ a ∷ b ∷ []
 unfolding field field_at
@@ -41,6 +47,10 @@ pair_is [] a b e p q = absurd (omega (arith, e))
 pair_is (x ∷ []) a b e p q = absurd (omega (arith, e))
 pair_is (x ∷ y ∷ []) a b e p q = cc (p, q)
 pair_is (x ∷ y ∷ z ∷ rest) a b e p q = absurd (omega (arith, e))
+
+pub pair_parts : (row : Fields) (a b : List ℕ) → row ≡ a ∷ b ∷ [] → (field row 0 ≡ a) × (field row 1 ≡ b)
+unfolding field field_at
+pair_parts row a b e = (ap (λ (r : Fields). field r 0) e, ap (λ (r : Fields). field r 1) e)
 
 pub four_are : (row : Fields) (a b c d : List ℕ) → length row ≡ 4 → field row 0 ≡ a → field row 1 ≡ b → field row 2 ≡ c → field row 3 ≡ d → row ≡ a ∷ b ∷ c ∷ d ∷ []
 unfolding field field_at

@@ -12,3 +12,7 @@ pub mod DigitFacts
 pub mod OpeningFacts
 pub mod PointFacts
 pub mod CheckFacts
+pub mod FaultFacts
+pub mod ListFacts
+pub mod CutFacts
+pub mod GoodFacts

@@ -1,9 +1,9 @@
 -- The rows of a member, row after row.
-use Rattle.std.proofs.Common.{◌≡◌, ◌≢◌, ℕ, zero, suc, ◌+◌, ◌<◌, ◌≤◌, Bool, true, false, List, [], ◌∷◌, length, drop, drop-cons, get_or, Option, Some, None, refl, sym, ap, ◌∙◌, arith, below_more, add-one, inl, inr}
+use Rattle.std.proofs.Common.{◌≡◌, ◌≢◌, ℕ, zero, suc, ◌+◌, ◌<◌, ◌≤◌, Bool, true, false, List, [], ◌∷◌, length, drop, drop-cons, get_or, Option, Some, None, refl, sym, ap, ◌∙◌, subst, arith, below_more, add-one, inl, inr}
 use Rattle.std.proofs.lemmas.Bool.{cases_lt}
-use Rattle.std.specs.Prelude.{All, Contains, IfNone, MatchBool, bytes_eq, codes, if◌then◌else◌}
+use Rattle.std.specs.Prelude.{All, Contains, MatchBool, bytes_eq, codes, if◌then◌else◌}
 use Rattle.std.proofs.lemmas.List.{length-map, drop_all}
-use Rattle.std.proofs.lemmas.List.Elements.{All-cons, All-from_get_or}
+use Rattle.std.proofs.lemmas.List.Elements.{All-cons, All-tail, All-from_get_or}
 use Rattle.csv.specs.Records.{Row, field_at, fields_of}
 use Rattle.docket.specs.Fields.{field}
 use Rattle.docket_names.specs.Words.{number_of}
@@ -17,7 +17,7 @@ use Rattle.seal_text.specs.declared.reasons.Stand.TheVariants.{Before, At}
 use Rattle.seal_text.proofs.RecordFacts.{row_there}
 
 -- a field that is there
-field_get : (row : Fields) (i : ℕ) (d : List ℕ) → i < length row → field row i ≡ get_or row i d
+pub field_get : (row : Fields) (i : ℕ) (d : List ℕ) → i < length row → field row i ≡ get_or row i d
 unfolding field field_at
 field_get [] i d lt = absurd (omega (arith, lt))
 field_get (f ∷ fs) zero d lt = refl
@@ -80,13 +80,18 @@ members_all name list rows k past m = record {
 pub record ReasonsTo (name : List ℕ) (list : Fields) (own : Option (List ℕ)) (rows : List Fields) (past : Bool) (k : ℕ) : Type 0 where
   pub choices : (j : ℕ) → j < k → IsReason name (field list (j + 2)) (j + 1) (get_or rows j [])
   pub answers : AreLeft own past (drop k rows) → AreAnswers own rows
+  pub whole : AreAnswers own rows → AreLeft own past (drop k rows)
 
 left_whole : (own : Option (List ℕ)) (rows : List Fields) → AreLeft own false rows → AreAnswers own rows
 left_whole None rows h = h
 left_whole (Some own) rows h = h
 
+whole_left : (own : Option (List ℕ)) (rows : List Fields) → AreAnswers own rows → AreLeft own false rows
+whole_left None rows h = h
+whole_left (Some own) rows h = h
+
 pub no_reasons : (name : List ℕ) (list : Fields) (own : Option (List ℕ)) (rows : List Fields) → ReasonsTo name list own rows false 0
-no_reasons name list own rows = record { choices = λ j lt. absurd (omega (arith, lt)); answers = left_whole own rows }
+no_reasons name list own rows = record { choices = λ j lt. absurd (omega (arith, lt)); answers = left_whole own rows; whole = whole_left own rows }
 
 up_to_step : (b : Bool) (own : List ℕ) (row : Fields) (rest : List Fields) → CanStand (if b then At else Before) row
     → AreLeft (Some own) (is_past_after (if b then At else Before)) rest → MatchBool b (IsBare (codes "matched") row × All IsLater rest) (IsPassedOver row × AreUpTo own rest)
@@ -98,6 +103,18 @@ left_step : (own : Option (List ℕ)) (past : Bool) (row : Fields) (rest : List 
 left_step None past row rest can left = All-cons IsPassedOver row rest can left
 left_step (Some own) true row rest can left = All-cons IsLater row rest can left
 left_step (Some own) false row rest can left = up_to_step (bytes_eq (field row 1) own) own row rest can left
+
+up_to_tail : (b : Bool) (own : List ℕ) (row : Fields) (rest : List Fields) → MatchBool b (IsBare (codes "matched") row × All IsLater rest) (IsPassedOver row × AreUpTo own rest)
+    → AreLeft (Some own) (is_past_after (if b then At else Before)) rest
+up_to_tail true own row rest h = h.1
+up_to_tail false own row rest h = h.1
+
+-- the others of the reasons that are left
+left_tail : (own : Option (List ℕ)) (past : Bool) (row : Fields) (rest : List Fields) → AreLeft own past (row ∷ rest)
+    → AreLeft own (is_past_after (stand_of own past (field row 1))) rest
+left_tail None past row rest h = All-tail IsPassedOver row rest h
+left_tail (Some own) true row rest h = All-tail IsLater row rest h
+left_tail (Some own) false row rest h = up_to_tail (bytes_eq (field row 1) own) own row rest h
 
 pub reason_more : (name : List ℕ) (list : Fields) (own : Option (List ℕ)) (records : List Row) (past : Bool) (k : ℕ) (r : Row) (stand : Stand)
     → k < length records → r ≡ get_or records k r → ReasonsTo name list own (rows_in records) past k
@@ -113,6 +130,9 @@ reason_more name list own records past k r stand lt at m is stand_is can =
     record {
       choices = below_more _ _ m.choices (rw (here, ← two) is);
       answers = λ left. m.answers (rw next (left_step own past (fields_of r) (drop (k + 1) (rows_in records)) (rw (← stand_is) can) (rw (← stand_is) left)));
+      whole = λ answers.
+          let left : AreLeft own past (fields_of r ∷ drop (k + 1) (rows_in records)) = subst (λ (t : List Fields). AreLeft own past t) next (m.whole answers) in
+          rw stand_is (left_tail own past (fields_of r) (drop (k + 1) (rows_in records)) left);
     }
 
 pub choices_all : (name : List ℕ) (list : Fields) (own : Option (List ℕ)) (rows : List Fields) (past : Bool) (k : ℕ) → length rows ≤ k → length rows + 2 ≡ length list
@@ -122,11 +142,6 @@ choices_all name list own rows past k all size m = record { each = size; are = �
 pub answers_all : (name : List ℕ) (list : Fields) (own : Option (List ℕ)) (rows : List Fields) (past : Bool) (k : ℕ) → length rows ≤ k → AreLeft own past []
     → ReasonsTo name list own rows past k → AreAnswers own rows
 answers_all name list own rows past k all left m = m.answers (rw (drop_all k rows all) left)
-
--- a fact of no fault that tells another
-pub none_weaker : {A P Q : Type 0} (o : Option A) → (P → Q) → IfNone o P → IfNone o Q
-none_weaker None f p = f p
-none_weaker (Some x) f p = tt
 
 -- a programme's rows after the match
 pub programme_rows : (rows members : List Row) (first : Row) (name quota : List ℕ) (list : Option Fields) (filled places : ℕ) → rows ≡ first ∷ members

@@ -7,4 +7,5 @@ pub mod Serving
 pub mod Laws
 pub mod Digits
 pub mod Receipt
+pub mod Cut
 pub mod Reasons

@@ -77,8 +77,10 @@ fn digests_from(
     from: usize,
 ) -> Result<Option<Vec<[u8; 32]>>, AllocError>
     ensures { IfOk result (λ found. MatchOption found
-        ((ds : List (List ℕ)) → All IsDigest ds → drop from (fields_of row.now) ≢ map encode_lower ds)
-        (λ ds. All IsDigest ds.items × (drop from (fields_of row.now) ≡ map encode_lower ds.items))) }
+        ((ds : List (List ℕ)) → All IsDigest ds
+        → drop from (fields_of row.now) ≢ map encode_lower ds)
+        (λ ds. All IsDigest ds.items
+        × (drop from (fields_of row.now) ≡ map encode_lower ds.items))) }
 {
     let mut digests = Vec::new(alloc);
     for i in from..row.len() {
@@ -101,7 +103,8 @@ pub(crate) fn read_opening(
     ensures long { OnOk result (2 ≤ length rows.now) }
     ensures opens { MatchResult result
         (λ told. Opens (word_of section) root.now told.count told.index (rows_in rows.now))
-        (λ fault. IfWrong fault ((count index : ℕ) → ¬ Opens (word_of section) root.now count index (rows_in rows.now))) }
+        (λ fault. IfWrong fault ((count index : ℕ)
+        → ¬ Opens (word_of section) root.now count index (rows_in rows.now))) }
 {
     if rows.len() < 2 {
         return Err(at(place, rows.len(), Wrong::Missing));

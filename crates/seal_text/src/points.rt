@@ -1,9 +1,9 @@
 //! What the rows of a member have to be: those of its list, and those of a programme's result.
-ghost use Rattle.std.specs.Prelude.{◌≡◌, ◌≢◌, ◌<◌, ◌≤◌, ℕ, ◌∷◌, [], All, AllPairs, Contains, IfNone, IfOk, IsSome, codes, drop, length, option_map, slice_index_or};
-ghost use Rattle.std.specs.Bool.{OnFalse, OnTrue};
+ghost use Rattle.std.specs.Prelude.{◌≡◌, ◌≢◌, ◌<◌, ◌≤◌, ℕ, List, ◌∷◌, [], All, AllPairs, Contains, IsSome, MatchBool, MatchOption, MatchResult, Option, codes, drop, length, option_map, slice_index_or};
 ghost use Rattle.csv.specs.Records.{fields_of};
 ghost use Rattle.docket.specs.Fields.{field as field_in};
 ghost use Rattle.docket_names.specs.Words as words;
+ghost use Rattle.docket_parts.specs.Parts.{Fields};
 ghost use Rattle.seal_text.specs.Receipt.{AreLists, AreMembers, AreProgrammeLists, AreProgrammeRows, AreResidentLists, AreResultRows, IsListed, IsQuotaRow, IsRowOf, IsWithdrawalIf, letter_of};
 ghost use Rattle.seal_text.specs.Records.{rows_in};
 
@@ -56,12 +56,17 @@ impl Kind {
 
 // Whether the record is one of this kind and this name.
 fn is_row_of(row: &ByteRecord, kind: &[u8], name: &[u8]) -> bool
-    ensures { OnTrue result (IsRowOf kind.now name.now (fields_of row.now)) }
+    ensures { MatchBool result
+        (IsRowOf kind.now name.now (fields_of row.now))
+        (¬ IsRowOf kind.now name.now (fields_of row.now)) }
 {
-    if has(row, 0, kind) && has(row, 1, name) {
-        return true;
+    if !has(row, 0, kind) {
+        return false;
     }
-    false
+    if !has(row, 1, name) {
+        return false;
+    }
+    true
 }
 
 // The rest of a member's rows after its list: none, or its withdrawal.
@@ -71,12 +76,14 @@ fn withdrawn_in(
     kind: Kind,
     name: &[u8],
 ) -> Result<bool, ReceiptFault>
-    ensures { IfOk result (λ _. IsWithdrawalIf kind name.now (rows_in rows.now)) }
+    ensures { MatchResult result
+        (λ _. IsWithdrawalIf kind name.now (rows_in rows.now))
+        (λ _. ¬ IsWithdrawalIf kind name.now (rows_in rows.now)) }
 {
-    if rows.is_empty() {
+    let Some((first, _)) = rows.split_first() else {
         return Ok(false);
-    }
-    if !is_triple(&rows[0], b"W", kind.letter(), name) {
+    };
+    if !is_triple(first, b"W", kind.letter(), name) {
         return Err(at(place, 0, Wrong::List));
     }
     if rows.len() > 1 {
@@ -87,12 +94,18 @@ fn withdrawn_in(
 
 // Whether the record has a programme's name and its quota.
 fn is_quota_row(row: &ByteRecord, name: &[u8]) -> bool
-    ensures { OnTrue result (IsQuotaRow name.now (field_in (fields_of row.now) 2) (fields_of row.now)) }
+    ensures { MatchBool result
+        (IsQuotaRow name.now (field_in (fields_of row.now) 2) (fields_of row.now))
+        ((quota : List ℕ) → ¬ IsQuotaRow name.now quota (fields_of row.now)) }
 {
-    if is_triple(row, b"Q", name, field(row, 2)) && number_of(field(row, 2)).is_some() {
-        return true;
+    let quota = field(row, 2);
+    if !is_triple(row, b"Q", name, quota) {
+        return false;
     }
-    false
+    match number_of(quota) {
+        Some(_) => true,
+        None => false,
+    }
 }
 
 // A programme's rows before the match: `Q`, then `P` if there is a list, then `W` if it is withdrawn.
@@ -101,7 +114,11 @@ fn programme_lists<'a>(
     place: usize,
     name: &[u8],
 ) -> Result<Lists<'a>, ReceiptFault>
-    ensures { IfOk result (λ lists. AreProgrammeLists name.now lists.quota.now (option_map (λ row. fields_of row.now) lists.list) (rows_in rows.now)) }
+    ensures { MatchResult result
+        (λ lists. AreProgrammeLists name.now lists.quota.now
+        (option_map (λ row. fields_of row.now) lists.list) (rows_in rows.now))
+        (λ _. (quota : List ℕ) (list : Option Fields)
+        → ¬ AreProgrammeLists name.now quota list (rows_in rows.now)) }
 {
     let Some((first, rest)) = rows.split_first() else {
         return Err(at(place, 0, Wrong::List));
@@ -110,18 +127,22 @@ fn programme_lists<'a>(
         return Err(at(place, 0, Wrong::List));
     }
     let quota = field(first, 2);
-    if let Some((listed, gone)) = rest.split_first() {
-        if is_row_of(listed, b"P", name) {
-            let after = place.saturating_add(2);
-            let withdrawn = withdrawn_in(gone, after, Kind::Programme, name)?;
-            return Ok(Lists {
-                quota,
-                list: Some(listed),
-                withdrawn,
-            });
-        }
-    }
+    let Some((listed, gone)) = rest.split_first() else {
+        return Ok(Lists {
+            quota,
+            list: None,
+            withdrawn: false,
+        });
+    };
     let after = place.saturating_add(1);
+    if is_row_of(listed, b"P", name) {
+        let withdrawn = withdrawn_in(gone, after.saturating_add(1), Kind::Programme, name)?;
+        return Ok(Lists {
+            quota,
+            list: Some(listed),
+            withdrawn,
+        });
+    }
     let withdrawn = withdrawn_in(rest, after, Kind::Programme, name)?;
     Ok(Lists {
         quota,
@@ -136,16 +157,21 @@ fn resident_lists<'a>(
     place: usize,
     name: &[u8],
 ) -> Result<Lists<'a>, ReceiptFault>
-    ensures { IfOk result (λ lists. AreResidentLists name.now (option_map (λ row. fields_of row.now) lists.list) (rows_in rows.now)) }
+    ensures { MatchResult result
+        (λ lists. AreResidentLists name.now (option_map (λ row. fields_of row.now) lists.list)
+        (rows_in rows.now))
+        (λ _. (list : Option Fields) → ¬ AreResidentLists name.now list (rows_in rows.now)) }
 {
-    if rows.is_empty() || !is_row_of(&rows[0], b"R", name) {
+    let Some((first, gone)) = rows.split_first() else {
+        return Err(at(place, 0, Wrong::List));
+    };
+    if !is_row_of(first, b"R", name) {
         return Err(at(place, 0, Wrong::List));
     }
-    let after = place.saturating_add(1);
-    let withdrawn = withdrawn_in(&rows[1..], after, Kind::Resident, name)?;
+    let withdrawn = withdrawn_in(gone, place.saturating_add(1), Kind::Resident, name)?;
     Ok(Lists {
         quota: &[],
-        list: Some(&rows[0]),
+        list: Some(first),
         withdrawn,
     })
 }
@@ -156,7 +182,11 @@ pub(crate) fn lists_in<'a>(
     place: usize,
     member: Member,
 ) -> Result<Lists<'a>, ReceiptFault>
-    ensures { IfOk result (λ lists. AreLists member.entry.kind member.entry.name.now lists.quota.now (option_map (λ row. fields_of row.now) lists.list) (rows_in rows.now)) }
+    ensures { MatchResult result
+        (λ lists. AreLists member.entry.kind member.entry.name.now lists.quota.now
+        (option_map (λ row. fields_of row.now) lists.list) (rows_in rows.now))
+        (λ _. (quota : List ℕ) (list : Option Fields)
+        → ¬ AreLists member.entry.kind member.entry.name.now quota list (rows_in rows.now)) }
 {
     match member.kind {
         Kind::Programme => programme_lists(rows, place, member.name),
@@ -166,7 +196,9 @@ pub(crate) fn lists_in<'a>(
 
 // Whether a list has this name.
 fn has_name(list: &ByteRecord, name: &[u8]) -> bool
-    ensures { OnTrue result (Contains (drop 2 (fields_of list.now)) name.now) }
+    ensures { MatchBool result
+        (Contains (drop 2 (fields_of list.now)) name.now)
+        (¬ Contains (drop 2 (fields_of list.now)) name.now) }
 {
     for i in 2..list.len() {
         if has(list, i, name) {
@@ -178,7 +210,9 @@ fn has_name(list: &ByteRecord, name: &[u8]) -> bool
 
 // Whether a resident stands on a programme's list.
 fn is_listed(list: Option<&ByteRecord>, resident: &[u8]) -> bool
-    ensures { OnTrue result (IsListed (option_map (λ row. fields_of row.now) list.entry) resident.now) }
+    ensures { MatchBool result
+        (IsListed (option_map (λ row. fields_of row.now) list.entry) resident.now)
+        (¬ IsListed (option_map (λ row. fields_of row.now) list.entry) resident.now) }
 {
     match list {
         Some(list) => has_name(list, resident),
@@ -189,7 +223,9 @@ fn is_listed(list: Option<&ByteRecord>, resident: &[u8]) -> bool
 // Whether one of the first so many rows has this resident.
 fn stands_before(rows: &[ByteRecord], k: usize, resident: &[u8]) -> bool
     requires { k ≤ length rows.now }
-    ensures { OnFalse result ((j : ℕ) → j < k → field_in (slice_index_or (rows_in rows.now) j []) 1 ≢ resident.now) }
+    ensures { MatchBool result
+        ((j : ℕ) × (j < k) × (field_in (slice_index_or (rows_in rows.now) j []) 1 ≡ resident.now))
+        ((j : ℕ) → j < k → field_in (slice_index_or (rows_in rows.now) j []) 1 ≢ resident.now) }
 {
     for j in 0..k {
         if has(&rows[j], 1, resident) {
@@ -206,17 +242,21 @@ fn members_fault(
     name: &[u8],
     list: Option<&ByteRecord>,
 ) -> Option<ReceiptFault>
-    ensures { IfNone result (AreMembers name.now (option_map (λ row. fields_of row.now) list.entry) (rows_in rows.now)) }
+    ensures { MatchOption result
+        (AreMembers name.now (option_map (λ row. fields_of row.now) list.entry) (rows_in rows.now))
+        (λ _. ¬ AreMembers name.now (option_map (λ row. fields_of row.now) list.entry)
+        (rows_in rows.now)) }
 {
     for k in 0..rows.len() {
         let row = &rows[k];
-        if !is_triple(row, b"M", field(row, 1), name) {
+        let resident = field(row, 1);
+        if !is_triple(row, b"M", resident, name) {
             return Some(at(place, k + 1, Wrong::Result));
         }
-        if !is_listed(list, field(row, 1)) {
+        if !is_listed(list, resident) {
             return Some(at(place, k + 1, Wrong::NotListed));
         }
-        if stands_before(rows, k, field(row, 1)) {
+        if stands_before(rows, k, resident) {
             return Some(at(place, k + 1, Wrong::Twice));
         }
     }
@@ -230,12 +270,19 @@ fn programme_fault(
     name: &[u8],
     lists: &Lists,
 ) -> Option<ReceiptFault>
-    ensures { IfNone result (AreProgrammeRows name.now lists.now.quota.now (option_map (λ row. fields_of row.now) lists.now.list) (rows_in rows.now)) }
+    ensures { MatchOption result
+        (AreProgrammeRows name.now lists.now.quota.now
+        (option_map (λ row. fields_of row.now) lists.now.list) (rows_in rows.now))
+        (λ _. ¬ AreProgrammeRows name.now lists.now.quota.now
+        (option_map (λ row. fields_of row.now) lists.now.list) (rows_in rows.now)) }
 {
     let Some((first, members)) = rows.split_first() else {
         return Some(at(place, 0, Wrong::Result));
     };
-    if first.len() != 4 || !is_row_of(first, b"F", name) {
+    if first.len() != 4 {
+        return Some(at(place, 0, Wrong::Result));
+    }
+    if !is_row_of(first, b"F", name) {
         return Some(at(place, 0, Wrong::Result));
     }
     let Some(filled) = number_of(field(first, 2)) else {
@@ -244,7 +291,13 @@ fn programme_fault(
     let Some(quota) = number_of(lists.quota) else {
         return Some(at(place, 0, Wrong::Numbers));
     };
-    if filled as usize != members.len() || filled > quota || !has(first, 3, lists.quota) {
+    if filled as usize != members.len() {
+        return Some(at(place, 0, Wrong::Numbers));
+    }
+    if filled > quota {
+        return Some(at(place, 0, Wrong::Numbers));
+    }
+    if !has(first, 3, lists.quota) {
         return Some(at(place, 0, Wrong::Numbers));
     }
     members_fault(members, place, name, lists.list)
@@ -257,7 +310,11 @@ pub(crate) fn result_fault(
     member: Member,
     lists: &Lists,
 ) -> Option<ReceiptFault>
-    ensures { IfNone result (AreResultRows member.entry.kind member.entry.name.now lists.now.quota.now (option_map (λ row. fields_of row.now) lists.now.list) (rows_in rows.now)) }
+    ensures { MatchOption result
+        (AreResultRows member.entry.kind member.entry.name.now lists.now.quota.now
+        (option_map (λ row. fields_of row.now) lists.now.list) (rows_in rows.now))
+        (λ _. ¬ AreResultRows member.entry.kind member.entry.name.now lists.now.quota.now
+        (option_map (λ row. fields_of row.now) lists.now.list) (rows_in rows.now)) }
 {
     match (member.kind, lists.list) {
         (Kind::Programme, _) => programme_fault(rows, place, member.name, lists),

@@ -1,6 +1,5 @@
 //! What the rows of a resident's result have to be: where it is placed, and the reason of each choice.
-ghost use Rattle.std.specs.Prelude.{◌≡◌, ◌⊎◌, ◌∷◌, [], ◌+◌, ◌<◌, ℕ, IfNone, IfSome, Some, option_map};
-ghost use Rattle.std.specs.Bool.{OnTrue};
+ghost use Rattle.std.specs.Prelude.{◌≡◌, ◌≢◌, ◌⊎◌, ◌∷◌, [], ◌+◌, ◌<◌, ℕ, IfNone, IfSome, List, MatchBool, MatchOption, Option, Some, length, option_map};
 ghost use Rattle.csv.specs.Records.{fields_of};
 ghost use Rattle.docket.specs.Fields.{field as field_in};
 ghost use Rattle.docket_names.specs.Words as words;
@@ -39,7 +38,9 @@ impl Stand {
 
 // Whether no reason has to follow.
 fn is_reached(own: Option<&[u8]>, is_past: bool) -> bool
-    ensures { OnTrue result (AreLeft (option_map (λ name. name.now) own.entry) is_past []) }
+    ensures { MatchBool result
+        (AreLeft (option_map (λ name. name.now) own.entry) is_past [])
+        (¬ AreLeft (option_map (λ name. name.now) own.entry) is_past []) }
 {
     match own {
         None => true,
@@ -49,7 +50,8 @@ fn is_reached(own: Option<&[u8]>, is_past: bool) -> bool
 
 // Where the reason of this programme stands.
 fn stand_of(own: Option<&[u8]>, is_past: bool, programme: &[u8]) -> Stand
-    ensures { result ≡ reasons.stand_of (option_map (λ name. name.now) own.entry) is_past programme.now }
+    ensures { result ≡ reasons.stand_of
+        (option_map (λ name. name.now) own.entry) is_past programme.now }
 {
     match own {
         None => Stand::Unmatched,
@@ -67,17 +69,30 @@ fn stand_of(own: Option<&[u8]>, is_past: bool, programme: &[u8]) -> Stand
 
 // Whether the answer is this word, without numbers.
 fn is_bare(row: &ByteRecord, word: &[u8]) -> bool
-    ensures { OnTrue result (IsBare word.now (fields_of row.now)) }
+    ensures { MatchBool result
+        (IsBare word.now (fields_of row.now))
+        (¬ IsBare word.now (fields_of row.now)) }
 {
-    if has(row, 3, word) && has(row, 4, &[]) && has(row, 5, &[]) && has(row, 6, &[]) {
-        return true;
+    if !has(row, 3, word) {
+        return false;
     }
-    false
+    if !has(row, 4, &[]) {
+        return false;
+    }
+    if !has(row, 5, &[]) {
+        return false;
+    }
+    if !has(row, 6, &[]) {
+        return false;
+    }
+    true
 }
 
 // Whether a programme is full of residents whom it ranks before this one. One without places has no last rank.
 fn is_full(row: &ByteRecord) -> bool
-    ensures { OnTrue result (HasLastBefore (fields_of row.now) ⊎ HasNoPlaces (fields_of row.now)) }
+    ensures { MatchBool result
+        (HasLastBefore (fields_of row.now) ⊎ HasNoPlaces (fields_of row.now))
+        (¬ (HasLastBefore (fields_of row.now) ⊎ HasNoPlaces (fields_of row.now))) }
 {
     let Some(rank) = number_of(field(row, 4)) else {
         return false;
@@ -99,7 +114,7 @@ fn is_full(row: &ByteRecord) -> bool
 
 // Whether the reason can stand after the resident's own programme.
 fn is_later(row: &ByteRecord) -> bool
-    ensures { OnTrue result (IsLater (fields_of row.now)) }
+    ensures { MatchBool result (IsLater (fields_of row.now)) (¬ IsLater (fields_of row.now)) }
 {
     if is_bare(row, b"better") {
         return true;
@@ -115,7 +130,9 @@ fn is_later(row: &ByteRecord) -> bool
 
 // What is wrong with the answer of a programme that the resident would have taken.
 fn passed_over_fault(row: &ByteRecord) -> Option<Wrong>
-    ensures { IfNone result (IsPassedOver (fields_of row.now)) }
+    ensures { MatchOption result
+        (IsPassedOver (fields_of row.now))
+        (λ _. ¬ IsPassedOver (fields_of row.now)) }
 {
     if has(row, 3, b"full") {
         if is_full(row) {
@@ -134,7 +151,9 @@ fn passed_over_fault(row: &ByteRecord) -> Option<Wrong>
 
 // What is wrong with the answer of a reason that stands here.
 fn answer_fault(row: &ByteRecord, stand: Stand) -> Option<Wrong>
-    ensures { IfNone result (CanStand stand (fields_of row.now)) }
+    ensures { MatchOption result
+        (CanStand stand (fields_of row.now))
+        (λ _. ¬ CanStand stand (fields_of row.now)) }
 {
     match stand {
         Stand::Unmatched => passed_over_fault(row),
@@ -156,7 +175,9 @@ fn answer_fault(row: &ByteRecord, stand: Stand) -> Option<Wrong>
 
 // Whether the digits write this number.
 fn is_number(digits: &[u8], number: usize) -> bool
-    ensures { OnTrue result (words.number_of digits.now ≡ Some number) }
+    ensures { MatchBool result
+        (words.number_of digits.now ≡ Some number)
+        (words.number_of digits.now ≢ Some number) }
 {
     if let Some(found) = number_of(digits)
         && found as usize == number
@@ -168,19 +189,46 @@ fn is_number(digits: &[u8], number: usize) -> bool
 
 // Whether the record is the row of this choice, from 1, of a resident with this list.
 fn is_choice(row: &ByteRecord, name: &[u8], list: &ByteRecord, choice: usize) -> bool
-    ensures { OnTrue result (IsReason name.now (field_in (fields_of list.now) (choice + 1)) choice (fields_of row.now)) }
+    ensures { MatchBool result
+        (IsReason name.now (field_in (fields_of list.now) (choice + 1)) choice (fields_of row.now))
+        (choice + 1 < length (fields_of list.now)
+        → ¬ IsReason name.now (field_in (fields_of list.now) (choice + 1)) choice
+        (fields_of row.now)) }
 {
-    if list.len() < 2 || choice >= list.len() - 1 {
+    if choice >= list.len() {
         return false;
     }
-    if row.len() == 7
-        && has(row, 0, name)
-        && has(row, 1, field(list, choice + 1))
-        && is_number(field(row, 2), choice)
-    {
-        return true;
+    if choice + 1 >= list.len() {
+        return false;
     }
-    false
+    if row.len() != 7 {
+        return false;
+    }
+    if !has(row, 0, name) {
+        return false;
+    }
+    if !has(row, 1, field(list, choice + 1)) {
+        return false;
+    }
+    if !is_number(field(row, 2), choice) {
+        return false;
+    }
+    true
+}
+
+// Whether there are as many rows as the list has names.
+fn is_counted(rows: &[ByteRecord], list: &ByteRecord) -> bool
+    ensures { MatchBool result
+        (length rows.now + 2 ≡ length (fields_of list.now))
+        (length rows.now + 2 ≢ length (fields_of list.now)) }
+{
+    if list.len() < 2 {
+        return false;
+    }
+    if rows.len() != list.len() - 2 {
+        return false;
+    }
+    true
 }
 
 // The first thing that is wrong with the rows of reasons of a resident with this list and this programme. They stand after the
@@ -193,7 +241,10 @@ fn reasons_fault(
     own: Option<&[u8]>,
 ) -> Option<ReceiptFault>
     ensures choices { IfNone result (AreChoices name.now (fields_of list.now) (rows_in rows.now)) }
-    ensures answers { IfNone result (AreAnswers (option_map (λ name. name.now) own.entry) (rows_in rows.now)) }
+    ensures answers { IfNone result
+        (AreAnswers (option_map (λ name. name.now) own.entry) (rows_in rows.now)) }
+    ensures fault { IfSome result (λ _. AreChoices name.now (fields_of list.now) (rows_in rows.now)
+        → ¬ AreAnswers (option_map (λ name. name.now) own.entry) (rows_in rows.now)) }
 {
     let mut is_past = false;
     for k in 0..rows.len() {
@@ -207,23 +258,36 @@ fn reasons_fault(
         }
         is_past = stand.is_past();
     }
-    if list.len() < 2 || rows.len() != list.len() - 2 || !is_reached(own, is_past) {
-        return Some(at(place, rows.len().saturating_add(1), Wrong::Missing));
+    let missing = at(place, rows.len().saturating_add(1), Wrong::Missing);
+    if !is_counted(rows, list) {
+        return Some(missing);
+    }
+    if !is_reached(own, is_past) {
+        return Some(missing);
     }
     None
 }
 
 // The programme in the row that says where a resident is placed, if it is one.
 fn placed_in<'a>(row: &'a ByteRecord, name: &[u8]) -> Option<Option<&'a [u8]>>
-    ensures { IfSome result (λ own. fields_of row.now ≡ placed_fields name.now (option_map (λ name. name.now) own)) }
+    ensures { MatchOption result
+        ((own : Option (List ℕ)) → fields_of row.now ≢ placed_fields name.now own)
+        (λ own. fields_of row.now ≡ placed_fields name.now (option_map (λ name. name.now) own)) }
 {
-    if is_triple(row, b"M", name, field(row, 2)) {
-        return Some(Some(field(row, 2)));
+    let own = field(row, 2);
+    if is_triple(row, b"M", name, own) {
+        return Some(Some(own));
     }
-    if row.len() == 2 && has(row, 0, b"U") && has(row, 1, name) {
-        return Some(None);
+    if row.len() != 2 {
+        return None;
     }
-    None
+    if !has(row, 0, b"U") {
+        return None;
+    }
+    if !has(row, 1, name) {
+        return None;
+    }
+    Some(None)
 }
 
 /// The first thing that is wrong with a resident's rows after the match.
@@ -233,7 +297,9 @@ pub(crate) fn resident_fault(
     name: &[u8],
     list: &ByteRecord,
 ) -> Option<ReceiptFault>
-    ensures { IfNone result (AreResidentRows name.now (fields_of list.now) (rows_in rows.now)) }
+    ensures { MatchOption result
+        (AreResidentRows name.now (fields_of list.now) (rows_in rows.now))
+        (λ _. ¬ AreResidentRows name.now (fields_of list.now) (rows_in rows.now)) }
 {
     let Some((first, reasons)) = rows.split_first() else {
         return Some(at(place, 0, Wrong::Result));

@@ -1,8 +1,9 @@
 //! Checking a receipt.
-ghost use Rattle.std.specs.Prelude.{◌≡◌, ◌≢◌, ◌≤◌, IfErr, IfNone, IfOk, IfSome, OnOk, length, option_map};
+ghost use Rattle.std.specs.Prelude.{◌≡◌, ◌≢◌, ◌≤◌, ℕ, IfErr, IfOk, List, MatchOption, MatchResult, OnOk, length, option_map};
 ghost use Rattle.csv.specs.Records.{fields_of};
 ghost use Rattle.docket_parts.specs.Lines.{lines};
-ghost use Rattle.seal_text.specs.Receipt.{AreGoodRows, IsGoodReceipt, IsGoodResult, IsGoodResultIf, first_fields};
+ghost use Rattle.seal_text.specs.Cut.{StartsAt};
+ghost use Rattle.seal_text.specs.Receipt.{AreGoodRows, IfWrong, IsGoodReceipt, IsGoodResult, IsGoodResultIf, first_fields};
 ghost use Rattle.seal_text.specs.Records.{rows_in};
 
 use crate::leaves::Section;
@@ -22,7 +23,9 @@ fn unlike_written(
     bytes: &[u8],
     rows: &[ByteRecord],
 ) -> Result<Option<usize>, AllocError>
-    ensures { IfOk result (λ place. IfNone place (bytes.now ≡ lines (rows_in rows.now))) }
+    ensures { IfOk result (λ place. MatchOption place
+        (bytes.now ≡ lines (rows_in rows.now))
+        (λ _. bytes.now ≢ lines (rows_in rows.now))) }
 {
     let mut left = bytes;
     for k in 0..rows.len() {
@@ -41,9 +44,17 @@ fn unlike_written(
 
 // The member of a receipt's first row.
 fn member_of(row: &ByteRecord) -> Option<Member<'_>>
-    ensures { IfSome result (λ member. fields_of row.now ≡ first_fields member.kind member.name.now) }
+    ensures { MatchOption result
+        ((kind : Kind) (name : List ℕ) → fields_of row.now ≢ first_fields kind name)
+        (λ member. fields_of row.now ≡ first_fields member.kind member.name.now) }
 {
-    if row.len() != 4 || !has(row, 0, b"receipt") || !has(row, 1, b"1") {
+    if row.len() != 4 {
+        return None;
+    }
+    if !has(row, 0, b"receipt") {
+        return None;
+    }
+    if !has(row, 1, b"1") {
         return None;
     }
     let name = field(row, 3);
@@ -64,7 +75,8 @@ fn member_of(row: &ByteRecord) -> Option<Member<'_>>
 
 // Where the result begins in the rows after the first, or how many they are. The first two of them are of the lists.
 fn result_start(rows: &[ByteRecord]) -> usize
-    ensures { result ≤ length rows.now }
+    ensures within { result ≤ length rows.now }
+    ensures starts { StartsAt (rows_in rows.now) result }
 {
     for k in 2..rows.len() {
         if has(&rows[k], 0, b"result") {
@@ -91,7 +103,14 @@ fn good_result<'a>(
     good: &Good,
     opened: Opened,
 ) -> Result<&'a [ByteRecord], ReceiptFault>
-    ensures { IfOk result (λ _. IsGoodResult root.now good.now.member.kind good.now.member.name.now good.now.lists.quota.now (option_map (λ row. fields_of row.now) good.now.lists.list) opened.count opened.index (rows_in rows.now)) }
+    ensures { MatchResult result
+        (λ _. IsGoodResult root.now good.now.member.kind good.now.member.name.now
+        good.now.lists.quota.now (option_map (λ row. fields_of row.now) good.now.lists.list)
+        opened.count opened.index (rows_in rows.now))
+        (λ fault. IfWrong fault (¬ IsGoodResult root.now good.now.member.kind
+        good.now.member.name.now good.now.lists.quota.now
+        (option_map (λ row. fields_of row.now) good.now.lists.list)
+        opened.count opened.index (rows_in rows.now))) }
 {
     let told = read_opening(alloc, Section::Outcome, root, rows, place)?;
     if told.count != opened.count {
@@ -117,7 +136,15 @@ fn good_result_if<'a>(
     good: &Good,
     opened: Opened,
 ) -> Result<Option<&'a [ByteRecord]>, ReceiptFault>
-    ensures { IfOk result (λ _. IsGoodResultIf (option_map (λ root. root.now) root.entry) good.now.member.kind good.now.member.name.now good.now.lists.quota.now (option_map (λ row. fields_of row.now) good.now.lists.list) opened.count opened.index (rows_in rows.now)) }
+    ensures { MatchResult result
+        (λ _. IsGoodResultIf (option_map (λ root. root.now) root.entry)
+        good.now.member.kind good.now.member.name.now good.now.lists.quota.now
+        (option_map (λ row. fields_of row.now) good.now.lists.list)
+        opened.count opened.index (rows_in rows.now))
+        (λ fault. IfWrong fault (¬ IsGoodResultIf (option_map (λ root. root.now) root.entry)
+        good.now.member.kind good.now.member.name.now good.now.lists.quota.now
+        (option_map (λ row. fields_of row.now) good.now.lists.list)
+        opened.count opened.index (rows_in rows.now))) }
 {
     let Some(root) = root else {
         if rows.is_empty() {
@@ -136,7 +163,11 @@ fn good_receipt<'a>(
     lists_root: &[u8; 32],
     result_root: Option<&[u8; 32]>,
 ) -> Result<Good<'a>, ReceiptFault>
-    ensures { IfOk result (λ _. AreGoodRows lists_root.now (option_map (λ root. root.now) result_root.entry) (rows_in rows.now)) }
+    ensures { MatchResult result
+        (λ _. AreGoodRows lists_root.now (option_map (λ root. root.now) result_root.entry)
+        (rows_in rows.now))
+        (λ fault. IfWrong fault (¬ AreGoodRows lists_root.now
+        (option_map (λ root. root.now) result_root.entry) (rows_in rows.now))) }
 {
     let Some((first, rest)) = rows.split_first() else {
         return Err(at(0, 0, Wrong::Header));
@@ -169,7 +200,10 @@ fn words_of(
     lists_root: &[u8; 32],
     result_root: Option<&[u8; 32]>,
 ) -> Result<Vec<u8>, ReceiptFault>
-    ensures { OnOk result (IsGoodReceipt lists_root.now (option_map (λ root. root.now) result_root.entry) bytes.now) }
+    ensures good { OnOk result (IsGoodReceipt lists_root.now
+        (option_map (λ root. root.now) result_root.entry) bytes.now) }
+    ensures refused { IfErr result (λ fault. IfWrong fault (¬ IsGoodReceipt lists_root.now
+        (option_map (λ root. root.now) result_root.entry) bytes.now)) }
 {
     let rows = read_rows(alloc, bytes)?;
     if let Some(place) = unlike_written(alloc, bytes, rows.as_slice())? {
@@ -193,8 +227,12 @@ pub fn serve_receipt<W: Write>(
     result_root: Option<&[u8; 32]>,
     writer: &mut W,
 ) -> Result<(), ReceiptFault>
-    ensures good { OnOk result (IsGoodReceipt lists_root.now (option_map (λ root. root.now) result_root.entry) receipt.now) }
-    ensures unwritten { IfErr result (λ fault. fault ≢ ReceiptFault.Write → writer.new ≡ writer.old) }
+    ensures good { OnOk result (IsGoodReceipt lists_root.now
+        (option_map (λ root. root.now) result_root.entry) receipt.now) }
+    ensures refused { IfErr result (λ fault. IfWrong fault (¬ IsGoodReceipt lists_root.now
+        (option_map (λ root. root.now) result_root.entry) receipt.now)) }
+    ensures unwritten { IfErr result (λ fault.
+        fault ≢ ReceiptFault.Write → writer.new ≡ writer.old) }
 {
     let text = words_of(alloc, receipt, lists_root, result_root)?;
     match writer.write_all(text.as_slice()) {

@@ -1,6 +1,5 @@
 //! The records of files, as they were written.
-ghost use Rattle.std.specs.Prelude.{◌≡◌, ℕ, List, [], ◌∷◌, IfOk, MatchOption, OnOk, Some, bytes_eq, find, map, option_map, slice_get, true, false};
-ghost use Rattle.std.specs.Bool.{OnTrue};
+ghost use Rattle.std.specs.Prelude.{◌≡◌, ◌≢◌, ℕ, List, [], ◌∷◌, IfOk, MatchBool, MatchOption, OnOk, Some, bytes_eq, find, map, option_map, slice_get, true, false};
 ghost use Rattle.csv.specs.Records.{fields_of};
 ghost use Rattle.docket.specs.Fields.{field as field_in};
 ghost use Rattle.docket_parts.specs.Parts.{rows_of};
@@ -40,12 +39,23 @@ pub(crate) fn has(row: &ByteRecord, i: usize, text: &[u8]) -> bool
 
 /// Whether the record has just these three fields.
 pub(crate) fn is_triple(row: &ByteRecord, first: &[u8], second: &[u8], third: &[u8]) -> bool
-    ensures { OnTrue result (fields_of row.now ≡ first.now ∷ second.now ∷ third.now ∷ []) }
+    ensures { MatchBool result
+        (fields_of row.now ≡ first.now ∷ second.now ∷ third.now ∷ [])
+        (fields_of row.now ≢ first.now ∷ second.now ∷ third.now ∷ []) }
 {
-    if row.len() == 3 && has(row, 0, first) && has(row, 1, second) && has(row, 2, third) {
-        return true;
+    if row.len() != 3 {
+        return false;
     }
-    false
+    if !has(row, 0, first) {
+        return false;
+    }
+    if !has(row, 1, second) {
+        return false;
+    }
+    if !has(row, 2, third) {
+        return false;
+    }
+    true
 }
 
 // Reads the next record, and says whether there was one. A reader of bytes in memory fails for want of memory alone.
