@@ -1,7 +1,7 @@
 -- Which file a fault of the joined records is in, and at which of the file's records.
 use Rattle.std.specs.Prelude.{ℕ, Option, Some, None}
 use Rattle.docket.specs.declared.fault.DocketFault.{DocketFault}
-use Rattle.docket.specs.declared.fault.DocketFault.TheVariants.{Read, TooManyRecords, UnknownKind, FieldCount, BadName, BadQuota, DeclaredTwice, UnknownName, Model, BadEvent, BadSheet, Memory, Write, BadVersion, BadWithdrawal}
+use Rattle.docket.specs.declared.fault.DocketFault.TheVariants.{Read, TooManyRecords, TooManyListed, UnknownKind, FieldCount, BadName, BadQuota, DeclaredTwice, UnknownName, Model, BadEvent, BadSheet, Memory, Write, BadVersion, BadWithdrawal}
 use Rattle.docket_parts.specs.declared.place.FileFault.{FileFault}
 use Rattle.docket_parts.specs.Place.{file_fault}
 use Rattle.audit_files.specs.declared.fault.FilesFault.{FilesFault}

@@ -8,7 +8,7 @@ use Rattle.std.specs.List.{list_any}
 use Rattle.std.specs.Option.{option_or}
 use Rattle.docket.specs.Fields.{Fields, field, is_kind}
 use Rattle.docket.specs.Contents.{Contents, contents_of, programmes_of, residents_of, rows_of, events_of, journal_of, JournalParts, ByWorkerParts, by_worker_of, has_sheet, declares_member}
-use Rattle.docket.specs.Passes.{first_from, reading_fault, later_fault, fault_within, rows_in, sheet_fault, mark_fault, missing_fault, filled_fault, ranking_fault, pairs_fault, event_fault}
+use Rattle.docket.specs.Passes.{first_from, first_pass_fault, later_fault, fault_within, rows_in, sheet_fault, mark_fault, missing_fault, filled_fault, ranking_fault, pairs_fault, event_fault}
 use Rattle.docket.specs.Answers.{Answers, Refuses}
 use Rattle.docket.specs.Texts.{programme_name, resident_name}
 use Rattle.std.proofs.lemmas.Option.{get_or_from_slice_get}
@@ -27,6 +27,7 @@ use Rattle.match_model.specs.Written.{Written}
 use Rattle.docket.specs.declared.store.declarations.Declarations.{Declarations}
 use Rattle.docket.specs.declared.vocabulary.TheConstants.{QUOTA, PROGRAMME_LIST, RESIDENT_LIST, CAPACITY}
 use Rattle.docket.specs.declared.fault.DocketFault.{DocketFault}
+use Rattle.docket.proofs.CountFacts.{reading_sound}
 use Rattle.docket.proofs.LaterFacts.{later_kept}
 use Rattle.docket.proofs.DeclarationFacts.{refuses_first, refuses_second, no_fault}
 use Rattle.docket.proofs.RankingFacts.{lists_of-none}
@@ -84,7 +85,7 @@ ranked_start d texts rows h = record {
 }
 
 -- if reading the records gives a fault and the bytes are known, the whole call reports this fault
-pub whole_reading : (lim : Limits) (known : Option (List ℕ)) (e : DocketFault) → IsReadFault e ⊎ Explains (option_map rows_in known) (first_from (reading_fault lim) []) e
+pub whole_reading : (lim : Limits) (known : Option (List ℕ)) (e : DocketFault) → IsReadFault e ⊎ Explains (option_map rows_in known) (first_from (first_pass_fault lim) []) e
     → IsReadFault e ⊎ IfSome known (λ bytes. Refuses (fault_within lim bytes) e)
 whole_reading lim known e (inl read) = inl read
 whole_reading lim None e (inr h) = inr tt
@@ -92,21 +93,21 @@ whole_reading lim (Some bytes) e (inr h) = inr (refuses_first _ _ e h)
 
 -- if no pass has a fault, the whole call returns the docket, and its lists if they are asked for
 pub whole_read : (lim : Limits) (known : Option (List ℕ)) (keeps : Bool) (rows : List Fields) (r : Result (Contents × Option Written) DocketFault) → AreKeptOf lim (option_map rows_in known) rows
-    → first_from (reading_fault lim) [] rows ≡ None → length rows ≤ most_records lim → IfOk r (λ read. read.0 ≡ contents_of rows) → IfOk r (λ read. read.1 ≡ lists_if keeps rows)
+    → first_from (first_pass_fault lim) [] rows ≡ None → length rows ≤ most_records lim → IfOk r (λ read. read.0 ≡ contents_of rows) → IfOk r (λ read. read.1 ≡ lists_if keeps rows)
     → Answers (later_fault lim rows) r → IfOk r (λ read. IsReadAs lim known keeps read.0 read.1)
 whole_read lim known keeps rows (Err e) all sound few is lists answers = tt
 whole_read lim None keeps rows (Ok read) all sound few is lists answers =
     record { rows = rows; all = tt; faultless = no_fault _ _ sound answers; docket_is = is; lists_are = lists }
 whole_read lim (Some bytes) keeps rows (Ok read) all sound few is lists answers =
-    record { rows = rows; all = sym ((later_kept lim (rows_in bytes) rows all.0 (sound_widest lim rows sound) (few_widest lim (length rows) few)).1 answers); faultless = no_fault _ _ sound answers; docket_is = is; lists_are = lists }
+    record { rows = rows; all = sym ((later_kept lim (rows_in bytes) rows all.0 (sound_widest lim rows (reading_sound lim [] rows sound)) (few_widest lim (length rows) few)).1 answers); faultless = no_fault _ _ sound answers; docket_is = is; lists_are = lists }
 
 pub whole_later : (lim : Limits) {T : Type 0} (known : Option (List ℕ)) (rows : List Fields) (r : Result T DocketFault) → AreKeptOf lim (option_map rows_in known) rows
-    → first_from (reading_fault lim) [] rows ≡ None → length rows ≤ most_records lim → Answers (later_fault lim rows) r
+    → first_from (first_pass_fault lim) [] rows ≡ None → length rows ≤ most_records lim → Answers (later_fault lim rows) r
     → IfErr r (λ e. IsReadFault e ⊎ IfSome known (λ bytes. Refuses (fault_within lim bytes) e))
 whole_later lim known rows (Ok d) all sound few answers = tt
 whole_later lim None rows (Err e) all sound few answers = inr tt
 whole_later lim (Some bytes) rows (Err e) all sound few answers =
-    inr (refuses_second _ _ e all.1 (rw (sym (later_kept lim (rows_in bytes) rows all.0 (sound_widest lim rows sound) (few_widest lim (length rows) few)).0) answers))
+    inr (refuses_second _ _ e all.1 (rw (sym (later_kept lim (rows_in bytes) rows all.0 (sound_widest lim rows (reading_sound lim [] rows sound)) (few_widest lim (length rows) few)).0) answers))
 
 -- in a docket with a sheet, the fault of the sheet is the first fault of its three walks
 pub sheet_asked : (rows : List Fields) → has_sheet rows ≡ true

@@ -5,7 +5,7 @@ use Rattle.std.proofs.Common.{◌≡◌, ◌⊎◌, ◌≤◌, ◌<◌, ℕ, Lis
 use Rattle.std.proofs.lemmas.List.Sums.{length-filter}
 use Rattle.docket.specs.Fields.{Fields}
 use Rattle.docket.specs.Contents.{is_sheet_row}
-use Rattle.docket.specs.Passes.{first_from, reading_fault}
+use Rattle.docket.specs.Passes.{first_from, reading_fault, first_pass_fault}
 use Rattle.docket.specs.Declarations.{IsDeclared}
 use Rattle.docket.specs.Read.{IsSplit, GivesRow, AreKeptOf}
 use Rattle.docket.specs.Kept.{AreMany, IsFront, IsBlank, IsClose, AreManyMarks, AreManyNames, names_text, is_named, AreAlike, IsKeptAs, Keeps, AreCut, AreListsCut, AreKept}
@@ -174,7 +174,7 @@ kept_none kept e = record { noted = []; marked = []; journal = inl refl; sheet =
 
 -- at the end of the records the stored rows are those of all records
 pub kept_end : (lim : Limits) (all : Option (List Fields)) (done kept : List Fields) (left after : Option (List Fields)) (row : Fields) → IsSplit all done left → GivesRow left after false row
-    → AreKept done kept → first_from (reading_fault lim) [] done ≡ None → AreKeptOf lim all kept
+    → AreKept done kept → first_from (first_pass_fault lim) [] done ≡ None → AreKeptOf lim all kept
 kept_end lim None done kept left after row s g h clean = tt
 kept_end lim (Some rows) done kept left after row s g h clean =
     let same : rows ≡ done = split_end (Some rows) done left after row s g in

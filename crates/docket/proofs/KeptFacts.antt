@@ -7,10 +7,10 @@ use Rattle.std.proofs.lemmas.List.{get_or-take, get_or-drop}
 use Rattle.csv.specs.Records.{field_at}
 use Rattle.docket_names.specs.Words.{number_of}
 use Rattle.docket.specs.Fields.{Fields, field, kind_of, is_kind, is_row_of, version_kind, withdrawal_kind, width_of}
-use Rattle.docket.specs.Contents.{names_of, programmes_of, residents_of, quotas_of, is_sheet_row, is_withdrawal_of, workers_in, worker_in, word_in, who_of}
+use Rattle.docket.specs.Contents.{is_list_row, names_of, programmes_of, residents_of, quotas_of, is_sheet_row, is_withdrawal_of, workers_in, worker_in, word_in, who_of}
 use Rattle.docket.specs.Passes.{reading_fault, repeat_fault, limit_fault, is_version_2}
 use Rattle.docket.specs.Declarations.{IsDeclared, capacity_in, who_if}
-use Rattle.docket.specs.Kept.{is_list_row, IsFront, IsBlank, IsClose, names_text, AreAlike}
+use Rattle.docket.specs.Kept.{IsFront, IsBlank, IsClose, names_text, AreAlike}
 use Rattle.docket.specs.declared.store.declarations.Declarations.{Declarations}
 use Rattle.docket.specs.declared.vocabulary.TheConstants.{QUOTA, PROGRAMME_LIST, RESIDENT_LIST, MATCHED, UNMATCHED, FILLED, CAPACITY, EVENT}
 use Rattle.docket.specs.declared.vocabulary.EventWord.TheVariants.{Close}
@@ -117,7 +117,7 @@ pub blank_unmatched : kind_of (codes "U" ∷ codes "U" ∷ []) ≡ UNMATCHED
 unfolding kind_of field field_at
 blank_unmatched = refl
 
-blank_kind : (row short : Fields) → IsBlank row short → kind_of short ≡ UNMATCHED
+pub blank_kind : (row short : Fields) → IsBlank row short → kind_of short ≡ UNMATCHED
 blank_kind row short h = ap kind_of h.blank ∙ blank_unmatched
 
 pub blank_seen : IsSeen IsBlank

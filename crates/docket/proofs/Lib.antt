@@ -28,6 +28,7 @@ pub mod KeptFacts
 pub mod StandInFacts
 pub mod ListedFacts
 pub mod KeepFacts
+pub mod CountFacts
 pub mod CutFacts
 pub mod QuietFacts
 pub mod SheetCutFacts

@@ -8,10 +8,10 @@ use Rattle.std.proofs.lemmas.List.Sums.{sum_by-append}
 use Rattle.std.proofs.lemmas.List.Folds.{list_any-append}
 use Rattle.std.proofs.lemmas.Map.Keys.{IsDistinct-head, IsDistinct-tail}
 use Rattle.docket.specs.Fields.{Fields, field, kind_of, is_row_of, unless}
-use Rattle.docket.specs.Contents.{programmes_of, residents_of}
+use Rattle.docket.specs.Contents.{is_list_row, programmes_of, residents_of}
 use Rattle.docket_names.specs.Texts.{is_declared}
 use Rattle.docket.specs.Passes.{first_from, ranking_fault, unknown_fault, next_place}
-use Rattle.docket.specs.Kept.{is_list_row, is_among, lists_text, is_listed, IsFront}
+use Rattle.docket.specs.Kept.{is_among, lists_text, is_listed, IsFront}
 use Rattle.docket.specs.declared.vocabulary.TheConstants.{PROGRAMME_LIST, RESIDENT_LIST}
 use Rattle.docket.specs.declared.fault.DocketFault.TheVariants.{UnknownName}
 use Rattle.docket.proofs.DeclarationFacts.{is_declared-rows}

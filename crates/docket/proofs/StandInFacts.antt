@@ -10,11 +10,11 @@ use Rattle.csv.specs.Records.{field_at}
 use Rattle.docket.specs.Words.{worker_of}
 use Rattle.docket_names.specs.Words.{is_name}
 use Rattle.docket.specs.Fields.{Fields, field, kind_of, unless, counted, row_fault, list_row_fault, lists_names, event_row_fault, worded_row_fault, event_fields_fault, event_word, event_width, width_of, worker_at}
-use Rattle.docket.specs.Contents.{workers_in, word_in}
+use Rattle.docket.specs.Contents.{is_list_row, workers_in, word_in}
 use Rattle.docket.specs.Passes.{reading_fault, repeat_fault, limit_fault, next_place}
 use Rattle.docket.specs.RowKind.{own_fault}
 use Rattle.docket.specs.Rows.{worded_row}
-use Rattle.docket.specs.Kept.{is_list_row, IsFront, IsClose}
+use Rattle.docket.specs.Kept.{IsFront, IsClose}
 use Rattle.docket.specs.declared.vocabulary.EventWord.{EventWord}
 use Rattle.docket.specs.declared.vocabulary.EventWord.TheVariants.{Close}
 use Rattle.docket.specs.declared.vocabulary.TheConstants.{PROGRAMME_LIST, RESIDENT_LIST, EVENT}

@@ -2,15 +2,11 @@
 use Rattle.std.specs.Prelude.{◌≡◌, ◌⊎◌, ◌≤◌, ◌<◌, ◌&&◌, ◌||◌, ℕ, Bool, true, List, [], ◌∷◌, ◌++◌, length, take, drop, bytes_eq, codes, nat_lt, ⊤, count_by, slice_get, Some}
 use Rattle.std.specs.List.{IsDistinct, list_any, list_all}
 use Rattle.docket.specs.Fields.{Fields, field, kind_of, is_kind, width_of}
-use Rattle.docket.specs.Contents.{is_sheet_row, word_in}
+use Rattle.docket.specs.Contents.{is_list_row, is_sheet_row, word_in}
 use Rattle.docket.specs.Rows.{worded_row}
 use Rattle.docket.specs.declared.vocabulary.EventWord.TheVariants.{Close}
-use Rattle.docket.specs.declared.vocabulary.TheConstants.{PROGRAMME_LIST, RESIDENT_LIST, EVENT}
+use Rattle.docket.specs.declared.vocabulary.TheConstants.{EVENT}
 use Rattle.docket.specs.declared.store.rows.TheConstants.{MOST_LISTED, MOST_MEMBERS}
-
--- whether a row is a rank list: a P or an R row
-abbrev pub is_list_row : Fields → Bool
-is_list_row row = is_kind PROGRAMME_LIST row || is_kind RESIDENT_LIST row
 
 -- whether the text is one of these texts
 abbrev pub is_among : List (List ℕ) → List ℕ → Bool

@@ -1,5 +1,5 @@
 -- What a record without a fault of its own says.
-use Rattle.std.specs.Prelude.{◌≡◌, true, Bool, if◌then◌else◌, Option, Some, None, Result, Ok, Err, ℕ, List, codes, bytes_eq, nat_eq}
+use Rattle.std.specs.Prelude.{◌≡◌, true, false, Bool, if◌then◌else◌, Option, Some, None, Result, Ok, Err, ℕ, List, codes, bytes_eq, nat_eq}
 use Rattle.std.specs.Option.{option_or}
 use Rattle.docket.specs.Words.{capacity_of, workers_of}
 use Rattle.docket_names.specs.Words.{is_name, number_of}
@@ -27,6 +27,19 @@ kept_of (Capacity room workers) = kept.Capacity
 kept_of (Event word worker) = kept.Event word
 kept_of Version = kept.Version
 kept_of (Withdrawal side) = kept.Withdrawal side
+
+-- whether the kind is a rank list's
+abbrev pub is_list : RowKind → Bool
+is_list (Programme quota) = false
+is_list ProgrammeList = true
+is_list Resident = true
+is_list Matched = false
+is_list Unmatched = false
+is_list Filled = false
+is_list (Capacity room workers) = false
+is_list (Event word worker) = false
+is_list Version = false
+is_list (Withdrawal side) = false
 
 -- the side that a text stands for
 unfoldable pub side_of : List ℕ → Option Side

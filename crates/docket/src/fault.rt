@@ -2,7 +2,7 @@
 ghost use Rattle.std.specs.Prelude.{◌≡◌};
 ghost use Rattle.docket.specs.declared.fault.DocketFault.TheVariants.{Memory, Write};
 
-use crate::vocabulary::most_records;
+use crate::vocabulary::{most_listed, most_records};
 use match_model::{Limits, ModelFault};
 use row_writer::WriteFailed;
 use std::alloc::{AllocError, AllocFailed};
@@ -16,6 +16,8 @@ pub enum DocketFault {
     Read { place: u32 },
     /// The docket has more records than the limits allow.
     TooManyRecords { place: u32 },
+    /// The rank lists have more names than the limits allow, from this list on.
+    TooManyListed { place: u32 },
     /// The first field is no known kind of row.
     UnknownKind { place: u32 },
     /// The number of fields in the row is wrong for a row of its kind.
@@ -59,6 +61,7 @@ impl DocketFault {
         match *self {
             DocketFault::Read { place }
             | DocketFault::TooManyRecords { place }
+            | DocketFault::TooManyListed { place }
             | DocketFault::UnknownKind { place }
             | DocketFault::FieldCount { place }
             | DocketFault::BadName { place }
@@ -81,6 +84,10 @@ impl DocketFault {
             DocketFault::TooManyRecords { .. } => {
                 return write!(f, "more than {} records", most_records(limits));
             }
+            DocketFault::TooManyListed { .. } => match most_listed(limits) {
+                Some(most) => return write!(f, "more than {most} listed names"),
+                None => "too many listed names",
+            },
             DocketFault::UnknownKind { .. } => "unknown kind of row",
             DocketFault::FieldCount { .. } => "wrong number of fields",
             DocketFault::BadName { .. } => "bad name",

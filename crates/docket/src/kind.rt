@@ -80,7 +80,14 @@ pub(crate) enum RowKind {
 }
 
 impl RowKind {
-    ghost use Rattle.docket.specs.RowKind.{kept_of};
+    ghost use Rattle.docket.specs.RowKind.{kept_of, is_list as is_list_kind};
+
+    /// Whether the record is a rank list.
+    pub(crate) fn is_list(self) -> bool
+        ensures { result ≡ is_list_kind self }
+    {
+        matches!(self, RowKind::ProgrammeList | RowKind::Resident)
+    }
 
     /// The kind that is stored with the row.
     #[inline(always)]

@@ -12,6 +12,7 @@
 mod docket;
 mod fault;
 mod kind;
+mod listed;
 mod passes;
 mod read;
 mod retrying;
@@ -27,7 +28,7 @@ pub use read::{
     read_docket, read_docket_with_lists, read_docket_with_lists_within, read_docket_within,
 };
 pub use row_writer::{RowWriter, WriteFailed};
-pub use vocabulary::{capacity_of, law_constants, most_records};
+pub use vocabulary::{capacity_of, law_constants, most_listed, most_records};
 pub use write::journal::{push_journal, write_journal};
 pub use write::room_for_rows;
 pub use write::sheet::{push_programme, push_sheet, write_sheet};

@@ -1,7 +1,7 @@
 -- Where a fault of the joined records is: in which file, and at which of that file's records.
 use Rattle.std.specs.Prelude.{ℕ, ◌-◌, nat_le, Bool, true, false, if◌then◌else◌, Option, Some, None, option_map}
 use Rattle.docket.specs.declared.fault.DocketFault.{DocketFault}
-use Rattle.docket.specs.declared.fault.DocketFault.TheVariants.{Read, TooManyRecords, UnknownKind, FieldCount, BadName, BadQuota, DeclaredTwice, UnknownName, Model, BadEvent, BadSheet, Memory, Write, BadVersion, BadWithdrawal}
+use Rattle.docket.specs.declared.fault.DocketFault.TheVariants.{Read, TooManyRecords, TooManyListed, UnknownKind, FieldCount, BadName, BadQuota, DeclaredTwice, UnknownName, Model, BadEvent, BadSheet, Memory, Write, BadVersion, BadWithdrawal}
 use Rattle.docket_parts.specs.declared.part.Part.{Part}
 use Rattle.docket_parts.specs.declared.part.Part.TheVariants as part
 use Rattle.docket_parts.specs.declared.place.FileFault.{FileFault}
@@ -11,6 +11,7 @@ use Rattle.docket_parts.specs.Parts.{is_part}
 abbrev pub place_of : DocketFault → Option ℕ
 place_of (Read place) = Some place
 place_of (TooManyRecords place) = Some place
+place_of (TooManyListed place) = Some place
 place_of (UnknownKind place) = Some place
 place_of (FieldCount place) = Some place
 place_of (BadName place) = Some place
@@ -29,6 +30,7 @@ place_of (BadWithdrawal place) = Some place
 abbrev pub at_place : DocketFault → ℕ → DocketFault
 at_place (Read other) place = Read place
 at_place (TooManyRecords other) place = TooManyRecords place
+at_place (TooManyListed other) place = TooManyListed place
 at_place (UnknownKind other) place = UnknownKind place
 at_place (FieldCount other) place = FieldCount place
 at_place (BadName other) place = BadName place

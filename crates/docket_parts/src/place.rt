@@ -22,6 +22,7 @@ fn place_of(fault: DocketFault) -> Option<u32>
     match fault {
         DocketFault::Read { place }
         | DocketFault::TooManyRecords { place }
+        | DocketFault::TooManyListed { place }
         | DocketFault::UnknownKind { place }
         | DocketFault::FieldCount { place }
         | DocketFault::BadName { place }
@@ -44,6 +45,7 @@ fn at_place(fault: DocketFault, place: u32) -> DocketFault
     match fault {
         DocketFault::Read { .. } => DocketFault::Read { place },
         DocketFault::TooManyRecords { .. } => DocketFault::TooManyRecords { place },
+        DocketFault::TooManyListed { .. } => DocketFault::TooManyListed { place },
         DocketFault::UnknownKind { .. } => DocketFault::UnknownKind { place },
         DocketFault::FieldCount { .. } => DocketFault::FieldCount { place },
         DocketFault::BadName { .. } => DocketFault::BadName { place },

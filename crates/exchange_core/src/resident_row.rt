@@ -223,6 +223,7 @@ fn note_of_offer(programme: ProgrammeNo, rank: u32) -> u32
     requires { programme < MAX_PROGRAMMES }
     ensures programme { programme_of result ≡ programme }
     ensures rank { rank_of result ≡ rank % RANKS }
+    ensures whole { rank < MAX_PROGRAMMES → rank_of result ≡ rank }
 {
     programme.0 * RANKS + rank % RANKS
 }

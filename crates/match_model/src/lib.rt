@@ -29,7 +29,7 @@ pub use fault::{FaultWithin, ModelFault};
 pub use instance::Instance;
 pub use limits::{
     Limits, MAX_PAIRS, MAX_PROGRAMMES, MAX_QUOTA, MAX_RESIDENTS, NATIONAL_PROGRAMMES,
-    NATIONAL_RESIDENTS, law_limits,
+    NATIONAL_RESIDENTS, law_limits, law_national_limits, law_standard_limits,
 };
 pub use member::{ProgrammeNo, ResidentNo};
 pub use withdrawals::law_withdrawals;

@@ -1,6 +1,7 @@
 //! The limits of an instance.
 ghost use Rattle.std.specs.Prelude.{◌≡◌, ◌≤◌};
 ghost use Rattle.match_model.specs.Limits.{most_programmes, most_residents, most_pairs};
+ghost use Rattle.match_model.specs.declared.limits.Limits.TheVariants.{Standard, National};
 
 /// The largest number of programmes that any instance may have.
 pub const MAX_PROGRAMMES: usize = 65_536;
@@ -69,5 +70,21 @@ pub fn law_limits()
     ensures programmes { MAX_PROGRAMMES ≡ 65536 }
     ensures residents { MAX_RESIDENTS ≡ 1000000 }
     ensures pairs { MAX_PAIRS ≡ 20000000 }
+    ensures quota { MAX_QUOTA ≡ 10000 }
+{}
+
+/// The numbers of the standard limits.
+pub fn law_standard_limits()
+    ensures programmes { most_programmes Standard ≡ 2000 }
+    ensures residents { most_residents Standard ≡ 20000 }
+    ensures pairs { most_pairs Standard ≡ 200000 }
+    ensures quota { MAX_QUOTA ≡ 10000 }
+{}
+
+/// The numbers of the national limits.
+pub fn law_national_limits()
+    ensures programmes { most_programmes National ≡ 10000 }
+    ensures residents { most_residents National ≡ 100000 }
+    ensures pairs { most_pairs National ≡ 2000000 }
     ensures quota { MAX_QUOTA ≡ 10000 }
 {}

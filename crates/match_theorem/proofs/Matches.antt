@@ -6,8 +6,8 @@ use Rattle.docket.specs.Passes.{docket_of}
 use Rattle.docket.specs.declared.fault.DocketFault.TheVariants as docket
 use Rattle.residency.specs.declared.fault.ServeFault.{ServeFault}
 use Rattle.residency.specs.declared.fault.ServeFault.TheVariants.{Docket, NoSheet, NoJournal, Run, Memory}
-use Rattle.residency.specs.declared.options.MatchOptions.{MatchOptions}
-use Rattle.residency.specs.declared.options.Order.TheVariants.{Match}
+use Rattle.command_line.specs.declared.options.MatchOptions.{MatchOptions}
+use Rattle.command_line.specs.declared.options.Order.TheVariants.{Match}
 use Rattle.residency.specs.declared.status.Status.{Status}
 use Rattle.residency.specs.Serving.{AreDocket, WritesMatch, wanted_text, IsAnswerTo}
 use Rattle.residency.specs.Status.{fault_status_of, exit_status_of}
@@ -44,6 +44,7 @@ fault_told (Docket (docket.Read place)) e = cc e
 fault_told (Docket docket.Memory) e = cc e
 fault_told (Docket docket.Write) e = cc e
 fault_told (Docket (docket.TooManyRecords place)) e = cc e
+fault_told (Docket (docket.TooManyListed place)) e = cc e
 fault_told (Docket (docket.UnknownKind place)) e = cc e
 fault_told (Docket (docket.FieldCount place)) e = cc e
 fault_told (Docket (docket.BadName place)) e = cc e

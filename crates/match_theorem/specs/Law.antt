@@ -1,9 +1,9 @@
 -- What a match wrote, as laws. Each law is proved as the contract of a function with a like name: `MatchLaw` as the
 -- contract of `law_match`.
 use Rattle.std.specs.Prelude.{◌≡◌, ℕ, Option, Some, List, []}
-use Rattle.residency.specs.declared.options.MatchOptions.{MatchOptions}
-use Rattle.residency.specs.declared.options.JournalForm.TheVariants.{Absent}
-use Rattle.residency.specs.declared.options.Order.TheVariants.{Match}
+use Rattle.command_line.specs.declared.options.MatchOptions.{MatchOptions}
+use Rattle.command_line.specs.declared.options.JournalForm.TheVariants.{Absent}
+use Rattle.command_line.specs.declared.options.Order.TheVariants.{Match}
 use Rattle.residency.specs.Serving.{AreDocket, WritesMatch}
 use Rattle.residency.specs.Program.{EndsServing}
 use Rattle.match_theorem.specs.Theorem.{market_of, WritesResult}

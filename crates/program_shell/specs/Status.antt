@@ -16,6 +16,7 @@ docket_status_of (docket.Read place) = 1
 docket_status_of docket.Memory = 1
 docket_status_of docket.Write = 1
 docket_status_of (docket.TooManyRecords place) = 3
+docket_status_of (docket.TooManyListed place) = 3
 docket_status_of (docket.UnknownKind place) = 3
 docket_status_of (docket.FieldCount place) = 3
 docket_status_of (docket.BadName place) = 3
