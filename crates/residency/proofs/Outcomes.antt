@@ -16,8 +16,8 @@ use Rattle.match_pool.specs.Done.{IsSettledRun, AreCounted}
 use Rattle.docket.specs.Contents.{Contents}
 use Rattle.docket.specs.Whole.{NamesMembers, IsSheetOf, IsWhole}
 use Rattle.audit_text.proofs.Audits.{programme_of_acceptable}
-use Rattle.residency.specs.declared.options.MatchOptions.{MatchOptions}
-use Rattle.residency.specs.Options.{IsWithinLimits}
+use Rattle.command_line.specs.declared.options.MatchOptions.{MatchOptions}
+use Rattle.command_line.specs.Options.{IsWithinLimits}
 use Rattle.residency.specs.Serving.{ClosedRun}
 
 -- each event of a legal list names members

@@ -1,5 +1,3 @@
-pub mod Options
-pub mod Line
 pub mod Status
 pub mod Outcome
 pub mod Told

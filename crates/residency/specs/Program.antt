@@ -4,10 +4,10 @@ use Rattle.std.specs.Prelude.{String}
 use Rattle.std.specs.Global.{Vec}
 use Rattle.program_shell.specs.Ends.{EndsRefused, IsOrderOf}
 use Rattle.residency.specs.declared.fault.ServeFault.{ServeFault}
-use Rattle.residency.specs.declared.options.Order.{Order}
+use Rattle.command_line.specs.declared.options.Order.{Order}
 use Rattle.residency.specs.declared.status.Status.{Status}
-use Rattle.residency.specs.Line.{Orders, Refuses}
-use Rattle.residency.specs.Options.{IsOrder}
+use Rattle.command_line.specs.Line.{Orders, Refuses}
+use Rattle.command_line.specs.Options.{IsOrder}
 use Rattle.match_model.specs.declared.limits.Limits.{Limits}
 use Rattle.match_model.specs.declared.limits.Limits.TheVariants.{Standard}
 use Rattle.residency.specs.Serving.{IsAnswerWithin}

@@ -4,11 +4,11 @@ use Rattle.std.specs.Io.KnownBytes.{Appends}
 use Rattle.exchange_core.specs.declared.event.Capacity.{Capacity}
 use Rattle.exchange_core.specs.declared.event.Event.{Event}
 use Rattle.match_pool.specs.Done.{IsRunFault}
-use Rattle.residency.specs.declared.options.MatchOptions.{MatchOptions}
-use Rattle.residency.specs.declared.options.JournalForm.{JournalForm}
-use Rattle.residency.specs.declared.options.JournalForm.TheVariants.{Absent, Plain, ByWorker}
-use Rattle.residency.specs.declared.options.Order.{Order}
-use Rattle.residency.specs.declared.options.Order.TheVariants.{Match, Audit, Replay}
+use Rattle.command_line.specs.declared.options.MatchOptions.{MatchOptions}
+use Rattle.command_line.specs.declared.options.JournalForm.{JournalForm}
+use Rattle.command_line.specs.declared.options.JournalForm.TheVariants.{Absent, Plain, ByWorker}
+use Rattle.command_line.specs.declared.options.Order.{Order}
+use Rattle.command_line.specs.declared.options.Order.TheVariants.{Match, Audit, Replay}
 use Rattle.docket.specs.Contents.{Contents, ByWorkerParts}
 use Rattle.docket.specs.Whole.{IsByWorker}
 use Rattle.match_model.specs.declared.limits.Limits.{Limits}
@@ -23,7 +23,7 @@ use Rattle.residency.specs.declared.fault.ServeFault.{ServeFault}
 use Rattle.residency.specs.declared.fault.ServeFault.TheVariants.{Docket, Run}
 use Rattle.residency.specs.declared.status.Status.{Status}
 use Rattle.residency.specs.declared.status.Status.TheVariants.{Closed}
-use Rattle.residency.specs.Options.{IsWithinLimits}
+use Rattle.command_line.specs.Options.{IsWithinLimits}
 use Rattle.residency.specs.Outcome.{IsOutcome}
 use Rattle.residency.specs.Told.{status_told, fault_told}
 

@@ -3,22 +3,18 @@
 //!
 //! The program is `serve_words`, called with the command line's words and the standard streams.
 //!
-//! Contracts say nothing about the texts of faults, help and version, nor about a number of workers that is written as
-//! `+1`. Tests compare these texts and this number.
+//! Contracts say nothing about the texts of faults. Tests compare these texts.
 #![tactic(auto)]
 
 mod fault;
-mod line;
-mod options;
 mod program;
 mod serve;
 mod spent;
 mod status;
 
 pub use audit_text::{write_replay, write_report};
+pub use command_line::{JournalForm, MatchOptions, Order, read_line};
 pub use fault::ServeFault;
-pub use line::read_line;
-pub use options::{JournalForm, MatchOptions, Order};
 pub use program::{serve_words, serve_words_within};
 pub use program_shell::{LineFault, line_status};
 pub use serve::{

@@ -4,10 +4,9 @@ ghost use Rattle.std.specs.Process.{exit_status as exit_status_in};
 ghost use Rattle.residency.specs.Program.{Ends, EndsWithin, EndsServingWithin};
 
 use crate::fault::ServeFault;
-use crate::line::read_line;
-use crate::options::Order;
 use crate::serve::serve_within;
 use crate::status::exit_status;
+use command_line::{Order, read_line};
 use match_model::Limits;
 use match_pool::OpenGate;
 use program_shell::{UsageFault, refuse, texts_of};

@@ -7,10 +7,10 @@ ghost use Rattle.audit_text.specs.Serving.{IsWriteFault};
 ghost use Rattle.residency.specs.Serving.{WritesMatch, wanted_match, wanted_journal, WritesReport, WritesReplay, IsMatchFault, IsAuditFault, IsReplayFault, AreDocket, AreDocketWithin, IsFaultOf, IsFaultWithin, IsBeforeWriting, IsAnswerWithin};
 
 use crate::fault::ServeFault;
-use crate::options::{JournalForm, MatchOptions, Order};
 use crate::spent::Spent;
 use crate::status::Status;
 use audit_text::{audit_docket, replay_docket};
+use command_line::{JournalForm, MatchOptions, Order};
 use docket::{
     ByWorker, Docket, DocketFault, RowWriter, WriteFailed, push_journal, push_sheet,
     read_docket_within, room_for_rows,

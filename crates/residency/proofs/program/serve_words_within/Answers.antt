@@ -1,7 +1,7 @@
 use Rattle.std.proofs.Common.{inl, inr, refl}
 use Rattle.program_shell.proofs.OfTexts.{fault_of_texts, order_of_texts}
 use Rattle.program_shell.specs.declared.fault.UsageFault.TheVariants.{Line}
-use Rattle.residency.specs.Line.{Orders, Refuses}
+use Rattle.command_line.specs.Line.{Orders, Refuses}
 use Rattle.residency.proofs.program.serve_words_within.Goals as goal
 
 pub returns-in-Ok-read_line : goal.returns-in-Ok-read_line

@@ -10,11 +10,11 @@ use Rattle.program_shell.specs.Faults.{IsErrorOf}
 use Rattle.program_shell.specs.Flags.{IsFlagged, IsUnflagged, flag_rule}
 use Rattle.program_shell.specs.declared.fault.LineFault.{LineFault}
 use Rattle.program_shell.specs.declared.fault.LineFault.TheVariants.{BadCapacity}
-use Rattle.residency.specs.declared.options.JournalForm.{JournalForm}
-use Rattle.residency.specs.declared.options.JournalForm.TheVariants.{Absent, Plain, ByWorker}
-use Rattle.residency.specs.declared.options.MatchOptions.{MatchOptions}
-use Rattle.residency.specs.declared.options.Order.{Order}
-use Rattle.residency.specs.declared.options.Order.TheVariants.{Match, Audit, Replay}
+use Rattle.command_line.specs.declared.options.JournalForm.{JournalForm}
+use Rattle.command_line.specs.declared.options.JournalForm.TheVariants.{Absent, Plain, ByWorker}
+use Rattle.command_line.specs.declared.options.MatchOptions.{MatchOptions}
+use Rattle.command_line.specs.declared.options.Order.{Order}
+use Rattle.command_line.specs.declared.options.Order.TheVariants.{Match, Audit, Replay}
 
 -- an option with a value, and the option's default
 abbrev pub valued_rule : Text → Text → Rule

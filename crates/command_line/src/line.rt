@@ -6,8 +6,8 @@ ghost use Rattle.clap.specs.Words.{HasKind, app_of, fault_of, found_of, new_app,
 ghost use Rattle.program_shell.specs.declared.fault.LineFault.TheVariants.{BadCapacity};
 ghost use Rattle.program_shell.specs.Faults.{IsErrorOf, IsLineFault};
 ghost use Rattle.program_shell.specs.Flags.{flag_rule};
-ghost use Rattle.residency.specs.Line.{GivesJournal, GivesOptions, GivesRoom, GivesWorkers, HasBadRoom, IsNamed, NamesNone, Orders, Refuses, commands_app, match_app, program_app, valued_rule, workers_rule};
-ghost use Rattle.residency.specs.Options.{IsOrder, IsWithinLimits};
+ghost use Rattle.command_line.specs.Line.{GivesJournal, GivesOptions, GivesRoom, GivesWorkers, HasBadRoom, IsNamed, NamesNone, Orders, Refuses, commands_app, match_app, program_app, valued_rule, workers_rule};
+ghost use Rattle.command_line.specs.Options.{IsOrder, IsWithinLimits};
 
 use crate::options::{JournalForm, MatchOptions, Order};
 use clap::error::ErrorKind;

@@ -25,7 +25,7 @@ pub struct MatchOptions {
 }
 
 impl Default for MatchOptions {
-    ghost use Rattle.residency.specs.Options.{IsWithinLimits};
+    ghost use Rattle.command_line.specs.Options.{IsWithinLimits};
 
     ghost is_default = { IsWithinLimits };
 

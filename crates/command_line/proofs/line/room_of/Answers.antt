@@ -4,7 +4,7 @@ use Rattle.std.proofs.lemmas.Result.{IfErr-weaker, IfOk-weaker}
 use Rattle.clap.specs.Words.{found_of, rows_of}
 use Rattle.clap.proofs.WalkLemmas.{first_value-rows}
 use Rattle.docket.specs.Words.{capacity_of}
-use Rattle.residency.proofs.line.room_of.Goals as goal
+use Rattle.command_line.proofs.line.room_of.Goals as goal
 
 some_of : {X E : Type 0} (given : Option X) (e : E) → IfOk (ok_or given e) (λ x. given ≡ Some x)
 some_of (Some x) e = refl

@@ -2,7 +2,7 @@ use Rattle.std.proofs.Common.{rules, refl, ◌≡◌, ◌∙◌, Bool, true, fal
 use Rattle.clap.specs.Words.{found_of, rows_of}
 use Rattle.clap.proofs.WalkLemmas.{one_text-rows}
 use Rattle.program_shell.specs.Flags.{IsUnflagged}
-use Rattle.residency.proofs.line.journal_of.Goals as goal
+use Rattle.command_line.proofs.line.journal_of.Goals as goal
 
 -- no test is both true and false
 no_both : {b : Bool} → b ≡ true → b ≡ false → ⊥

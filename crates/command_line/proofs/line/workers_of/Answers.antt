@@ -3,7 +3,7 @@ use Rattle.std.proofs.lemmas.Fmt.{parse-decimal}
 use Rattle.std.specs.Str.Parse.{ParsesUnsigned}
 use Rattle.clap.specs.Words.{found_of}
 use Rattle.clap.proofs.WalkLemmas.{one_text-rows}
-use Rattle.residency.proofs.line.workers_of.Goals as goal
+use Rattle.command_line.proofs.line.workers_of.Goals as goal
 
 -- the number that was parsed, or 0 if there is none
 abbrev value_of : Result ℕ (Unit {0}) → ℕ

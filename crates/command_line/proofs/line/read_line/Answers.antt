@@ -1,5 +1,5 @@
 use Rattle.std.proofs.Common.{rules, inl, inr, ◌∙◌}
-use Rattle.residency.proofs.line.read_line.Goals as goal
+use Rattle.command_line.proofs.line.read_line.Goals as goal
 
 pub returns-in-Ok-None-clause-refused : goal.returns-in-Ok-None-clause-refused
 returns-in-Ok-None-clause-refused g c =

@@ -1,9 +1,9 @@
 -- The options of a match, and the order that a command line gives.
 use Rattle.std.specs.Prelude.{◌≡◌, ◌≤◌, true}
 use Rattle.exchange_core.specs.Shown.{is_capacity}
-use Rattle.residency.specs.declared.options.MatchOptions.{MatchOptions}
-use Rattle.residency.specs.declared.options.Order.{Order}
-use Rattle.residency.specs.declared.options.Order.TheVariants.{Match, Audit, Replay}
+use Rattle.command_line.specs.declared.options.MatchOptions.{MatchOptions}
+use Rattle.command_line.specs.declared.options.Order.{Order}
+use Rattle.command_line.specs.declared.options.Order.TheVariants.{Match, Audit, Replay}
 
 -- there are 1 to 8 workers, and the capacity is full or from 1 to 1,024 places
 pub record IsWithinLimits (o : MatchOptions) : Type 0 where

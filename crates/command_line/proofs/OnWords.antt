@@ -3,7 +3,7 @@
 use Rattle.std.proofs.Common.{◌≡◌, refl, codes, List, [], ◌∷◌, Option, Some, option_map}
 use Rattle.clap.specs.Words.{Text, first_of, one_of, subcommand_of}
 use Rattle.clap.proofs.OnLiterals.{clap_on_literals}
-use Rattle.residency.specs.Line.{commands_app}
+use Rattle.command_line.specs.Line.{commands_app}
 
 -- the command that the words name, and the values of its options
 abbrev values_of : List Text → Option (Text × (Option Text × (Option Text × (Option Text × Option Text))))
