@@ -192,6 +192,22 @@ class Stops(OfficeTest):
                 self.assertTrue((self.folder / "out" / "SHA256SUMS").exists())
         self.assertIn(1, ends)
 
+    def test_a_stop_when_all_is_done(self) -> None:
+        """A stop while signals are given back to whoever had them changes nothing, and is no traceback."""
+        text = (
+            "import os, sys, signal; sys.path.insert(0, sys.argv[1]); from residency.office import command, stopping\n"
+            "real, sent = signal.signal, []\n"
+            "def late(number, handler):\n"
+            "    if handler not in (stopping.stop, signal.SIG_IGN) and not sent:\n"
+            "        sent.append(number); os.kill(os.getpid(), signal.SIGINT)\n"
+            "    return real(number, handler)\n"
+            "command.ended, signal.signal = lambda words: 3, late\n"
+            "status = command.main([]); real(signal.SIGINT, signal.default_int_handler)\n"
+            "print(status, len(sent), real(signal.SIGTERM, signal.SIG_DFL))\n"
+        )
+        done = subprocess.run([sys.executable, "-c", text, str(TOP / "python")], capture_output=True)
+        self.assertEqual((done.returncode, done.stdout, done.stderr), (0, b"3 1 0\n", b""))
+
     def test_a_stop_that_no_exception_carries_out(self) -> None:
         """A stop in the midst of giving up an object is written by Python as ignored; here it ends the command all the same."""
         text = (

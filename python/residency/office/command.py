@@ -35,8 +35,14 @@ def main(words: Optional[Sequence[str]] = None) -> int:
     for stream in (sys.stdout, sys.stderr):
         if stream is not None and hasattr(stream, "reconfigure"):
             stream.reconfigure(errors="backslashreplace")
-    with stopping.stoppable():
-        return ended(words)
+    status = 1
+    try:
+        with stopping.stoppable():
+            status = ended(words)
+    except stopping.Stopped:
+        # It came when all was done, so the status is that of what was done.
+        pass
+    return status
 
 
 def ended(words: Optional[Sequence[str]]) -> int:

@@ -39,6 +39,13 @@ def lost(trouble: Any) -> None:
     sys.__unraisablehook__(trouble)
 
 
+def give_back(hook: Any, before: List[Any]) -> None:
+    """Makes signals and what nobody can raise what they were before."""
+    sys.unraisablehook = hook
+    for number, handler in before:
+        signal.signal(number, handler)
+
+
 @contextmanager
 def stoppable() -> Iterator[None]:
     """Lets signals stop the command while it runs. Elsewhere than in a main thread no signal comes."""
@@ -54,9 +61,11 @@ def stoppable() -> Iterator[None]:
     try:
         yield
     finally:
-        sys.unraisablehook = hook
-        for number, handler in before:
-            signal.signal(number, handler)
+        try:
+            give_back(hook, before)
+        except Stopped:
+            # What it was to stop is done. After the first signal no other one stops anything.
+            give_back(hook, before)
 
 
 def remove(path: Path) -> None:
