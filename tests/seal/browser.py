@@ -2,11 +2,15 @@
 from __future__ import annotations
 
 import base64
+import contextlib
 import itertools
 import json
 import os
 import select
+import shutil
+import signal
 import subprocess
+import tempfile
 import time
 from typing import Any, Dict, List, Optional
 
@@ -16,17 +20,19 @@ SECONDS = 60.0
 class Chromium:
     """A browser with one page, which knows no network."""
 
-    def __init__(self, program: str, room: str) -> None:
+    def __init__(self, program: str) -> None:
         commands, ours = os.pipe()
         theirs, answers = os.pipe()
         self.numbers, self.left = itertools.count(1), b""
         self.to, self.of = ours, theirs
         self.events: List[Dict[str, Any]] = []
+        self.room = tempfile.mkdtemp()
         words = [program, "--headless", "--no-sandbox", "--disable-gpu", "--hide-scrollbars", "--remote-debugging-pipe",
-                 f"--user-data-dir={room}/browser", "about:blank"]
+                 f"--user-data-dir={self.room}", "about:blank"]
         # The browser takes commands at the descriptor 3 and answers at 4.
         line = f'exec "$@" 3<&{commands} 4>&{answers}'
-        self.process = subprocess.Popen(["bash", "-c", line, "bash", *words], pass_fds=(commands, answers), stderr=subprocess.DEVNULL)
+        self.process = subprocess.Popen(["bash", "-c", line, "bash", *words], pass_fds=(commands, answers), stderr=subprocess.DEVNULL,
+                                        start_new_session=True)
         os.close(commands)
         os.close(answers)
         self.session: Optional[str] = None
@@ -39,10 +45,16 @@ class Chromium:
         return self
 
     def __exit__(self, *_: object) -> None:
-        self.process.terminate()
+        """Ends the browser with all its helpers, and removes what it wrote. A helper may write for a moment after the browser ended."""
+        with contextlib.suppress(ProcessLookupError):
+            os.killpg(self.process.pid, signal.SIGKILL)
         self.process.wait(SECONDS)
         os.close(self.to)
         os.close(self.of)
+        end = time.monotonic() + SECONDS
+        while os.path.exists(self.room) and time.monotonic() < end:
+            shutil.rmtree(self.room, ignore_errors=True)
+            time.sleep(0.05)
 
     def read(self, end: float) -> Dict[str, Any]:
         """The next message."""

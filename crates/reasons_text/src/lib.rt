@@ -24,8 +24,6 @@ mod shown;
 mod side;
 mod status;
 mod table;
-#[cfg(test)]
-mod tests;
 
 pub use answering::{push_rows_on, serve_why, serve_why_within};
 pub use answers::Answers;

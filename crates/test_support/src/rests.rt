@@ -1,209 +1,175 @@
-//! Gates that keep workers waiting until no worker has entered an event for a long time, by the clock.
+//! A gate that keeps workers waiting until all is done that needs none of their desks.
 ghost use Rattle.std.specs.Prelude.{true, false};
 
 use exchange_core::Desk;
-use match_model::{ProgrammeNo, ResidentNo};
 use match_pool::{Gate, Go};
 use std::sync::Wait;
-use std::sync::atomic::{AtomicBool, AtomicU32, AtomicU64, Ordering};
+use std::sync::atomic::{AtomicBool, AtomicU64, Ordering};
 use std::time::Duration;
 
-/// The microseconds between two tests of a gate whether an event was entered.
-const PERIOD: u64 = 10_000;
+/// How often a gate looks whether the others have done what they can. The gate looks once in a millisecond.
+const LOOKS: u32 = 10_000;
 
-/// After this number of tests without a new entry, all other workers sleep. A nap takes at most a hundred milliseconds.
-const UNTIL_ASLEEP: u32 = 15;
+/// How often a gate naps, so that the other workers sleep by then. A worker that finds nothing to do naps eight times
+/// before it sleeps, and none of these naps is longer than the gate's.
+const NAPS: u32 = 50;
 
-/// After this number of tests without a new entry, the run is at rest.
-const AT_REST: u32 = 25;
+/// The length of a gate's nap, in microseconds.
+const NAP: u64 = 4_000;
 
-/// The greatest number of tests that a gate makes.
-const MOST_LOOKS: u32 = 500;
+/// How long a call of `pass` waits.
+#[derive(Clone, Copy, Debug)]
+pub enum Until {
+    /// Until so many events are entered.
+    Entered(u64),
+    /// Until so many calls for residents' desks are made, this call too.
+    Takes(u64),
+}
 
-/// What a gate saw of a run at rest: how many events were entered, and which workers the gate kept waiting.
+/// Which calls of `pass` a gate keeps waiting, and for how long. The numbers follow from the market alone: so much is done
+/// without the desks that the gate keeps.
+#[derive(Clone, Copy, Debug)]
+pub struct Holds {
+    /// After the first event its worker waits until so many events are entered.
+    pub begun: u64,
+    /// Every call for a resident's desk waits until so many events are entered.
+    pub offers: u64,
+    /// The first call for this desk waits until so many events are entered, and then until the other workers sleep.
+    pub first: (Desk, u64),
+    /// The first call for another desk waits until so many events are entered.
+    pub other: Option<(Desk, u64)>,
+    /// How many calls for residents' desks wait after the call for the first desk went on, and for how long.
+    pub next: (u64, Until),
+}
+
+/// A gate that keeps calls of `pass` waiting until the others have done what they can. If they don't, the gate gives up
+/// after a long time, and keeps no call waiting any more.
 #[derive(Drop)]
-struct Rest<R: Wait + Copy> {
+pub struct UntilDone<R: Wait + Copy> {
     rt: R,
     clock: AtomicU64,
-    counts: [AtomicU32; 4],
-    begun: AtomicU64,
-    desks: [AtomicU32; 4],
+    holds: Holds,
     entered: AtomicU64,
-    over: AtomicBool,
+    takes: AtomicU64,
+    has_begun: AtomicBool,
+    has_begun_other: AtomicBool,
+    is_armed: AtomicBool,
+    held: AtomicU64,
+    came: AtomicU64,
+    has_given_up: AtomicBool,
 }
 
-impl<R: Wait + Copy> Rest<R> {
-    fn new(rt: R) -> Rest<R> {
-        Rest {
+impl<R: Wait + Copy> UntilDone<R> {
+    /// A gate before a run.
+    pub fn new(rt: R, holds: Holds) -> UntilDone<R> {
+        UntilDone {
             rt,
             clock: AtomicU64::new(0),
-            counts: none(),
-            begun: AtomicU64::new(0),
-            desks: none(),
+            holds,
             entered: AtomicU64::new(0),
-            over: AtomicBool::new(false),
-        }
-    }
-
-    // How many events all workers have entered.
-    fn sum(&self) -> u64 {
-        let mut sum = 0_u64;
-        for count in &self.counts {
-            sum = sum.saturating_add(count.load(Ordering::SeqCst) as u64);
-        }
-        sum
-    }
-
-    // Waits until this number of tests in a row saw no new entry and no new call of `pass`, or until the rest is over.
-    // Returns how many events were entered by then.
-    fn until_quiet(&self, looks: u32) -> u64 {
-        let mut seen = (0, 0);
-        let mut quiet = 0_u32;
-        for _ in 0..MOST_LOOKS {
-            if quiet >= looks || self.over.load(Ordering::SeqCst) {
-                break;
-            }
-            self.clock
-                .park_timeout(&self.rt, 0, Duration::from_micros(PERIOD));
-            let now = (self.sum(), self.begun.load(Ordering::SeqCst));
-            quiet = if now == seen {
-                quiet.saturating_add(1)
-            } else {
-                0
-            };
-            seen = now;
-        }
-        seen.0
-    }
-
-    // Keeps the worker of this desk waiting until the run is at rest.
-    fn hold(&self, worker: usize, desk: u32) {
-        if self.over.load(Ordering::SeqCst) {
-            return;
-        }
-        if let Some(held) = self.desks.get(worker) {
-            held.store(desk, Ordering::SeqCst);
-        }
-        let entered = self.until_quiet(AT_REST);
-        if !self.over.swap(true, Ordering::SeqCst) {
-            self.entered.store(entered, Ordering::SeqCst);
-        }
-    }
-
-    fn count(&self, worker: usize) {
-        if let Some(count) = self.counts.get(worker) {
-            count.fetch_add(1, Ordering::SeqCst);
-        }
-    }
-}
-
-fn none() -> [AtomicU32; 4] {
-    [
-        AtomicU32::new(0),
-        AtomicU32::new(0),
-        AtomicU32::new(0),
-        AtomicU32::new(0),
-    ]
-}
-
-// A number for each desk, from 1.
-fn number_of(desk: Desk) -> u32 {
-    match desk {
-        Desk::Resident(ResidentNo(r)) => r.saturating_mul(2).saturating_add(1),
-        Desk::Programme(ProgrammeNo(p)) => p.saturating_mul(2).saturating_add(2),
-    }
-}
-
-// The desk whose number is noted, if there is one.
-fn desk_in(noted: &AtomicU32) -> Option<Desk> {
-    let number = noted.load(Ordering::SeqCst);
-    let half = number.saturating_sub(1) / 2;
-    match number {
-        0 => None,
-        _ if number % 2 == 1 => Some(Desk::Resident(ResidentNo(half))),
-        _ => Some(Desk::Programme(ProgrammeNo(half))),
-    }
-}
-
-/// A gate for at most four workers. The gate keeps one call of `pass` waiting, chosen by its number among the calls for
-/// one desk or for all desks. This wait lasts until each other worker has done what it can and sleeps. Later calls for
-/// other desks are kept waiting until the run is at rest, for all workers but one.
-#[derive(Drop)]
-pub struct RestsInPass<R: Wait + Copy> {
-    rest: Rest<R>,
-    of: u32,
-    place: u64,
-    passed: AtomicU64,
-    is_armed: AtomicBool,
-    most: u64,
-    held: AtomicU64,
-}
-
-impl<R: Wait + Copy> RestsInPass<R> {
-    /// A gate before a run. `place` is the number, from 1, of the last call of `pass` that isn't kept waiting, among
-    /// all calls or among the calls for one desk. If `place` is 0, all calls are kept waiting. At most `most` calls are
-    /// kept waiting.
-    pub fn new(rt: R, of: Option<Desk>, place: u64, most: u64) -> RestsInPass<R> {
-        RestsInPass {
-            rest: Rest::new(rt),
-            of: match of {
-                Some(desk) => number_of(desk),
-                None => 0,
-            },
-            place,
-            passed: AtomicU64::new(0),
-            is_armed: AtomicBool::new(place == 0),
-            most,
+            takes: AtomicU64::new(0),
+            has_begun: AtomicBool::new(false),
+            has_begun_other: AtomicBool::new(false),
+            is_armed: AtomicBool::new(false),
             held: AtomicU64::new(0),
+            came: AtomicU64::new(0),
+            has_given_up: AtomicBool::new(false),
         }
     }
 
-    /// How many events were entered when the run was at rest, if a worker was kept waiting until then.
-    pub fn entered(&self) -> Option<u64> {
-        let is_over = self.rest.over.load(Ordering::SeqCst);
-        is_over.then_some(self.rest.entered.load(Ordering::SeqCst))
+    /// Whether each call that was to wait has waited, and the others have done what they can meanwhile.
+    pub fn has_held_all(&self) -> bool {
+        let others = self.holds.other.is_some() as u64;
+        self.is_armed.load(Ordering::SeqCst)
+            && self.came.load(Ordering::SeqCst) == self.holds.next.0.saturating_add(others)
+            && !self.has_given_up.load(Ordering::SeqCst)
     }
 
-    /// For each worker that was kept waiting, the desk of its call.
-    pub fn held(&self) -> [Option<Desk>; 4] {
-        let [a, b, c, d] = &self.rest.desks;
-        [desk_in(a), desk_in(b), desk_in(c), desk_in(d)]
+    fn nap(&self, micros: u64) {
+        self.clock
+            .park_timeout(&self.rt, 0, Duration::from_micros(micros));
     }
 
-    // Whether this is the call of `pass` after which calls are kept waiting.
-    fn is_last_free(&self, desk: u32) -> bool {
-        (self.of == 0 || self.of == desk)
-            && self.passed.fetch_add(1, Ordering::SeqCst).saturating_add(1) == self.place
+    fn is_done(&self, until: Until) -> bool {
+        match until {
+            Until::Entered(events) => self.entered.load(Ordering::SeqCst) >= events,
+            Until::Takes(calls) => self.takes.load(Ordering::SeqCst) >= calls,
+        }
     }
 
-    // Whether this call is kept waiting, because it comes after the call with the number `place`.
-    fn is_held(&self, desk: u32) -> bool {
-        self.of != desk && self.held.fetch_add(1, Ordering::SeqCst) < self.most
+    // Waits until so much is done. Returns whether it is.
+    fn wait(&self, until: Until) -> bool {
+        for _ in 0..LOOKS {
+            if self.is_done(until) {
+                return true;
+            }
+            if self.has_given_up.load(Ordering::SeqCst) {
+                return false;
+            }
+            self.nap(1_000);
+        }
+        self.has_given_up.store(true, Ordering::SeqCst);
+        false
+    }
+
+    // Keeps the first call for the first desk waiting.
+    fn settle(&self, events: u64) {
+        if self.wait(Until::Entered(events)) {
+            for _ in 0..NAPS {
+                self.nap(NAP);
+            }
+            self.is_armed.store(true, Ordering::SeqCst);
+        }
+    }
+
+    // Keeps another call waiting.
+    fn hold(&self, until: Until) {
+        if self.wait(until) {
+            self.came.fetch_add(1, Ordering::SeqCst);
+        }
+    }
+
+    // Whether this is the first call for the other desk, and until how many events are entered it waits.
+    fn as_other(&self, desk: Desk) -> Option<u64> {
+        let (other, events) = self.holds.other?;
+        let is_first = desk == other && !self.has_begun_other.swap(true, Ordering::SeqCst);
+        is_first.then_some(events)
+    }
+
+    // Whether this call for a resident's desk is one of the next ones that wait.
+    fn is_next(&self) -> bool {
+        self.is_armed.load(Ordering::SeqCst)
+            && self.held.fetch_add(1, Ordering::SeqCst) < self.holds.next.0
     }
 }
 
-impl<R: Wait + Copy + Sync> Gate for RestsInPass<R> {
+impl<R: Wait + Copy + Sync> Gate for UntilDone<R> {
     ghost MAY_STOP = { false };
 
     const MAY_STOP: bool = false;
 
     const ENTERED_MAY_HOLD: bool = false;
 
-    fn pass(&self, worker: usize, desk: Desk) -> Go {
-        self.rest.begun.fetch_add(1, Ordering::SeqCst);
-        let desk = number_of(desk);
-        if self.is_armed.load(Ordering::SeqCst) {
-            if self.is_held(desk) {
-                self.rest.hold(worker, desk);
-            }
-        } else if self.is_last_free(desk) {
-            self.rest.until_quiet(UNTIL_ASLEEP);
-            self.is_armed.store(true, Ordering::SeqCst);
+    fn pass(&self, _worker: usize, desk: Desk) -> Go {
+        let is_take = matches!(&desk, Desk::Resident(_));
+        if is_take {
+            self.takes.fetch_add(1, Ordering::SeqCst);
+            self.wait(Until::Entered(self.holds.offers));
+        }
+        let (first, events) = self.holds.first;
+        if desk == first && !self.has_begun.swap(true, Ordering::SeqCst) {
+            self.settle(events);
+        } else if let Some(events) = self.as_other(desk) {
+            self.hold(Until::Entered(events));
+        } else if is_take && self.is_next() {
+            self.hold(self.holds.next.1);
         }
         Go::On
     }
 
-    fn entered(&self, worker: usize) {
-        self.rest.count(worker);
+    fn entered(&self, _worker: usize) {
+        if self.entered.fetch_add(1, Ordering::SeqCst) == 0 {
+            self.wait(Until::Entered(self.holds.begun));
+        }
     }
 }

@@ -1,11 +1,51 @@
 //! Runs by one worker, and in which order the worker visits the desks.
 use super::runs::ran;
-use crate::instances::Members;
+use crate::instances::{Members, TWO_PLACES};
 use exchange_core::{Capacity, Event};
 use match_model::{ProgrammeNo, ResidentNo};
 use match_pool::OpenGate;
 use std::test::Fail;
-use test_support::events::{A, B, HOLD, RELEASE, X, Y, Z, answer, offer, take};
+use test_support::events::{A, B, HOLD, RELEASE, X, Y, Z, answer, hear, offer, take};
+
+// The journal of a run by one worker over `TWO_PLACES`, through full mailboxes. The worker visits residents before
+// programmes, and first of all the resident that was woken last. Programmes that are woken for a hold alone come last.
+fn journal_by_one() -> [Event; 19] {
+    [
+        offer(A, X),
+        offer(A, Y),
+        take(Y, A),
+        answer(Y, A, HOLD),
+        take(X, A),
+        answer(X, A, HOLD),
+        offer(B, X),
+        take(X, B),
+        answer(X, B, HOLD),
+        answer(X, A, RELEASE),
+        hear(B, X, HOLD),
+        hear(A, Y, HOLD),
+        hear(A, X, HOLD),
+        hear(A, X, RELEASE),
+        offer(A, Z),
+        take(Z, A),
+        answer(Z, A, HOLD),
+        hear(A, Z, HOLD),
+        Event::Close,
+    ]
+}
+
+// Whether this is the journal of a run by one worker over `TWO_PLACES`.
+pub(super) fn is_by_one(journal: &[Event]) -> bool {
+    journal == &journal_by_one()[..]
+}
+
+#[test]
+fn one_worker_is_repeated_to_the_event(rt: HostRuntime) -> Result<(), Fail> {
+    for _ in 0..10 {
+        let told = ran(rt, rt.alloc(), TWO_PLACES, Capacity::Full, 1, &OpenGate)?;
+        assert!(rt; is_by_one(told.journal.as_slice()));
+    }
+    Ok(())
+}
 
 // Two pairs. Each pair is a programme with one place and a resident.
 const TWO_PAIRS: Members = (&[(1, &[0]), (1, &[1])], &[&[0], &[1]]);

@@ -1,12 +1,11 @@
-//! Runs in which all workers but one are kept waiting until no further event is entered. Then each event that may still
-//! follow belongs to a waiting worker's desk.
+//! Runs in which some workers are kept waiting until the others have done all that needs none of their desks. What that is
+//! follows from the market.
 ghost use Rattle.std.specs.Prelude.{true, false};
 
-use super::runs::ran_on;
-use crate::exchange::run::Run;
-use crate::instances::{Members, TWO_PLACES, made};
+use super::runs::{ran, ran_on};
+use crate::instances::Members;
 use crate::markets::made_pairs;
-use exchange_core::{Capacity, Desk, Event};
+use exchange_core::{Capacity, Desk};
 use match_model::{Instance, InstanceBuilder, ModelFault, ProgrammeNo, ResidentNo};
 use match_pool::{Ending, Gate, Go};
 use std::alloc::Global;
@@ -15,126 +14,90 @@ use std::sync::atomic::{AtomicBool, AtomicU32, AtomicU64, Ordering};
 use std::test::Fail;
 use std::thread::Threads;
 use std::time::Duration;
-use test_support::events::{DECLINE, HOLD, RELEASE, answer, desk_of, hear, offer, take};
-use test_support::rests::RestsInPass;
+use test_support::events::{A, X, Y};
+use test_support::rests::{Holds, Until, UntilDone};
 
-// Two programmes with three and two places, and five residents who prefer the second programme.
-const FIVE: Members = (
-    &[(3, &[0, 1, 2, 3, 4]), (2, &[0, 1, 2])],
-    &[&[1, 0], &[1, 0], &[0, 1], &[0], &[0]],
+const NONE: (u64, Until) = (0, Until::Entered(0));
+
+const FIRST: Desk = Desk::Resident(X);
+
+// Four programmes with one resident.
+const ALL_FOR_ONE: Members = (
+    &[(1, &[0]), (1, &[0]), (1, &[0]), (1, &[0])],
+    &[&[0, 1, 2, 3]],
 );
 
-// A programme with three places that loses its first three residents to a second programme. If the first programme
-// hears of all three in one visit, it then makes three offers in a row.
-const THREE_LOST: Members = (
-    &[(3, &[0, 1, 2, 3, 4, 5]), (3, &[0, 1, 2])],
-    &[&[1, 0], &[1, 0], &[1, 0], &[0], &[0], &[0]],
+// The worker at the resident's desk waits at its first take until all four offers are entered and the others sleep. The
+// worker then answers this offer, and waits at its second take until the answer is heard.
+const AT_THE_SECOND_TAKE: Holds = Holds {
+    begun: 0,
+    offers: 0,
+    first: (FIRST, 4),
+    other: None,
+    next: (1, Until::Entered(7)),
+};
+
+// A pair, and four programmes with a second resident.
+const PROGRAMMES_WAIT: Members = (
+    &[(1, &[0]), (1, &[1]), (1, &[1]), (1, &[1]), (1, &[1])],
+    &[&[0], &[1, 2, 3, 4]],
 );
 
-// How often a test is repeated that may miss what it looks for.
-const TRIES: u32 = 4;
+// The first take of the second resident waits until the other three programmes wait for room in its mailbox. The take of
+// the first resident waits until the pair's offer and all events of the others are entered, at least sixteen.
+const BESIDE_PROGRAMMES: Holds = Holds {
+    begun: 0,
+    offers: 0,
+    first: (Desk::Resident(Y), 2),
+    other: Some((FIRST, 17)),
+    next: NONE,
+};
 
-// The events of one programme and one resident.
-fn events_of(programme: ProgrammeNo, resident: ResidentNo) -> [Event; 8] {
-    [
-        offer(programme, resident),
-        take(resident, programme),
-        answer(resident, programme, HOLD),
-        answer(resident, programme, DECLINE),
-        answer(resident, programme, RELEASE),
-        hear(programme, resident, HOLD),
-        hear(programme, resident, DECLINE),
-        hear(programme, resident, RELEASE),
-    ]
-}
+// A pair, and a programme with a place for each of its four residents.
+const RESIDENTS_WAIT: Members = (
+    &[(1, &[0]), (4, &[1, 2, 3, 4])],
+    &[&[0], &[1], &[1], &[1], &[1]],
+);
 
-// Whether this desk's worker is kept waiting.
-fn is_among(held: &[Option<Desk>], desk: Option<Desk>) -> bool {
-    for other in held {
-        if *other == desk {
-            return true;
-        }
-    }
-    false
-}
+// The take of the first resident waits until the pair's offer and all sixteen events of the others are entered. Three of
+// these residents wait for room in their programme's mailbox.
+const BESIDE_RESIDENTS: Holds = Holds {
+    begun: 0,
+    offers: 5,
+    first: (FIRST, 17),
+    other: None,
+    next: NONE,
+};
 
-// Some event that may follow these events, at a desk whose worker isn't kept waiting.
-fn left_undone(
-    alloc: Global,
-    inst: Instance,
-    cap: Capacity,
-    events: &[Event],
-    held: &[Option<Desk>],
-) -> Result<Option<Event>, Fail> {
-    let (programmes, residents) = (inst.programmes(), inst.residents());
-    let Ok(mut run) = Run::new(alloc, inst, cap) else {
-        return Err(Fail::from("no core"));
-    };
-    for event in events {
-        if run.step(*event).is_err() {
-            return Err(Fail::from("a journal that isn't legal"));
-        }
-    }
-    for p in 0..programmes {
-        for r in 0..residents {
-            for event in events_of(ProgrammeNo(p), ResidentNo(r)) {
-                if !is_among(held, desk_of(&event)) && run.may(event).is_ok() {
-                    return Ok(Some(event));
-                }
-            }
-        }
-    }
-    Ok(None)
-}
+const AT_TAKES: [(Members, Capacity, Holds, &[usize]); 3] = [
+    (ALL_FOR_ONE, Capacity::Full, AT_THE_SECOND_TAKE, &[2, 3]),
+    (PROGRAMMES_WAIT, Capacity::Each(1), BESIDE_PROGRAMMES, &[3]),
+    (RESIDENTS_WAIT, Capacity::Each(1), BESIDE_RESIDENTS, &[2, 3]),
+];
 
-// Some event that a run leaves undone at a desk that no worker has, while all workers but one are kept waiting after
-// one call of `pass`. The call is chosen among the calls for one desk or for all desks. Also whether a worker was kept
-// waiting until the run was at rest.
-fn rests_in_pass<R: Threads + Wait + Sync + Send + Copy>(
+// Whether a run closed, and all its events that need no desk of a waiting worker were entered meanwhile.
+fn leaves_no_work<R: Threads + Wait + Sync + Send + Copy>(
     rt: R,
     alloc: Global,
-    inst: Instance,
-    form: (Capacity, usize),
-    of: Option<Desk>,
-    place: u64,
-) -> Result<(Option<Event>, bool), Fail> {
-    let (cap, workers) = form;
-    let gate = RestsInPass::new(rt, of, place, (workers as u64).saturating_sub(1));
-    let Ok(told) = ran_on(rt, alloc, &inst, cap, workers, &gate) else {
-        return Err(Fail::from("a fault of the run"));
-    };
-    let Some(entered) = gate.entered() else {
-        return Ok((None, false));
-    };
-    let events = told.journal.get(..entered as usize).unwrap_or(&[]);
-    let left = left_undone(alloc, inst, cap, events, &gate.held())?;
-    Ok((left, true))
+    form: (Members, Capacity, usize),
+    holds: Holds,
+) -> bool {
+    let (members, cap, workers) = form;
+    let gate = UntilDone::new(rt, holds);
+    let told = ran(rt, alloc, members, cap, workers, &gate);
+    gate.has_held_all() && told.is_ok_and(|told| told.ending == Ending::Closed)
 }
 
 #[test]
-fn no_work_is_left_while_workers_are_held_in_passes(rt: HostRuntime) -> Result<(), Fail> {
-    for members in [TWO_PLACES, FIVE] {
-        for cap in [Capacity::Full, Capacity::Each(1)] {
-            for workers in [2, 3] {
-                for place in 0..=4 {
-                    let inst = made(rt.alloc(), members)?;
-                    let (left, is_held) = rests_in_pass(
-                        rt,
-                        rt.alloc(),
-                        inst,
-                        (cap, workers),
-                        None,
-                        place,
-                    )?;
-                    assert!(rt;
-                        left.is_none() && (is_held || place > 0),
-                        "pass {place}, {cap:?}, {workers} workers: {left:?}"
-                    );
-                }
-            }
+fn no_work_is_left_while_workers_are_held_in_passes(rt: HostRuntime) {
+    for (members, cap, holds, all) in AT_TAKES {
+        for workers in all {
+            assert!(rt;
+                leaves_no_work(rt, rt.alloc(), (members, cap, *workers), holds),
+                "{holds:?}, {workers} workers"
+            );
         }
     }
-    Ok(())
 }
 
 // The next entry that a worker makes in a market of pairs, through mailboxes that never fill.
@@ -247,19 +210,37 @@ fn no_work_is_left_while_a_worker_is_told_of_an_entry(rt: HostRuntime) -> Result
     Ok(())
 }
 
+// A programme with three places that loses its first three residents to a second programme. If the first programme
+// hears of all three in one visit, it then makes three offers in a row.
+const THREE_LOST: Members = (
+    &[(3, &[0, 1, 2, 3, 4, 5]), (3, &[0, 1, 2])],
+    &[&[1, 0], &[1, 0], &[1, 0], &[0], &[0], &[0]],
+);
+
+// How often a test is repeated, since other work of the machine may keep a worker from sleeping in time.
+const TRIES: u32 = 4;
+
+// Each programme's worker makes three offers before any take passes. The first programme's first hear waits until six takes,
+// six answers or more and the other programme's three hears are entered, and the others sleep. Then the first programme
+// makes three more offers, and all workers but one wait at takes until the third take has begun.
 #[test]
-fn each_that_sleeps_is_woken_for_what_one_visit_gave(rt: HostRuntime) -> Result<(), Fail> {
-    let first = Some(Desk::Programme(ProgrammeNo(0)));
-    for workers in [2, 3] {
+fn each_that_sleeps_is_woken_for_what_one_visit_gave(rt: HostRuntime) {
+    for (workers, most) in [(2, 1), (3, 2)] {
         for _ in 0..TRIES {
-            let inst = made(rt.alloc(), THREE_LOST)?;
-            let form = (Capacity::Full, workers);
-            // all events of the other programme are entered while the first programme's first call of `pass` lasts
-            let (left, is_held) = rests_in_pass(rt, rt.alloc(), inst, form, first, 1)?;
-            assert!(rt; left.is_none() && is_held, "{workers} workers: {left:?}");
+            let holds = Holds {
+                begun: 2,
+                offers: 6,
+                first: (Desk::Programme(A), 21),
+                other: None,
+                next: (most, Until::Takes(9)),
+            };
+            let form = (THREE_LOST, Capacity::Full, workers);
+            assert!(rt;
+                leaves_no_work(rt, rt.alloc(), form, holds),
+                "{workers} workers"
+            );
         }
     }
-    Ok(())
 }
 
 // One programme that ranks seventy residents and has a place for each of them. The programme ranks the resident with the
@@ -279,10 +260,20 @@ fn made_crowd(alloc: Global) -> Result<Instance, ModelFault> {
     builder.finish().map_err(|refused| refused.fault)
 }
 
+// No take passes before all seventy offers are made, so one visit wakes seventy desks. The take of the first resident
+// then waits until the events of all other residents are entered.
 #[test]
 fn a_visit_that_wakes_many_lists_them_all(rt: HostRuntime) -> Result<(), Fail> {
     let inst = made_crowd(rt.alloc())?;
-    let (left, is_held) = rests_in_pass(rt, rt.alloc(), inst, (Capacity::Full, 2), None, 0)?;
-    assert!(rt; left.is_none() && is_held, "{left:?}");
+    let holds = Holds {
+        begun: 0,
+        offers: 70,
+        first: (FIRST, 277),
+        other: None,
+        next: NONE,
+    };
+    let gate = UntilDone::new(rt, holds);
+    let told = ran_on(rt, rt.alloc(), &inst, Capacity::Full, 2, &gate)?;
+    assert!(rt; told.ending == Ending::Closed && gate.has_held_all());
     Ok(())
 }

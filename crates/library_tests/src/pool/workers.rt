@@ -1,14 +1,14 @@
 //! Runs of the pool by one to eight workers.
 use super::runs::{Told, ran};
 use crate::instances::{Members, TWO_PLACES, has_places};
-use exchange_core::Capacity;
+use exchange_core::{Capacity, Desk};
 use match_pool::{Ending, OpenGate};
 use std::alloc::Global;
 use std::sync::Wait;
-use std::test::Fail;
 use std::thread::Threads;
+use test_support::events::A;
 use test_support::gates::{AllButOne, Order};
-use test_support::rests::RestsInPass;
+use test_support::rests::{Holds, Until, UntilDone};
 
 // Whether each event of a run has a worker, and each worker has as many events as the run reports.
 fn is_counted(told: &Told, workers: usize) -> bool {
@@ -119,24 +119,21 @@ fn one_goes_on_while_all_others_are_held(rt: HostRuntime) {
     }
 }
 
-// The run's last receipt is kept waiting until the other worker sleeps, so that only the end of the run wakes that
-// worker.
+// The run's last receipt is kept waiting until the other three events are entered and the other worker sleeps, so that
+// only the end of the run wakes that worker.
 #[test]
 fn a_worker_that_sleeps_ends_with_the_run(rt: HostRuntime) {
-    let gate = RestsInPass::new(rt, None, 1, 1);
+    let holds = Holds {
+        begun: 0,
+        offers: 0,
+        first: (Desk::Programme(A), 3),
+        other: None,
+        next: (0, Until::Entered(0)),
+    };
+    let gate = UntilDone::new(rt, holds);
     let told = ran(rt, rt.alloc(), ONE_PAIR, Capacity::Full, 2, &gate);
     assert!(rt;
-        gate.entered() == Some(3)
+        gate.has_held_all()
             && told.is_ok_and(|told| told.ending == Ending::Closed && is_counted(&told, 2))
     );
-}
-
-#[test]
-fn one_worker_is_repeated_to_the_event(rt: HostRuntime) -> Result<(), Fail> {
-    let first = ran(rt, rt.alloc(), TWO_PLACES, Capacity::Full, 1, &OpenGate)?;
-    for _ in 1..10 {
-        let told = ran(rt, rt.alloc(), TWO_PLACES, Capacity::Full, 1, &OpenGate)?;
-        assert!(rt; told.journal == first.journal);
-    }
-    Ok(())
 }
