@@ -1,11 +1,11 @@
 -- What the rows declare after one more row is added.
 use Rattle.match_model.specs.declared.limits.Limits.{Limits}
-use Rattle.std.proofs.Common.{◌≡◌, ℕ, List, [], ◌∷◌, ◌++◌, Bool, true, false, length, sym, ◌∙◌, refl, ap, Option, Some, None, map, find, filter, is_some, inl, inr, append-nil, ◌<◌, ◌≤◌}
-use Rattle.std.specs.Prelude.{◌==◌, ◌&&◌, ◌||◌, not, if◌then◌else◌, option_map, unwrap_or, bytes_eq, codes, Ok, Err, nat_le, nat_lt, option_and_then, IfSome}
+use Rattle.std.proofs.Common.{◌≡◌, ℕ, List, [], ◌∷◌, ◌++◌, Bool, true, false, length, sym, ◌∙◌, refl, ap, Option, Some, None, map, find, filter, is_some, inl, inr, append-nil, ◌<◌}
+use Rattle.std.specs.Prelude.{◌==◌, ◌&&◌, ◌||◌, not, if◌then◌else◌, option_map, unwrap_or, bytes_eq, Ok, Err, nat_le, nat_lt, option_and_then, IfSome}
 use Rattle.std.specs.List.{list_any}
 use Rattle.std.specs.Option.{option_or}
 use Rattle.std.proofs.lemmas.List.{map-append, length-map}
-use Rattle.std.proofs.lemmas.List.Elements.{filter-append, All-nil, All-push}
+use Rattle.std.proofs.lemmas.List.Elements.{filter-append, All-nil}
 use Rattle.std.proofs.lemmas.List.Folds.{list_any-append, find-append}
 use Rattle.exchange_core.specs.declared.event.Capacity.{Capacity}
 use Rattle.exchange_core.specs.declared.event.Capacity.TheVariants.{Full}
@@ -14,27 +14,20 @@ use Rattle.match_model.specs.Limits.{most_programmes, most_residents}
 use Rattle.match_model.specs.declared.limits.TheConstants.{MAX_QUOTA}
 use Rattle.match_model.specs.declared.fault.ModelFault.{ModelFault}
 use Rattle.match_model.specs.declared.fault.ModelFault.TheVariants as model
-use Rattle.docket.specs.Words.{capacity_of, workers_of, worker_of}
+use Rattle.docket.specs.Words.{capacity_of, workers_of}
 use Rattle.docket_names.specs.Words.{number_of}
-use Rattle.docket.specs.Fields.{Fields, field, kind_of, is_kind, is_row_of, unless, version_kind, withdrawal_kind, width_of, worker_at}
-use Rattle.docket.specs.Contents.{rows_of, names_of, programmes_of, residents_of, quotas_of, is_sheet_row, workers_in, worker_in, who_of}
-use Rattle.docket_names.specs.Texts.{is_declared, AreNames, StartsWith, AreNoted}
-use Rattle.docket.specs.Passes.{repeat_fault, limit_fault, next_place, is_version_2}
+use Rattle.docket.specs.Fields.{Fields, field, kind_of, is_kind, is_row_of, unless}
+use Rattle.docket.specs.Contents.{rows_of, names_of, programmes_of, residents_of, quotas_of, workers_in, worker_in, who_of}
+use Rattle.docket_names.specs.Texts.{is_declared}
+use Rattle.docket.specs.Passes.{repeat_fault, limit_fault, next_place}
 use Rattle.docket.specs.Answers.{Refuses, at_record}
-use Rattle.docket.specs.Declarations.{IsDeclared, capacity_in, names_withdrawn, AreByWorker, who_if}
-use Rattle.docket.specs.Rows.{IsEventOf}
+use Rattle.docket.specs.Declarations.{capacity_in, AreByWorker, who_if}
 use Rattle.docket.specs.Whole.{AreWorkers}
-use Rattle.docket.specs.declared.store.declarations.Declarations.{Declarations}
-use Rattle.docket.specs.declared.vocabulary.TheConstants.{QUOTA, PROGRAMME_LIST, RESIDENT_LIST, MATCHED, UNMATCHED, FILLED, CAPACITY, EVENT}
+use Rattle.docket.specs.declared.vocabulary.TheConstants.{QUOTA, PROGRAMME_LIST, RESIDENT_LIST, CAPACITY, EVENT}
 use Rattle.docket.specs.declared.fault.DocketFault.{DocketFault}
 use Rattle.docket.specs.declared.fault.DocketFault.TheVariants.{DeclaredTwice, Model, BadEvent}
-use Rattle.docket.specs.declared.vocabulary.EventWord.{EventWord}
 use Rattle.docket_names.proofs.NameFacts.{is_declared-map}
-use Rattle.docket_names.proofs.TextFacts.{names_grown}
-use Rattle.docket_names.proofs.MemberFacts.{noted_grown}
-use Rattle.docket.proofs.WithdrawalFacts.{names_withdrawn-if, is_version_2-other}
-use Rattle.docket.proofs.RowsFacts.{event_kind_is, event_word_is}
-use Rattle.docket.proofs.WordFacts.{workers_within, worker_within}
+use Rattle.docket.proofs.WordFacts.{workers_within}
 
 -- the values of a function on the rows of one kind, after one more row
 pub images-if : {A : Type 0} (f : Fields → A) (kind : ℕ) (rows : List Fields) (row : Fields)
@@ -68,20 +61,6 @@ quotas_of-if rows row = images-if (λ r. unwrap_or (number_of (field r 2)) 0) QU
 -- the entry of a member without a list
 abbrev none : Option (List ℕ)
 none = None
-
--- the lists of all owners before any list is given, after one more owner
-nones-if : (owners : List (List ℕ)) (name : List ℕ) (b : Bool)
-    → map (λ (n : List ℕ). none) (if b then owners ++ name ∷ [] else owners)
-    ≡ (if b then map (λ (n : List ℕ). none) owners ++ none ∷ [] else map (λ (n : List ℕ). none) owners)
-nones-if owners name true = map-append (λ (n : List ℕ). none) owners (name ∷ [])
-nones-if owners name false = refl
-
--- the flags of all members before any withdrawal, after one more member
-here-if : (owners : List (List ℕ)) (name : List ℕ) (b : Bool)
-    → map (λ (n : List ℕ). false) (if b then owners ++ name ∷ [] else owners)
-    ≡ (if b then map (λ (n : List ℕ). false) owners ++ false ∷ [] else map (λ (n : List ℕ). false) owners)
-here-if owners name true = map-append (λ (n : List ℕ). false) owners (name ∷ [])
-here-if owners name false = refl
 
 -- the capacity that the rows declare, after one more row
 pub capacity_in-if : (rows : List Fields) (row : Fields)
@@ -187,22 +166,6 @@ by_opened old workers who rows row kind none free read h = record {
         let few = workers_within (field row 2) n e in
         record { some = few.0; few = few.1; numbers = rw empty (All-nil (λ w. w < n)) }
 
--- what the rows declare after one more event, in a journal by worker and in a journal without workers
-pub by_worked : (workers : Option ℕ) (who : List ℕ) (rows : List Fields) (row : Fields) (word : EventWord) (worker : ℕ) → is_some (capacity_in rows) ≡ true
-    → IsEventOf (Some word) row → worker_at (workers_in rows) word row ≡ Some worker → is_some workers ≡ true → AreByWorker workers who rows
-    → AreByWorker workers (who ++ worker ∷ []) (rows ++ row ∷ [])
-by_worked None who rows row word worker has event at some h = absurd (cc some)
-by_worked (Some n) who rows row word worker has event at some h =
-    let kind = event_kind_is row word event in
-    let read : worker_of n (field row (width_of word)) ≡ Some worker = rw (sym h.workers_are) at at in
-    let own = worker_within n (field row (width_of word)) worker read in
-    let is : worker_in row ≡ worker = rw (← event_word_is row word event, own.0) refl in
-    record {
-      workers_are = h.workers_are ∙ sym (rw (workers_in-if rows row, has) refl);
-      who_are = rw (who_of-if rows row, kind, is) (ap (λ ws. ws ++ worker ∷ []) h.who_are);
-      within = record { some = h.within.some; few = h.within.few; numbers = All-push (λ w. w < n) who worker h.within.numbers own.1 };
-    }
-
 pub by_plain : (workers : Option ℕ) (who : List ℕ) (rows : List Fields) (row : Fields) → kind_of row ≡ EVENT → is_some (capacity_in rows) ≡ true
     → is_some workers ≡ false → AreByWorker workers who rows → AreByWorker workers who (rows ++ row ∷ [])
 by_plain (Some n) who rows row kind has some h = absurd (cc some)
@@ -221,79 +184,6 @@ list_any-if p rows row = list_any-append p rows (row ∷ []) ∙ by (list_any p 
     by true false = refl
     by false true = refl
     by false false = refl
-
--- what the rows declare stays the same when texts are added
-pub declared_grown : (d : Declarations) (texts more : List (List ℕ)) (rows : List Fields) → StartsWith texts more → IsDeclared d texts rows → IsDeclared d more rows
-declared_grown d texts more rows s h = record {
-  quotas = h.quotas;
-  programme_lists = h.programme_lists;
-  resident_lists = h.resident_lists;
-  programmes = names_grown texts more d.programmes (programmes_of rows) s h.programmes;
-  residents = names_grown texts more d.residents (residents_of rows) s h.residents;
-  ranked = noted_grown texts more d.ranked (names_of PROGRAMME_LIST rows) s h.ranked;
-  capacity = h.capacity;
-  no_events = h.no_events;
-  by_worker = h.by_worker;
-  sheet_rows = h.sheet_rows;
-  version = h.version;
-  withdrawn_programmes = noted_grown texts more d.withdrawn_programmes (names_withdrawn (codes "P") rows) s h.withdrawn_programmes;
-  withdrawn_residents = noted_grown texts more d.withdrawn_residents (names_withdrawn (codes "R") rows) s h.withdrawn_residents;
-  no_programme_gone = h.no_programme_gone;
-  no_resident_gone = h.no_resident_gone;
-}
-
--- what the rows declare, after one more row of kind k
-pub declared_push : (d e : Declarations) (texts : List (List ℕ)) (rows : List Fields) (row : Fields) (k : ℕ) → kind_of row ≡ k → IsDeclared d texts rows
-    → e.builder.quotas ≡ (if k == QUOTA then d.builder.quotas ++ unwrap_or (number_of (field row 2)) 0 ∷ [] else d.builder.quotas)
-    → e.builder.programme_lists ≡ (if k == QUOTA then d.builder.programme_lists ++ None ∷ [] else d.builder.programme_lists)
-    → e.builder.resident_lists ≡ (if k == RESIDENT_LIST then d.builder.resident_lists ++ None ∷ [] else d.builder.resident_lists)
-    → AreNames texts e.programmes (if k == QUOTA then programmes_of rows ++ field row 1 ∷ [] else programmes_of rows)
-    → AreNames texts e.residents (if k == RESIDENT_LIST then residents_of rows ++ field row 1 ∷ [] else residents_of rows)
-    → AreNoted texts e.ranked (if k == PROGRAMME_LIST then names_of PROGRAMME_LIST rows ++ field row 1 ∷ [] else names_of PROGRAMME_LIST rows)
-    → e.capacity ≡ option_or d.capacity (if k == CAPACITY then Some (unwrap_or (capacity_of (field row 1)) Full) else None)
-    → ((k == EVENT) ≡ true → is_some d.capacity ≡ true)
-    → e.has_sheet_row ≡ (if (k == MATCHED) || (k == UNMATCHED) || (k == FILLED) then true else d.has_sheet_row)
-    → e.is_version_2 ≡ (if k == version_kind then is_version_2 (rows ++ row ∷ []) else d.is_version_2)
-    → AreNoted texts e.withdrawn_programmes (if k == withdrawal_kind then names_withdrawn (codes "P") (rows ++ row ∷ []) else names_withdrawn (codes "P") rows)
-    → AreNoted texts e.withdrawn_residents (if k == withdrawal_kind then names_withdrawn (codes "R") (rows ++ row ∷ []) else names_withdrawn (codes "R") rows)
-    → e.builder.programmes_withdrawn ≡ (if k == QUOTA then d.builder.programmes_withdrawn ++ false ∷ [] else d.builder.programmes_withdrawn)
-    → e.builder.residents_withdrawn ≡ (if k == RESIDENT_LIST then d.builder.residents_withdrawn ++ false ∷ [] else d.builder.residents_withdrawn)
-    → AreByWorker e.workers e.who.items (rows ++ row ∷ [])
-    → IsDeclared e texts (rows ++ row ∷ [])
-declared_push d e texts rows row k kind h q pl rl p r ra c ev sh ve wp wr pg rg bw = record {
-  quotas = rw (quotas_of-if rows row, kind, ← h.quotas) q;
-  programme_lists = rw (programmes_of-if rows row, kind, nones-if (programmes_of rows) (field row 1) (k == QUOTA), ← h.programme_lists) pl;
-  resident_lists = rw (residents_of-if rows row, kind, nones-if (residents_of rows) (field row 1) (k == RESIDENT_LIST), ← h.resident_lists) rl;
-  programmes = rw (programmes_of-if rows row, kind) p;
-  residents = rw (residents_of-if rows row, kind) r;
-  ranked = rw (names_of-if PROGRAMME_LIST rows row, kind) ra;
-  capacity = rw (capacity_in-if rows row, kind, ← h.capacity) c;
-  no_events = λ none. rw (list_any-if (is_kind EVENT) rows row, kind) (no_event (k == EVENT) d.capacity (if k == CAPACITY then Some (unwrap_or (capacity_of (field row 1)) Full) else None) ev h.no_events (sym c ∙ none));
-  by_worker = bw;
-  sheet_rows = rw (list_any-if is_sheet_row rows row, kind, ← h.sheet_rows) sh;
-  version = same_version (k == version_kind) (rw kind refl) ve;
-  withdrawn_programmes = withdrawn (codes "P") e.withdrawn_programmes (k == withdrawal_kind) (rw kind refl) wp;
-  withdrawn_residents = withdrawn (codes "R") e.withdrawn_residents (k == withdrawal_kind) (rw kind refl) wr;
-  no_programme_gone = rw (programmes_of-if rows row, kind, here-if (programmes_of rows) (field row 1) (k == QUOTA), ← h.no_programme_gone) pg;
-  no_resident_gone = rw (residents_of-if rows row, kind, here-if (residents_of rows) (field row 1) (k == RESIDENT_LIST), ← h.no_resident_gone) rg;
-}
-  where
-    same_version : (b : Bool) → is_kind version_kind row ≡ b → e.is_version_2 ≡ (if b then is_version_2 (rows ++ row ∷ []) else d.is_version_2)
-        → e.is_version_2 ≡ is_version_2 (rows ++ row ∷ [])
-    same_version true is v = v
-    same_version false is v = v ∙ h.version ∙ sym (is_version_2-other rows row is)
-
-    withdrawn : (side : List ℕ) (noted : List Bool) (b : Bool) → is_kind withdrawal_kind row ≡ b
-        → AreNoted texts noted (if b then names_withdrawn side (rows ++ row ∷ []) else names_withdrawn side rows)
-        → AreNoted texts noted (names_withdrawn side (rows ++ row ∷ []))
-    withdrawn side noted true is w = w
-    withdrawn side noted false is w = rw (names_withdrawn-if side rows row, is) w
-
-    no_event : (b : Bool) (o more : Option Capacity) → (b ≡ true → is_some o ≡ true) → (o ≡ None → list_any (is_kind EVENT) rows ≡ false)
-        → option_or o more ≡ None → (if b then true else list_any (is_kind EVENT) rows) ≡ false
-    no_event true None more has was none = absurd (cc (has refl))
-    no_event false None more has was none = was refl
-    no_event b (Some x) more has was none = absurd (cc none)
 
 -- a name is declared by rows of a kind exactly if some row of this kind has the name
 pub is_declared-rows : (kind : ℕ) (rows : List Fields) (name : List ℕ) → is_declared (names_of kind rows) name ≡ list_any (is_row_of kind name) rows
@@ -444,11 +334,6 @@ test_refused lim before row test fault e f = rw (e, f) (inr refl)
 pub test_passed : (lim : Limits) (before : List Fields) (row : Fields) (test : Bool) (fault : DocketFault) → repeat_fault before row ≡ unless test fault → test ≡ true
     → limit_fault lim before row ≡ None → option_or (repeat_fault before row) (limit_fault lim before row) ≡ None
 test_passed lim before row test fault e f g = rw (e, f, g) refl
-
--- a journal by worker has at most 8 workers
-pub workers_few : (workers : Option ℕ) (who : List ℕ) → IfSome workers (λ n. AreWorkers n who) → IfSome workers (λ n. n ≤ 8)
-workers_few None who h = tt
-workers_few (Some n) who h = h.few
 
 -- an option that fails the test for a value is none
 pub none_is : {A : Type 0} (o : Option A) → is_some o ≡ false → o ≡ None

@@ -1,39 +1,27 @@
 -- What the passes over the rows find, taken together.
-use Rattle.docket.proofs.WidestFacts.{sound_widest, few_widest}
-use Rattle.docket.specs.Limits.{most_records}
 use Rattle.match_model.specs.declared.limits.Limits.{Limits}
-use Rattle.std.proofs.Common.{◌≡◌, ◌⊎◌, ◌≤◌, inl, inr, ℕ, List, [], ◌∷◌, Bool, true, false, length, map, sym, ◌∙◌, refl, Option, Some, None, Result, Ok, Err, rules}
-use Rattle.std.specs.Prelude.{◌&&◌, ◌||◌, not, if◌then◌else◌, nat_eq, codes, option_map, IfOk, IfErr, IfSome}
+use Rattle.std.proofs.Common.{◌≡◌, ◌⊎◌, inl, inr, ℕ, List, [], ◌∷◌, Bool, true, false, length, map, refl, Option, Some, None, rules}
+use Rattle.std.specs.Prelude.{◌&&◌, ◌||◌, not, if◌then◌else◌, nat_eq, option_map, IfSome}
 use Rattle.std.specs.List.{list_any}
 use Rattle.std.specs.Option.{option_or}
 use Rattle.docket.specs.Fields.{Fields, field, is_kind}
-use Rattle.docket.specs.Contents.{Contents, contents_of, programmes_of, residents_of, rows_of, events_of, journal_of, JournalParts, ByWorkerParts, by_worker_of, has_sheet, declares_member}
+use Rattle.docket.specs.Contents.{Contents, programmes_of, residents_of, rows_of, events_of, journal_of, JournalParts, ByWorkerParts, by_worker_of, has_sheet, declares_member}
 use Rattle.docket.specs.Passes.{first_from, first_pass_fault, later_fault, fault_within, rows_in, sheet_fault, mark_fault, missing_fault, filled_fault, ranking_fault, pairs_fault, event_fault}
-use Rattle.docket.specs.Answers.{Answers, Refuses}
+use Rattle.docket.specs.Answers.{Refuses}
 use Rattle.docket.specs.Texts.{programme_name, resident_name}
 use Rattle.std.proofs.lemmas.Option.{get_or_from_slice_get}
 use Rattle.std.proofs.Common.{slice_get}
-use Rattle.docket.specs.Read.{AreKeptOf, Explains, IsReadFault}
-use Rattle.docket.specs.Ranking.{IsRanked}
+use Rattle.docket.specs.Read.{Explains, IsReadFault}
 use Rattle.std.specs.Prelude.{find, unwrap_or}
 use Rattle.exchange_core.specs.declared.event.Capacity.{Capacity}
 use Rattle.exchange_core.specs.declared.event.Capacity.TheVariants.{Full}
 use Rattle.exchange_core.specs.declared.event.Event.{Event}
 use Rattle.docket.specs.Words.{capacity_of}
-use Rattle.docket.specs.Declarations.{IsDeclared, AreByWorker, capacity_in}
+use Rattle.docket.specs.Declarations.{AreByWorker, capacity_in}
 use Rattle.docket.specs.Whole.{AreWorkers}
-use Rattle.docket.specs.WithLists.{IsReadAs, lists_if}
-use Rattle.match_model.specs.Written.{Written}
-use Rattle.docket.specs.declared.store.declarations.Declarations.{Declarations}
-use Rattle.docket.specs.declared.vocabulary.TheConstants.{QUOTA, PROGRAMME_LIST, RESIDENT_LIST, CAPACITY}
+use Rattle.docket.specs.declared.vocabulary.TheConstants.{QUOTA, RESIDENT_LIST, CAPACITY}
 use Rattle.docket.specs.declared.fault.DocketFault.{DocketFault}
-use Rattle.docket.proofs.CountFacts.{reading_sound}
-use Rattle.docket.proofs.LaterFacts.{later_kept}
-use Rattle.docket.proofs.DeclarationFacts.{refuses_first, refuses_second, no_fault}
-use Rattle.docket.proofs.RankingFacts.{lists_of-none}
-use Rattle.docket.proofs.WithdrawalFacts.{withdrawn_of-none}
-use Rattle.docket.proofs.SoundFacts.{both_none}
-use Rattle.docket_names.proofs.TextFacts.{names_length}
+use Rattle.docket.proofs.DeclarationFacts.{refuses_first}
 
 -- a list with an item is not empty
 not_empty : {A : Type 0} (x : A) (xs : List A) → nat_eq (length (x ∷ xs)) 0 ≡ false
@@ -44,7 +32,7 @@ and_false true = refl
 and_false false = refl
 
 -- the docket has no names exactly if no row declares a member
-no_members : (rows : List Fields) → (nat_eq (length (programmes_of rows)) 0 && nat_eq (length (residents_of rows)) 0) ≡ not (list_any declares_member rows)
+pub no_members : (rows : List Fields) → (nat_eq (length (programmes_of rows)) 0 && nat_eq (length (residents_of rows)) 0) ≡ not (list_any declares_member rows)
 unfolding programmes_of residents_of
 no_members [] = refl
 no_members (r ∷ rows) = by (is_kind QUOTA r) (is_kind RESIDENT_LIST r) (no_members rows)
@@ -59,30 +47,11 @@ no_members (r ∷ rows) = by (is_kind QUOTA r) (is_kind RESIDENT_LIST r) (no_mem
     by false true more = rw (not_empty (field r 1) (map (λ (row : Fields). field row 1) (rows_of RESIDENT_LIST rows))) (and_false (nat_eq (length (map (λ (row : Fields). field row 1) (rows_of QUOTA rows))) 0))
     by false false more = more
 
--- whether the docket has a sheet, as the first pass notes it
-pub sheet_is : (d : Declarations) (texts : List (List ℕ)) (rows : List Fields) → IsDeclared d texts rows
-    → (d.has_sheet_row || (nat_eq (length d.programmes) 0 && nat_eq (length d.residents) 0)) ≡ has_sheet rows
-unfolding has_sheet
-sheet_is d texts rows h =
-    let p : length d.programmes ≡ length (programmes_of rows) = names_length texts d.programmes (programmes_of rows) h.programmes in
-    let r : length d.residents ≡ length (residents_of rows) = names_length texts d.residents (residents_of rows) h.residents in
-    rw (h.sheet_rows, p, r, no_members rows) refl
-
 -- the workers of the events that the first pass notes are the docket's workers of events
 pub by_worker_is : (workers : Option ℕ) (who : List ℕ) (rows : List Fields) → AreByWorker workers who rows
     → (option_map (λ n. record { workers = n; who = who }) workers ≡ by_worker_of rows) × IfSome (by_worker_of rows) (λ by. AreWorkers by.workers by.who)
 by_worker_is None who rows h = rw (← h.workers_are) (refl, tt)
 by_worker_is (Some n) who rows h = rw (← h.workers_are, ← h.who_are) (refl, h.within)
-
--- before the second pass the builder has exactly what the first pass declared
-pub ranked_start : (d : Declarations) (texts : List (List ℕ)) (rows : List Fields) → IsDeclared d texts rows → IsRanked d.builder rows []
-ranked_start d texts rows h = record {
-  quotas = h.quotas;
-  programme_lists = h.programme_lists ∙ sym (lists_of-none PROGRAMME_LIST (programmes_of rows) (residents_of rows));
-  resident_lists = h.resident_lists ∙ sym (lists_of-none RESIDENT_LIST (residents_of rows) (programmes_of rows));
-  programmes_withdrawn = h.no_programme_gone ∙ sym (withdrawn_of-none (codes "P") (programmes_of rows));
-  residents_withdrawn = h.no_resident_gone ∙ sym (withdrawn_of-none (codes "R") (residents_of rows));
-}
 
 -- if reading the records gives a fault and the bytes are known, the whole call reports this fault
 pub whole_reading : (lim : Limits) (known : Option (List ℕ)) (e : DocketFault) → IsReadFault e ⊎ Explains (option_map rows_in known) (first_from (first_pass_fault lim) []) e
@@ -90,24 +59,6 @@ pub whole_reading : (lim : Limits) (known : Option (List ℕ)) (e : DocketFault)
 whole_reading lim known e (inl read) = inl read
 whole_reading lim None e (inr h) = inr tt
 whole_reading lim (Some bytes) e (inr h) = inr (refuses_first _ _ e h)
-
--- if no pass has a fault, the whole call returns the docket, and its lists if they are asked for
-pub whole_read : (lim : Limits) (known : Option (List ℕ)) (keeps : Bool) (rows : List Fields) (r : Result (Contents × Option Written) DocketFault) → AreKeptOf lim (option_map rows_in known) rows
-    → first_from (first_pass_fault lim) [] rows ≡ None → length rows ≤ most_records lim → IfOk r (λ read. read.0 ≡ contents_of rows) → IfOk r (λ read. read.1 ≡ lists_if keeps rows)
-    → Answers (later_fault lim rows) r → IfOk r (λ read. IsReadAs lim known keeps read.0 read.1)
-whole_read lim known keeps rows (Err e) all sound few is lists answers = tt
-whole_read lim None keeps rows (Ok read) all sound few is lists answers =
-    record { rows = rows; all = tt; faultless = no_fault _ _ sound answers; docket_is = is; lists_are = lists }
-whole_read lim (Some bytes) keeps rows (Ok read) all sound few is lists answers =
-    record { rows = rows; all = sym ((later_kept lim (rows_in bytes) rows all.0 (sound_widest lim rows (reading_sound lim [] rows sound)) (few_widest lim (length rows) few)).1 answers); faultless = no_fault _ _ sound answers; docket_is = is; lists_are = lists }
-
-pub whole_later : (lim : Limits) {T : Type 0} (known : Option (List ℕ)) (rows : List Fields) (r : Result T DocketFault) → AreKeptOf lim (option_map rows_in known) rows
-    → first_from (first_pass_fault lim) [] rows ≡ None → length rows ≤ most_records lim → Answers (later_fault lim rows) r
-    → IfErr r (λ e. IsReadFault e ⊎ IfSome known (λ bytes. Refuses (fault_within lim bytes) e))
-whole_later lim known rows (Ok d) all sound few answers = tt
-whole_later lim None rows (Err e) all sound few answers = inr tt
-whole_later lim (Some bytes) rows (Err e) all sound few answers =
-    inr (refuses_second _ _ e all.1 (rw (sym (later_kept lim (rows_in bytes) rows all.0 (sound_widest lim rows (reading_sound lim [] rows sound)) (few_widest lim (length rows) few)).0) answers))
 
 -- in a docket with a sheet, the fault of the sheet is the first fault of its three walks
 pub sheet_asked : (rows : List Fields) → has_sheet rows ≡ true
@@ -129,11 +80,6 @@ later_is lim rows = by (first_from (ranking_fault rows) [] rows)
         ≡ option_or (option_or a (pairs_fault lim rows)) (option_or (sheet_fault rows) (first_from (event_fault rows) [] rows))
     by None = refl
     by (Some f) = refl
-
--- if no later pass finds a fault, the names of all events are declared
-pub events_known : (lim : Limits) (rows : List Fields) → later_fault lim rows ≡ None → first_from (event_fault rows) [] rows ≡ None
-unfolding later_fault
-events_known lim rows fine = (both_none (sheet_fault rows) _ (both_none (pairs_fault lim rows) _ (both_none (first_from (ranking_fault rows) [] rows) _ fine).1).1).1
 
 -- the name of a programme, as the docket returns it
 pub programme_name-is : (d : Contents) (p : ℕ) (name : List ℕ) → slice_get d.programmes p ≡ Some name → programme_name d p ≡ name

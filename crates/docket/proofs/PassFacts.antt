@@ -1,9 +1,9 @@
 -- The first fault of a pass over the rows, as the rows are read one by one.
 use Rattle.docket.specs.Limits.{most_records}
 use Rattle.match_model.specs.declared.limits.Limits.{Limits}
-use Rattle.std.proofs.Common.{◌≡◌, ◌⊎◌, ◌≤◌, ◌<◌, ◌+◌, ◌-◌, ℕ, zero, suc, List, [], ◌∷◌, ◌++◌, Bool, true, false, length, take, drop, sym, ◌∙◌, refl, ap, Option, Some, None, inl, inr, append_assoc, append-nil, rules, subst, arith}
+use Rattle.std.proofs.Common.{◌≡◌, ◌⊎◌, ◌<◌, ◌+◌, ℕ, List, [], ◌∷◌, ◌++◌, Bool, true, false, length, take, drop, sym, ◌∙◌, refl, ap, Option, Some, None, inl, inr, append_assoc, append-nil, rules, arith}
 use Rattle.std.specs.Prelude.{nat_le, if◌then◌else◌}
-use Rattle.std.proofs.lemmas.List.{take_more, take_all, take-append-drop, length-append}
+use Rattle.std.proofs.lemmas.List.{take_more, take-append-drop, length-append}
 use Rattle.std.specs.Option.{option_or}
 use Rattle.docket.specs.Fields.{Fields, row_fault}
 use Rattle.docket.specs.Contents.{workers_in}
@@ -112,11 +112,6 @@ first_from-none f = refl
 pub length-push : {A : Type 0} (xs : List A) (x : A) → length (xs ++ x ∷ []) ≡ length xs + 1
 length-push xs x = length-append xs (x ∷ [])
 
--- the first fault of a pass over stored rows, after each row
-pub pass_start : (f : List Fields → Fields → Option DocketFault) (rows : List Fields) → first_from f [] (take 0 rows) ≡ None
-unfolding first_from
-pass_start f rows = refl
-
 pub pass_more : (f : List Fields → Fields → Option DocketFault) (rows : List Fields) (k : ℕ) → k < length rows → first_from f [] (take k rows) ≡ None
     → f (take k rows) (row_at rows k) ≡ None → first_from f [] (take (k + 1) rows) ≡ None
 pass_more f rows k lt none here = rw (take_more rows k [] lt) (first_from-push f (take k rows) (row_at rows k) none here)
@@ -127,15 +122,3 @@ pass_fault f rows k e lt none (inl memory) = inl memory
 pass_fault f rows k e lt none (inr here) =
     let whole : take k rows ++ row_at rows k ∷ drop (k + 1) rows ≡ rows = sym (append_assoc (take k rows) (row_at rows k ∷ []) (drop (k + 1) rows)) ∙ ap (λ (l : List Fields). l ++ drop (k + 1) rows) (sym (take_more rows k [] lt)) ∙ take-append-drop (k + 1) rows in
     inr (ap (first_from f []) (sym whole) ∙ first_from-found f (take k rows) (drop (k + 1) rows) (row_at rows k) e none here)
-
-pub pass_end : (f : List Fields → Fields → Option DocketFault) (rows : List Fields) (k : ℕ) → length rows ≤ k → first_from f [] (take k rows) ≡ None → first_from f [] rows ≡ None
-pass_end f rows k end none = ap (first_from f []) (sym (take_all k rows end)) ∙ none
-
--- a property that holds after the first n rows, and still holds after each further row, holds after all rows
-pub pass_rest : (P : List Fields → Type 0) (rows : List Fields) (n : ℕ) → n ≤ length rows
-    → ((k : ℕ) → n ≤ k → k < length rows → P (take k rows) → P (take (k + 1) rows)) → P (take n rows) → P rows
-pass_rest P rows n low step here = over (length rows - n) n (omega arith) (omega arith) here
-  where
-    over : (m k : ℕ) → n ≤ k → m + k ≡ length rows → P (take k rows) → P rows
-    over zero k up e p = subst P (take_all k rows (omega arith)) p
-    over (suc m) k up e p = over m (k + 1) (omega arith) (omega arith) (step k up (omega arith) p)

@@ -370,10 +370,6 @@ resident_list_fault b rows k i items sound few lt kind at h is known =
     rw (is, h.resident_lists, h.quotas, length-quotas_of rows)
     (list_fault-row RESIDENT_LIST (residents_of rows) (programmes_of rows) (take k rows) (row_at rows k) i at free known)
 
--- a row whose kind differs from k is not of kind k
-pub not_kind : (row : Fields) (k n : ℕ) → n ≡ kind_of row → (n ≡ k → ⊥) → is_kind k row ≡ false
-not_kind row k n e isnt = rw (← e) (search (rules, isnt))
-
 -- two drafts with the same parts are equal
 pub same_draft : {b c : Draft} → b.limits ≡ c.limits → b.quotas ≡ c.quotas → b.programme_lists ≡ c.programme_lists → b.resident_lists ≡ c.resident_lists
     → b.programmes_withdrawn ≡ c.programmes_withdrawn → b.residents_withdrawn ≡ c.residents_withdrawn → b ≡ c

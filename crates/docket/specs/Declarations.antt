@@ -1,16 +1,21 @@
--- What the rows read so far declare, as the code keeps it.
-use Rattle.std.specs.Prelude.{◌≡◌, ℕ, false, List, map, filter, find, codes, Option, None, option_map, unwrap_or, [], Some, IfSome}
-use Rattle.std.specs.List.{list_any}
+-- What the records read so far declare, as the first pass keeps it.
+use Rattle.std.specs.Prelude.{◌≡◌, ℕ, List, map, filter, find, Option, None, option_map, unwrap_or, [], Some, IfSome, ◌≤◌, ◌++◌, ◌∷◌, false, codes, nat_eq}
 use Rattle.exchange_core.specs.declared.event.Capacity.{Capacity}
 use Rattle.exchange_core.specs.declared.event.Capacity.TheVariants.{Full}
 use Rattle.docket.specs.Words.{capacity_of}
-use Rattle.docket.specs.Fields.{Fields, field, is_kind, is_row_of, withdrawal_kind}
-use Rattle.docket.specs.Contents.{names_of, programmes_of, residents_of, quotas_of, is_sheet_row, workers_in, who_of}
-use Rattle.docket.specs.Passes.{is_version_2}
-use Rattle.docket_names.specs.Texts.{AreNames, AreNoted}
+use Rattle.docket.specs.Fields.{Fields, field, is_kind, is_row_of, withdrawal_kind, unless, version_row_fault}
+use Rattle.docket.specs.Contents.{workers_in, who_of, names_of, programmes_of, residents_of, quotas_of, all_listed, is_sheet_row}
 use Rattle.docket.specs.Whole.{AreWorkers}
-use Rattle.docket.specs.declared.store.declarations.Declarations.{Declarations}
-use Rattle.docket.specs.declared.vocabulary.TheConstants.{PROGRAMME_LIST, CAPACITY, EVENT}
+use Rattle.docket.specs.declared.vocabulary.TheConstants.{CAPACITY, PROGRAMME_LIST, EVENT}
+use Rattle.std.specs.List.{list_any}
+use Rattle.std.specs.Option.{option_or}
+use Rattle.match_model.specs.declared.limits.Limits.{Limits}
+use Rattle.docket.specs.Context.{context_fault}
+use Rattle.docket.specs.Passes.{is_version_2, listed_fault, next_place}
+use Rattle.docket_names.specs.Texts.{AreNames, AreNoted}
+use Rattle.docket.specs.declared.declarations.Declarations.{Declarations}
+use Rattle.docket.specs.declared.fault.DocketFault.{DocketFault}
+use Rattle.docket.specs.declared.fault.DocketFault.TheVariants.{UnknownKind}
 
 -- the capacity in the C row, if there is a C row
 unfoldable pub capacity_in : List Fields → Option Capacity
@@ -31,7 +36,7 @@ pub record AreByWorker (workers : Option ℕ) (who : List ℕ) (rows : List Fiel
   pub who_are : who ≡ who_if workers rows
   pub within : IfSome workers (λ n. AreWorkers n who)
 
--- Everything is as the rows declare; a name is kept as the number of its text. The builder has no list and no
+-- Everything is as the records declare; a name is kept as the number of its text. The builder has no list and no
 -- withdrawal yet. No event stands before the capacity.
 pub record IsDeclared (d : Declarations) (texts : Fields) (rows : List Fields) : Type 0 where
   pub quotas : d.builder.quotas ≡ quotas_of rows
@@ -40,6 +45,7 @@ pub record IsDeclared (d : Declarations) (texts : Fields) (rows : List Fields) :
   pub programmes : AreNames texts d.programmes (programmes_of rows)
   pub residents : AreNames texts d.residents (residents_of rows)
   pub ranked : AreNoted texts d.ranked (names_of PROGRAMME_LIST rows)
+  pub listed : d.listed ≡ all_listed rows
   pub capacity : d.capacity ≡ capacity_in rows
   pub no_events : d.capacity ≡ None → list_any (is_kind EVENT) rows ≡ false
   pub by_worker : AreByWorker d.workers d.who.items rows
@@ -49,3 +55,21 @@ pub record IsDeclared (d : Declarations) (texts : Fields) (rows : List Fields) :
   pub withdrawn_residents : AreNoted texts d.withdrawn_residents (names_withdrawn (codes "R") rows)
   pub no_programme_gone : d.builder.programmes_withdrawn ≡ map (λ name. false) (programmes_of rows)
   pub no_resident_gone : d.builder.residents_withdrawn ≡ map (λ name. false) (residents_of rows)
+
+-- a journal by worker has at most 8 workers
+abbrev pub AreFew : Option ℕ → Type 0
+AreFew workers = IfSome workers (λ n. n ≤ 8)
+
+-- the declarations before and after record number `place`, for any records before it
+pub record Declares (old new : Declarations) (texts : Fields) (place : ℕ) (row : Fields) : Type 0 where
+  pub limits : new.builder.limits ≡ old.builder.limits
+  pub workers : AreFew old.workers → AreFew new.workers
+  pub declared : (rows : List Fields) → place ≡ next_place rows → IsDeclared old texts rows → IsDeclared new texts (rows ++ row ∷ [])
+
+-- the fault of a record that shows only from the records before it: a repetition, a limit, or too many listed names
+abbrev pub declared_fault : Limits → List Fields → Fields → Option DocketFault
+declared_fault limits before row = option_or (context_fault limits before row) (listed_fault limits before row)
+
+-- the fault of a V row as record n, which may only be the first record
+abbrev pub version_fault : ℕ → Fields → Option DocketFault
+version_fault n row = option_or (unless (nat_eq n 1) (UnknownKind n)) (version_row_fault n row)

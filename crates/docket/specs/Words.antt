@@ -1,4 +1,4 @@
--- The words of a docket for a capacity, for workers, and for a kind of answer.
+-- The words of a docket for a capacity, for workers, for a kind of answer, and for a side.
 use Rattle.std.specs.Prelude.{ℕ, nat_le, nat_lt, ◌&&◌, if◌then◌else◌, Option, Some, None, List, codes, bytes_eq, option_and_then}
 use Rattle.docket_names.specs.Words.{number_of}
 use Rattle.exchange_core.specs.Shown.{is_capacity}
@@ -6,6 +6,8 @@ use Rattle.exchange_core.specs.declared.event.AnswerKind.{AnswerKind}
 use Rattle.exchange_core.specs.declared.event.AnswerKind.TheVariants.{Hold, Decline, Release}
 use Rattle.exchange_core.specs.declared.event.Capacity.{Capacity}
 use Rattle.exchange_core.specs.declared.event.Capacity.TheVariants.{Full, Each}
+use Rattle.docket.specs.declared.vocabulary.Side.{Side}
+use Rattle.docket.specs.declared.vocabulary.Side.TheVariants.{Programmes, Residents}
 
 -- the capacity of a mailbox with this room, from 1 to 1,024
 abbrev pub each_of : ℕ → Option Capacity
@@ -30,3 +32,7 @@ answer_of word =
     else if bytes_eq word (codes "decline") then Some Decline
     else if bytes_eq word (codes "release") then Some Release
     else None
+
+-- the side that a text stands for
+unfoldable pub side_of : List ℕ → Option Side
+side_of text = if bytes_eq text (codes "P") then Some Programmes else if bytes_eq text (codes "R") then Some Residents else None

@@ -9,12 +9,13 @@
 //! walks over the rows take more steps.
 #![tactic(auto)]
 
+mod declarations;
 mod docket;
 mod fault;
-mod kind;
-mod listed;
 mod passes;
 mod read;
+mod reading;
+mod records;
 mod retrying;
 mod row;
 mod store;

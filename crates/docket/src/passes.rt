@@ -1,4 +1,4 @@
-//! The passes over the stored rows: the first of them reads the lists, the next the sheet, and the last the journal.
+//! The passes after the first. The second reads the lists, the third the sheet, and the fourth the journal.
 
 pub(crate) mod journal;
 pub(crate) mod ranking;

@@ -1,8 +1,5 @@
-//! What is stored of a docket's records. Each different text is stored once; the rows and the members' names are
-//! numbers of these texts.
+//! What is kept of a docket's records: one store for each later pass, with everything already parsed.
 
-pub(crate) mod declarations;
-pub(crate) mod flat_rows;
-pub(crate) mod numbers;
-pub(crate) mod rows;
-pub(crate) mod tables;
+pub(crate) mod events;
+pub(crate) mod lists;
+pub(crate) mod sheet_rows;

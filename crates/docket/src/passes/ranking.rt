@@ -1,256 +1,240 @@
-//! The second pass over the rows: it reads the lists as lists of numbers, and the withdrawals.
-ghost use Rattle.std.specs.Prelude.{◌≡◌, ◌<◌, ◌+◌, [], length, take, drop, codes, OnOk, IfOk};
+//! The second pass: the lists and the withdrawals.
+ghost use Rattle.std.specs.Prelude.{◌≡◌, ◌<◌, ◌+◌, ℕ, [], List, length, take, map, slice_get, Some, OnOk, IfOk};
 ghost use Rattle.match_model.specs.Draft.{instance_of as made_of};
 ghost use Rattle.std.specs.List.{list_all};
 ghost use Rattle.std.specs.Option.{option_or};
-ghost use Rattle.docket.specs.Fields.{field, kind_of, unless};
-ghost use Rattle.docket.specs.Contents.{listed_in, draft_of, programmes_of, residents_of};
-ghost use Rattle.docket_names.specs.Texts.{is_declared};
-ghost use Rattle.docket.specs.Passes.{first_from, unknown_fault, ranking_fault, pairs_fault};
 ghost use Rattle.docket.specs.Answers.{Answers};
-ghost use Rattle.docket.specs.Rows.{row_at, side_text};
+ghost use Rattle.docket.specs.Contents.{draft_of};
+ghost use Rattle.docket.specs.Fields.{Fields, unless};
+ghost use Rattle.docket.specs.Known.{AreKnown};
+ghost use Rattle.docket.specs.ListPass.{IsNext, is_member, member_at};
+ghost use Rattle.docket.specs.Lists.{AreLists, KeptEntry};
+ghost use Rattle.docket.specs.Passes.{first_from, ranking_fault, pairs_fault};
 ghost use Rattle.docket.specs.Ranking.{IsRanked};
+ghost use Rattle.docket.specs.Rows.{row_at};
 ghost use Rattle.docket.specs.WithLists.{lists_if};
+ghost use Rattle.docket.specs.declared.fault.DocketFault.TheVariants.{UnknownName};
+ghost use Rattle.docket.specs.declared.store.lists.ListKind.TheVariants.{Ranking, Withdrawal};
+ghost use Rattle.docket.specs.declared.vocabulary.Side.TheVariants.{Programmes, Residents};
 
+use crate::declarations::model_fault;
 use crate::fault::DocketFault;
-use crate::kind::KeptKind;
-use crate::store::declarations::model_fault;
-use crate::store::tables::Tables;
-use crate::vocabulary::{PROGRAMME_LIST, RESIDENT_LIST, Side, WITHDRAWAL};
+use crate::store::lists::{ListKind, ListRow, Lists};
+use crate::vocabulary::Side;
+use docket_names::Members;
 use match_model::{Instance, InstanceBuilder, ProgrammeNo, ResidentNo, WrittenLists};
 use std::alloc::Global;
 
-// Reads the numbers of the residents on the list of row `k`.
+// Reads the residents with these names.
 fn listed_residents(
-    tables: &Tables,
-    k: usize,
+    place: u32,
+    names: &[u32],
+    residents: &Members,
     listed: &mut Vec<ResidentNo>,
 ) -> Result<(), DocketFault>
-    requires { k < length tables.now }
-    ensures listed { OnOk result (listed.new.items ≡ listed_in (residents_of tables.now) (row_at tables.now k)) }
-    ensures fault { Answers (unknown_fault (k + 1) (residents_of tables.now) (row_at tables.now k)) result }
+    ensures listed { OnOk result (listed.new.items ≡ map (member_at residents.now) names.now) }
+    ensures fault { Answers (unless (list_all (is_member residents.now) names.now) (UnknownName place)) result }
 {
     listed.clear();
-    for i in 0..tables.listed(k) {
-        let Some(resident) = tables.resident(k, i + 2) else {
-            return Err(DocketFault::UnknownName {
-                place: tables.place(k),
-            });
+    for name in names {
+        let Some(resident) = residents.member(*name as usize) else {
+            return Err(DocketFault::UnknownName { place });
         };
-        listed.push(resident)?;
+        listed.push(ResidentNo(resident))?;
     }
     Ok(())
 }
 
-// Reads the numbers of the programmes on the list of row `k`.
+// Reads the programmes with these names.
 fn listed_programmes(
-    tables: &Tables,
-    k: usize,
+    place: u32,
+    names: &[u32],
+    programmes: &Members,
     listed: &mut Vec<ProgrammeNo>,
 ) -> Result<(), DocketFault>
-    requires { k < length tables.now }
-    ensures listed { OnOk result (listed.new.items ≡ listed_in (programmes_of tables.now) (row_at tables.now k)) }
-    ensures fault { Answers (unknown_fault (k + 1) (programmes_of tables.now) (row_at tables.now k)) result }
+    ensures listed { OnOk result (listed.new.items ≡ map (member_at programmes.now) names.now) }
+    ensures fault { Answers (unless (list_all (is_member programmes.now) names.now) (UnknownName place)) result }
 {
     listed.clear();
-    for i in 0..tables.listed(k) {
-        let Some(programme) = tables.programme(k, i + 2) else {
-            return Err(DocketFault::UnknownName {
-                place: tables.place(k),
-            });
+    for name in names {
+        let Some(programme) = programmes.member(*name as usize) else {
+            return Err(DocketFault::UnknownName { place });
         };
-        listed.push(programme)?;
+        listed.push(ProgrammeNo(programme))?;
     }
     Ok(())
 }
 
 // Gives the builder the list in a row `P,programme,resident,..`.
 fn rank_residents(
-    tables: &Tables,
-    k: usize,
+    row: &ListRow,
+    programmes: &Members,
+    residents: &Members,
     builder: &mut InstanceBuilder,
     listed: &mut Vec<ResidentNo>,
 ) -> Result<(), DocketFault>
-    requires place { k < length tables.now }
-    requires kind { kind_of (row_at tables.now k) ≡ PROGRAMME_LIST }
-    requires ranked { IsRanked builder.old tables.now (take k tables.now) }
-    ensures ranked { OnOk result (IsRanked builder.new tables.now (take (k + 1) tables.now)) }
+    ensures ranked { OnOk result ((texts : Fields) (rows : List Fields) (k : ℕ) → IsNext texts programmes.now residents.now builder.old rows k (record { place = row.now.place; kind = Ranking Programmes; owner = row.now.owner; listed = row.now.listed.now }) → IsRanked builder.new rows (take (k + 1) rows)) }
+    ensures fault { (texts : Fields) (rows : List Fields) (k : ℕ) → IsNext texts programmes.now residents.now builder.old rows k (record { place = row.now.place; kind = Ranking Programmes; owner = row.now.owner; listed = row.now.listed.now }) → Answers (ranking_fault rows (take k rows) (row_at rows k)) result }
     ensures limits { OnOk result (builder.new.limits ≡ builder.old.limits) }
-    ensures fault { Answers (ranking_fault tables.now (take k tables.now) (row_at tables.now k)) result }
 {
-    let place = tables.place(k);
-    let Some(owner) = tables.programme(k, 1) else {
-        return Err(DocketFault::UnknownName { place });
+    let Some(owner) = programmes.member(row.owner as usize) else {
+        return Err(DocketFault::UnknownName { place: row.place });
     };
-    listed_residents(tables, k, listed)?;
-    match builder.programme_list(owner, listed.as_slice()) {
+    listed_residents(row.place, row.listed, residents, listed)?;
+    match builder.programme_list(ProgrammeNo(owner), listed.as_slice()) {
         Ok(()) => Ok(()),
-        Err(fault) => Err(model_fault(place, fault)),
+        Err(fault) => Err(model_fault(row.place, fault)),
     }
 }
 
 // Gives the builder the list in a row `R,resident,programme,..`.
 fn rank_programmes(
-    tables: &Tables,
-    k: usize,
+    row: &ListRow,
+    programmes: &Members,
+    residents: &Members,
     builder: &mut InstanceBuilder,
     listed: &mut Vec<ProgrammeNo>,
 ) -> Result<(), DocketFault>
-    requires place { k < length tables.now }
-    requires kind { kind_of (row_at tables.now k) ≡ RESIDENT_LIST }
-    requires ranked { IsRanked builder.old tables.now (take k tables.now) }
-    ensures ranked { OnOk result (IsRanked builder.new tables.now (take (k + 1) tables.now)) }
+    ensures ranked { OnOk result ((texts : Fields) (rows : List Fields) (k : ℕ) → IsNext texts programmes.now residents.now builder.old rows k (record { place = row.now.place; kind = Ranking Residents; owner = row.now.owner; listed = row.now.listed.now }) → IsRanked builder.new rows (take (k + 1) rows)) }
+    ensures fault { (texts : Fields) (rows : List Fields) (k : ℕ) → IsNext texts programmes.now residents.now builder.old rows k (record { place = row.now.place; kind = Ranking Residents; owner = row.now.owner; listed = row.now.listed.now }) → Answers (ranking_fault rows (take k rows) (row_at rows k)) result }
     ensures limits { OnOk result (builder.new.limits ≡ builder.old.limits) }
-    ensures fault { Answers (ranking_fault tables.now (take k tables.now) (row_at tables.now k)) result }
 {
-    let place = tables.place(k);
-    let Some(owner) = tables.resident(k, 1) else {
-        unreachable!("the row declares its owner");
+    let Some(owner) = residents.member(row.owner as usize) else {
+        return Err(DocketFault::UnknownName { place: row.place });
     };
-    listed_programmes(tables, k, listed)?;
-    match builder.resident_list(owner, listed.as_slice()) {
+    listed_programmes(row.place, row.listed, programmes, listed)?;
+    match builder.resident_list(ResidentNo(owner), listed.as_slice()) {
         Ok(()) => Ok(()),
-        Err(fault) => Err(model_fault(place, fault)),
+        Err(fault) => Err(model_fault(row.place, fault)),
     }
 }
 
 // Gives the builder the withdrawal in a row `W,P,programme`.
 fn withdraw_programme(
-    tables: &Tables,
-    k: usize,
+    row: &ListRow,
+    programmes: &Members,
     builder: &mut InstanceBuilder,
 ) -> Result<(), DocketFault>
-    requires place { k < length tables.now }
-    requires kind { kind_of (row_at tables.now k) ≡ WITHDRAWAL }
-    requires side { field (row_at tables.now k) 1 ≡ codes "P" }
-    requires ranked { IsRanked builder.old tables.now (take k tables.now) }
-    ensures ranked { OnOk result (IsRanked builder.new tables.now (take (k + 1) tables.now)) }
+    ensures ranked { OnOk result ((texts : Fields) (rows : List Fields) (residents : List ℕ) (k : ℕ) → IsNext texts programmes.now residents builder.old rows k (record { place = row.now.place; kind = Withdrawal Programmes; owner = row.now.owner; listed = [] }) → IsRanked builder.new rows (take (k + 1) rows)) }
+    ensures fault { (texts : Fields) (rows : List Fields) (residents : List ℕ) (k : ℕ) → IsNext texts programmes.now residents builder.old rows k (record { place = row.now.place; kind = Withdrawal Programmes; owner = row.now.owner; listed = [] }) → Answers (ranking_fault rows (take k rows) (row_at rows k)) result }
     ensures limits { OnOk result (builder.new.limits ≡ builder.old.limits) }
-    ensures fault { Answers (ranking_fault tables.now (take k tables.now) (row_at tables.now k)) result }
 {
-    let place = tables.place(k);
-    let Some(programme) = tables.programme(k, 2) else {
-        return Err(DocketFault::UnknownName { place });
+    let Some(programme) = programmes.member(row.owner as usize) else {
+        return Err(DocketFault::UnknownName { place: row.place });
     };
-    match builder.withdraw_programme(programme) {
+    match builder.withdraw_programme(ProgrammeNo(programme)) {
         Ok(()) => Ok(()),
-        Err(_) => unreachable!("the first pass refused a second withdrawal"),
+        Err(fault) => Err(model_fault(row.place, fault)),
     }
 }
 
 // Gives the builder the withdrawal in a row `W,R,resident`.
 fn withdraw_resident(
-    tables: &Tables,
-    k: usize,
+    row: &ListRow,
+    residents: &Members,
     builder: &mut InstanceBuilder,
 ) -> Result<(), DocketFault>
-    requires place { k < length tables.now }
-    requires kind { kind_of (row_at tables.now k) ≡ WITHDRAWAL }
-    requires side { field (row_at tables.now k) 1 ≡ codes "R" }
-    requires ranked { IsRanked builder.old tables.now (take k tables.now) }
-    ensures ranked { OnOk result (IsRanked builder.new tables.now (take (k + 1) tables.now)) }
+    ensures ranked { OnOk result ((texts : Fields) (rows : List Fields) (programmes : List ℕ) (k : ℕ) → IsNext texts programmes residents.now builder.old rows k (record { place = row.now.place; kind = Withdrawal Residents; owner = row.now.owner; listed = [] }) → IsRanked builder.new rows (take (k + 1) rows)) }
+    ensures fault { (texts : Fields) (rows : List Fields) (programmes : List ℕ) (k : ℕ) → IsNext texts programmes residents.now builder.old rows k (record { place = row.now.place; kind = Withdrawal Residents; owner = row.now.owner; listed = [] }) → Answers (ranking_fault rows (take k rows) (row_at rows k)) result }
     ensures limits { OnOk result (builder.new.limits ≡ builder.old.limits) }
-    ensures fault { Answers (ranking_fault tables.now (take k tables.now) (row_at tables.now k)) result }
 {
-    let place = tables.place(k);
-    let Some(resident) = tables.resident(k, 2) else {
-        return Err(DocketFault::UnknownName { place });
+    let Some(resident) = residents.member(row.owner as usize) else {
+        return Err(DocketFault::UnknownName { place: row.place });
     };
-    match builder.withdraw_resident(resident) {
+    match builder.withdraw_resident(ResidentNo(resident)) {
         Ok(()) => Ok(()),
-        Err(_) => unreachable!("the first pass refused a second withdrawal"),
+        Err(fault) => Err(model_fault(row.place, fault)),
     }
 }
 
-// Gives the builder the withdrawal in a row `W,P,programme` or `W,R,resident`.
-fn withdraw(
-    tables: &Tables,
-    k: usize,
-    side: Side,
-    builder: &mut InstanceBuilder,
-) -> Result<(), DocketFault>
-    requires place { k < length tables.now }
-    requires kind { kind_of (row_at tables.now k) ≡ WITHDRAWAL }
-    requires side { field (row_at tables.now k) 1 ≡ side_text side }
-    requires ranked { IsRanked builder.old tables.now (take k tables.now) }
-    ensures ranked { OnOk result (IsRanked builder.new tables.now (take (k + 1) tables.now)) }
-    ensures limits { OnOk result (builder.new.limits ≡ builder.old.limits) }
-    ensures fault { Answers (ranking_fault tables.now (take k tables.now) (row_at tables.now k)) result }
-{
-    match side {
-        Side::Programmes => withdraw_programme(tables, k, builder),
-        Side::Residents => withdraw_resident(tables, k, builder),
-    }
-}
-
-// Gives the builder what row `k` says, if the row is a list or a withdrawal.
+// Gives the builder what row `j` of the store says.
 fn rank_row(
-    tables: &Tables,
-    k: usize,
+    lists: &Lists,
+    j: usize,
+    programmes: &Members,
+    residents: &Members,
     builder: &mut InstanceBuilder,
-    residents: &mut Vec<ResidentNo>,
-    programmes: &mut Vec<ProgrammeNo>,
+    of_programme: &mut Vec<ResidentNo>,
+    of_resident: &mut Vec<ProgrammeNo>,
 ) -> Result<(), DocketFault>
-    requires place { k < length tables.now }
-    requires ranked { IsRanked builder.old tables.now (take k tables.now) }
-    ensures ranked { OnOk result (IsRanked builder.new tables.now (take (k + 1) tables.now)) }
+    requires { j < length lists.now.entries }
+    ensures ranked { OnOk result ((texts : Fields) (rows : List Fields) (k : ℕ) (entry : KeptEntry) → slice_get lists.now.entries j ≡ Some entry → IsNext texts programmes.now residents.now builder.old rows k entry → IsRanked builder.new rows (take (k + 1) rows)) }
+    ensures fault { (texts : Fields) (rows : List Fields) (k : ℕ) (entry : KeptEntry) → slice_get lists.now.entries j ≡ Some entry → IsNext texts programmes.now residents.now builder.old rows k entry → Answers (ranking_fault rows (take k rows) (row_at rows k)) result }
     ensures limits { OnOk result (builder.new.limits ≡ builder.old.limits) }
-    ensures fault { Answers (ranking_fault tables.now (take k tables.now) (row_at tables.now k)) result }
 {
-    match tables.kind(k) {
-        KeptKind::ProgrammeList => rank_residents(tables, k, builder, residents),
-        KeptKind::Resident => rank_programmes(tables, k, builder, programmes),
-        KeptKind::Withdrawal(side) => withdraw(tables, k, side, builder),
-        _ => Ok(()),
+    let row = lists.row(j);
+    match row.kind {
+        ListKind::Ranking(Side::Programmes) => {
+            rank_residents(&row, programmes, residents, builder, of_programme)
+        }
+        ListKind::Ranking(Side::Residents) => {
+            rank_programmes(&row, programmes, residents, builder, of_resident)
+        }
+        ListKind::Withdrawal(Side::Programmes) => { withdraw_programme(&row, programmes, builder) }
+        ListKind::Withdrawal(Side::Residents) => { withdraw_resident(&row, residents, builder) }
     }
 }
 
 // Gives the builder all lists and withdrawals, in the order of the rows.
-fn rank(alloc: Global, tables: &Tables, builder: &mut InstanceBuilder) -> Result<(), DocketFault>
-    requires { IsRanked builder.old tables.now [] }
-    ensures ranked { OnOk result (IsRanked builder.new tables.now tables.now) }
+fn rank(
+    alloc: Global,
+    lists: &Lists,
+    programmes: &Members,
+    residents: &Members,
+    builder: &mut InstanceBuilder,
+) -> Result<(), DocketFault>
+    ensures ranked { OnOk result ((texts : Fields) (rows : List Fields) → AreLists texts lists.now rows → AreKnown texts programmes.now residents.now rows → IsRanked builder.old rows [] → IsRanked builder.new rows rows) }
+    ensures fault { (texts : Fields) (rows : List Fields) → AreLists texts lists.now rows → AreKnown texts programmes.now residents.now rows → IsRanked builder.old rows [] → Answers (first_from (ranking_fault rows) [] rows) result }
     ensures limits { OnOk result (builder.new.limits ≡ builder.old.limits) }
-    ensures fault { Answers (first_from (ranking_fault tables.now) [] tables.now) result }
 {
-    let mut residents = Vec::new(alloc);
-    let mut programmes = Vec::new(alloc);
-    for k in 0..tables.events_from() {
-        rank_row(tables, k, builder, &mut residents, &mut programmes)?;
+    let mut of_programme = Vec::new(alloc);
+    let mut of_resident = Vec::new(alloc);
+    for j in 0..lists.len() {
+        rank_row(
+            lists,
+            j,
+            programmes,
+            residents,
+            builder,
+            &mut of_programme,
+            &mut of_resident,
+        )?;
     }
     Ok(())
 }
 
-// The instance that the builder makes after the last record, and the lists if `keeps_lists` is set.
+// The instance that the builder makes after so many records, and the lists if `keeps_lists` is set.
 fn finished(
     builder: InstanceBuilder,
-    tables: &Tables,
+    records: u32,
     keeps_lists: bool,
 ) -> Result<(Instance, Option<WrittenLists>), DocketFault>
-    requires { IsRanked builder tables.now tables.now }
-    ensures instance { IfOk result (λ made. made.0 ≡ made_of (draft_of tables.now)) }
-    ensures lists { IfOk result (λ made. made.1 ≡ lists_if keeps_lists tables.now) }
-    ensures fault { Answers (pairs_fault builder.limits tables.now) result }
+    ensures instance { IfOk result (λ made. (rows : List Fields) → IsRanked builder rows rows → made.0 ≡ made_of (draft_of rows)) }
+    ensures lists { IfOk result (λ made. (rows : List Fields) → IsRanked builder rows rows → made.1 ≡ lists_if keeps_lists rows) }
+    ensures fault { (rows : List Fields) → IsRanked builder rows rows → records ≡ length rows → Answers (pairs_fault builder.limits rows) result }
 {
-    let place = tables.len() as u32;
     match builder.finish_with_lists() {
         Ok((instance, lists)) if keeps_lists => Ok((instance, Some(lists))),
         Ok((instance, _)) => Ok((instance, None)),
-        Err(refused) => Err(model_fault(place, refused.fault)),
+        Err(refused) => Err(model_fault(records, refused.fault)),
     }
 }
 
-/// The instance that the builder makes from the lists and withdrawals, and the lists if `keeps_lists` is set.
+/// The instance that the builder makes from the lists and withdrawals of so many records, and the lists if `keeps_lists`
+/// is set.
 pub(crate) fn instance_of(
     alloc: Global,
-    tables: &Tables,
+    records: u32,
+    lists: &Lists,
+    programmes: &Members,
+    residents: &Members,
     mut builder: InstanceBuilder,
     keeps_lists: bool,
 ) -> Result<(Instance, Option<WrittenLists>), DocketFault>
-    requires { IsRanked builder tables.now [] }
-    ensures instance { IfOk result (λ made. made.0 ≡ made_of (draft_of tables.now)) }
-    ensures lists { IfOk result (λ made. made.1 ≡ lists_if keeps_lists tables.now) }
-    ensures fault { Answers (option_or (first_from (ranking_fault tables.now) [] tables.now) (pairs_fault builder.limits tables.now)) result }
+    ensures instance { IfOk result (λ made. (texts : Fields) (rows : List Fields) → AreLists texts lists.now rows → AreKnown texts programmes.now residents.now rows → IsRanked builder rows [] → records ≡ length rows → made.0 ≡ made_of (draft_of rows)) }
+    ensures lists { IfOk result (λ made. (texts : Fields) (rows : List Fields) → AreLists texts lists.now rows → AreKnown texts programmes.now residents.now rows → IsRanked builder rows [] → records ≡ length rows → made.1 ≡ lists_if keeps_lists rows) }
+    ensures fault { (texts : Fields) (rows : List Fields) → AreLists texts lists.now rows → AreKnown texts programmes.now residents.now rows → IsRanked builder rows [] → records ≡ length rows → Answers (option_or (first_from (ranking_fault rows) [] rows) (pairs_fault builder.limits rows)) result }
 {
-    rank(alloc, tables, &mut builder)?;
-    finished(builder, tables, keeps_lists)
+    rank(alloc, lists, programmes, residents, &mut builder)?;
+    finished(builder, records, keeps_lists)
 }

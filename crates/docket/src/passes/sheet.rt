@@ -1,18 +1,16 @@
-//! The third pass over the rows: it reads the sheet.
-ghost use Rattle.std.specs.Prelude.{◌≡◌, ◌<◌, ◌+◌, ◌&&◌, [], false, None, replicate, length, take, IfOk, IfErr, OnOk};
+//! The third pass: the sheet.
+ghost use Rattle.std.specs.Prelude.{◌≡◌, ◌<◌, ◌++◌, ◌∷◌, ◌&&◌, [], ℕ, List, Some, false, None, is_some, nat_eq, position, replicate, length, IfOk, IfErr, OnOk};
 ghost use Rattle.std.specs.List.{list_all};
-ghost use Rattle.std.specs.Option.{option_or};
-ghost use Rattle.docket.specs.Fields.{kind_of, unless};
-ghost use Rattle.docket.specs.Contents.{placement_of, quotas_of};
-ghost use Rattle.docket.specs.Passes.{first_from, mark_fault, missing_fault, filled_fault, placement_fault};
 ghost use Rattle.docket.specs.Answers.{Answers};
-ghost use Rattle.docket.specs.Rows.{row_at};
+ghost use Rattle.docket.specs.Contents.{placement_of, quotas_of};
+ghost use Rattle.docket.specs.Fields.{Fields, unless};
+ghost use Rattle.docket.specs.Known.{AreKnown};
+ghost use Rattle.docket.specs.Passes.{first_from, mark_fault, filled_fault, placement_fault};
+ghost use Rattle.docket.specs.SheetRows.{AreSheetRows};
 
 use crate::fault::DocketFault;
-use crate::kind::KeptKind;
-use crate::store::tables::Tables;
-use crate::vocabulary::{FILLED, MATCHED, UNMATCHED};
-use docket_names::digits_worth;
+use crate::store::sheet_rows::{Mark, SheetRow, SheetRows};
+use docket_names::Members;
 use match_model::{Assignment, Instance, ProgrammeNo, ResidentNo};
 use std::alloc::{AllocError, Global};
 
@@ -37,6 +35,18 @@ fn all_set(flags: &[bool]) -> bool
     flags.iter().all(|flag| *flag)
 }
 
+// The member whose name is this text.
+fn known(members: &Members, text: u32, place: u32) -> Result<u32, DocketFault>
+    ensures member { IfOk result (λ member. position (nat_eq text) members.now ≡ Some member) }
+    ensures below { IfOk result (λ member. member < length members.now) }
+    ensures fault { Answers (unless (is_some (position (nat_eq text) members.now)) (DocketFault.UnknownName place)) result }
+{
+    match members.member(text as usize) {
+        Some(member) => Ok(member),
+        None => Err(DocketFault::UnknownName { place }),
+    }
+}
+
 // What is known from those rows of the sheet that were read so far.
 #[derive(Drop)]
 struct Marks {
@@ -50,16 +60,17 @@ struct Marks {
 }
 
 impl Marks {
-    ghost use Rattle.docket.specs.Marks.{IsMarked};
+    ghost use Rattle.docket.specs.SheetMarks.{IsBlank, IsMarked, IsSized, StandsAfter};
 
     // The marks before any row of the sheet is read.
-    fn new(alloc: Global, tables: &Tables) -> Result<Marks, DocketFault>
-        ensures marked { IfOk result (λ marks. IsMarked marks tables.now []) }
+    fn new(alloc: Global, programmes: usize, residents: usize) -> Result<Marks, DocketFault>
+        ensures blank { IfOk result (λ marks. IsBlank marks programmes residents) }
         ensures memory { IfErr result (λ e. e ≡ DocketFault.Memory) }
     {
-        let residents = tables.residents();
-        let programmes = tables.programmes();
-        let Ok(sheet) = Assignment::new(alloc, residents as u32) else {
+        let Ok(count) = u32::try_from(residents) else {
+            return Err(DocketFault::Memory);
+        };
+        let Ok(sheet) = Assignment::new(alloc, count) else {
             return Err(DocketFault::Memory);
         };
         let marked = flags(alloc, residents)?;
@@ -74,90 +85,108 @@ impl Marks {
     }
 
     // Enters a row `M,resident,programme` into the marks.
-    fn add_matched(&mut self, tables: &Tables, k: usize) -> Result<(), DocketFault>
-        requires place { k < length tables.now }
-        requires kind { kind_of (row_at tables.now k) ≡ MATCHED }
-        requires marked { IsMarked self.old tables.now (take k tables.now) }
-        ensures marked { OnOk result (IsMarked self.new tables.now (take (k + 1) tables.now)) }
-        ensures fault { Answers (mark_fault tables.now (take k tables.now) (row_at tables.now k)) result }
+    fn add_matched(
+        &mut self,
+        programmes: &Members,
+        residents: &Members,
+        place: u32,
+        resident: u32,
+        programme: u32,
+    ) -> Result<(), DocketFault>
+        requires sizes { IsSized self.old (length programmes.now) (length residents.now) }
+        ensures sizes { OnOk result (IsSized self.new (length programmes.now) (length residents.now)) }
+        ensures marked { OnOk result ((texts : Fields) (all before : List Fields) (row : Fields) → StandsAfter texts programmes.now residents.now all before place (Mark.Matched resident programme) row → IsMarked self.old all before → IsMarked self.new all (before ++ row ∷ [])) }
+        ensures fault { (texts : Fields) (all before : List Fields) (row : Fields) → StandsAfter texts programmes.now residents.now all before place (Mark.Matched resident programme) row → IsMarked self.old all before → Answers (mark_fault all before row) result }
     {
-        let place = tables.place(k);
-        let Some(resident) = tables.resident(k, 1) else {
-            return Err(DocketFault::UnknownName { place });
-        };
-        let Some(programme) = tables.programme(k, 2) else {
-            return Err(DocketFault::UnknownName { place });
-        };
-        if self.marked[resident.0 as usize] {
+        let resident = known(residents, resident, place)?;
+        let programme = known(programmes, programme, place)?;
+        if self.marked[resident as usize] {
             return Err(DocketFault::BadSheet { place });
         }
-        self.marked[resident.0 as usize] = true;
-        self.counts[programme.0 as usize] += 1;
-        self.sheet.set(resident, Some(programme));
+        self.marked[resident as usize] = true;
+        self.counts[programme as usize] = self.counts[programme as usize].saturating_add(1);
+        self.sheet
+            .set(ResidentNo(resident), Some(ProgrammeNo(programme)));
         Ok(())
     }
 
     // Enters a row `U,resident` into the marks.
-    fn add_unmatched(&mut self, tables: &Tables, k: usize) -> Result<(), DocketFault>
-        requires place { k < length tables.now }
-        requires kind { kind_of (row_at tables.now k) ≡ UNMATCHED }
-        requires marked { IsMarked self.old tables.now (take k tables.now) }
-        ensures marked { OnOk result (IsMarked self.new tables.now (take (k + 1) tables.now)) }
-        ensures fault { Answers (mark_fault tables.now (take k tables.now) (row_at tables.now k)) result }
+    fn add_unmatched(
+        &mut self,
+        residents: &Members,
+        place: u32,
+        resident: u32,
+    ) -> Result<(), DocketFault>
+        requires sizes { length self.old.marked.items ≡ length residents.now }
+        ensures sizes { (programmes : ℕ) → IsSized self.old programmes (length residents.now) → OnOk result (IsSized self.new programmes (length residents.now)) }
+        ensures marked { (programmes : List ℕ) → OnOk result ((texts : Fields) (all before : List Fields) (row : Fields) → StandsAfter texts programmes residents.now all before place (Mark.Unmatched resident) row → IsMarked self.old all before → IsMarked self.new all (before ++ row ∷ [])) }
+        ensures fault { (programmes : List ℕ) (texts : Fields) (all before : List Fields) (row : Fields) → StandsAfter texts programmes residents.now all before place (Mark.Unmatched resident) row → IsMarked self.old all before → Answers (mark_fault all before row) result }
     {
-        let place = tables.place(k);
-        let Some(resident) = tables.resident(k, 1) else {
-            return Err(DocketFault::UnknownName { place });
-        };
-        if self.marked[resident.0 as usize] {
+        let resident = known(residents, resident, place)?;
+        if self.marked[resident as usize] {
             return Err(DocketFault::BadSheet { place });
         }
-        self.marked[resident.0 as usize] = true;
+        self.marked[resident as usize] = true;
         Ok(())
     }
 
-    // Enters a row `F,programme,filled,quota` into the marks.
-    fn add_filled(&mut self, tables: &Tables, k: usize) -> Result<(), DocketFault>
-        requires place { k < length tables.now }
-        requires kind { kind_of (row_at tables.now k) ≡ FILLED }
-        requires marked { IsMarked self.old tables.now (take k tables.now) }
-        ensures marked { OnOk result (IsMarked self.new tables.now (take (k + 1) tables.now)) }
-        ensures fault { Answers (mark_fault tables.now (take k tables.now) (row_at tables.now k)) result }
+    // Enters a row `F,programme,filled,quota` into the marks. The numbers are not needed here.
+    fn add_filled(
+        &mut self,
+        programmes: &Members,
+        place: u32,
+        programme: u32,
+    ) -> Result<(), DocketFault>
+        requires sizes { length self.old.filled.items ≡ length programmes.now }
+        ensures sizes { (residents : ℕ) → IsSized self.old (length programmes.now) residents → OnOk result (IsSized self.new (length programmes.now) residents) }
+        ensures marked { (filled quota : ℕ) (residents : List ℕ) → OnOk result ((texts : Fields) (all before : List Fields) (row : Fields) → StandsAfter texts programmes.now residents all before place (Mark.Filled programme filled quota) row → IsMarked self.old all before → IsMarked self.new all (before ++ row ∷ [])) }
+        ensures fault { (filled quota : ℕ) (residents : List ℕ) (texts : Fields) (all before : List Fields) (row : Fields) → StandsAfter texts programmes.now residents all before place (Mark.Filled programme filled quota) row → IsMarked self.old all before → Answers (mark_fault all before row) result }
     {
-        let place = tables.place(k);
-        let Some(programme) = tables.programme(k, 1) else {
-            return Err(DocketFault::UnknownName { place });
-        };
-        if self.filled[programme.0 as usize] {
+        let programme = known(programmes, programme, place)?;
+        if self.filled[programme as usize] {
             return Err(DocketFault::BadSheet { place });
         }
-        self.filled[programme.0 as usize] = true;
+        self.filled[programme as usize] = true;
         Ok(())
     }
 
-    // Enters row `k` into the marks, if the row is an M, U or F row.
-    fn add_row(&mut self, tables: &Tables, k: usize) -> Result<(), DocketFault>
-        requires place { k < length tables.now }
-        requires marked { IsMarked self.old tables.now (take k tables.now) }
-        ensures marked { OnOk result (IsMarked self.new tables.now (take (k + 1) tables.now)) }
-        ensures fault { Answers (mark_fault tables.now (take k tables.now) (row_at tables.now k)) result }
+    // Enters a kept row into the marks.
+    fn add_row(
+        &mut self,
+        programmes: &Members,
+        residents: &Members,
+        kept: SheetRow,
+    ) -> Result<(), DocketFault>
+        requires sizes { IsSized self.old (length programmes.now) (length residents.now) }
+        ensures sizes { OnOk result (IsSized self.new (length programmes.now) (length residents.now)) }
+        ensures marked { OnOk result ((texts : Fields) (all before : List Fields) (row : Fields) → StandsAfter texts programmes.now residents.now all before kept.place kept.mark row → IsMarked self.old all before → IsMarked self.new all (before ++ row ∷ [])) }
+        ensures fault { (texts : Fields) (all before : List Fields) (row : Fields) → StandsAfter texts programmes.now residents.now all before kept.place kept.mark row → IsMarked self.old all before → Answers (mark_fault all before row) result }
     {
-        match tables.kind(k) {
-            KeptKind::Matched => self.add_matched(tables, k),
-            KeptKind::Unmatched => self.add_unmatched(tables, k),
-            KeptKind::Filled => self.add_filled(tables, k),
-            _ => Ok(()),
+        let place = kept.place;
+        match kept.mark {
+            Mark::Matched {
+                resident,
+                programme,
+            } => self.add_matched(programmes, residents, place, resident, programme),
+            Mark::Unmatched { resident } => self.add_unmatched(residents, place, resident),
+            Mark::Filled { programme, .. } => self.add_filled(programmes, place, programme),
         }
     }
 
-    // The first walk over the rows: it enters the M, U and F rows into the marks.
-    fn add_rows(&mut self, tables: &Tables) -> Result<(), DocketFault>
-        requires { IsMarked self.old tables.now [] }
-        ensures marked { OnOk result (IsMarked self.new tables.now tables.now) }
-        ensures fault { Answers (first_from (mark_fault tables.now) [] tables.now) result }
+    // The first walk over the rows: it enters them into the marks.
+    fn add_rows(
+        &mut self,
+        rows: &[SheetRow],
+        programmes: &Members,
+        residents: &Members,
+    ) -> Result<(), DocketFault>
+        requires sizes { IsSized self.old (length programmes.now) (length residents.now) }
+        ensures sizes { OnOk result (IsSized self.new (length programmes.now) (length residents.now)) }
+        ensures marked { OnOk result ((texts : Fields) (all : List Fields) → AreSheetRows texts rows.now all → AreKnown texts programmes.now residents.now all → IsMarked self.old all [] → IsMarked self.new all all) }
+        ensures fault { (texts : Fields) (all : List Fields) → AreSheetRows texts rows.now all → AreKnown texts programmes.now residents.now all → IsMarked self.old all [] → Answers (first_from (mark_fault all) [] all) result }
     {
-        for k in 0..tables.events_from() {
-            self.add_row(tables, k)?;
+        for kept in rows {
+            self.add_row(programmes, residents, *kept)?;
         }
         Ok(())
     }
@@ -169,62 +198,65 @@ impl Marks {
         all_set(self.marked.as_slice()) && all_set(self.filled.as_slice())
     }
 
-    // Whether the F row `k` agrees with the number of M rows and with the quota.
-    fn is_right(&self, tables: &Tables, k: usize, instance: &Instance) -> bool
-        requires place { k < length tables.now }
-        requires kind { kind_of (row_at tables.now k) ≡ FILLED }
-        requires marked { IsMarked self.now tables.now tables.now }
-        requires quotas { instance.now.quotas ≡ quotas_of tables.now }
-        requires known { first_from (mark_fault tables.now) [] tables.now ≡ None }
-        ensures { filled_fault tables.now (take k tables.now) (row_at tables.now k) ≡ unless result (DocketFault.BadSheet (k + 1)) }
+    // Whether a kept row agrees with the number of M rows and with the quota, if the row is an F row.
+    fn is_right(&self, programmes: &Members, kept: SheetRow, instance: &Instance) -> bool
+        requires sizes { length self.now.counts.items ≡ length programmes.now }
+        requires quotas { length instance.now.quotas ≡ length programmes.now }
+        ensures { (texts : Fields) (residents : List ℕ) (all before : List Fields) (row : Fields) → StandsAfter texts programmes.now residents all before kept.place kept.mark row → IsMarked self.now all all → instance.now.quotas ≡ quotas_of all → first_from (mark_fault all) [] all ≡ None → filled_fault all before row ≡ unless result (DocketFault.BadSheet kept.place) }
     {
-        // For the proof alone: the rows passed the first pass, so they have no fault of their own.
-        let _sound = tables.place(k);
-        let Some(programme) = tables.programme(k, 1) else {
-            unreachable!("the first walk knew the programme");
+        let Mark::Filled {
+            programme,
+            filled,
+            quota,
+        } = kept.mark
+        else {
+            return true;
         };
-        let filled = digits_worth(tables.field(k, 2));
-        let quota = digits_worth(tables.field(k, 3));
-        filled == self.counts[programme.0 as usize] && quota == instance.quota(programme)
+        // After the first walk there is no row of an unknown programme.
+        let Some(programme) = programmes.member(programme as usize) else {
+            return false;
+        };
+        filled == self.counts[programme as usize] && quota == instance.quota(ProgrammeNo(programme))
     }
 
     // The third walk over the rows: it finds the first F row whose numbers are wrong.
-    fn check_filled(&self, tables: &Tables, instance: &Instance) -> Result<(), DocketFault>
-        requires marked { IsMarked self.now tables.now tables.now }
-        requires quotas { instance.now.quotas ≡ quotas_of tables.now }
-        requires known { first_from (mark_fault tables.now) [] tables.now ≡ None }
-        ensures { Answers (first_from (filled_fault tables.now) [] tables.now) result }
+    fn check_filled(
+        &self,
+        rows: &[SheetRow],
+        programmes: &Members,
+        instance: &Instance,
+    ) -> Result<(), DocketFault>
+        requires sizes { length self.now.counts.items ≡ length programmes.now }
+        requires quotas { length instance.now.quotas ≡ length programmes.now }
+        ensures { (texts : Fields) (residents : List ℕ) (all : List Fields) → AreSheetRows texts rows.now all → AreKnown texts programmes.now residents all → IsMarked self.now all all → instance.now.quotas ≡ quotas_of all → first_from (mark_fault all) [] all ≡ None → Answers (first_from (filled_fault all) [] all) result }
     {
-        for k in 0..tables.events_from() {
-            if let KeptKind::Filled = tables.kind(k) {
-                if !self.is_right(tables, k, instance) {
-                    return Err(DocketFault::BadSheet {
-                        place: tables.place(k),
-                    });
-                }
+        for kept in rows {
+            if !self.is_right(programmes, *kept, instance) {
+                return Err(DocketFault::BadSheet { place: kept.place });
             }
         }
         Ok(())
     }
 }
 
-/// The sheet of a docket that has a sheet.
+/// The sheet of a docket that has a sheet, from so many records.
 pub(crate) fn sheet_of(
     alloc: Global,
-    tables: &Tables,
+    records: u32,
+    rows: &SheetRows,
+    programmes: &Members,
+    residents: &Members,
     instance: &Instance,
 ) -> Result<Assignment, DocketFault>
-    requires { instance.now.quotas ≡ quotas_of tables.now }
-    ensures sheet { IfOk result (λ sheet. sheet ≡ placement_of tables.now) }
-    ensures fault { Answers (placement_fault tables.now) result }
+    requires quotas { length instance.now.quotas ≡ length programmes.now }
+    ensures sheet { IfOk result (λ sheet. (texts : Fields) (all : List Fields) → AreSheetRows texts rows.now all → AreKnown texts programmes.now residents.now all → instance.now.quotas ≡ quotas_of all → records ≡ length all → sheet ≡ placement_of all) }
+    ensures fault { (texts : Fields) (all : List Fields) → AreSheetRows texts rows.now all → AreKnown texts programmes.now residents.now all → instance.now.quotas ≡ quotas_of all → records ≡ length all → Answers (placement_fault all) result }
 {
-    let mut marks = Marks::new(alloc, tables)?;
-    marks.add_rows(tables)?;
+    let mut marks = Marks::new(alloc, programmes.len(), residents.len())?;
+    marks.add_rows(rows.rows(), programmes, residents)?;
     if !marks.is_complete() {
-        return Err(DocketFault::BadSheet {
-            place: tables.len() as u32,
-        });
+        return Err(DocketFault::BadSheet { place: records });
     }
-    marks.check_filled(tables, instance)?;
+    marks.check_filled(rows.rows(), programmes, instance)?;
     Ok(marks.sheet)
 }

@@ -1,23 +1,15 @@
-use Rattle.std.proofs.Common.{◌∙◌, sym, inr, arith, refl}
-use Rattle.docket.specs.Contents.{programmes_of}
-use Rattle.docket.specs.Rows.{row_at}
-use Rattle.docket.proofs.NumberFacts.{listed_step, listed_fail, listed_all, listed_sound}
+use Rattle.std.proofs.Common.{◌≡◌, ◌∙◌, sym, inr, arith, refl, false, get_or}
+use Rattle.std.specs.List.{list_all}
+use Rattle.docket.specs.ListPass.{is_member}
+use Rattle.docket.proofs.ListNextFacts.{members_more, member_missing}
 use Rattle.docket.proofs.passes.ranking.listed_programmes.Goals as goal
 
 pub returns-in_default-clause-fault : goal.returns-in_default-clause-fault
 returns-in_default-clause-fault c =
-    let fail = listed_fail (programmes_of c.args.tables.now) (row_at c.args.tables.now c.args.k) c.loop-i.i (omega arith) (sym c.programme.ensures ∙ c.in_default.is) in
-    rw (fail, c.place.ensures.place) (inr refl)
+    let fail : list_all (is_member c.args.programmes.now) c.args.names.now ≡ false = member_missing c.args.programmes.now c.args.names.now c.loop-name.name-index (omega arith) (sym c.member.ensures ∙ c.in_default.is) in
+    rw fail (inr refl)
 
-pub loop-i-preserved : goal.loop-i-preserved
-loop-i-preserved c =
-    listed_step (programmes_of c.args.tables.now) (row_at c.args.tables.now c.args.k) c.loop-i.i c.in-Some.programme c.loop-i.listed.items c.push.new.self.items (omega arith)
-    c.loop-i.invariant.0 c.loop-i.invariant.1 (sym c.programme.ensures ∙ c.in-Some.is) c.in_ok-push.ensures.items
-
-pub returns-clause-listed : goal.returns-clause-listed
-returns-clause-listed c =
-    listed_all (programmes_of c.args.tables.now) (row_at c.args.tables.now c.args.k) c.loop-i.i c.loop-i.listed.items (omega arith) c.loop-i.invariant.0
-
-pub returns-clause-fault : goal.returns-clause-fault
-returns-clause-fault c =
-    listed_sound (programmes_of c.args.tables.now) (row_at c.args.tables.now c.args.k) c.loop-i.i _ (omega arith) c.loop-i.invariant.1
+pub loop-name-preserved : goal.loop-name-preserved
+loop-name-preserved c =
+    members_more c.args.programmes.now c.args.names.now c.loop-name.name-index (get_or c.args.names.now c.loop-name.name-index 0) c.in-Some.programme c.loop-name.listed.items c.push.new.self.items (omega arith) refl (sym c.member.ensures ∙ c.in-Some.is)
+    c.loop-name.invariant.0 c.loop-name.invariant.1 c.in_ok-push.ensures.items

@@ -1,9 +1,7 @@
-use Rattle.std.proofs.Common.{◌≡◌, map, take, drop, true}
+use Rattle.std.proofs.Common.{◌≡◌, map, take, true}
 use Rattle.std.specs.List.{list_all}
-use Rattle.docket.specs.Contents.{member_in, programmes_of}
-use Rattle.docket_names.specs.Texts.{is_declared}
-use Rattle.docket.specs.Rows.{row_at}
+use Rattle.docket.specs.ListPass.{is_member, member_at}
 use Rattle.docket.proofs.passes.ranking.listed_programmes.Given as goal
 
-abbrev pub invariant-loop-i : goal.invariant-loop-i
-invariant-loop-i l = (l.listed.items ≡ map (member_in (programmes_of l.tables)) (take l.i (drop 2 (row_at l.tables l.k)))) × (list_all (is_declared (programmes_of l.tables)) (take l.i (drop 2 (row_at l.tables l.k))) ≡ true)
+abbrev pub invariant-loop-name : goal.invariant-loop-name
+invariant-loop-name l = (l.listed.items ≡ map (member_at l.programmes) (take l.name-index l.names)) × (list_all (is_member l.programmes) (take l.name-index l.names) ≡ true)

@@ -1,33 +1,41 @@
-use Rattle.std.proofs.Common.{◌≡◌, ◌∙◌, refl, arith}
+use Rattle.std.proofs.Common.{◌≤◌, ◌+◌, ◌∙◌, refl, arith, length, drop}
 use Rattle.std.proofs.lemmas.Result.{err_from_is_err_and}
 use Rattle.docket.specs.Passes.{ranking_fault}
-use Rattle.docket.proofs.PassFacts.{pass_start, pass_more, pass_fault}
-use Rattle.docket.proofs.RestFacts.{ranked_rest}
+use Rattle.docket.proofs.PassFacts.{pass_fault}
+use Rattle.docket.proofs.ListBeginFacts.{begin_at}
+use Rattle.docket.proofs.ListPassFacts.{next_at, all_done, entries_split, no_more}
 use Rattle.docket.proofs.passes.ranking.rank.Goals as goal
 
-pub loop-k-init : goal.loop-k-init
-loop-k-init c = (c.requires, pass_start (ranking_fault c.args.tables.now) c.args.tables.now, refl)
+pub loop-j-init : goal.loop-j-init
+loop-j-init c = (λ texts rows lists known start. begin_at texts c.args.programmes.now c.args.residents.now c.args.lists.now rows c.args.builder.now lists known start, refl)
 
-pub loop-k-preserved : goal.loop-k-preserved
-loop-k-preserved c =
-    (c.in_ok-rank_row.ensures.ranked, pass_more (ranking_fault c.args.tables.now) c.args.tables.now c.loop-k.k (omega arith) c.loop-k.invariant.1 c.in_ok-rank_row.ensures.fault, c.in_ok-rank_row.ensures.limits ∙ c.loop-k.invariant.2)
+pub loop-j-preserved : goal.loop-j-preserved
+loop-j-preserved c = (
+  λ texts rows lists known start.
+      let s = entries_split c.args.lists.now.entries c.loop-j.j (omega arith) in
+      let n = next_at texts c.args.programmes.now c.args.residents.now c.loop-j.builder rows s.entry (drop (c.loop-j.j + 1) c.args.lists.now.entries) known
+      (rw s.split at (c.loop-j.invariant.0 texts rows lists known start)) in
+      n.after c.rank_row.new.builder (c.in_ok-rank_row.ensures.ranked texts rows n.k s.entry s.at n.next) (c.in_ok-rank_row.ensures.fault texts rows n.k s.entry s.at n.next),
+  c.in_ok-rank_row.ensures.limits ∙ c.loop-j.invariant.1,
+)
 
 pub returns-in_err-rank_row-clause-fault : goal.returns-in_err-rank_row-clause-fault
-returns-in_err-rank_row-clause-fault c =
+returns-in_err-rank_row-clause-fault c texts rows lists known start =
+    let s = entries_split c.args.lists.now.entries c.loop-j.j (omega arith) in
+    let n = next_at texts c.args.programmes.now c.args.residents.now c.loop-j.builder rows s.entry (drop (c.loop-j.j + 1) c.args.lists.now.entries) known
+    (rw s.split at (c.loop-j.invariant.0 texts rows lists known start)) in
     let p = err_from_is_err_and c.from_residual.result c.from_residual.ensures.1 in
-    rw (p.1, p.2) (pass_fault (ranking_fault c.args.tables.now) c.args.tables.now c.loop-k.k _ (omega arith) c.loop-k.invariant.1 c.in_err-rank_row.ensures.fault)
+    rw (p.1, p.2) (pass_fault (ranking_fault rows) rows n.k _ n.next.there n.none (c.in_err-rank_row.ensures.fault texts rows n.k s.entry s.at n.next))
 
 pub returns-clause-ranked : goal.returns-clause-ranked
-returns-clause-ranked c =
-    let end : c.loop-k.k ≡ c.events_from-k-end.result = omega arith in
-    let done = rw end at c.loop-k.invariant in
-    (ranked_rest c.loop-k.builder c.args.tables.now c.events_from-k-end.result c.events_from-k-end.ensures.within c.events_from-k-end.ensures.events done.0 done.1).0
+returns-clause-ranked c texts rows lists known start =
+    let end : length c.args.lists.now.entries ≤ c.loop-j.j = omega arith in
+    (all_done texts rows c.loop-j.builder (rw (no_more c.args.lists.now.entries c.loop-j.j end) at (c.loop-j.invariant.0 texts rows lists known start))).0
 
 pub returns-clause-fault : goal.returns-clause-fault
-returns-clause-fault c =
-    let end : c.loop-k.k ≡ c.events_from-k-end.result = omega arith in
-    let done = rw end at c.loop-k.invariant in
-    (ranked_rest c.loop-k.builder c.args.tables.now c.events_from-k-end.result c.events_from-k-end.ensures.within c.events_from-k-end.ensures.events done.0 done.1).1
+returns-clause-fault c texts rows lists known start =
+    let end : length c.args.lists.now.entries ≤ c.loop-j.j = omega arith in
+    (all_done texts rows c.loop-j.builder (rw (no_more c.args.lists.now.entries c.loop-j.j end) at (c.loop-j.invariant.0 texts rows lists known start))).1
 
 pub returns-clause-limits : goal.returns-clause-limits
-returns-clause-limits c = c.loop-k.invariant.2
+returns-clause-limits c = c.loop-j.invariant.1

@@ -1,7 +1,11 @@
-use Rattle.std.proofs.Common.{◌≡◌, take, [], None}
-use Rattle.docket.specs.Passes.{first_from, ranking_fault}
+use Rattle.std.proofs.Common.{◌≡◌, [], List, drop}
+use Rattle.docket.specs.Fields.{Fields}
+use Rattle.docket.specs.Known.{AreKnown}
+use Rattle.docket.specs.Lists.{AreLists}
 use Rattle.docket.specs.Ranking.{IsRanked}
+use Rattle.docket.proofs.ListPassFacts.{IsAt}
 use Rattle.docket.proofs.passes.ranking.rank.Given as goal
 
-abbrev pub invariant-loop-k : goal.invariant-loop-k
-invariant-loop-k l = IsRanked l.builder l.tables (take l.k l.tables) × (first_from (ranking_fault l.tables) [] (take l.k l.tables) ≡ None) × (l.builder.limits ≡ l.initial.builder.limits)
+abbrev pub invariant-loop-j : goal.invariant-loop-j
+invariant-loop-j l = ((texts : Fields) (rows : List Fields) → AreLists texts l.lists rows → AreKnown texts l.programmes l.residents rows → IsRanked l.initial.builder rows [] → IsAt texts rows l.builder (drop l.j l.lists.entries))
+    × (l.builder.limits ≡ l.initial.builder.limits)

@@ -1,54 +1,45 @@
-use Rattle.std.proofs.Common.{◌∙◌, sym, inr, refl, take, drop}
+use Rattle.std.proofs.Common.{◌∙◌, sym, inr, take}
 use Rattle.std.proofs.lemmas.Result.{err_from_is_err_and}
-use Rattle.match_model.specs.Draft.{has_no_repeats}
-use Rattle.docket.specs.Fields.{unless}
-use Rattle.std.specs.List.{list_all}
-use Rattle.docket.specs.declared.fault.DocketFault.TheVariants.{UnknownName}
+use Rattle.docket.specs.Contents.{residents_of}
 use Rattle.docket.specs.Rows.{row_at}
-use Rattle.docket.specs.Contents.{residents_of, listed_in}
-use Rattle.docket_names.specs.Texts.{is_declared}
 use Rattle.docket.proofs.SoundFacts.{unless_none}
-use Rattle.docket.proofs.DeclarationFacts.{refuses_first, refuses_second, no_fault}
-use Rattle.docket.proofs.RankingFacts.{place_at, ranking_fault-owned, ranking_fault-unowned, ranked_programme, programme_list_fault, listed_answer, listed_fine}
+use Rattle.docket.proofs.RankingFacts.{place_at, ranking_fault-owned, ranked_programme, programme_list_fault}
+use Rattle.docket.proofs.ListNextFacts.{programme_unknown, programme_says, unknown_refused, list_fine, list_refused}
 use Rattle.docket.proofs.passes.ranking.rank_residents.Goals as goal
 
 pub returns-in_default-clause-fault : goal.returns-in_default-clause-fault
-returns-in_default-clause-fault c =
-    let place = c.place-place.ensures.place ∙ place_at c.args.tables.now c.args.k c.requires.place in
-    inr (ranking_fault-unowned c.args.tables.now (take c.args.k c.args.tables.now) (row_at c.args.tables.now c.args.k) c.place-place.result c.requires.kind (sym c.programme.ensures ∙ c.in_default.is) place)
+returns-in_default-clause-fault c texts rows k h =
+    inr (programme_unknown texts c.args.programmes.now c.args.residents.now c.args.builder.now rows k c.args.row.now.place c.args.row.now.owner c.args.row.now.listed.now h (sym c.member.ensures ∙ c.in_default.is))
 
 pub returns-in_err-listed_residents-clause-fault : goal.returns-in_err-listed_residents-clause-fault
-returns-in_err-listed_residents-clause-fault c =
-    let place = c.place-place.ensures.place ∙ place_at c.args.tables.now c.args.k c.requires.place in
-    let at = sym c.programme.ensures ∙ c.in-Some.is in
-    let asked = ranking_fault-owned c.args.tables.now (take c.args.k c.args.tables.now) (row_at c.args.tables.now c.args.k) c.place-place.result c.in-Some.owner c.requires.kind at place in
+returns-in_err-listed_residents-clause-fault c texts rows k h =
+    let says = programme_says texts c.args.programmes.now c.args.residents.now c.args.builder.now rows k c.args.row.now.place c.args.row.now.owner c.in-Some.owner c.args.row.now.listed.now h (sym c.member.ensures ∙ c.in-Some.is) in
+    let asked = ranking_fault-owned rows (take k rows) (row_at rows k) c.args.row.now.place c.in-Some.owner h.shown.0 says.owner (h.place ∙ place_at rows k h.there) in
     let p = err_from_is_err_and c.from_residual.result c.from_residual.ensures.1 in
-    let refused = rw (← c.place-place.ensures.place) at c.in_err-listed_residents.ensures.fault in
-    rw (p.1, p.2, asked) (refuses_first _ _ _ refused)
+    rw (p.1, p.2, asked) (unknown_refused c.args.row.now.place (residents_of rows) (row_at rows k) c.args.residents.now c.args.row.now.listed.now _ _ says.same c.in_err-listed_residents.ensures.fault)
 
 pub returns-in-Ok-clause-ranked : goal.returns-in-Ok-clause-ranked
-returns-in-Ok-clause-ranked c =
-    let at = sym c.programme.ensures ∙ c.in-Some.is in
-    let items = c.as_slice.ensures.value ∙ c.in_ok-listed_residents.ensures.listed in
-    ranked_programme c.args.builder.now c.programme_list.new.self c.args.tables.now c.args.k c.in-Some.owner c.place-place.ensures.sound c.place-place.ensures.few c.requires.place c.requires.kind at c.requires.ranked
-    (rw items at c.in-Ok.ensures.given)
+returns-in-Ok-clause-ranked c texts rows k h =
+    let says = programme_says texts c.args.programmes.now c.args.residents.now c.args.builder.now rows k c.args.row.now.place c.args.row.now.owner c.in-Some.owner c.args.row.now.listed.now h (sym c.member.ensures ∙ c.in-Some.is) in
+    let known = unless_none _ _ c.in_ok-listed_residents.ensures.fault in
+    let items = c.as_slice.ensures.value ∙ c.in_ok-listed_residents.ensures.listed ∙ says.whole known in
+    ranked_programme c.args.builder.now c.programme_list.new.self rows k c.in-Some.owner h.known.sound h.known.few h.there h.shown.0 says.owner h.ranked (rw items at c.in-Ok.ensures.given)
 
 pub returns-in-Ok-clause-fault : goal.returns-in-Ok-clause-fault
-returns-in-Ok-clause-fault c =
-    let place = c.place-place.ensures.place ∙ place_at c.args.tables.now c.args.k c.requires.place in
-    let at = sym c.programme.ensures ∙ c.in-Some.is in
-    let asked = ranking_fault-owned c.args.tables.now (take c.args.k c.args.tables.now) (row_at c.args.tables.now c.args.k) c.place-place.result c.in-Some.owner c.requires.kind at place in
-    let items = c.as_slice.ensures.value ∙ c.in_ok-listed_residents.ensures.listed in
+returns-in-Ok-clause-fault c texts rows k h =
+    let says = programme_says texts c.args.programmes.now c.args.residents.now c.args.builder.now rows k c.args.row.now.place c.args.row.now.owner c.in-Some.owner c.args.row.now.listed.now h (sym c.member.ensures ∙ c.in-Some.is) in
+    let asked = ranking_fault-owned rows (take k rows) (row_at rows k) c.args.row.now.place c.in-Some.owner h.shown.0 says.owner (h.place ∙ place_at rows k h.there) in
     let known = unless_none _ _ c.in_ok-listed_residents.ensures.fault in
-    let answer = programme_list_fault c.args.builder.now c.args.tables.now c.args.k c.in-Some.owner c.as_slice.result.now c.place-place.ensures.sound c.place-place.ensures.few c.requires.place c.requires.kind at c.requires.ranked items known in
-    asked ∙ no_fault _ _ (rw known refl) (listed_fine c.place-place.result (has_no_repeats (listed_in (residents_of c.args.tables.now) (row_at c.args.tables.now c.args.k))) _ answer c.in-Ok.ensures.first_fault)
+    let items = c.as_slice.ensures.value ∙ c.in_ok-listed_residents.ensures.listed ∙ says.whole known in
+    let answer = programme_list_fault c.args.builder.now rows k c.in-Some.owner c.as_slice.result.now h.known.sound h.known.few h.there h.shown.0 says.owner h.ranked items (sym says.same ∙ known) in
+    asked ∙ list_fine c.args.row.now.place (residents_of rows) (row_at rows k) c.args.residents.now c.args.row.now.listed.now _ says.same c.in_ok-listed_residents.ensures.fault answer c.in-Ok.ensures.first_fault
 
 pub returns-in-Err-clause-fault : goal.returns-in-Err-clause-fault
-returns-in-Err-clause-fault c =
-    let place = c.place-place.ensures.place ∙ place_at c.args.tables.now c.args.k c.requires.place in
-    let at = sym c.programme.ensures ∙ c.in-Some.is in
-    let asked = ranking_fault-owned c.args.tables.now (take c.args.k c.args.tables.now) (row_at c.args.tables.now c.args.k) c.place-place.result c.in-Some.owner c.requires.kind at place in
-    let items = c.as_slice.ensures.value ∙ c.in_ok-listed_residents.ensures.listed in
+returns-in-Err-clause-fault c texts rows k h =
+    let says = programme_says texts c.args.programmes.now c.args.residents.now c.args.builder.now rows k c.args.row.now.place c.args.row.now.owner c.in-Some.owner c.args.row.now.listed.now h (sym c.member.ensures ∙ c.in-Some.is) in
+    let asked = ranking_fault-owned rows (take k rows) (row_at rows k) c.args.row.now.place c.in-Some.owner h.shown.0 says.owner (h.place ∙ place_at rows k h.there) in
     let known = unless_none _ _ c.in_ok-listed_residents.ensures.fault in
-    let answer = programme_list_fault c.args.builder.now c.args.tables.now c.args.k c.in-Some.owner c.as_slice.result.now c.place-place.ensures.sound c.place-place.ensures.few c.requires.place c.requires.kind at c.requires.ranked items known in
-    rw (asked, c.model_fault.ensures) (refuses_second (unless (list_all (is_declared (residents_of c.args.tables.now)) (drop 2 (row_at c.args.tables.now c.args.k))) (UnknownName c.place-place.result)) _ _ (rw known refl) (listed_answer _ c.place-place.result (has_no_repeats (listed_in (residents_of c.args.tables.now) (row_at c.args.tables.now c.args.k))) c.programme_list.result _ answer c.programme_list.ensures.first_fault c.in-Err.fault c.in-Err.is))
+    let items = c.as_slice.ensures.value ∙ c.in_ok-listed_residents.ensures.listed ∙ says.whole known in
+    let answer = programme_list_fault c.args.builder.now rows k c.in-Some.owner c.as_slice.result.now h.known.sound h.known.few h.there h.shown.0 says.owner h.ranked items (sym says.same ∙ known) in
+    rw (asked, c.model_fault.ensures) (list_refused _ c.args.row.now.place (residents_of rows) (row_at rows k) c.args.residents.now c.args.row.now.listed.now _ c.programme_list.result c.in-Err.fault says.same c.in_ok-listed_residents.ensures.fault answer
+    c.programme_list.ensures.first_fault c.in-Err.is)

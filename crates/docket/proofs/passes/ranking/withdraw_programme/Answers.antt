@@ -4,29 +4,26 @@ use Rattle.docket.specs.Passes.{names_on}
 use Rattle.docket.specs.Rows.{row_at}
 use Rattle.docket.proofs.RankingFacts.{place_at}
 use Rattle.docket.proofs.GoneFacts.{withdrawal_named, withdrawal_unnamed, ranked_programme_gone, programme_stays, not_refused}
+use Rattle.docket.proofs.ListNextFacts.{programme_named}
 use Rattle.docket.proofs.passes.ranking.withdraw_programme.Goals as goal
 
 pub returns-in_default-clause-fault : goal.returns-in_default-clause-fault
-returns-in_default-clause-fault c =
-    let place = c.place-place.ensures.place ∙ place_at c.args.tables.now c.args.k c.requires.place in
-    let on = ap (λ side. names_on side c.args.tables.now) c.requires.side in
-    inr (withdrawal_unnamed c.args.tables.now (take c.args.k c.args.tables.now) (row_at c.args.tables.now c.args.k) (programmes_of c.args.tables.now) c.place-place.result c.requires.kind on (sym c.programme.ensures ∙ c.in_default.is) place)
+returns-in_default-clause-fault c texts rows residents k h =
+    let at = programme_named texts c.args.programmes.now residents c.args.builder.now rows k c.args.row.now.place c.args.row.now.owner h ∙ (sym c.member.ensures ∙ c.in_default.is) in
+    inr (withdrawal_unnamed rows (take k rows) (row_at rows k) (programmes_of rows) c.args.row.now.place h.shown.0 (ap (λ side. names_on side rows) h.shown.1) at (h.place ∙ place_at rows k h.there))
 
-pub unreachable-requires : goal.unreachable-requires
-unreachable-requires c =
-    let at = sym c.programme.ensures ∙ c.in-Some.is in
-    let side = c.requires.side in
-    let fine = programme_stays c.args.builder.now c.args.tables.now c.args.k c.in-Some.programme c.place-place.ensures.sound c.place-place.ensures.few c.requires.place c.requires.kind side at c.requires.ranked in
-    not_refused _ c.withdraw_programme.result _ fine c.withdraw_programme.ensures.fault c.in-Err.is
+pub returns-in-Ok-clause-ranked : goal.returns-in-Ok-clause-ranked
+returns-in-Ok-clause-ranked c texts rows residents k h =
+    let at = programme_named texts c.args.programmes.now residents c.args.builder.now rows k c.args.row.now.place c.args.row.now.owner h ∙ (sym c.member.ensures ∙ c.in-Some.is) in
+    ranked_programme_gone c.args.builder.now c.withdraw_programme.new.self rows k c.in-Some.programme h.known.sound h.known.few h.there h.shown.0 h.shown.1 at h.ranked c.in-Ok.ensures.withdrawn
 
-pub returns-clause-ranked : goal.returns-clause-ranked
-returns-clause-ranked c =
-    let at = sym c.programme.ensures ∙ c.in-Some.is in
-    let side = c.requires.side in
-    ranked_programme_gone c.args.builder.now c.withdraw_programme.new.self c.args.tables.now c.args.k c.in-Some.programme c.place-place.ensures.sound c.place-place.ensures.few c.requires.place c.requires.kind side at c.requires.ranked
-    c.in-Ok.ensures.withdrawn
+pub returns-in-Ok-clause-fault : goal.returns-in-Ok-clause-fault
+returns-in-Ok-clause-fault c texts rows residents k h =
+    let at = programme_named texts c.args.programmes.now residents c.args.builder.now rows k c.args.row.now.place c.args.row.now.owner h ∙ (sym c.member.ensures ∙ c.in-Some.is) in
+    withdrawal_named rows (take k rows) (row_at rows k) (programmes_of rows) c.args.row.now.place c.in-Some.programme h.shown.0 (ap (λ side. names_on side rows) h.shown.1) at
 
-pub returns-clause-fault : goal.returns-clause-fault
-returns-clause-fault c =
-    let on = ap (λ side. names_on side c.args.tables.now) c.requires.side in
-    withdrawal_named c.args.tables.now (take c.args.k c.args.tables.now) (row_at c.args.tables.now c.args.k) (programmes_of c.args.tables.now) c.place-place.result c.in-Some.programme c.requires.kind on (sym c.programme.ensures ∙ c.in-Some.is)
+pub returns-in-Err-clause-fault : goal.returns-in-Err-clause-fault
+returns-in-Err-clause-fault c texts rows residents k h =
+    let at = programme_named texts c.args.programmes.now residents c.args.builder.now rows k c.args.row.now.place c.args.row.now.owner h ∙ (sym c.member.ensures ∙ c.in-Some.is) in
+    let fine = programme_stays c.args.builder.now rows k c.in-Some.programme h.known.sound h.known.few h.there h.shown.0 h.shown.1 at h.ranked in
+    absurd (not_refused _ c.withdraw_programme.result _ fine c.withdraw_programme.ensures.fault c.in-Err.is)

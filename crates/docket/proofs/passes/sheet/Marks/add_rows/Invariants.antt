@@ -1,7 +1,14 @@
-use Rattle.std.proofs.Common.{◌≡◌, take, [], None}
-use Rattle.docket.specs.Passes.{first_from, mark_fault}
-use Rattle.docket.specs.Marks.{IsMarked}
+use Rattle.std.proofs.Common.{List, [], length, drop}
+use Rattle.docket.specs.Fields.{Fields}
+use Rattle.docket.specs.Known.{AreKnown}
+use Rattle.docket.specs.SheetRows.{AreSheetRows}
+use Rattle.docket.specs.SheetMarks.{IsMarked, IsSized}
+use Rattle.docket.proofs.SheetWalkFacts.{IsReached, IsMarkedSo}
 use Rattle.docket.proofs.passes.sheet.Marks.add_rows.Given as goal
 
-abbrev pub invariant-loop-k : goal.invariant-loop-k
-invariant-loop-k l = IsMarked l.self l.tables (take l.k l.tables) × (first_from (mark_fault l.tables) [] (take l.k l.tables) ≡ None)
+abbrev pub invariant-loop-kept : goal.invariant-loop-kept
+invariant-loop-kept l = record {
+  sizes : IsSized l.self (length l.programmes) (length l.residents);
+  walk : (texts : Fields) (all : List Fields) (h : AreSheetRows texts l.rows all) → AreKnown texts l.programmes l.residents all → IsMarked l.initial.self all []
+      → IsReached texts h.front (drop l.kept-index l.rows) (IsMarkedSo l.self all);
+}

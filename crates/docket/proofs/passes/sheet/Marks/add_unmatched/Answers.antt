@@ -1,29 +1,31 @@
-use Rattle.std.proofs.Common.{◌∙◌, sym, ap, inr, refl, arith, take, Some}
-use Rattle.docket.specs.Rows.{row_at}
+use Rattle.std.proofs.Common.{◌∙◌, refl}
+use Rattle.std.proofs.lemmas.Result.{err_from_is_err_and}
 use Rattle.docket.specs.Fields.{field}
-use Rattle.docket.proofs.RankingFacts.{place_at}
-use Rattle.docket.proofs.MarkFacts.{marked_at, marked_below, mark_fault-unknown_unmatched, mark_fault-unmatched, second_row, first_row, marks_unmatched}
+use Rattle.docket.proofs.DeclarationFacts.{refuses_first, refuses_second, no_fault}
+use Rattle.docket.proofs.RankingFacts.{distinct_residents}
+use Rattle.docket.proofs.SheetMarkFacts.{unmatched_fault_is, unmatched_resident, marked_at, second_row, first_row, marks_unmatched}
 use Rattle.docket.proofs.passes.sheet.Marks.add_unmatched.Goals as goal
 
-pub returns-in_default-clause-fault : goal.returns-in_default-clause-fault
-returns-in_default-clause-fault c = inr (mark_fault-unknown_unmatched c.args.tables.now (take c.args.k c.args.tables.now) (row_at c.args.tables.now c.args.k) c.place-place.result c.requires.kind (sym c.resident.ensures ∙ c.in_default.is) (c.place-place.ensures.place ∙ place_at c.args.tables.now c.args.k c.requires.place))
-
-pub index-requires : goal.index-requires
-index-requires c = let below = marked_below c.args.self.now c.args.tables.now (take c.args.k c.args.tables.now) (field (row_at c.args.tables.now c.args.k) 1) c.resident-2.inside.0 c.requires.marked (sym c.resident.ensures ∙ c.in-Some.is ∙ ap Some (sym c.resident-2.view_is)) in omega (arith, c.resident-2.view_is, c.args.self.now.marked.ok)
-
-pub index_mut-requires : goal.index_mut-requires
-index_mut-requires c = let below = marked_below c.args.self.now c.args.tables.now (take c.args.k c.args.tables.now) (field (row_at c.args.tables.now c.args.k) 1) c.resident-2.inside.0 c.requires.marked (sym c.resident.ensures ∙ c.in-Some.is ∙ ap Some (sym c.resident-2.view_is)) in omega (arith, c.resident-2.view_is, c.args.self.now.marked.ok)
+pub returns-in_err-resident-clause-fault : goal.returns-in_err-resident-clause-fault
+returns-in_err-resident-clause-fault c = λ programmes texts all before row h marked.
+    let p = err_from_is_err_and c.from_residual.result c.from_residual.ensures.1 in
+    rw (p.1, p.2, unmatched_fault_is texts programmes c.args.residents.now all before c.args.place c.args.resident row h) (refuses_first _ _ _ c.in_err-resident.ensures.fault)
 
 pub returns-then-index-clause-fault : goal.returns-then-index-clause-fault
-returns-then-index-clause-fault c =
-    second_row _ _ c.index.result.now _ (mark_fault-unmatched c.args.tables.now (take c.args.k c.args.tables.now) (row_at c.args.tables.now c.args.k) c.place-place.result c.resident-2.inside.0 c.requires.kind (sym c.resident.ensures ∙ c.in-Some.is ∙ ap Some (sym c.resident-2.view_is)) (c.place-place.ensures.place ∙ place_at c.args.tables.now c.args.k c.requires.place))
-    (c.index.ensures ∙ marked_at c.args.self.now c.args.tables.now (take c.args.k c.args.tables.now) (field (row_at c.args.tables.now c.args.k) 1) c.resident-2.inside.0 _ c.requires.marked (sym c.resident.ensures ∙ c.in-Some.is ∙ ap Some (sym c.resident-2.view_is))) c.if-index.true
+returns-then-index-clause-fault c = λ programmes texts all before row h marked.
+    let at = unmatched_resident texts programmes c.args.residents.now all before c.args.place c.args.resident c.in_ok-resident.resident row h c.in_ok-resident.ensures.member in
+    let same = c.index.ensures ∙ marked_at c.args.self.now all before (field row 1) c.in_ok-resident.resident _ marked at in
+    rw (unmatched_fault_is texts programmes c.args.residents.now all before c.args.place c.args.resident row h)
+    (refuses_second _ _ _ c.in_ok-resident.ensures.fault (second_row _ _ c.index.result.now _ refl same c.if-index.true))
 
 pub returns-clause-fault : goal.returns-clause-fault
-returns-clause-fault c =
-    first_row _ _ c.index.result.now _ (mark_fault-unmatched c.args.tables.now (take c.args.k c.args.tables.now) (row_at c.args.tables.now c.args.k) c.place-place.result c.resident-2.inside.0 c.requires.kind (sym c.resident.ensures ∙ c.in-Some.is ∙ ap Some (sym c.resident-2.view_is)) (c.place-place.ensures.place ∙ place_at c.args.tables.now c.args.k c.requires.place))
-    (c.index.ensures ∙ marked_at c.args.self.now c.args.tables.now (take c.args.k c.args.tables.now) (field (row_at c.args.tables.now c.args.k) 1) c.resident-2.inside.0 _ c.requires.marked (sym c.resident.ensures ∙ c.in-Some.is ∙ ap Some (sym c.resident-2.view_is))) c.if-index.false
+returns-clause-fault c = λ programmes texts all before row h marked.
+    let at = unmatched_resident texts programmes c.args.residents.now all before c.args.place c.args.resident c.in_ok-resident.resident row h c.in_ok-resident.ensures.member in
+    let same = c.index.ensures ∙ marked_at c.args.self.now all before (field row 1) c.in_ok-resident.resident _ marked at in
+    unmatched_fault_is texts programmes c.args.residents.now all before c.args.place c.args.resident row h
+    ∙ no_fault _ _ c.in_ok-resident.ensures.fault (first_row _ _ c.index.result.now _ refl same c.if-index.false)
 
 pub returns-clause-marked : goal.returns-clause-marked
-returns-clause-marked c =
-    marks_unmatched c.args.self.now _ c.args.tables.now c.args.k c.resident-2.inside.0 c.place-place.ensures.sound c.place-place.ensures.few c.requires.place c.requires.kind (sym c.resident.ensures ∙ c.in-Some.is ∙ ap Some (sym c.resident-2.view_is)) c.requires.marked refl refl refl refl
+returns-clause-marked c = λ programmes texts all before row h marked.
+    let at = unmatched_resident texts programmes c.args.residents.now all before c.args.place c.args.resident c.in_ok-resident.resident row h c.in_ok-resident.ensures.member in
+    marks_unmatched c.args.self.now _ all before row c.in_ok-resident.resident (distinct_residents all h.known.sound h.known.few) h.says.0 at marked refl refl refl refl

@@ -1,29 +1,28 @@
-use Rattle.std.proofs.Common.{◌≡◌, inr, arith, take}
-use Rattle.docket.specs.Rows.{row_at}
+use Rattle.std.proofs.Common.{arith, rules, inr, ◌≡◌, true, false}
 use Rattle.docket.specs.Passes.{filled_fault}
-use Rattle.docket.proofs.PassFacts.{pass_start, pass_more, pass_fault}
-use Rattle.docket.proofs.KindFacts.{no_filled}
-use Rattle.docket.proofs.MarkFacts.{filled_other}
-use Rattle.docket.proofs.RestFacts.{filled_rest}
+use Rattle.docket.proofs.PassFacts.{first_from-none, first_from-push}
+use Rattle.docket.proofs.SheetWalkFacts.{IsRightSo, right_passes, walk_start, walk_at, walk_more, walk_fault, stands, right_end}
 use Rattle.docket.proofs.passes.sheet.Marks.check_filled.Goals as goal
-use Rattle.docket.proofs.passes.sheet.Marks.check_filled.Goals.{in-Filled+else-not-is_right, in_default}
 
-pub loop-k-init : goal.loop-k-init
-loop-k-init c = pass_start (filled_fault c.args.tables.now) c.args.tables.now
+pub loop-kept-init : goal.loop-kept-init
+loop-kept-init c = λ texts residents all h known marked quotas none. walk_start texts h.front c.args.rows.now (IsRightSo all) h.kept_are (first_from-none (filled_fault all))
 
 pub returns-then-not-is_right : goal.returns-then-not-is_right
-returns-then-not-is_right c =
-    let fault = rw (c.if-not-is_right.true, ← c.place.ensures.place) at c.is_right.ensures in
-    pass_fault (filled_fault c.args.tables.now) c.args.tables.now c.loop-k.k _ (omega arith) c.loop-k.invariant (inr fault)
+returns-then-not-is_right c = λ texts residents all h known marked quotas none.
+    let e : c.is_right.result ≡ false = search (rules, c.if-not-is_right.true) in
+    let n = walk_at texts h.front c.args.rows.now c.loop-kept.kept-index _ (IsRightSo all) (right_passes all) c.loop-kept-test.true (c.loop-kept.invariant texts residents all h known marked quotas none) in
+    let s = stands texts c.args.programmes.now residents c.args.rows.now all h _ _ (IsRightSo all) n known in
+    let fault = rw e at c.is_right.ensures texts residents all n.before n.row s marked quotas none in
+    walk_fault (filled_fault all) all n.before s.rest n.row _ s.all_are n.here (inr fault)
 
-pub loop-k-preserved : goal.loop-k-preserved
-loop-k-preserved c = elim c.match-kind.branch [
-  | in-Filled+else-not-is_right w ↦ pass_more (filled_fault c.args.tables.now) c.args.tables.now c.loop-k.k (omega arith) c.loop-k.invariant (rw w.if-not-is_right.false at w.is_right.ensures)
-  | in_default w ↦ pass_more (filled_fault c.args.tables.now) c.args.tables.now c.loop-k.k (omega arith) c.loop-k.invariant
-      (filled_other c.args.tables.now (take c.loop-k.k c.args.tables.now) (row_at c.args.tables.now c.loop-k.k) (no_filled c.kind.result (row_at c.args.tables.now c.loop-k.k) w.in_default.not-Filled c.kind.ensures))
-]
+pub loop-kept-preserved : goal.loop-kept-preserved
+loop-kept-preserved c = λ texts residents all h known marked quotas none.
+    let e : c.is_right.result ≡ true = search (rules, c.if-not-is_right.false) in
+    let n = walk_at texts h.front c.args.rows.now c.loop-kept.kept-index _ (IsRightSo all) (right_passes all) c.loop-kept-test.true (c.loop-kept.invariant texts residents all h known marked quotas none) in
+    let s = stands texts c.args.programmes.now residents c.args.rows.now all h _ _ (IsRightSo all) n known in
+    let fine = rw e at c.is_right.ensures texts residents all n.before n.row s marked quotas none in
+    walk_more texts h.front _ _ (IsRightSo all) (IsRightSo all) n (first_from-push (filled_fault all) n.before n.row n.here fine)
 
 pub returns : goal.returns
-returns c =
-    let end : c.loop-k.k ≡ c.events_from-k-end.result = omega arith in
-    filled_rest c.args.tables.now c.events_from-k-end.result c.events_from-k-end.ensures.within c.events_from-k-end.ensures.events (rw end at c.loop-k.invariant)
+returns c = λ texts residents all h known marked quotas none.
+    right_end texts c.args.programmes.now residents c.args.rows.now all c.loop-kept.kept-index h known none (omega (arith, c.loop-kept-test.false)) (c.loop-kept.invariant texts residents all h known marked quotas none)

@@ -1,6 +1,14 @@
-use Rattle.std.proofs.Common.{◌≡◌, take, [], None}
-use Rattle.docket.specs.Passes.{first_from, filled_fault}
+use Rattle.std.proofs.Common.{◌≡◌, List, [], ℕ, None, drop}
+use Rattle.docket.specs.Fields.{Fields}
+use Rattle.docket.specs.Contents.{quotas_of}
+use Rattle.docket.specs.Known.{AreKnown}
+use Rattle.docket.specs.Passes.{first_from, mark_fault}
+use Rattle.docket.specs.SheetRows.{AreSheetRows}
+use Rattle.docket.specs.SheetMarks.{IsMarked}
+use Rattle.docket.proofs.SheetWalkFacts.{IsReached, IsRightSo}
 use Rattle.docket.proofs.passes.sheet.Marks.check_filled.Given as goal
 
-abbrev pub invariant-loop-k : goal.invariant-loop-k
-invariant-loop-k l = first_from (filled_fault l.tables) [] (take l.k l.tables) ≡ None
+abbrev pub invariant-loop-kept : goal.invariant-loop-kept
+invariant-loop-kept l =
+    (texts : Fields) (residents : List ℕ) (all : List Fields) (h : AreSheetRows texts l.rows all) → AreKnown texts l.programmes residents all → IsMarked l.self all all
+    → l.instance.quotas ≡ quotas_of all → first_from (mark_fault all) [] all ≡ None → IsReached texts h.front (drop l.kept-index l.rows) (IsRightSo all)

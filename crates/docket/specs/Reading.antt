@@ -1,0 +1,30 @@
+-- What the first pass has of the records read so far.
+use Rattle.std.specs.Prelude.{◌≡◌, ◌++◌, ◌∷◌, List, [], length}
+use Rattle.docket.specs.Fields.{Fields}
+use Rattle.docket.specs.Declarations.{IsDeclared, AreFew}
+use Rattle.docket.specs.Lists.{AreLists}
+use Rattle.docket.specs.SheetRows.{AreSheetRows}
+use Rattle.docket.specs.Events.{AreEvents}
+use Rattle.docket.specs.declared.reading.Reading.{Reading}
+
+-- there are so many records, and the declarations and the stores are those of these records
+pub record IsReading (reading : Reading) (rows : List Fields) : Type 0 where
+  pub records : reading.records ≡ length rows
+  pub declared : IsDeclared reading.declared reading.texts rows
+  pub lists : AreLists reading.texts reading.lists rows
+  pub sheet : AreSheetRows reading.texts reading.sheet rows
+  pub events : AreEvents reading.texts reading.events rows
+
+-- the declarations and the stores are those of these records; the count of the records is left open
+pub record AreStored (reading : Reading) (rows : List Fields) : Type 0 where
+  pub declared : IsDeclared reading.declared reading.texts rows
+  pub lists : AreLists reading.texts reading.lists rows
+  pub sheet : AreSheetRows reading.texts reading.sheet rows
+  pub events : AreEvents reading.texts reading.events rows
+
+-- the next record is declared and stored, but not counted yet
+pub record Stores (old new : Reading) (row : Fields) : Type 0 where
+  pub records : new.records ≡ old.records
+  pub limits : new.declared.builder.limits ≡ old.declared.builder.limits
+  pub workers : AreFew new.declared.workers
+  pub stored : (rows : List Fields) → IsReading old rows → AreStored new (rows ++ row ∷ [])

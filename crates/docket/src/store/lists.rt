@@ -1,0 +1,297 @@
+//! What the second pass needs: the rank lists and the withdrawals.
+ghost use Rattle.std.specs.Prelude.{◌≡◌, ◌≤◌, ◌<◌, ◌+◌, ◌++◌, ◌∷◌, ◌&&◌, Some, [], true, is_some, length, drop, slice_get, IfOk, IfSome, OnOk, OnErr};
+ghost use Rattle.std.specs.List.{list_all};
+ghost use Rattle.csv.specs.Records.{fields_of};
+ghost use Rattle.docket.specs.Fields.{Fields, field as field_of};
+ghost use Rattle.docket.specs.Lists.{AreLists, AreWalked, AddsEntry, list_entry, gone_entry};
+ghost use Rattle.docket_names.specs.Texts.{StartsWith, IsJoined};
+ghost use Rattle.docket_names.specs.Words as words;
+
+use crate::row::field;
+use crate::vocabulary::{MOST_NAMES, Side};
+use csv::ByteRecord;
+use docket_names::{Texts, is_name};
+use std::alloc::{AllocError, Global};
+use std::marker::Model;
+
+/// The kind of a kept row.
+#[derive(Clone, Copy)]
+pub(crate) enum ListKind {
+    /// A rank list of a member on this side.
+    Ranking(Side),
+    /// The withdrawal of a member on this side.
+    Withdrawal(Side),
+}
+
+/// A kept row: the number of its record, its kind, the number of its owner's name, and where its listed names stand in
+/// the long sequence. A withdrawal lists nobody, and its owner is the one withdrawn.
+#[derive(Clone, Copy)]
+pub(crate) struct KeptRow {
+    place: u32,
+    kind: ListKind,
+    owner: u32,
+    start: u32,
+    end: u32,
+}
+
+/// A kept row with its listed names.
+#[derive(Clone, Copy)]
+pub(crate) struct ListRow<'a> {
+    pub(crate) place: u32,
+    pub(crate) kind: ListKind,
+    pub(crate) owner: u32,
+    pub(crate) listed: &'a [u32],
+}
+
+/// The rank lists and withdrawals in order. Each name is kept as the number of its text.
+///
+/// If these rows bring more new names than there can be members, one of the names is nobody's, and the second pass ends
+/// there. From this name on nothing more is kept.
+#[derive(Drop)]
+pub(crate) struct Lists {
+    rows: Vec<KeptRow>,
+    names: Vec<u32>,
+    // How many names were new when one of these rows brought them.
+    brought: usize,
+}
+
+impl Model for Lists {
+    ghost use Rattle.std.specs.Prelude.{map};
+    ghost use Rattle.docket.specs.Lists.{KeptLists, entry_at, ArePartsOf};
+
+    ghost Value = { KeptLists };
+
+    ghost view = { λ a. record { entries = map (entry_at a.names.items) a.rows.items; brought = a.brought } };
+
+    ghost invariant = { λ a. ArePartsOf a.names.items a.rows.items };
+}
+
+// The count of new names, after the number of texts became `after`. Once there are too many new names, the count stays.
+#[inline(always)]
+fn counted(brought: usize, before: usize, after: usize) -> usize
+    requires within { before ≤ after }
+    requires one { after ≤ before + 1 }
+    ensures counted { brought ≤ MOST_NAMES → result + before ≡ brought + after }
+    ensures cut { MOST_NAMES < brought → result ≡ brought }
+{
+    if brought <= MOST_NAMES && before < after {
+        brought + 1
+    } else {
+        brought
+    }
+}
+
+// The number of a name, or none if the text is not a name. The name is counted if it is new.
+#[inline(always)]
+fn number_name(
+    brought: &mut usize,
+    texts: &mut Texts,
+    text: &[u8],
+) -> Result<Option<usize>, AllocError>
+    ensures named { IfOk result (λ n. is_some n ≡ words.is_name text.now) }
+    ensures number { IfOk result (λ n. IfSome n (λ n. slice_get texts.new n ≡ Some text.now)) }
+    ensures texts { StartsWith texts.old texts.new }
+    ensures joined { IfOk result (λ n. IsJoined texts.old texts.new text.now) }
+    ensures counted { OnOk result (brought.old ≤ MOST_NAMES → brought.new + length texts.old ≡ brought.old + length texts.new) }
+    ensures cut { OnOk result (MOST_NAMES < brought.old → brought.new ≡ brought.old) }
+{
+    let before = texts.len();
+    let number = texts.name(text)?;
+    *brought = counted(*brought, before, texts.len());
+    Ok(number)
+}
+
+// Adds a number at the end of the sequence.
+#[inline(always)]
+fn push_number(numbers: &mut Vec<u32>, number: usize) -> Result<(), AllocError>
+    ensures pushed { OnOk result (numbers.new.items ≡ numbers.old.items ++ number ∷ []) }
+    ensures grown { length numbers.old.items ≤ length numbers.new.items }
+{
+    let Ok(number) = u32::try_from(number) else {
+        return Err(AllocError);
+    };
+    numbers.push(number)?;
+    Ok(())
+}
+
+// Tests a text and keeps its number. If there are too many new names, the text is only tested. The answer is whether the
+// text is a name.
+#[inline(always)]
+fn add_name(
+    numbers: &mut Vec<u32>,
+    brought: &mut usize,
+    texts: &mut Texts,
+    text: &[u8],
+) -> Result<bool, AllocError>
+    ensures named { IfOk result (λ named. named ≡ words.is_name text.now) }
+    ensures walked { IfOk result (λ named. named ≡ true → AreWalked texts.old numbers.old.items brought.old texts.new numbers.new.items brought.new (text.now ∷ [])) }
+    ensures texts { StartsWith texts.old texts.new }
+    ensures grown { length numbers.old.items ≤ length numbers.new.items }
+{
+    if *brought > MOST_NAMES {
+        return Ok(texts.known(text).is_some() || is_name(text));
+    }
+    let Some(number) = number_name(brought, texts, text)? else {
+        return Ok(false);
+    };
+    push_number(numbers, number)?;
+    Ok(true)
+}
+
+// Tests the names that a rank list has after its owner's, and keeps their numbers. Once there are too many new names, the
+// other names are only tested. The answer is whether all are names.
+fn add_names(
+    numbers: &mut Vec<u32>,
+    brought: &mut usize,
+    texts: &mut Texts,
+    row: &ByteRecord,
+) -> Result<bool, AllocError>
+    ensures named { IfOk result (λ named. named ≡ list_all words.is_name (drop 2 (fields_of row.now))) }
+    ensures walked { IfOk result (λ named. named ≡ true → AreWalked texts.old numbers.old.items brought.old texts.new numbers.new.items brought.new (drop 2 (fields_of row.now))) }
+    ensures texts { StartsWith texts.old texts.new }
+    ensures grown { length numbers.old.items ≤ length numbers.new.items }
+{
+    for i in 2..row.len() {
+        if let Some(text) = row.get(i) {
+            if !add_name(numbers, brought, texts, text)? {
+                return Ok(false);
+            }
+        }
+    }
+    Ok(true)
+}
+
+// Adds a row whose names begin at `start` and end at `end` in the long sequence.
+fn push_row(
+    rows: &mut Vec<KeptRow>,
+    place: u32,
+    kind: ListKind,
+    owner: usize,
+    start: usize,
+    end: usize,
+) -> Result<(), AllocError>
+    ensures pushed { OnOk result (rows.new.items ≡ rows.old.items ++ record { place = place; kind = kind; owner = owner; start = start; end = end } ∷ []) }
+    ensures refused { OnErr result (rows.new.items ≡ rows.old.items) }
+{
+    let (Ok(owner), Ok(start), Ok(end)) = (
+        u32::try_from(owner),
+        u32::try_from(start),
+        u32::try_from(end),
+    ) else {
+        return Err(AllocError);
+    };
+    rows.push(KeptRow {
+        place,
+        kind,
+        owner,
+        start,
+        end,
+    })?;
+    Ok(())
+}
+
+impl Lists {
+    /// An object without rows.
+    pub(crate) fn new(alloc: Global) -> Lists
+        ensures { (texts : Fields) → AreLists texts result [] }
+    {
+        Lists {
+            rows: Vec::new(alloc),
+            names: Vec::new(alloc),
+            brought: 0,
+        }
+    }
+
+    /// Tests a rank list of a member on this side and keeps it. The answer is the number of the owner's name, or none if
+    /// a field after the first is not a name.
+    pub(crate) fn add_list(
+        &mut self,
+        texts: &mut Texts,
+        row: &ByteRecord,
+        side: Side,
+        place: u32,
+    ) -> Result<Option<usize>, AllocError>
+        ensures named { IfOk result (λ owner. is_some owner ≡ (words.is_name (field_of (fields_of row.now) 1) && list_all words.is_name (drop 2 (fields_of row.now)))) }
+        ensures owner { IfOk result (λ owner. IfSome owner (λ n. slice_get texts.new n ≡ Some (field_of (fields_of row.now) 1))) }
+        ensures texts { StartsWith texts.old texts.new }
+        ensures kept { IfOk result (λ owner. is_some owner ≡ true → AddsEntry texts.old texts.new self.old self.new (list_entry place side (fields_of row.now))) }
+    {
+        let was_cut = self.brought > MOST_NAMES;
+        let mut brought = self.brought;
+        let Some(owner) = number_name(&mut brought, texts, field(row, 1))? else {
+            return Ok(None);
+        };
+        let start = self.names.len();
+        if !add_names(&mut self.names, &mut brought, texts, row)? {
+            return Ok(None);
+        }
+        if !was_cut {
+            let end = self.names.len();
+            push_row(
+                &mut self.rows,
+                place,
+                ListKind::Ranking(side),
+                owner,
+                start,
+                end,
+            )?;
+            self.brought = brought;
+        }
+        Ok(Some(owner))
+    }
+
+    /// Tests the name of a member on this side who is withdrawn, and keeps the withdrawal. The answer is the number of
+    /// the name, or none if the text is not a name.
+    pub(crate) fn add_withdrawal(
+        &mut self,
+        texts: &mut Texts,
+        row: &ByteRecord,
+        side: Side,
+        place: u32,
+    ) -> Result<Option<usize>, AllocError>
+        ensures named { IfOk result (λ owner. is_some owner ≡ words.is_name (field_of (fields_of row.now) 2)) }
+        ensures owner { IfOk result (λ owner. IfSome owner (λ n. slice_get texts.new n ≡ Some (field_of (fields_of row.now) 2))) }
+        ensures texts { StartsWith texts.old texts.new }
+        ensures kept { IfOk result (λ owner. is_some owner ≡ true → AddsEntry texts.old texts.new self.old self.new (gone_entry place side (fields_of row.now))) }
+    {
+        let was_cut = self.brought > MOST_NAMES;
+        let mut brought = self.brought;
+        let Some(owner) = number_name(&mut brought, texts, field(row, 2))? else {
+            return Ok(None);
+        };
+        if !was_cut {
+            let end = self.names.len();
+            push_row(
+                &mut self.rows,
+                place,
+                ListKind::Withdrawal(side),
+                owner,
+                end,
+                end,
+            )?;
+            self.brought = brought;
+        }
+        Ok(Some(owner))
+    }
+
+    /// How many rows are kept.
+    pub(crate) fn len(&self) -> usize
+        ensures { result ≡ length self.now.entries }
+    {
+        self.rows.len()
+    }
+
+    /// Row `k`, from 0.
+    pub(crate) fn row(&self, k: usize) -> ListRow
+        requires { k < length self.now.entries }
+        ensures { slice_get self.now.entries k ≡ Some (record { place = result.place; kind = result.kind; owner = result.owner; listed = result.listed.now }) }
+    {
+        let row = self.rows[k];
+        ListRow {
+            place: row.place,
+            kind: row.kind,
+            owner: row.owner,
+            listed: &self.names[row.start as usize..row.end as usize],
+        }
+    }
+}
