@@ -9,6 +9,7 @@ pub mod WidestFacts
 pub mod PassFacts
 pub mod ReadRowsInvariant
 pub mod RankingFacts
+pub mod RankedFacts
 pub mod GoneFacts
 pub mod DocketFacts
 pub mod WholeFacts

@@ -7,7 +7,7 @@ use Rattle.docket.specs.Lists.{KeptLists, ListEntry, AreLists, named}
 use Rattle.docket.specs.Passes.{ranking_fault}
 use Rattle.docket.specs.Ranking.{IsRanked}
 use Rattle.docket.specs.declared.vocabulary.TheConstants.{MOST_NAMES}
-use Rattle.docket.proofs.ListCountFacts.{few_members}
+use Rattle.docket.proofs.FewFacts.{few_members}
 use Rattle.docket.proofs.PassFacts.{first_from-none}
 use Rattle.docket.proofs.ListCutFacts.{left_cut, too_many, no_entries}
 use Rattle.docket.proofs.ListLeftFacts.{AreLeft}

@@ -21,7 +21,8 @@ use Rattle.docket.specs.declared.vocabulary.Side.TheVariants.{Programmes, Reside
 use Rattle.docket.specs.declared.vocabulary.TheConstants.{RESIDENT_LIST, MAX_RECORDS, MOST_NAMES}
 use Rattle.docket_names.specs.Texts.{number_in, is_declared}
 use Rattle.docket_names.proofs.NameFacts.{is_declared-any, same_bytes}
-use Rattle.docket.proofs.ListCountFacts.{AreFew, or_left, or_right, few_among, count_wider}
+use Rattle.docket.proofs.AmongFacts.{or_left, or_right, few_among, count_wider}
+use Rattle.docket.proofs.FewFacts.{AreFew}
 use Rattle.docket.proofs.RankingFacts.{resident_declared}
 use Rattle.docket.proofs.SoundFacts.{both_none, unless_none}
 use Rattle.docket.proofs.ListFacts.{no_entry, entries_push, names_push}

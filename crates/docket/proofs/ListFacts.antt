@@ -13,7 +13,8 @@ use Rattle.docket.specs.Passes.{next_place}
 use Rattle.docket.specs.declared.vocabulary.TheConstants.{PROGRAMME_LIST, RESIDENT_LIST, MOST_NAMES}
 use Rattle.docket_names.specs.Texts.{StartsWith}
 use Rattle.docket_names.proofs.TextFacts.{numbers_kept, texts_kept, starts_length}
-use Rattle.docket.proofs.ListCountFacts.{have_starts, or_left, or_right, count_append, count_all, count_wider}
+use Rattle.docket.proofs.AmongFacts.{or_left, or_right, count_append, count_all, count_wider}
+use Rattle.docket.proofs.ListCountFacts.{have_starts}
 use Rattle.docket.proofs.ListWalkFacts.{within_or_over, all_wider, number_text}
 
 -- the entries of all records, after one more record

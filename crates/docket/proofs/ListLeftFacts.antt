@@ -12,7 +12,8 @@ use Rattle.docket.specs.Ranking.{IsRanked}
 use Rattle.docket.specs.Rows.{row_at}
 use Rattle.docket.specs.declared.vocabulary.TheConstants.{PROGRAMME_LIST, RESIDENT_LIST}
 use Rattle.docket.proofs.PassFacts.{first_from-push}
-use Rattle.docket.proofs.RankingFacts.{ranked_other, ranking_fault-other}
+use Rattle.docket.proofs.RankingFacts.{ranking_fault-other}
+use Rattle.docket.proofs.RankedFacts.{ranked_other}
 
 -- the first entry left shows this row; if the row has no fault, the other entries are enough for the rows after it
 pub record FirstLeft (rows done : List Fields) (row : Fields) (left : List ListEntry) (After : List ListEntry → Type 0) : Type 0 where

@@ -17,7 +17,8 @@ use Rattle.docket.specs.declared.store.lists.ListKind.{ListKind}
 use Rattle.docket.specs.declared.vocabulary.TheConstants.{MOST_NAMES}
 use Rattle.docket_names.specs.Texts.{IsJoined, StartsWith, texts_at}
 use Rattle.docket_names.proofs.TextFacts.{numbers_kept, texts_kept, starts_length}
-use Rattle.docket.proofs.ListCountFacts.{part_more, have_none, have_more, have_starts, or_left, or_right}
+use Rattle.docket.proofs.AmongFacts.{or_left, or_right}
+use Rattle.docket.proofs.ListCountFacts.{part_more, have_none, have_more, have_starts}
 
 pub within_or_over : (a b : ℕ) → (a ≤ b) ⊎ (b < a)
 within_or_over a b = by (nat_le a b) refl

@@ -1,4 +1,4 @@
-use Rattle.docket.proofs.RankingFacts.{pairs_fine, pairs_over}
+use Rattle.docket.proofs.RankedFacts.{pairs_fine, pairs_over}
 use Rattle.docket.proofs.passes.ranking.finished.Goals as goal
 
 pub returns-in-Ok-clause-fault : goal.returns-in-Ok-clause-fault

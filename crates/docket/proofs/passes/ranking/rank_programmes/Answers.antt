@@ -3,7 +3,8 @@ use Rattle.std.proofs.lemmas.Result.{err_from_is_err_and}
 use Rattle.docket.specs.Contents.{programmes_of}
 use Rattle.docket.specs.Rows.{row_at}
 use Rattle.docket.proofs.SoundFacts.{unless_none}
-use Rattle.docket.proofs.RankingFacts.{place_at, ranking_fault-resident, ranked_resident, resident_list_fault}
+use Rattle.docket.proofs.RankingFacts.{place_at, ranking_fault-resident}
+use Rattle.docket.proofs.RankedFacts.{ranked_resident, resident_list_fault}
 use Rattle.docket.proofs.ListNextFacts.{resident_known, resident_says, unknown_refused, list_fine, list_refused}
 use Rattle.docket.proofs.passes.ranking.rank_programmes.Goals as goal
 

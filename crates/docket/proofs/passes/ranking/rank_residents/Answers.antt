@@ -3,7 +3,8 @@ use Rattle.std.proofs.lemmas.Result.{err_from_is_err_and}
 use Rattle.docket.specs.Contents.{residents_of}
 use Rattle.docket.specs.Rows.{row_at}
 use Rattle.docket.proofs.SoundFacts.{unless_none}
-use Rattle.docket.proofs.RankingFacts.{place_at, ranking_fault-owned, ranked_programme, programme_list_fault}
+use Rattle.docket.proofs.RankingFacts.{place_at, ranking_fault-owned}
+use Rattle.docket.proofs.RankedFacts.{ranked_programme, programme_list_fault}
 use Rattle.docket.proofs.ListNextFacts.{programme_unknown, programme_says, unknown_refused, list_fine, list_refused}
 use Rattle.docket.proofs.passes.ranking.rank_residents.Goals as goal
 
