@@ -255,19 +255,36 @@ fn a_close_is_told_once(rt: HostRuntime) -> Result<(), Fail> {
     Ok(())
 }
 
-// A gate for a programme with ten residents and two workers. The gate keeps workers waiting at entries, though it says
-// that it doesn't. After three offers the programme's worker waits until the other worker has answered one of them.
-// Then the programme's worker makes one further offer, and has a hear. The gate's call for this hear lasts until the
-// other worker has taken and answered all four offers.
+// A gate for two workers and two programmes. The first programme has ten residents, the second has one. The gate keeps
+// workers waiting at entries, though it says that it doesn't. Each worker waits after its first offer for the other's
+// first offer, so each has a programme, and neither rests. The second programme's worker then gets the offer of that
+// programme's resident, and goes on once the other worker has made three offers. The other worker waits until one of
+// these three is answered. Then it makes one further offer, and has a hear. The gate's call for this hear lasts until
+// all four offers are answered.
 #[derive(Drop)]
 struct HoldsHear<R: Wait + Copy> {
     rt: R,
     clock: AtomicU64,
-    first: AtomicU64,
-    by_first: AtomicU64,
-    by_other: AtomicU64,
+    entered: (AtomicU64, AtomicU64),
+    second: AtomicU64,
     has_held: AtomicBool,
     has_seen: AtomicBool,
+}
+
+impl<R: Wait + Copy> HoldsHear<R> {
+    // How many events this worker entered, and how many the other worker entered.
+    fn entries(&self, worker: usize) -> (&AtomicU64, &AtomicU64) {
+        let (first, second) = &self.entered;
+        if worker == 0 {
+            (first, second)
+        } else {
+            (second, first)
+        }
+    }
+
+    fn waits_for(&self, entries: &AtomicU64, least: u64) -> bool {
+        wait_for(self.rt, &self.clock, entries, least, LONG)
+    }
 }
 
 impl<R: Wait + Copy + Sync> Gate for HoldsHear<R> {
@@ -277,33 +294,56 @@ impl<R: Wait + Copy + Sync> Gate for HoldsHear<R> {
 
     const ENTERED_MAY_HOLD: bool = false;
 
-    fn pass(&self, _worker: usize, desk: Desk) -> Go {
-        if At::Take.has(desk) {
-            wait_for(self.rt, &self.clock, &self.by_first, 3, LONG);
-        } else if !self.has_held.swap(true, Ordering::SeqCst) {
-            let all = wait_for(self.rt, &self.clock, &self.by_other, 8, LONG);
-            self.has_seen.store(all, Ordering::SeqCst);
+    fn pass(&self, worker: usize, desk: Desk) -> Go {
+        let (_, others) = self.entries(worker);
+        match desk {
+            Desk::Resident(ResidentNo(10)) => {
+                self.second
+                    .store((worker as u64).saturating_add(1), Ordering::SeqCst);
+                self.waits_for(others, 3);
+            }
+            Desk::Programme(ProgrammeNo(0)) if !self.has_held.swap(true, Ordering::SeqCst) => {
+                // four events of the second programme, and two for each of the four offers
+                let all = self.waits_for(others, 12);
+                self.has_seen.store(all, Ordering::SeqCst);
+            }
+            _ => {}
         }
         Go::On
     }
 
     fn entered(&self, worker: usize) {
-        let number = (worker as u64).saturating_add(1);
-        if self.first.load(Ordering::SeqCst) == 0 {
-            self.first.store(number, Ordering::SeqCst);
-        }
-        if self.first.load(Ordering::SeqCst) != number {
-            self.by_other.fetch_add(1, Ordering::SeqCst);
-        } else if self.by_first.fetch_add(1, Ordering::SeqCst) == 2 {
-            wait_for(self.rt, &self.clock, &self.by_other, 2, LONG);
+        let (own, others) = self.entries(worker);
+        let is_second = self.second.load(Ordering::SeqCst) == (worker as u64).saturating_add(1);
+        match own.fetch_add(1, Ordering::SeqCst).saturating_add(1) {
+            1 => {
+                self.waits_for(others, 1);
+            }
+            3 if !is_second => {
+                // four events of the second programme, a take and an answer
+                self.waits_for(others, 6);
+            }
+            _ => {}
         }
     }
 }
 
-// A programme that has a place for each of its ten residents.
-const ONE_FOR_TEN: Members = (
-    &[(10, &[0, 1, 2, 3, 4, 5, 6, 7, 8, 9])],
-    &[&[0], &[0], &[0], &[0], &[0], &[0], &[0], &[0], &[0], &[0]],
+// A programme that has a place for each of its ten residents, and a programme with one resident.
+const TEN_AND_ONE: Members = (
+    &[(10, &[0, 1, 2, 3, 4, 5, 6, 7, 8, 9]), (1, &[10])],
+    &[
+        &[0],
+        &[0],
+        &[0],
+        &[0],
+        &[0],
+        &[0],
+        &[0],
+        &[0],
+        &[0],
+        &[0],
+        &[1],
+    ],
 );
 
 #[test]
@@ -311,13 +351,12 @@ fn what_a_visit_woke_is_listed_before_a_hear_passes(rt: HostRuntime) -> Result<(
     let gate = HoldsHear {
         rt,
         clock: AtomicU64::new(0),
-        first: AtomicU64::new(0),
-        by_first: AtomicU64::new(0),
-        by_other: AtomicU64::new(0),
+        entered: (AtomicU64::new(0), AtomicU64::new(0)),
+        second: AtomicU64::new(0),
         has_held: AtomicBool::new(false),
         has_seen: AtomicBool::new(false),
     };
-    let told = ran(rt, rt.alloc(), ONE_FOR_TEN, Capacity::Full, 2, &gate)?;
+    let told = ran(rt, rt.alloc(), TEN_AND_ONE, Capacity::Full, 2, &gate)?;
     assert!(rt; told.ending == Ending::Closed);
     assert!(rt; gate.has_seen.load(Ordering::SeqCst));
     Ok(())
