@@ -31,7 +31,8 @@ fn put_journal_digest(
     text: &mut Vec<u8>,
     journal: Option<&[u8]>,
 ) -> Result<(), AllocError>
-    ensures { OnOk result (Grows text.old text.new (spec.journal_digest_row (option_copied journal.entry))) }
+    ensures { OnOk result
+        (Grows text.old text.new (spec.journal_digest_row (option_copied journal.entry))) }
 {
     match journal {
         Some(bytes) => put_digest(alloc, text, b"journal", bytes),
@@ -56,7 +57,8 @@ fn put_programme(
     programme: ProgrammeNo,
 ) -> Result<(), AllocError>
     requires { IsProgramme docket.now.instance programme }
-    ensures { OnOk result (Grows text.old text.new (spec.withdrawn_row (codes "P") (programme_name docket.now) docket.now.instance.programmes_withdrawn programme)) }
+    ensures { OnOk result (Grows text.old text.new (spec.withdrawn_row (codes "P")
+        (programme_name docket.now) docket.now.instance.programmes_withdrawn programme)) }
 {
     let again = programme;
     if docket.instance().programme_withdrawn(programme) {
@@ -69,7 +71,8 @@ fn put_programme(
 // Adds the row of a resident, if the resident is withdrawn.
 fn put_resident(text: &mut Vec<u8>, docket: &Docket, resident: ResidentNo) -> Result<(), AllocError>
     requires { IsResident docket.now.instance resident }
-    ensures { OnOk result (Grows text.old text.new (spec.withdrawn_row (codes "R") (resident_name docket.now) docket.now.instance.residents_withdrawn resident)) }
+    ensures { OnOk result (Grows text.old text.new (spec.withdrawn_row (codes "R")
+        (resident_name docket.now) docket.now.instance.residents_withdrawn resident)) }
 {
     let again = resident;
     if docket.instance().resident_withdrawn(resident) {
@@ -81,7 +84,9 @@ fn put_resident(text: &mut Vec<u8>, docket: &Docket, resident: ResidentNo) -> Re
 
 // Adds the rows of the withdrawn programmes.
 fn put_programmes(text: &mut Vec<u8>, docket: &Docket) -> Result<(), AllocError>
-    ensures { OnOk result (Grows text.old text.new (spec.withdrawn_rows (codes "P") (programme_name docket.now) docket.now.instance.programmes_withdrawn (length docket.now.instance.quotas))) }
+    ensures { OnOk result (Grows text.old text.new (spec.withdrawn_rows
+        (codes "P") (programme_name docket.now) docket.now.instance.programmes_withdrawn
+        (length docket.now.instance.quotas))) }
 {
     for p in 0..docket.instance().programmes() {
         put_programme(text, docket, ProgrammeNo(p))?;
@@ -91,7 +96,9 @@ fn put_programmes(text: &mut Vec<u8>, docket: &Docket) -> Result<(), AllocError>
 
 // Adds the rows of the withdrawn residents.
 fn put_residents(text: &mut Vec<u8>, docket: &Docket) -> Result<(), AllocError>
-    ensures { OnOk result (Grows text.old text.new (spec.withdrawn_rows (codes "R") (resident_name docket.now) docket.now.instance.residents_withdrawn (length docket.now.instance.resident_lists))) }
+    ensures { OnOk result (Grows text.old text.new (spec.withdrawn_rows
+        (codes "R") (resident_name docket.now) docket.now.instance.residents_withdrawn
+        (length docket.now.instance.resident_lists))) }
 {
     for r in 0..docket.instance().residents() {
         put_resident(text, docket, ResidentNo(r))?;
@@ -108,7 +115,8 @@ pub(crate) fn put_facts(
     sheet: &[u8],
     journal: Option<&[u8]>,
 ) -> Result<(), AllocError>
-    ensures { OnOk result (Grows text.old text.new (spec.facts_text docket.now docket_bytes.now sheet.now (option_copied journal.entry))) }
+    ensures { OnOk result (Grows text.old text.new
+        (spec.facts_text docket.now docket_bytes.now sheet.now (option_copied journal.entry))) }
 {
     put_digest(alloc, text, b"docket", docket_bytes)?;
     put_digest(alloc, text, b"sheet", sheet)?;

@@ -33,7 +33,8 @@ pub(crate) fn put_long_row(
     first: &[u8],
     second: &[u8],
 ) -> Result<(), AllocError>
-    ensures { OnOk result (Grows text.old text.new (spec.long_row letter.now first.now second.now)) }
+    ensures { OnOk result
+        (Grows text.old text.new (spec.long_row letter.now first.now second.now)) }
 {
     put(text, letter)?;
     put(text, b",")?;

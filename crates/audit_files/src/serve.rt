@@ -30,7 +30,8 @@ pub enum Verdict {
 
 // Adds the rows of an audit.
 fn add_audit(alloc: Global, docket: &Docket, text: &mut Vec<u8>) -> Result<Status, FilesFault>
-    ensures report { IfOk result (λ status. WritesReport docket.now status (Some text.old.items) (Some text.new.items)) }
+    ensures report { IfOk result (λ status.
+        WritesReport docket.now status (Some text.old.items) (Some text.new.items)) }
     ensures fault { IfErr result (IsAnswerFault docket.now) }
 {
     match audit_docket(alloc, docket, text) {
@@ -65,7 +66,8 @@ fn add_result(
 
 // Adds the rows of a replay.
 fn add_replay(alloc: Global, docket: &Docket, text: &mut Vec<u8>) -> Result<Status, FilesFault>
-    ensures answer { IfOk result (λ status. WritesReplay docket.now status (Some text.old.items) (Some text.new.items)) }
+    ensures answer { IfOk result (λ status.
+        WritesReplay docket.now status (Some text.old.items) (Some text.new.items)) }
     ensures fault { IfErr result (IsAnswerFault docket.now) }
 {
     match replay_docket(alloc, docket, text) {
@@ -82,7 +84,8 @@ fn add_replay_if(
     journal: Option<&[u8]>,
     text: &mut Vec<u8>,
 ) -> Result<Option<Status>, FilesFault>
-    ensures answer { IfOk result (λ status. Replays docket.now (option_copied journal.entry) text.old.items status text.new.items) }
+    ensures answer { IfOk result (λ status.
+        Replays docket.now (option_copied journal.entry) text.old.items status text.new.items) }
     ensures fault { IfErr result (IsAnswerFault docket.now) }
 {
     match journal {
@@ -111,7 +114,8 @@ fn add_answer(
     journal: Option<&[u8]>,
     text: &mut Vec<u8>,
 ) -> Result<Verdict, FilesFault>
-    ensures answer { IfOk result (λ verdict. Tells docket.now (option_copied journal.entry) text.old.items verdict text.new.items) }
+    ensures answer { IfOk result (λ verdict.
+        Tells docket.now (option_copied journal.entry) text.old.items verdict text.new.items) }
     ensures fault { IfErr result (IsAnswerFault docket.now) }
 {
     let audited = match add_audit(alloc, docket, text) {
@@ -138,7 +142,8 @@ fn facts_of(
     sheet: &[u8],
     journal: Option<&[u8]>,
 ) -> Result<Vec<u8>, FilesFault>
-    ensures text { IfOk result (λ text. text.items ≡ facts_if wants_facts docket.now docket_bytes.now sheet.now (option_copied journal.entry)) }
+    ensures text { IfOk result (λ text. text.items ≡ facts_if
+        wants_facts docket.now docket_bytes.now sheet.now (option_copied journal.entry)) }
     ensures fault { IfErr result (λ fault. fault ≡ FilesFault.Memory) }
 {
     let mut text = Vec::new(alloc);
@@ -175,8 +180,11 @@ pub fn serve_files<W: Write, H: RandomSource>(
     journal: Option<&[u8]>,
     writer: &mut W,
 ) -> Result<Verdict, FilesFault>
-    ensures answer { IfOk result (λ verdict. (text : List ℕ) × AnswersFiles wants_facts docket.now sheet.now (option_copied journal.entry) verdict text × Appends (W.contents writer.old) (W.contents writer.new) text) }
-    ensures fault { IfErr result (IsServingFault docket.now sheet.now (option_copied journal.entry)) }
+    ensures answer { IfOk result (λ verdict. (text : List ℕ)
+        × AnswersFiles wants_facts docket.now sheet.now (option_copied journal.entry) verdict text
+        × Appends (W.contents writer.old) (W.contents writer.new) text) }
+    ensures fault { IfErr result
+        (IsServingFault docket.now sheet.now (option_copied journal.entry)) }
     ensures before { IfErr result (λ fault. fault ≢ FilesFault.Write → writer.new ≡ writer.old) }
 {
     let read = match read_files(rt, alloc, docket, sheet, bytes_of(journal)) {

@@ -71,7 +71,8 @@ fn push_word<W: Write>(
     place: &[u8],
     word: &str,
 ) -> Result<(), WriteFailed>
-    ensures { OnOk result (Adds W.contents rows.old rows.new (row (codes "N" ∷ place.now ∷ word.now ∷ []))) }
+    ensures { OnOk result
+        (Adds W.contents rows.old rows.new (row (codes "N" ∷ place.now ∷ word.now ∷ []))) }
 {
     rows.push(&[b"N", place, word.as_bytes()])
 }
@@ -83,7 +84,8 @@ fn push_pending<W: Write>(
     kind: &str,
     name: &str,
 ) -> Result<(), WriteFailed>
-    ensures { OnOk result (Adds W.contents rows.old rows.new (row (pending_fields place.now kind.now name.now))) }
+    ensures { OnOk result
+        (Adds W.contents rows.old rows.new (row (pending_fields place.now kind.now name.now))) }
 {
     rows.push(&[
         b"N",
@@ -102,7 +104,8 @@ fn push_refused<W: Write>(
     refused: &Refused,
 ) -> Result<(), WriteFailed>
     requires member { RefusesMember docket.now.instance refused.now }
-    ensures { OnOk result (Adds W.contents rows.old rows.new (row (refused_fields docket.now place.now refused.now))) }
+    ensures { OnOk result (Adds W.contents rows.old rows.new
+        (row (refused_fields docket.now place.now refused.now))) }
 {
     match refused {
         Refused::StillPending(what) => {
@@ -119,7 +122,8 @@ fn push_fault<W: Write>(
     fault: &ReplayFault,
 ) -> Result<(), WriteFailed>
     requires member { NamesMember docket.now.instance fault.now }
-    ensures { OnOk result (Adds W.contents rows.old rows.new (row (fault_fields docket.now fault.now))) }
+    ensures { OnOk result
+        (Adds W.contents rows.old rows.new (row (fault_fields docket.now fault.now))) }
 {
     let mut room = itoa::Buffer::new();
     match fault {
@@ -141,7 +145,8 @@ fn push_fault<W: Write>(
 
 // Adds the row of a good replay.
 fn push_good<W: Write>(rows: &mut RowWriter<'_, W>, events: usize) -> Result<(), WriteFailed>
-    ensures { OnOk result (Adds W.contents rows.old rows.new (row (codes "G" ∷ decimal events ∷ []))) }
+    ensures { OnOk result
+        (Adds W.contents rows.old rows.new (row (codes "G" ∷ decimal events ∷ []))) }
 {
     let mut room = itoa::Buffer::new();
     let events = room.format(events);
@@ -155,7 +160,8 @@ fn push_answer<W: Write>(
     answer: &Result<Replayed, ReplayFault>,
 ) -> Result<(), WriteFailed>
     requires member { IsAnswerOf docket.now answer.now }
-    ensures { OnOk result (Adds W.contents rows.old rows.new (row (answer_fields docket.now answer.now))) }
+    ensures { OnOk result
+        (Adds W.contents rows.old rows.new (row (answer_fields docket.now answer.now))) }
 {
     match answer {
         Ok(replayed) => push_good(rows, replayed.events),
@@ -195,7 +201,8 @@ fn push_counts<W: Write>(
     answer: &Result<Replayed, ReplayFault>,
     counts: Option<&[u64]>,
 ) -> Result<(), WriteFailed>
-    ensures { OnOk result (Adds W.contents rows.old rows.new (count_rows answer.now (option_copied counts.entry))) }
+    ensures { OnOk result
+        (Adds W.contents rows.old rows.new (count_rows answer.now (option_copied counts.entry))) }
 {
     match (answer, counts) {
         (Ok(_), Some(counts)) => push_workers(rows, counts),
@@ -211,7 +218,8 @@ fn push_replay<W: Write>(
     counts: Option<&[u64]>,
 ) -> Result<(), WriteFailed>
     requires { IsAnswerOf docket.now answer.now }
-    ensures { OnOk result (Adds W.contents rows.old rows.new (replay_text docket.now answer.now (option_copied counts.entry))) }
+    ensures { OnOk result (Adds W.contents rows.old rows.new
+        (replay_text docket.now answer.now (option_copied counts.entry))) }
 {
     push_answer(rows, docket, answer)?;
     push_counts(rows, answer, counts)
@@ -229,7 +237,8 @@ pub fn write_replay<W: Write>(
     writer: &mut W,
 ) -> Result<(), DocketFault>
     requires { IsAnswerOf docket.now answer.now }
-    ensures ok { OnOk result (Writes W.contents writer.old writer.new (replay_text docket.now answer.now (option_copied counts.entry))) }
+    ensures ok { OnOk result (Writes W.contents writer.old writer.new
+        (replay_text docket.now answer.now (option_copied counts.entry))) }
     ensures fault { IfErr result IsWriteFault }
     ensures before { IfErr result (λ fault. fault ≢ DocketFault.Write → writer.new ≡ writer.old) }
 {

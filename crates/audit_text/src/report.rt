@@ -21,7 +21,8 @@ fn push_pair<W: Write>(
     programme: ProgrammeNo,
 ) -> Result<(), WriteFailed>
     requires members { IsPairOf docket.now (resident, programme) }
-    ensures { OnOk result (Adds W.contents rows.old rows.new (pair_row docket.now kind.now (resident, programme))) }
+    ensures { OnOk result
+        (Adds W.contents rows.old rows.new (pair_row docket.now kind.now (resident, programme))) }
 {
     let resident = docket.resident_name(resident).as_bytes();
     let programme = docket.programme_name(programme).as_bytes();
@@ -36,7 +37,8 @@ fn push_pairs<W: Write>(
     pairs: &[(ResidentNo, ProgrammeNo)],
 ) -> Result<(), WriteFailed>
     requires members { All (IsPairOf docket.now) pairs.now }
-    ensures { OnOk result (Adds W.contents rows.old rows.new (flat_map (pair_row docket.now kind.now) pairs.now)) }
+    ensures { OnOk result
+        (Adds W.contents rows.old rows.new (flat_map (pair_row docket.now kind.now) pairs.now)) }
 {
     for (resident, programme) in pairs {
         push_pair(rows, docket, kind, *resident, *programme)?;
@@ -51,7 +53,8 @@ fn push_all_over<W: Write>(
     all: &[(ProgrammeNo, u32)],
 ) -> Result<(), WriteFailed>
     requires members { All (λ over. IsProgramme docket.now.instance over.0) all.now }
-    ensures { OnOk result (Adds W.contents rows.old rows.new (flat_map (over_row docket.now) all.now)) }
+    ensures { OnOk result
+        (Adds W.contents rows.old rows.new (flat_map (over_row docket.now) all.now)) }
 {
     for (programme, filled) in all {
         push_programme(rows, docket, b"O", *programme, *filled)?;
@@ -99,7 +102,8 @@ pub fn write_report<W: Write>(
     writer: &mut W,
 ) -> Result<(), DocketFault>
     requires { IsReportOf docket.now report.now }
-    ensures ok { OnOk result (Writes W.contents writer.old writer.new (report_text docket.now report.now)) }
+    ensures ok { OnOk result
+        (Writes W.contents writer.old writer.new (report_text docket.now report.now)) }
     ensures fault { IfErr result IsWriteFault }
     ensures before { IfErr result (λ fault. fault ≢ DocketFault.Write → writer.new ≡ writer.old) }
 {

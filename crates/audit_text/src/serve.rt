@@ -34,7 +34,8 @@ pub fn audit_docket<W: Write>(
     docket: &Docket,
     writer: &mut W,
 ) -> Result<Status, AnswerFault>
-    ensures report { IfOk result (λ status. WritesReport docket.now status (W.contents writer.old) (W.contents writer.new)) }
+    ensures report { IfOk result (λ status.
+        WritesReport docket.now status (W.contents writer.old) (W.contents writer.new)) }
     ensures fault { IfErr result (IsAuditFault docket.now) }
     ensures before { IfErr result (λ fault. IsBeforeWriting fault → writer.new ≡ writer.old) }
 {
@@ -54,7 +55,8 @@ pub fn audit_docket<W: Write>(
 // How many events each worker made, if the journal is by worker. The only error is out of memory.
 fn counts_of(alloc: Global, journal: &Journal) -> Result<Option<Vec<u64>>, AnswerFault>
     requires { IfSome journal.now.by (IsByWorker journal.now.events) }
-    ensures counts { IfOk result (λ counts. option_map (λ (v : Vec ℕ). v.items) counts ≡ counts_in journal.now) }
+    ensures counts { IfOk result (λ counts.
+        option_map (λ (v : Vec ℕ). v.items) counts ≡ counts_in journal.now) }
     ensures fault { IfErr result (λ fault. fault ≡ AnswerFault.Memory) }
 {
     let Some(by) = &journal.by else {
@@ -83,7 +85,8 @@ pub fn replay_docket<W: Write>(
     docket: &Docket,
     writer: &mut W,
 ) -> Result<Status, AnswerFault>
-    ensures answer { IfOk result (λ status. WritesReplay docket.now status (W.contents writer.old) (W.contents writer.new)) }
+    ensures answer { IfOk result (λ status.
+        WritesReplay docket.now status (W.contents writer.old) (W.contents writer.new)) }
     ensures fault { IfErr result (IsReplayFault docket.now) }
     ensures before { IfErr result (λ fault. IsBeforeWriting fault → writer.new ≡ writer.old) }
 {

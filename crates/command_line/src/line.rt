@@ -169,7 +169,8 @@ fn program<'a>(alloc: Global) -> Result<Command<'a>, AllocError>
 // The description of a program with this command added.
 fn with_command<'a>(program: Command<'a>, command: Command<'a>) -> Result<Command<'a>, AllocError>
     requires { (app_of command).top.is_plain ≡ true }
-    ensures { IfOk result (λ both. app_of both ≡ with_subcommand (app_of program.entry) (app_of command.entry).top) }
+    ensures { IfOk result (λ both.
+        app_of both ≡ with_subcommand (app_of program.entry) (app_of command.entry).top) }
 {
     program.subcommand(command)
 }
@@ -200,7 +201,8 @@ fn room_of(matches: &ArgMatches) -> Result<Capacity, LineFault>
     ensures admitted { IfOk result (λ room. is_capacity room ≡ true) }
     ensures given { IfOk result (GivesRoom (rows_of (found_of matches.now))) }
     ensures fault { IfErr result (λ fault. fault ≡ BadCapacity) }
-    ensures bad { IfErr result (λ fault. HasBadRoom (Some (codes "match", rows_of (found_of matches.now)))) }
+    ensures bad { IfErr result (λ fault.
+        HasBadRoom (Some (codes "match", rows_of (found_of matches.now)))) }
 {
     match matches.get_str("capacity") {
         Some(text) => capacity_of(text.as_bytes()).ok_or(LineFault::BadCapacity),
@@ -226,7 +228,8 @@ fn match_options(matches: &ArgMatches) -> Result<MatchOptions, LineFault>
     ensures limits { IfOk result IsWithinLimits }
     ensures options { IfOk result (GivesOptions (rows_of (found_of matches.now))) }
     ensures fault { IfErr result (λ fault. fault ≡ BadCapacity) }
-    ensures bad { IfErr result (λ fault. HasBadRoom (Some (codes "match", rows_of (found_of matches.now)))) }
+    ensures bad { IfErr result (λ fault.
+        HasBadRoom (Some (codes "match", rows_of (found_of matches.now)))) }
 {
     let capacity = match room_of(matches) {
         Ok(capacity) => capacity,
@@ -245,7 +248,8 @@ fn matches_of<'a, S: AsStr>(
     words: &'a [S],
 ) -> Result<ArgMatches<'a>, clap::Error>
     requires { app_of commands.old ≡ commands_app }
-    ensures found { IfOk result (λ matches. subcommand_rows_of matches ≡ subcommand_of commands_app (map S.text words.entry.now)) }
+    ensures found { IfOk result (λ matches.
+        subcommand_rows_of matches ≡ subcommand_of commands_app (map S.text words.entry.now)) }
     ensures refused { IfErr result (HasKind (fault_of commands_app (map S.text words.entry.now))) }
 {
     commands.try_get_matches_from_mut(words)
@@ -255,7 +259,8 @@ fn matches_of<'a, S: AsStr>(
 fn order_named(matches: &ArgMatches) -> Result<Option<Order>, LineFault>
     ensures order { IfOk result (λ named. IfSome named IsOrder) }
     ensures named { IfOk result (λ named. IfSome named (IsNamed (subcommand_rows_of matches.now))) }
-    ensures none { IfOk result (λ named. named ≡ None → NamesNone (subcommand_rows_of matches.now)) }
+    ensures none { IfOk result (λ named. named ≡ None
+        → NamesNone (subcommand_rows_of matches.now)) }
     ensures fault { IfErr result (λ fault. fault ≡ BadCapacity) }
     ensures bad { IfErr result (λ fault. HasBadRoom (subcommand_rows_of matches.now)) }
 {

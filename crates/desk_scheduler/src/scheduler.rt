@@ -40,7 +40,12 @@ impl Model for Scheduler {
 
     ghost Value = { Schedule };
 
-    ghost view = { λ s. record { residents = s.residents; programmes = s.programmes; waiting = s.waiting; ended = s.ended } };
+    ghost view = { λ s. record {
+      residents = s.residents;
+      programmes = s.programmes;
+      waiting = s.waiting;
+      ended = s.ended;
+    } };
 
     ghost invariant = { λ s. IsNumbered s.residents s.programmes s.first_programme };
 }
@@ -151,7 +156,8 @@ impl Scheduler {
 
     // A worker takes this desk if the desk is idle. Returns whether the worker took it.
     fn claim(&mut self, desk: u32) -> bool
-        ensures claimed { result ≡ true → (place_at self.old desk ≡ Idle) × (self.new ≡ at_desk in_hand self.old desk) }
+        ensures claimed { result ≡ true
+            → (place_at self.old desk ≡ Idle) × (self.new ≡ at_desk in_hand self.old desk) }
         ensures left { result ≡ false → (place_at self.old desk ≢ Idle) × (self.new ≡ self.old) }
         ensures listed { place_at self.old desk ≡ Listed → any_ready self.old ≡ true }
     {

@@ -72,7 +72,8 @@ impl<J: WorkersIdentity> Shift<J> {
     pub fn begins(&mut self) -> Option<Looking<J>>
         ensures begun { IfSome result (λ _. self.new.begun ≡ self.old.begun + 1) }
         ensures looks { IfSome result (λ _. self.new.looking ≡ self.old.looking + 1) }
-        ensures others { (self.new.holding ≡ self.old.holding) × (self.new.resting ≡ self.old.resting) }
+        ensures others { (self.new.holding ≡ self.old.holding)
+            × (self.new.resting ≡ self.old.resting) }
         ensures none { IfNone result ((63 ≤ self.old.begun) × (self.new ≡ self.old)) }
         ensures schedule { self.new.schedule ≡ self.old.schedule }
     {
@@ -94,7 +95,8 @@ impl<J: WorkersIdentity> Shift<J> {
     /// listed.
     #[inline(always)]
     pub fn let_go(&mut self, hand: Hand<J>, again: bool) -> Looking<J>
-        ensures let_go { self.new.schedule ≡ at_desk (λ desks d. letting_go desks d again) self.old.schedule hand.desk }
+        ensures let_go { self.new.schedule
+            ≡ at_desk (λ desks d. letting_go desks d again) self.old.schedule hand.desk }
         ensures goes_on { self.new.schedule.ended ≡ self.old.schedule.ended }
         ensures counted { GetDesks self.new self.old 1 }
     {
@@ -106,7 +108,8 @@ impl<J: WorkersIdentity> Shift<J> {
     /// A worker that looks for a desk gets the first listed desk, until the run ends.
     #[inline(always)]
     pub fn next(&mut self, own: Looking<J>) -> TurnOf<J>
-        ensures next { (next_in (λ hand. hand.desk) result, self.new.schedule) ≡ next_of self.old.schedule }
+        ensures next { (next_in (λ hand. hand.desk) result, self.new.schedule)
+            ≡ next_of self.old.schedule }
         ensures goes_on { self.new.schedule.ended ≡ self.old.schedule.ended }
         ensures counted { GetDesks self.old self.new (desks_in result) }
     {
@@ -117,9 +120,12 @@ impl<J: WorkersIdentity> Shift<J> {
     /// A worker that looks for a desk gets this desk if it is idle, else the first listed desk. The worker gets no desk
     /// only if another worker has this desk and no desk is listed, or if the run has ended.
     pub fn claim_or_next(&mut self, own: Looking<J>, desk: u32) -> TurnOf<J>
-        ensures next { (next_in (λ hand. hand.desk) result, self.new.schedule) ≡ claim_or_next_of self.old.schedule desk }
-        ensures in_hand { next_in (λ hand. hand.desk) result ≡ Next.Nothing → IsInHand self.old.schedule desk }
-        ensures none { next_in (λ hand. hand.desk) result ≡ Next.Nothing → any_ready self.old.schedule ≡ false }
+        ensures next { (next_in (λ hand. hand.desk) result, self.new.schedule)
+            ≡ claim_or_next_of self.old.schedule desk }
+        ensures in_hand { next_in (λ hand. hand.desk) result ≡ Next.Nothing
+            → IsInHand self.old.schedule desk }
+        ensures none { next_in (λ hand. hand.desk) result ≡ Next.Nothing
+            → any_ready self.old.schedule ≡ false }
         ensures goes_on { self.new.schedule.ended ≡ self.old.schedule.ended }
         ensures counted { GetDesks self.old self.new (desks_in result) }
     {
@@ -148,9 +154,11 @@ impl<J: WorkersIdentity> Shift<J> {
     pub fn rests(&mut self, own: Looking<J>) -> Result<Resting<J>, Looking<J>>
         ensures rests { IfOk result (λ _. (self.new.resting ≡ self.old.resting + 1)
             × (self.new.looking + 1 ≡ self.old.looking)) }
-        ensures another { IfOk result (λ _. (0 < self.old.holding) × (self.new.holding ≡ self.old.holding)) }
+        ensures another { IfOk result (λ _. (0 < self.old.holding)
+            × (self.new.holding ≡ self.old.holding)) }
         ensures awake { IfOk result (λ _. self.new.resting < self.new.begun) }
-        ensures waits { IfOk result (λ _. self.new.schedule ≡ waiting_now self.old.schedule self.new.resting) }
+        ensures waits { IfOk result (λ _.
+            self.new.schedule ≡ waiting_now self.old.schedule self.new.resting) }
         ensures alone { IfErr result (λ _. (self.old.holding ≡ 0) × (self.new ≡ self.old)) }
         ensures goes_on { self.new.schedule.ended ≡ self.old.schedule.ended }
     {
@@ -163,7 +171,8 @@ impl<J: WorkersIdentity> Shift<J> {
     pub fn wakes(&mut self, own: Resting<J>) -> Looking<J>
         ensures resting { self.new.resting + 1 ≡ self.old.resting }
         ensures looking { self.new.looking ≡ self.old.looking + 1 }
-        ensures holding { (self.new.holding ≡ self.old.holding) × (self.new.begun ≡ self.old.begun) }
+        ensures holding { (self.new.holding ≡ self.old.holding)
+            × (self.new.begun ≡ self.old.begun) }
         ensures waits { self.new.schedule ≡ waiting_now self.old.schedule self.new.resting }
         ensures goes_on { self.new.schedule.ended ≡ self.old.schedule.ended }
     {

@@ -37,7 +37,11 @@ impl Model for Side {
 
     ghost Value = { Desks };
 
-    ghost view = { λ s. record { places = s.places.items; ready = reverse s.listed.items; behind = reverse s.behind.items } };
+    ghost view = { λ s. record {
+      places = s.places.items;
+      ready = reverse s.listed.items;
+      behind = reverse s.behind.items;
+    } };
 
     ghost invariant = { λ s. AreListed s.places.items s.listed.items s.behind.items
         (vec_capacity s.listed) (vec_capacity s.behind) };

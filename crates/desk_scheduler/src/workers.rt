@@ -139,14 +139,16 @@ pub struct Workers<J: WorkersIdentity> {
     ghost all: { holding.total + looking.total + resting.total ≡ begun },
     ghost without_are: { looking.total + resting.total ≡ without },
     ghost awake: { resting.total ≤ begun - 1 },
-    ghost parts: { (holds.parts + begun ≡ 64) × (looks.parts + begun ≡ 64) × (rests.parts + begun ≡ 64) },
+    ghost parts: { (holds.parts + begun ≡ 64)
+        × (looks.parts + begun ≡ 64) × (rests.parts + begun ≡ 64) },
     ghost amounts: { (holds.amount ≡ 0) × (looks.amount ≡ 0) × (rests.amount ≡ 0) },
 }
 
 impl<J: WorkersIdentity> Workers<J> {
     /// The counts before any worker has begun.
     pub fn none(holding: Blank, looking: Blank, resting: Blank) -> Workers<J>
-        requires names { (holding.name ≡ J.holding) × (looking.name ≡ J.looking) × (resting.name ≡ J.resting) }
+        requires names { (holding.name ≡ J.holding)
+            × (looking.name ≡ J.looking) × (resting.name ≡ J.resting) }
         requires parts { (holding.parts ≡ 64) × (looking.parts ≡ 64) × (resting.parts ≡ 64) }
         ensures { (result.begun ≡ 0) × (result.without ≡ 0) }
     {
@@ -213,7 +215,8 @@ impl<J: WorkersIdentity> Workers<J> {
     pub fn takes(&mut self, own: Looking<J>) -> Holding<J>
         ensures holding { self.new.holding.total ≡ self.old.holding.total + 1 }
         ensures looking { self.new.looking.total + 1 ≡ self.old.looking.total }
-        ensures rest { (self.new.resting.total ≡ self.old.resting.total) × (self.new.begun ≡ self.old.begun) }
+        ensures rest { (self.new.resting.total ≡ self.old.resting.total)
+            × (self.new.begun ≡ self.old.begun) }
     {
         let Workers {
             without,
@@ -241,7 +244,8 @@ impl<J: WorkersIdentity> Workers<J> {
     pub fn lets_go(&mut self, own: Holding<J>) -> Looking<J>
         ensures holding { self.new.holding.total + 1 ≡ self.old.holding.total }
         ensures looking { self.new.looking.total ≡ self.old.looking.total + 1 }
-        ensures rest { (self.new.resting.total ≡ self.old.resting.total) × (self.new.begun ≡ self.old.begun) }
+        ensures rest { (self.new.resting.total ≡ self.old.resting.total)
+            × (self.new.begun ≡ self.old.begun) }
     {
         let Workers {
             without,
@@ -312,7 +316,8 @@ impl<J: WorkersIdentity> Workers<J> {
     pub fn wakes(&mut self, own: Resting<J>) -> Looking<J>
         ensures resting { self.new.resting.total + 1 ≡ self.old.resting.total }
         ensures looking { self.new.looking.total ≡ self.old.looking.total + 1 }
-        ensures holding { (self.new.holding.total ≡ self.old.holding.total) × (self.new.begun ≡ self.old.begun) }
+        ensures holding { (self.new.holding.total ≡ self.old.holding.total)
+            × (self.new.begun ≡ self.old.begun) }
     {
         let Workers {
             looking,

@@ -61,9 +61,22 @@ impl Model for Docket {
 
     ghost Value = { Contents };
 
-    ghost view = { λ d. record { programmes = d.names.programmes; residents = d.names.residents; instance = d.instance; sheet = d.sheet; journal = d.journal } };
+    ghost view = { λ d. record {
+      programmes = d.names.programmes;
+      residents = d.names.residents;
+      instance = d.instance;
+      sheet = d.sheet;
+      journal = d.journal;
+    } };
 
-    ghost invariant = { λ d. IsWhole (record { programmes = d.names.programmes; residents = d.names.residents; instance = d.instance; sheet = d.sheet; journal = d.journal }) };
+    ghost invariant = { λ d.
+        IsWhole (record {
+          programmes = d.names.programmes;
+          residents = d.names.residents;
+          instance = d.instance;
+          sheet = d.sheet;
+          journal = d.journal;
+        }) };
 }
 
 // One function drops the whole docket. So a caller that drops a docket need not prove anything about its parts.

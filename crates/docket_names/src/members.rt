@@ -27,7 +27,8 @@ impl Model for Members {
 
 // Makes the list long enough for this text. No text becomes a member's name by this.
 fn reach(by_text: &mut Vec<Option<u32>>, text: usize) -> Result<(), AllocError>
-    ensures kept { (texts : List ℕ) → AreFoundBy by_text.old.items texts → AreFoundBy by_text.new.items texts }
+    ensures kept { (texts : List ℕ)
+        → AreFoundBy by_text.old.items texts → AreFoundBy by_text.new.items texts }
     ensures within { OnOk result (text < length by_text.new.items) }
 {
     if text < by_text.len() {
@@ -79,8 +80,10 @@ impl Members {
 
     /// Adds the member with this text, unless there is such a member, and says whether the member is new.
     pub fn add(&mut self, text: usize) -> Result<bool, AllocError>
-        ensures fresh { IfOk result (λ fresh. fresh ≡ not (is_some (position (nat_eq text) self.old))) }
-        ensures added { IfOk result (λ fresh. self.new ≡ (if fresh then self.old ++ text ∷ [] else self.old)) }
+        ensures fresh { IfOk result (λ fresh.
+            fresh ≡ not (is_some (position (nat_eq text) self.old))) }
+        ensures added { IfOk result (λ fresh.
+            self.new ≡ (if fresh then self.old ++ text ∷ [] else self.old)) }
     {
         if self.member(text).is_some() {
             return Ok(false);

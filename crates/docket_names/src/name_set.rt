@@ -21,7 +21,8 @@ impl Model for NameSet {
 
 // Makes the list long enough for this text. No text comes into the set by this.
 fn reach(by_text: &mut Vec<bool>, text: usize) -> Result<(), AllocError>
-    ensures kept { (n : ℕ) → slice_index_or by_text.new.items n false ≡ slice_index_or by_text.old.items n false }
+    ensures kept { (n : ℕ)
+        → slice_index_or by_text.new.items n false ≡ slice_index_or by_text.old.items n false }
     ensures within { OnOk result (text < length by_text.new.items) }
 {
     if text < by_text.len() {
@@ -47,7 +48,8 @@ impl NameSet {
     /// Adds a text to the set, and says whether the text is new in the set.
     pub fn add(&mut self, text: usize) -> Result<bool, AllocError>
         ensures fresh { IfOk result (λ fresh. fresh ≡ not (slice_index_or self.old text false)) }
-        ensures added { OnOk result ((n : ℕ) → slice_index_or self.new n false ≡ (nat_eq n text || slice_index_or self.old n false)) }
+        ensures added { OnOk result ((n : ℕ) → slice_index_or self.new n false
+            ≡ (nat_eq n text || slice_index_or self.old n false)) }
     {
         reach(&mut self.by_text, text)?;
         let is_new = !self.by_text[text];

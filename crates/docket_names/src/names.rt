@@ -21,9 +21,13 @@ impl Model for Names {
 
     ghost Value = { NamesBySide };
 
-    ghost view = { λ a. record { programmes = texts_at a.texts a.programmes; residents = texts_at a.texts a.residents } };
+    ghost view = { λ a. record {
+      programmes = texts_at a.texts a.programmes;
+      residents = texts_at a.texts a.residents;
+    } };
 
-    ghost invariant = { λ a. AreNames a.texts a.programmes (texts_at a.texts a.programmes) × AreNames a.texts a.residents (texts_at a.texts a.residents) };
+    ghost invariant = { λ a. AreNames a.texts a.programmes (texts_at a.texts a.programmes)
+        × AreNames a.texts a.residents (texts_at a.texts a.residents) };
 }
 
 // One function drops all names. So a caller that drops names need not prove anything about their parts.

@@ -18,7 +18,8 @@ use std::io::Read;
 fn next_row<R: Read>(reader: &mut Reader<R>, row: &mut ByteRecord) -> Result<bool, PartFault>
     requires reading { IsReading reader.old }
     ensures reading { IfOk result (λ found. found ≡ true → IsReading reader.new) }
-    ensures gives { IfOk result (λ found. GivesRow (rows_left R.remaining reader.old) (rows_left R.remaining reader.new) found (fields_of row.new)) }
+    ensures gives { IfOk result (λ found. GivesRow (rows_left R.remaining reader.old)
+        (rows_left R.remaining reader.new) found (fields_of row.new)) }
     ensures memory { IfErr result (λ fault. fault ≡ Memory) }
 {
     let read = reader.read_byte_record(row);
@@ -31,7 +32,8 @@ fn next_row<R: Read>(reader: &mut Reader<R>, row: &mut ByteRecord) -> Result<boo
 // Tests that a record belongs to the file's part.
 fn check_row(file: Part, place: u64, row: &ByteRecord) -> Result<(), PartFault>
     ensures own { OnOk result (record_fault file place (fields_of row.now) ≡ None) }
-    ensures fault { IfErr result (λ fault. record_fault file place (fields_of row.now) ≡ Some fault) }
+    ensures fault { IfErr result (λ fault.
+        record_fault file place (fields_of row.now) ≡ Some fault) }
 {
     match part_of(row) {
         None => Err(PartFault::UnknownKind { file, place }),
@@ -48,7 +50,8 @@ fn gather_rows<R: Read>(
     text: &mut Vec<u8>,
 ) -> Result<u64, PartFault>
     requires reading { IsReading reader.old }
-    ensures gathers { IfOk result (λ count. Gathers file (rows_left R.remaining reader.old) count text.old text.new) }
+    ensures gathers { IfOk result (λ count.
+        Gathers file (rows_left R.remaining reader.old) count text.old text.new) }
     ensures fault { IfErr result (Refuses file (rows_left R.remaining reader.old)) }
 {
     let mut row = ByteRecord::new(alloc);
@@ -70,7 +73,8 @@ pub(crate) fn gather(
     bytes: &[u8],
     text: &mut Vec<u8>,
 ) -> Result<u64, PartFault>
-    ensures gathers { IfOk result (λ count. Gathers file (Some (rows_of bytes.now)) count text.old text.new) }
+    ensures gathers { IfOk result (λ count.
+        Gathers file (Some (rows_of bytes.now)) count text.old text.new) }
     ensures fault { IfErr result (Refuses file (Some (rows_of bytes.now))) }
 {
     let mut reader = ReaderBuilder::new()

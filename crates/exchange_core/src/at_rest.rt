@@ -36,7 +36,8 @@ impl Core {
     #[tactic(auto, using(crate::proofs::FirstBelow::first_below_found, crate::proofs::FirstBelow::first_below_more, crate::proofs::Quiet::quiet_residents))]
     fn pending_at_residents(&self, inst: &Instance) -> Option<Pending>
         requires { IsCoreOf inst.now self.now }
-        ensures { result ≡ first_below (resident_pending_at self.now) (length inst.now.resident_lists) }
+        ensures { result
+            ≡ first_below (resident_pending_at self.now) (length inst.now.resident_lists) }
     {
         if self.residents.are_quiet() {
             return None;

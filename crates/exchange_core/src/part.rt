@@ -66,7 +66,8 @@ impl Part {
         requires within { self.old.start + self.old.room ≤ length notes.old.items }
         requires room { self.old.len < self.old.room }
         ensures part { self.new ≡ pushed self.old }
-        ensures notes { notes.new.items ≡ slice_set notes.old.items (place_in self.old self.old.len) note }
+        ensures notes { notes.new.items
+            ≡ slice_set notes.old.items (place_in self.old self.old.len) note }
     {
         let place = self.place(self.len);
         notes[place] = note;

@@ -60,8 +60,10 @@ impl Model for ProgrammeRow {
       laid : AreLaid (map programme_span d.seats.items) (length d.notes.items);
       rings : All IsProgrammeRing d.seats.items;
       few : length d.seats.items < 2 ^ 32;
-      answers_counted : d.with_answers ≡ count_by has_answers (map (shown_programme d.notes.items) d.seats.items);
-      wishes_counted : d.with_wish ≡ count_by has_wish (map (shown_programme d.notes.items) d.seats.items);
+      answers_counted : d.with_answers
+          ≡ count_by has_answers (map (shown_programme d.notes.items) d.seats.items);
+      wishes_counted : d.with_wish
+          ≡ count_by has_wish (map (shown_programme d.notes.items) d.seats.items);
     } };
 }
 
@@ -111,7 +113,8 @@ impl ProgrammeRow {
     #[inline(always)]
     pub(crate) fn is_full(&self, programme: ProgrammeNo) -> bool
         requires { programme < length self.now }
-        ensures { result ≡ not (nat_lt (length (seat_of_programme self.now programme).waiting) (seat_of_programme self.now programme).room) }
+        ensures { result ≡ not (nat_lt (length (seat_of_programme self.now programme).waiting)
+            (seat_of_programme self.now programme).room) }
     {
         let part = self.seats[programme.0 as usize].part;
         !(part.len < part.room)
@@ -149,7 +152,8 @@ impl ProgrammeRow {
     #[inline(always)]
     pub(crate) fn has_place(&self, programme: ProgrammeNo) -> bool
         requires { programme < length self.now }
-        ensures { result ≡ nat_lt (seat_of_programme self.now programme).out (seat_of_programme self.now programme).places }
+        ensures { result ≡ nat_lt (seat_of_programme self.now programme).out
+            (seat_of_programme self.now programme).places }
     {
         let seat = &self.seats[programme.0 as usize];
         seat.out < seat.places
@@ -169,8 +173,10 @@ impl ProgrammeRow {
     pub(crate) fn offer(&mut self, programme: ProgrammeNo)
         requires member { programme < length self.old }
         requires offered { (seat_of_programme self.old programme).offered + 1 < 2 ^ 32 }
-        requires place { (seat_of_programme self.old programme).out < (seat_of_programme self.old programme).places }
-        ensures { self.new ≡ slice_set self.old programme (made_offer (seat_of_programme self.old programme)) }
+        requires place { (seat_of_programme self.old programme).out
+            < (seat_of_programme self.old programme).places }
+        ensures { self.new
+            ≡ slice_set self.old programme (made_offer (seat_of_programme self.old programme)) }
     {
         let seat = &mut self.seats[programme.0 as usize];
         let wished = seat.has_wish();
@@ -184,8 +190,10 @@ impl ProgrammeRow {
     pub(crate) fn receive(&mut self, programme: ProgrammeNo, resident: ResidentNo, kind: AnswerKind)
         requires member { programme < length self.old }
         requires number { resident < 2 ^ 30 }
-        requires room { length (seat_of_programme self.old programme).waiting < (seat_of_programme self.old programme).room }
-        ensures { self.new ≡ slice_set self.old programme (sent_answer (seat_of_programme self.old programme) (resident, kind)) }
+        requires room { length (seat_of_programme self.old programme).waiting
+            < (seat_of_programme self.old programme).room }
+        ensures { self.new ≡ slice_set self.old programme
+            (sent_answer (seat_of_programme self.old programme) (resident, kind)) }
     {
         let seat = &mut self.seats[programme.0 as usize];
         let waited = seat.part.len > 0;
@@ -198,7 +206,8 @@ impl ProgrammeRow {
     #[inline(always)]
     pub(crate) fn hear(&mut self, programme: ProgrammeNo, resident: ResidentNo, kind: AnswerKind)
         requires { programme < length self.old }
-        ensures { self.new ≡ slice_set self.old programme (heard_answer (seat_of_programme self.old programme) (resident, kind)) }
+        ensures { self.new ≡ slice_set self.old programme
+            (heard_answer (seat_of_programme self.old programme) (resident, kind)) }
     {
         let seat = &mut self.seats[programme.0 as usize];
         let (waited, wished) = (seat.part.len > 0, seat.has_wish());

@@ -52,8 +52,10 @@ impl Model for ResidentRow {
       laid : AreLaid (map resident_span d.seats.items) (length d.notes.items);
       rings : All IsResidentRing d.seats.items;
       few : length d.seats.items < 2 ^ 32;
-      offers_counted : d.with_offers ≡ count_by has_offers (map (shown_resident d.notes.items) d.seats.items);
-      due_counted : d.with_due ≡ count_by has_due (map (shown_resident d.notes.items) d.seats.items);
+      offers_counted : d.with_offers
+          ≡ count_by has_offers (map (shown_resident d.notes.items) d.seats.items);
+      due_counted : d.with_due
+          ≡ count_by has_due (map (shown_resident d.notes.items) d.seats.items);
     } };
 }
 
@@ -100,7 +102,8 @@ impl ResidentRow {
     #[inline(always)]
     pub(crate) fn is_full(&self, resident: ResidentNo) -> bool
         requires { resident < length self.now }
-        ensures { result ≡ not (nat_lt (length (seat_of_resident self.now resident).waiting) (seat_of_resident self.now resident).room) }
+        ensures { result ≡ not (nat_lt (length (seat_of_resident self.now resident).waiting)
+            (seat_of_resident self.now resident).room) }
     {
         let part = self.seats[resident.0 as usize].part;
         !(part.len < part.room)
@@ -161,8 +164,10 @@ impl ResidentRow {
     pub(crate) fn receive(&mut self, resident: ResidentNo, programme: ProgrammeNo, rank: u32)
         requires member { resident < length self.old }
         requires number { programme < MAX_PROGRAMMES }
-        requires room { length (seat_of_resident self.old resident).waiting < (seat_of_resident self.old resident).room }
-        ensures { self.new ≡ slice_set self.old resident (sent_offer (seat_of_resident self.old resident) programme) }
+        requires room { length (seat_of_resident self.old resident).waiting
+            < (seat_of_resident self.old resident).room }
+        ensures { self.new ≡ slice_set self.old resident
+            (sent_offer (seat_of_resident self.old resident) programme) }
     {
         let seat = &mut self.seats[resident.0 as usize];
         let waited = seat.part.len > 0;
@@ -183,7 +188,8 @@ impl ResidentRow {
     )
         requires member { resident < length self.old }
         requires due { (seat_of_resident self.old resident).due ≡ [] }
-        ensures { self.new ≡ slice_set self.old resident (took_offer (seat_of_resident self.old resident) better programme) }
+        ensures { self.new ≡ slice_set self.old resident
+            (took_offer (seat_of_resident self.old resident) better programme) }
     {
         let seat = &mut self.seats[resident.0 as usize];
         let due = called_for(better, seat.held, programme);
@@ -201,7 +207,8 @@ impl ResidentRow {
     #[inline(always)]
     pub(crate) fn answer(&mut self, resident: ResidentNo, programme: ProgrammeNo, kind: AnswerKind)
         requires { resident < length self.old }
-        ensures { self.new ≡ slice_set self.old resident (gave_answer (seat_of_resident self.old resident) (programme, kind)) }
+        ensures { self.new ≡ slice_set self.old resident
+            (gave_answer (seat_of_resident self.old resident) (programme, kind)) }
     {
         let seat = &mut self.seats[resident.0 as usize];
         let owed = seat.first_due.is_some();

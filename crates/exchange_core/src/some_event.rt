@@ -70,7 +70,8 @@ impl Core {
         requires core { IsCoreOf inst.now self.now }
         requires none { IfSome looked_at (HaveNoEvent inst.now self.now) }
         ensures free { IfSome result (λ e. fault_left inst.now self.now e ≡ None) }
-        ensures none { IfNone result ((r : ℕ) → IsResident inst.now r → HasNoResidentEvent inst.now self.now r) }
+        ensures none { IfNone result ((r : ℕ)
+            → IsResident inst.now r → HasNoResidentEvent inst.now self.now r) }
     {
         if self.residents.are_quiet() {
             return None;
@@ -92,7 +93,8 @@ impl Core {
         requires core { IsCoreOf inst.now self.now }
         requires none { IfSome looked_at (HaveNoEvent inst.now self.now) }
         ensures free { IfSome result (λ e. fault_left inst.now self.now e ≡ None) }
-        ensures none { IfNone result ((p : ℕ) → IsProgramme inst.now p → HasNoProgrammeEvent inst.now self.now p) }
+        ensures none { IfNone result ((p : ℕ)
+            → IsProgramme inst.now p → HasNoProgrammeEvent inst.now self.now p) }
         ensures instance { IsInstance inst.now }
     {
         for p in 0..inst.programmes() {
@@ -124,7 +126,8 @@ impl Core {
         requires core { IsCoreOf inst.now self.now }
         requires member { IsResident inst.now resident }
         ensures free { IfSome result (λ e. fault_left inst.now self.now e ≡ None) }
-        ensures none { IfNone result ((p : ℕ) (k : AnswerKind) → fault_left inst.now self.now (Event.Answer resident p k) ≢ None) }
+        ensures none { IfNone result ((p : ℕ) (k : AnswerKind)
+            → fault_left inst.now self.now (Event.Answer resident p k) ≢ None) }
     {
         match self.residents.first_due(resident) {
             Some((programme, kind)) => self.allowed(
@@ -144,7 +147,8 @@ impl Core {
         requires core { IsCoreOf inst.now self.now }
         requires member { IsResident inst.now resident }
         ensures free { IfSome result (λ e. fault_left inst.now self.now e ≡ None) }
-        ensures none { IfNone result ((p : ℕ) → fault_left inst.now self.now (Event.Take resident p) ≢ None) }
+        ensures none { IfNone result ((p : ℕ)
+            → fault_left inst.now self.now (Event.Take resident p) ≢ None) }
     {
         match self.residents.first_waiting(resident) {
             Some(programme) => self.allowed(
@@ -176,7 +180,8 @@ impl Core {
         requires core { IsCoreOf inst.now self.now }
         requires member { IsProgramme inst.now programme }
         ensures free { IfSome result (λ e. fault_left inst.now self.now e ≡ None) }
-        ensures none { IfNone result ((r : ℕ) (k : AnswerKind) → fault_left inst.now self.now (Event.Hear programme r k) ≢ None) }
+        ensures none { IfNone result ((r : ℕ) (k : AnswerKind)
+            → fault_left inst.now self.now (Event.Hear programme r k) ≢ None) }
     {
         match self.programmes.first_waiting(programme) {
             Some((resident, kind)) => self.allowed(
@@ -196,7 +201,8 @@ impl Core {
         requires core { IsCoreOf inst.now self.now }
         requires member { IsProgramme inst.now programme }
         ensures free { IfSome result (λ e. fault_left inst.now self.now e ≡ None) }
-        ensures none { IfNone result ((r : ℕ) → fault_left inst.now self.now (Event.Offer programme r) ≢ None) }
+        ensures none { IfNone result ((r : ℕ)
+            → fault_left inst.now self.now (Event.Offer programme r) ≢ None) }
     {
         match self.next_listed(inst, programme) {
             Some(resident) => self.allowed(
@@ -213,7 +219,8 @@ impl Core {
     /// The event itself if there is no cause against it, else none.
     fn allowed(&self, inst: &Instance, event: Event) -> Option<Event>
         requires { IsCoreOf inst.now self.now }
-        ensures free { IfSome result (λ e. (e ≡ event) × (fault_left inst.now self.now event ≡ None)) }
+        ensures free { IfSome result (λ e. (e ≡ event)
+            × (fault_left inst.now self.now event ≡ None)) }
         ensures none { IfNone result (fault_left inst.now self.now event ≢ None) }
         ensures instance { IsInstance inst.now }
     {

@@ -18,7 +18,8 @@ use test_support::events::{A, X};
 // Two ends in memory that have no room.
 #[tactic(auto, using(match_model::proofs::Prefixes::slice_get_push_parts))]
 fn lists<M: Drop>(alloc: Global) -> Result<Vec<ListPut<M>>, MailFault>
-    ensures { IfOk result (λ ends. (i : ℕ) (end : PutList M) → slice_get ends.items i ≡ Some end → end.puts ≡ []) }
+    ensures { IfOk result (λ ends. (i : ℕ) (end : PutList M)
+        → slice_get ends.items i ≡ Some end → end.puts ≡ []) }
 {
     let mut ends = Vec::new(alloc);
     for _ in 0..2 {
@@ -55,8 +56,10 @@ fn opened_as<J: ExchangeIdentity>(
     requires capacity { cap ≡ J.cap }
     requires workers { J.workers ≡ 2 }
     requires blank { (blank.name ≡ J.name) × (blank.parts ≡ J.parts) × (J.parts ≡ 8) }
-    requires offer_ends { (i : ℕ) (end : PutList ℕ) → slice_get ends.0.items i ≡ Some end → end.puts ≡ [] }
-    requires answer_ends { (i : ℕ) (end : PutList Answered) → slice_get ends.1.items i ≡ Some end → end.puts ≡ [] }
+    requires offer_ends { (i : ℕ) (end : PutList ℕ)
+        → slice_get ends.0.items i ≡ Some end → end.puts ≡ [] }
+    requires answer_ends { (i : ℕ) (end : PutList Answered)
+        → slice_get ends.1.items i ≡ Some end → end.puts ≡ [] }
     ensures handed_back { IfErr result (λ refused. refused.1 ≡ ends) }
 {
     let (offer_ends, answer_ends) = ends;
@@ -71,8 +74,10 @@ fn opened_as<J: ExchangeIdentity>(
 
 // Opens a ledger as `opened_as` does, for an exchange with a name of its own.
 fn opened_anew(alloc: Global, inst: &Instance, ends: Ends) -> Result<bool, (LedgerFault, Ends)>
-    requires offer_ends { (i : ℕ) (end : PutList ℕ) → slice_get ends.0.items i ≡ Some end → end.puts ≡ [] }
-    requires answer_ends { (i : ℕ) (end : PutList Answered) → slice_get ends.1.items i ≡ Some end → end.puts ≡ [] }
+    requires offer_ends { (i : ℕ) (end : PutList ℕ)
+        → slice_get ends.0.items i ≡ Some end → end.puts ≡ [] }
+    requires answer_ends { (i : ℕ) (end : PutList Answered)
+        → slice_get ends.1.items i ≡ Some end → end.puts ≡ [] }
     ensures handed_back { IfErr result (λ refused. refused.1 ≡ ends) }
 {
     opened_as::<Brand>(alloc, Blank::new(8), inst, Capacity::Full, ends)

@@ -20,7 +20,8 @@ use test_support::events::{A, X, nine_events, nineteen_events};
 // Ends in memory, each with room for `room` notes.
 #[tactic(auto, using(match_model::proofs::Prefixes::slice_get_push_parts))]
 fn lists<M: Drop>(alloc: Global, count: u32, room: u32) -> Result<Vec<ListPut<M>>, MailFault>
-    ensures { IfOk result (λ ends. (i : ℕ) (end : PutList M) → slice_get ends.items i ≡ Some end → end.puts ≡ []) }
+    ensures { IfOk result (λ ends. (i : ℕ) (end : PutList M)
+        → slice_get ends.items i ≡ Some end → end.puts ≡ []) }
 {
     let mut ends = Vec::new(alloc);
     for _ in 0..count {
@@ -39,7 +40,8 @@ fn mailboxes<M: Copy + Eq + Drop, R: Wait + Copy + Drop>(
     count: u32,
     room: u32,
 ) -> Result<(Vec<RuledPut<M, R>>, Vec<RuledTake<M, R>>), MailFault>
-    ensures { IfOk result (λ ends. (i : ℕ) (end : PutSide M) → slice_get ends.0.items i ≡ Some end → end.puts ≡ []) }
+    ensures { IfOk result (λ ends. (i : ℕ) (end : PutSide M)
+        → slice_get ends.0.items i ≡ Some end → end.puts ≡ []) }
 {
     let mut puts = Vec::new(alloc);
     let mut takes = Vec::new(alloc);

@@ -45,10 +45,9 @@ impl<M> PutEnd<M> for ListPut<M> {
     ghost may_go = { λ _. ⊥ };
 
     fn put(&mut self, m: M) -> PutReply<M>
-        ensures { MatchPut result
-            ((length self.old.puts < self.old.room) × (self.new ≡ record self.old { puts = self.old.puts ++ m ∷ [] }))
-            (λ back. (back ≡ m) × (self.new ≡ self.old) × (length self.old.puts ≡ self.old.room))
-            (λ _. ⊥) }
+        ensures { MatchPut result ((length self.old.puts < self.old.room)
+            × (self.new ≡ record self.old { puts = self.old.puts ++ m ∷ [] })) (λ back. (back ≡ m)
+            × (self.new ≡ self.old) × (length self.old.puts ≡ self.old.room)) (λ _. ⊥) }
     {
         if self.messages.len() >= self.room {
             return PutReply::Full(m);
@@ -71,7 +70,8 @@ impl<M: Copy> Model for ListTake<M> {
 
     ghost Value = { TakeList M };
 
-    ghost view = { λ e. record { taken = take e.next e.messages.items; left = drop e.next e.messages.items } };
+    ghost view = { λ e.
+        record { taken = take e.next e.messages.items; left = drop e.next e.messages.items } };
 
     ghost invariant = { λ e. e.next ≤ vec_len e.messages };
 }

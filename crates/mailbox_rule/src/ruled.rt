@@ -56,7 +56,8 @@ impl<M: Copy, R: Wait + Copy> Model for RuledTake<M, R> {
 
     ghost view = { λ e. record { mailbox = mailbox_of e.pass; taken = (hand_of e.pass).taken } };
 
-    ghost invariant = { λ e. IsSeatAt (receives_on e.receiver) e.pass × ((hand_of e.pass).may_take ≡ true) };
+    ghost invariant = { λ e. IsSeatAt (receives_on e.receiver) e.pass
+        × ((hand_of e.pass).may_take ≡ true) };
 }
 
 /// A mailbox in which at most `capacity` messages wait.

@@ -48,7 +48,8 @@ pub fn audit(
     assignment: &Assignment,
 ) -> Result<AuditReport, AuditFault>
     ensures report { IfOk result (Reports inst.now assignment.now) }
-    ensures wrong_size { IsErrOf result AuditFault.WrongSize ↔ (length assignment.now ≢ length inst.now.resident_lists) }
+    ensures wrong_size { IsErrOf result AuditFault.WrongSize
+        ↔ (length assignment.now ≢ length inst.now.resident_lists) }
 {
     if assignment.len() != inst.residents() {
         return Err(AuditFault::WrongSize);

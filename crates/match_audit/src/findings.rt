@@ -52,7 +52,8 @@ pub(crate) fn over_quota(
     loads: &[Load],
 ) -> Result<Vec<(ProgrammeNo, u32)>, AllocError>
     requires { length loads.now ≡ length inst.now.quotas }
-    ensures { IfOk result (λ over. (m : List (Option ℕ)) → AreLoads inst.now m loads.now → Lists (IsOver inst.now m) over.items) }
+    ensures { IfOk result (λ over. (m : List (Option ℕ))
+        → AreLoads inst.now m loads.now → Lists (IsOver inst.now m) over.items) }
 {
     let mut over = Vec::new(alloc);
     for p in 0..inst.programmes() {
@@ -91,7 +92,8 @@ fn append_pairs(
     resident: ResidentNo,
     programmes: &[ProgrammeNo],
 ) -> Result<(), AllocError>
-    ensures { OnOk result (pairs.new.items ≡ pairs.old.items ++ map (λ p. (resident, p)) programmes.now) }
+    ensures { OnOk result
+        (pairs.new.items ≡ pairs.old.items ++ map (λ p. (resident, p)) programmes.now) }
 {
     for programme in programmes {
         pairs.push((resident, *programme))?;
@@ -111,7 +113,8 @@ fn blocking_programmes(
     requires member { IsResident inst.now resident }
     requires size { length assignment.now ≡ length inst.now.resident_lists }
     requires loads { AreLoads inst.now assignment.now loads.now }
-    ensures { IfOk result (λ programmes. ListsNumbers (Blocks inst.now assignment.now resident) programmes.items) }
+    ensures { IfOk result (λ programmes.
+        ListsNumbers (Blocks inst.now assignment.now resident) programmes.items) }
 {
     let mut programmes = Vec::new(alloc);
     for programme in preferred(inst, resident, assignment.get(resident)) {
@@ -151,7 +154,8 @@ fn has_room_for(
 ) -> bool
     requires member { IsProgramme inst.now programme }
     requires loads { length loads.now ≡ length inst.now.quotas }
-    ensures { (m : List (Option ℕ)) → AreLoads inst.now m loads.now → IsTrue result ↔ HasRoomFor inst.now m programme resident }
+    ensures { (m : List (Option ℕ))
+        → AreLoads inst.now m loads.now → IsTrue result ↔ HasRoomFor inst.now m programme resident }
 {
     let load = loads[programme.0 as usize];
     if load.has_fewer_than(inst.quota(programme)) {

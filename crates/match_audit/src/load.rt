@@ -18,7 +18,8 @@ impl Load {
     /// Counts a member who stands at this place of the programme's list.
     pub(crate) fn add(&mut self, place: u32)
         requires { self.old.members + 1 < 2 ^ 32 }
-        ensures { self.new ≡ record { members = self.old.members + 1; worst = max self.old.worst place } }
+        ensures { self.new
+            ≡ record { members = self.old.members + 1; worst = max self.old.worst place } }
     {
         self.members += 1;
         self.worst = self.worst.max(place);

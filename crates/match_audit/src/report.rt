@@ -19,7 +19,8 @@ impl AuditReport {
 
     /// Whether the placement is stable: all three lists of the report are empty.
     pub fn is_stable(&self) -> bool
-        ensures nothing_found { IsTrue result ↔ ((self.now.unacceptable.items ≡ []) × (self.now.over.items ≡ []) × (self.now.blocking.items ≡ [])) }
+        ensures nothing_found { IsTrue result ↔ ((self.now.unacceptable.items ≡ [])
+            × (self.now.over.items ≡ []) × (self.now.blocking.items ≡ [])) }
         ensures stable { TellsStability self.now result }
     {
         self.unacceptable.is_empty() && self.over.is_empty() && self.blocking.is_empty()

@@ -45,7 +45,8 @@ pub fn first_unlike_result(
     inst: &Instance,
     sheet: &Assignment,
 ) -> Result<Option<ResidentNo>, AuditFault>
-    ensures exact { IfOk result (λ first. MatchOption first (IsSettled inst.now sheet.now) (IsUnlikeResult inst.now sheet.now)) }
+    ensures exact { IfOk result (λ first.
+        MatchOption first (IsSettled inst.now sheet.now) (IsUnlikeResult inst.now sheet.now)) }
     ensures memory { IfErr result (λ fault. fault ≡ AuditFault.Memory) }
 {
     match settle(alloc, inst) {

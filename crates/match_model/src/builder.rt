@@ -31,10 +31,12 @@ impl Model for InstanceBuilder {
 
     ghost Value = { Draft };
 
-    ghost view = { λ b. draft_with b.limits b.quotas.items b.programme_lists b.resident_lists b.programmes_withdrawn.items b.residents_withdrawn.items };
+    ghost view = { λ b. draft_with b.limits b.quotas.items b.programme_lists
+        b.resident_lists b.programmes_withdrawn.items b.residents_withdrawn.items };
 
     ghost invariant = { λ b. IsDraft
-        (draft_with b.limits b.quotas.items b.programme_lists b.resident_lists b.programmes_withdrawn.items b.residents_withdrawn.items) };
+        (draft_with b.limits b.quotas.items b.programme_lists
+        b.resident_lists b.programmes_withdrawn.items b.residents_withdrawn.items) };
 }
 
 /// Why `finish` refused to make an instance, with the unchanged builder.
@@ -55,14 +57,28 @@ impl InstanceBuilder {
 
     /// A builder without members, within the standard limits. All later memory comes from this allocator.
     pub fn new(alloc: Global) -> InstanceBuilder
-        ensures { result ≡ record { limits = Standard; quotas = []; programme_lists = []; resident_lists = []; programmes_withdrawn = []; residents_withdrawn = [] } }
+        ensures { result ≡ record {
+          limits = Standard;
+          quotas = [];
+          programme_lists = [];
+          resident_lists = [];
+          programmes_withdrawn = [];
+          residents_withdrawn = [];
+        } }
     {
         InstanceBuilder::within(alloc, Limits::Standard)
     }
 
     /// A builder without members, within these limits.
     pub fn within(alloc: Global, limits: Limits) -> InstanceBuilder
-        ensures { result ≡ record { limits = limits; quotas = []; programme_lists = []; resident_lists = []; programmes_withdrawn = []; residents_withdrawn = [] } }
+        ensures { result ≡ record {
+          limits = limits;
+          quotas = [];
+          programme_lists = [];
+          resident_lists = [];
+          programmes_withdrawn = [];
+          residents_withdrawn = [];
+        } }
     {
         InstanceBuilder {
             alloc,
@@ -137,9 +153,12 @@ impl InstanceBuilder {
         programme: ProgrammeNo,
         residents: &[ResidentNo],
     ) -> Result<(), ModelFault>
-        ensures given { OnOk result (self.new ≡ with_programme_list self.old programme residents.now) }
-        ensures first_fault { AnswersOrWantsMemory (list_fault self.old.programme_lists programme (length self.old.resident_lists) residents.now) result }
-        ensures owner { IfSome (owner_fault self.old.programme_lists programme) (λ fault. result ≡ Err fault) }
+        ensures given { OnOk result
+            (self.new ≡ with_programme_list self.old programme residents.now) }
+        ensures first_fault { AnswersOrWantsMemory (list_fault self.old.programme_lists programme
+            (length self.old.resident_lists) residents.now) result }
+        ensures owner { IfSome (owner_fault self.old.programme_lists programme) (λ fault.
+            result ≡ Err fault) }
         ensures err { OnErr result (self.new ≡ self.old) }
     {
         let owner = programme.0 as usize;
@@ -156,9 +175,12 @@ impl InstanceBuilder {
         resident: ResidentNo,
         programmes: &[ProgrammeNo],
     ) -> Result<(), ModelFault>
-        ensures given { OnOk result (self.new ≡ with_resident_list self.old resident programmes.now) }
-        ensures first_fault { AnswersOrWantsMemory (list_fault self.old.resident_lists resident (length self.old.quotas) programmes.now) result }
-        ensures owner { IfSome (owner_fault self.old.resident_lists resident) (λ fault. result ≡ Err fault) }
+        ensures given { OnOk result
+            (self.new ≡ with_resident_list self.old resident programmes.now) }
+        ensures first_fault { AnswersOrWantsMemory (list_fault self.old.resident_lists resident
+            (length self.old.quotas) programmes.now) result }
+        ensures owner { IfSome (owner_fault self.old.resident_lists resident) (λ fault.
+            result ≡ Err fault) }
         ensures err { OnErr result (self.new ≡ self.old) }
     {
         let owner = resident.0 as usize;
@@ -174,7 +196,8 @@ impl InstanceBuilder {
     /// memory.
     pub fn withdraw_programme(&mut self, programme: ProgrammeNo) -> Result<(), ModelFault>
         ensures withdrawn { OnOk result (self.new ≡ with_programme_withdrawn self.old programme) }
-        ensures fault { AnswersExactly (withdrawal_fault self.old.programmes_withdrawn programme) result }
+        ensures fault { AnswersExactly
+            (withdrawal_fault self.old.programmes_withdrawn programme) result }
         ensures err { OnErr result (self.new ≡ self.old) }
     {
         let member = programme.0 as usize;
@@ -186,7 +209,8 @@ impl InstanceBuilder {
     /// Withdraws a resident, as `withdraw_programme` withdraws a programme.
     pub fn withdraw_resident(&mut self, resident: ResidentNo) -> Result<(), ModelFault>
         ensures withdrawn { OnOk result (self.new ≡ with_resident_withdrawn self.old resident) }
-        ensures fault { AnswersExactly (withdrawal_fault self.old.residents_withdrawn resident) result }
+        ensures fault { AnswersExactly
+            (withdrawal_fault self.old.residents_withdrawn resident) result }
         ensures err { OnErr result (self.new ≡ self.old) }
     {
         let member = resident.0 as usize;

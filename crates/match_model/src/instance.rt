@@ -28,10 +28,12 @@ impl Model for Instance {
 
     ghost Value = { Rankings };
 
-    ghost view = { λ i. instance_with i.quotas.items i.programme_lists.rows i.resident_lists.rows i.programmes_withdrawn.items i.residents_withdrawn.items };
+    ghost view = { λ i. instance_with i.quotas.items i.programme_lists.rows
+        i.resident_lists.rows i.programmes_withdrawn.items i.residents_withdrawn.items };
 
     ghost invariant = { λ i. record {
-      rankings : IsWellFormed (instance_with i.quotas.items i.programme_lists.rows i.resident_lists.rows i.programmes_withdrawn.items i.residents_withdrawn.items) i.pairs;
+      rankings : IsWellFormed (instance_with i.quotas.items i.programme_lists.rows
+          i.resident_lists.rows i.programmes_withdrawn.items i.residents_withdrawn.items) i.pairs;
       programme_ranks : AreRankTables i.programme_lists.rows i.programme_ranks.rows;
       resident_ranks : AreRankTables i.resident_lists.rows i.resident_ranks.rows;
       offer_ranks : AreOfferRanks i.programme_lists.rows i.resident_lists.rows i.offer_ranks.rows;
@@ -134,7 +136,8 @@ impl Instance {
     pub fn offer_at(&self, programme: ProgrammeNo, place: u32) -> Option<(ResidentNo, u32)>
         requires { IsProgramme self.now programme }
         ensures offer { result ≡ offer_of self.now programme place }
-        ensures ranked { IfSome result (λ offer. rank (ranking_of_resident self.now offer.0) programme ≡ Some offer.1) }
+        ensures ranked { IfSome result (λ offer.
+            rank (ranking_of_resident self.now offer.0) programme ≡ Some offer.1) }
     {
         let list = self.programme_lists.row(programme.0 as usize);
         let ranks = self.offer_ranks.row(programme.0 as usize);

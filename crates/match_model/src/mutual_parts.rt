@@ -28,7 +28,8 @@ fn keep(
 ) -> Result<(), AllocError>
     requires below { list_all (λ x. nat_lt x (length places.now)) items.now ≡ true }
     requires noted { ArePlaces row.now places.now }
-    ensures { OnOk result (kept.new ≡ record kept.old { begun = kept.old.begun ++ filter (is_listed row.now) items.now }) }
+    ensures { OnOk result (kept.new
+        ≡ record kept.old { begun = kept.old.begun ++ filter (is_listed row.now) items.now }) }
 {
     for number in items {
         if stands_in(places, row, *number) {
@@ -69,12 +70,19 @@ fn all_kept(
     places: &mut [usize],
 ) -> Result<Rows<u32>, ModelFault>
     requires flags { length withdrawn.now ≡ length lists.now }
-    requires below { All (λ list. list_all (λ x. nat_lt x (length places.old)) list ≡ true) (lists_left lists.now withdrawn.now) }
+    requires below { All (λ list. list_all (λ x. nat_lt x (length places.old)) list ≡ true)
+        (lists_left lists.now withdrawn.now) }
     requires rows { AreRows (length lists.now) (length places.old) rows.now.rows }
     ensures same_room { length places.new ≡ length places.old }
-    ensures lists { IfOk result (λ made. made ≡ record { rows = kept_lists (lists_left lists.now withdrawn.now) rows.now.rows; begun = [] }) }
-    ensures within { OnOk result (are_over most (sum_by length (kept_lists (lists_left lists.now withdrawn.now) rows.now.rows)) ≡ false) }
-    ensures cause { IfErr result (IsGatherFault most (sum_by length (kept_lists (lists_left lists.now withdrawn.now) rows.now.rows))) }
+    ensures lists { IfOk result (λ made. made ≡ record {
+      rows = kept_lists
+          (lists_left lists.now withdrawn.now) rows.now.rows;
+      begun = [];
+    }) }
+    ensures within { OnOk result (are_over most
+        (sum_by length (kept_lists (lists_left lists.now withdrawn.now) rows.now.rows)) ≡ false) }
+    ensures cause { IfErr result (IsGatherFault most
+        (sum_by length (kept_lists (lists_left lists.now withdrawn.now) rows.now.rows))) }
 {
     let room = room_for(most, rows.item_count());
     let mut kept = Rows::with_capacity(alloc, lists.len(), room)?;
@@ -104,10 +112,16 @@ fn kept_with_ranks(
     requires flags { length withdrawn.now ≡ length lists.now }
     requires lists { AreLists lists.now others }
     requires rows { AreRows (length lists.now) others rows.now.rows }
-    ensures lists { IfOk result (λ made. made.0 ≡ record { rows = kept_lists (lists_left lists.now withdrawn.now) rows.now.rows; begun = [] }) }
-    ensures within { OnOk result (are_over most (sum_by length (kept_lists (lists_left lists.now withdrawn.now) rows.now.rows)) ≡ false) }
+    ensures lists { IfOk result (λ made. made.0 ≡ record {
+      rows = kept_lists
+          (lists_left lists.now withdrawn.now) rows.now.rows;
+      begun = [];
+    }) }
+    ensures within { OnOk result (are_over most
+        (sum_by length (kept_lists (lists_left lists.now withdrawn.now) rows.now.rows)) ≡ false) }
     ensures ranks { IfOk result (λ made. AreRankTables made.0.rows made.1.rows) }
-    ensures cause { IfErr result (IsGatherFault most (sum_by length (kept_lists (lists_left lists.now withdrawn.now) rows.now.rows))) }
+    ensures cause { IfErr result (IsGatherFault most
+        (sum_by length (kept_lists (lists_left lists.now withdrawn.now) rows.now.rows))) }
 {
     let mut places = vec![in alloc; 0; others]?;
     let kept = all_kept(alloc, most, lists, withdrawn, rows, &mut places)?;
@@ -130,10 +144,16 @@ pub(crate) fn mutual(
     requires other_flags { length theirs_withdrawn.now ≡ length theirs.now }
     requires lists { AreLists mine.now (length theirs.now) }
     requires others { AreLists theirs.now (length mine.now) }
-    ensures lists { IfOk result (λ made. made.0 ≡ record { rows = mutual_left mine.now mine_withdrawn.now theirs.now theirs_withdrawn.now; begun = [] }) }
-    ensures within { OnOk result (are_over (Some most) (sum_by length (mutual_left mine.now mine_withdrawn.now theirs.now theirs_withdrawn.now)) ≡ false) }
+    ensures lists { IfOk result (λ made. made.0
+        ≡ record {
+          rows = mutual_left mine.now mine_withdrawn.now theirs.now theirs_withdrawn.now;
+          begun = [];
+        }) }
+    ensures within { OnOk result (are_over (Some most) (sum_by length
+        (mutual_left mine.now mine_withdrawn.now theirs.now theirs_withdrawn.now)) ≡ false) }
     ensures ranks { IfOk result (λ made. AreRankTables made.0.rows made.1.rows) }
-    ensures cause { IfErr result (IsGatherFault (Some most) (sum_by length (mutual_left mine.now mine_withdrawn.now theirs.now theirs_withdrawn.now))) }
+    ensures cause { IfErr result (IsGatherFault (Some most)
+        (sum_by length (mutual_left mine.now mine_withdrawn.now theirs.now theirs_withdrawn.now))) }
 {
     let rows = owners(alloc, mine.len(), theirs, theirs_withdrawn)?;
     kept_with_ranks(alloc, Some(most), mine, mine_withdrawn, theirs.len(), &rows)
@@ -150,9 +170,14 @@ pub(crate) fn mutual_in_turn(
     requires few { length theirs.now.rows < 2 ^ 32 }
     requires flags { length mine_withdrawn.now ≡ length mine.now }
     requires lists { AreLists mine.now (length theirs.now.rows) }
-    requires below { All (λ list. list_all (λ x. nat_lt x (length mine.now)) list ≡ true) theirs.now.rows }
+    requires below { All (λ list.
+        list_all (λ x. nat_lt x (length mine.now)) list ≡ true) theirs.now.rows }
     requires distinct { All (λ list. has_no_repeats list ≡ true) theirs.now.rows }
-    ensures lists { IfOk result (λ made. made.0 ≡ record { rows = mutual_lists (lists_left mine.now mine_withdrawn.now) theirs.now.rows; begun = [] }) }
+    ensures lists { IfOk result (λ made. made.0 ≡ record {
+      rows = mutual_lists
+          (lists_left mine.now mine_withdrawn.now) theirs.now.rows;
+      begun = [];
+    }) }
     ensures ranks { IfOk result (λ made. AreRankTables made.0.rows made.1.rows) }
     ensures cause { IfErr result (λ fault. fault ≡ Memory) }
 {

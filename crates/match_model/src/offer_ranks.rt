@@ -30,8 +30,9 @@ fn push_ranks(
 ) -> Result<(), AllocError>
     requires below { list_all (λ x. nat_lt x (length tables.now.rows)) list.now ≡ true }
     requires one_each { length passed.old ≡ length tables.now.rows }
-    ensures { OnOk result ((theirs : List (List ℕ)) → AreRankTables theirs tables.now.rows → AreListedBack theirs programme list.now
-        → ranks.new ≡ record ranks.old { begun = ranks.old.begun ++ ranks_of theirs programme list.now }) }
+    ensures { OnOk result ((theirs : List (List ℕ))
+        → AreRankTables theirs tables.now.rows → AreListedBack theirs programme list.now → ranks.new
+        ≡ record ranks.old { begun = ranks.old.begun ++ ranks_of theirs programme list.now }) }
 {
     for resident in list {
         let resident = *resident as usize;
@@ -52,8 +53,10 @@ pub(crate) fn offer_ranks(
     tables: &Rows<(u32, u32)>,
 ) -> Result<Rows<u32>, AllocError>
     requires few { length lists.now.rows < 2 ^ 32 }
-    requires below { All (λ list. list_all (λ x. nat_lt x (length tables.now.rows)) list ≡ true) lists.now.rows }
-    ensures { IfOk result (λ made. (theirs : List (List ℕ)) → AreRankTables theirs tables.now.rows → ((p : ℕ) → AreListedBack theirs p (list_at lists.now.rows p))
+    requires below { All (λ list.
+        list_all (λ x. nat_lt x (length tables.now.rows)) list ≡ true) lists.now.rows }
+    ensures { IfOk result (λ made. (theirs : List (List ℕ)) → AreRankTables theirs tables.now.rows
+        → ((p : ℕ) → AreListedBack theirs p (list_at lists.now.rows p))
         → AreOfferRanks lists.now.rows theirs made.rows) }
 {
     let mut passed: Vec<usize> = vec![in alloc; 0; tables.len()]?;

@@ -20,9 +20,12 @@ fn row_lengths(
 ) -> Result<Vec<usize>, AllocError>
     requires few { length lists.now < 2 ^ 32 }
     requires flags { length withdrawn.now ≡ length lists.now }
-    requires below { All (λ list. list_all (λ x. nat_lt x count) list ≡ true) (lists_left lists.now withdrawn.now) }
-    requires distinct { All (λ list. has_no_repeats list ≡ true) (lists_left lists.now withdrawn.now) }
-    ensures { IfOk result (λ counts. AreCounts count (length lists.now) (lists_left lists.now withdrawn.now) counts.items) }
+    requires below { All (λ list.
+        list_all (λ x. nat_lt x count) list ≡ true) (lists_left lists.now withdrawn.now) }
+    requires distinct { All (λ list.
+        has_no_repeats list ≡ true) (lists_left lists.now withdrawn.now) }
+    ensures { IfOk result (λ counts.
+        AreCounts count (length lists.now) (lists_left lists.now withdrawn.now) counts.items) }
 {
     let mut counts: Vec<usize> = vec![in alloc; 0; count]?;
     for owner in 0..lists.len() {
@@ -50,8 +53,10 @@ fn enter(rows: &mut Rows<u32>, counts: &mut [usize], owner: u32, items: &[u32])
     requires distinct { has_no_repeats items.now ≡ true }
     requires few { (x : ℕ) → x < length counts.old → slice_index counts.old x < 2 ^ 32 }
     requires one_each { length rows.old.rows ≡ length counts.old }
-    requires room { (x : ℕ) → is_listed items.now x ≡ true → slice_index counts.old x < length (list_at rows.old.rows x) }
-    ensures entered { AreStepped [] (λ x row. slice_set row (slice_index counts.old x) owner) items.now rows.old.rows rows.new.rows }
+    requires room { (x : ℕ) → is_listed items.now x ≡ true
+        → slice_index counts.old x < length (list_at rows.old.rows x) }
+    ensures entered { AreStepped [] (λ x row.
+        slice_set row (slice_index counts.old x) owner) items.now rows.old.rows rows.new.rows }
     ensures counted { AreStepped 0 (λ _ n. n + 1) items.now counts.old counts.new }
 {
     for item in items {
@@ -70,9 +75,12 @@ pub(crate) fn owners(
 ) -> Result<Rows<u32>, AllocError>
     requires few { length lists.now < 2 ^ 32 }
     requires flags { length withdrawn.now ≡ length lists.now }
-    requires below { All (λ list. list_all (λ x. nat_lt x count) list ≡ true) (lists_left lists.now withdrawn.now) }
-    requires distinct { All (λ list. has_no_repeats list ≡ true) (lists_left lists.now withdrawn.now) }
-    ensures { IfOk result (λ made. AreOwners count (length lists.now) (lists_left lists.now withdrawn.now) made.rows) }
+    requires below { All (λ list.
+        list_all (λ x. nat_lt x count) list ≡ true) (lists_left lists.now withdrawn.now) }
+    requires distinct { All (λ list.
+        has_no_repeats list ≡ true) (lists_left lists.now withdrawn.now) }
+    ensures { IfOk result (λ made.
+        AreOwners count (length lists.now) (lists_left lists.now withdrawn.now) made.rows) }
 {
     let lengths = row_lengths(alloc, count, lists, withdrawn)?;
     let mut rows = Rows::of_lengths(alloc, &lengths)?;
@@ -93,7 +101,8 @@ fn lengths_by_rows(alloc: Global, count: usize, lists: &Rows<u32>) -> Result<Vec
     requires few { length lists.now.rows < 2 ^ 32 }
     requires below { All (λ list. list_all (λ x. nat_lt x count) list ≡ true) lists.now.rows }
     requires distinct { All (λ list. has_no_repeats list ≡ true) lists.now.rows }
-    ensures { IfOk result (λ counts. AreCounts count (length lists.now.rows) lists.now.rows counts.items) }
+    ensures { IfOk result (λ counts.
+        AreCounts count (length lists.now.rows) lists.now.rows counts.items) }
 {
     let mut counts: Vec<usize> = vec![in alloc; 0; count]?;
     for owner in 0..lists.len() {
@@ -111,7 +120,8 @@ pub(crate) fn owners_of_rows(
     requires few { length lists.now.rows < 2 ^ 32 }
     requires below { All (λ list. list_all (λ x. nat_lt x count) list ≡ true) lists.now.rows }
     requires distinct { All (λ list. has_no_repeats list ≡ true) lists.now.rows }
-    ensures { IfOk result (λ made. AreOwners count (length lists.now.rows) lists.now.rows made.rows) }
+    ensures { IfOk result (λ made.
+        AreOwners count (length lists.now.rows) lists.now.rows made.rows) }
 {
     let lengths = lengths_by_rows(alloc, count, lists)?;
     let mut rows = Rows::of_lengths(alloc, &lengths)?;

@@ -33,7 +33,8 @@ fn enter_ranks(
     requires few { length list.now ≤ 2 ^ 32 }
     requires below { list_all (λ x. nat_lt x (length places.now)) row.now ≡ true }
     requires noted { ArePlaces list.now places.now }
-    ensures { OnOk result (tables.new ≡ record tables.old { begun = tables.old.begun ++ ranked list.now row.now }) }
+    ensures { OnOk result
+        (tables.new ≡ record tables.old { begun = tables.old.begun ++ ranked list.now row.now }) }
 {
     for number in row {
         if let Some(place) = place_in(places, list, *number) {
@@ -52,7 +53,8 @@ pub(crate) fn rank_tables(
     places: &mut [usize],
 ) -> Result<Rows<(u32, u32)>, AllocError>
     requires few { length places.old < 2 ^ 32 }
-    requires below { All (λ list. list_all (λ x. nat_lt x (length places.old)) list ≡ true) lists.now.rows }
+    requires below { All (λ list.
+        list_all (λ x. nat_lt x (length places.old)) list ≡ true) lists.now.rows }
     requires distinct { All (λ list. has_no_repeats list ≡ true) lists.now.rows }
     requires rows { AreRows (length lists.now.rows) (length places.old) rows.now.rows }
     requires covered { AreCovered lists.now.rows rows.now.rows }

@@ -20,7 +20,10 @@ impl<T> Model for Rows<T> {
 
     ghost Value = { RowLists T };
 
-    ghost view = { λ r. record { rows = parted 0 r.ends.items r.items.items; begun = drop (last_end 0 r.ends.items) r.items.items } };
+    ghost view = { λ r. record {
+      rows = parted 0 r.ends.items r.items.items;
+      begun = drop (last_end 0 r.ends.items) r.items.items;
+    } };
 
     ghost invariant = { λ r. AreEnds 0 r.ends.items (length r.items.items) };
 }
@@ -58,7 +61,8 @@ impl<T: Copy> Rows<T> {
     /// Ends the open row.
     #[inline]
     pub(crate) fn end_row(&mut self) -> Result<(), AllocError>
-        ensures { OnOk result (self.new ≡ record { rows = self.old.rows ++ self.old.begun ∷ []; begun = [] }) }
+        ensures { OnOk result
+            (self.new ≡ record { rows = self.old.rows ++ self.old.begun ∷ []; begun = [] }) }
     {
         self.ends.push(self.items.len())?;
         Ok(())
@@ -67,7 +71,10 @@ impl<T: Copy> Rows<T> {
     /// Overwrites an item of a finished row.
     pub(crate) fn set(&mut self, row: usize, place: usize, item: T)
         requires { place < length (slice_index_or self.old.rows row []) }
-        ensures { self.new ≡ record self.old { rows = slice_set self.old.rows row (slice_set (slice_index_or self.old.rows row []) place item) } }
+        ensures { self.new ≡ record self.old {
+          rows = slice_set self.old.rows row
+              (slice_set (slice_index_or self.old.rows row []) place item);
+        } }
     {
         let at = start_of(&self.ends, row) + place;
         self.items[at] = item;
@@ -144,7 +151,8 @@ impl Rows<u32> {
 
     /// Appends `count` zeros to the open row.
     fn push_zeros(&mut self, count: usize) -> Result<(), AllocError>
-        ensures { OnOk result (self.new ≡ record self.old { begun = self.old.begun ++ replicate count 0 }) }
+        ensures { OnOk result
+            (self.new ≡ record self.old { begun = self.old.begun ++ replicate count 0 }) }
     {
         for _ in 0..count {
             self.push(0)?;

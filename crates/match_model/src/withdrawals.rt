@@ -8,8 +8,12 @@ ghost use Rattle.match_model.specs.Withdrawals.{ListOneAnother, AreMutualWhereAl
 /// neither is withdrawn. The lists are those of a draft in which withdrawn members have empty lists and stand on no
 /// list. If nobody is withdrawn, the lists are the mutual parts of the given lists.
 pub fn law_withdrawals()
-    ensures acceptable { (d : Draft) (r p : ℕ) → Acceptable (instance_of d) r p ↔ ListOneAnother d r p }
-    ensures struck { (d : Draft) → instance_of d ≡ with_flags (instance_of (struck d)) d.programmes_withdrawn d.residents_withdrawn }
-    ensures all_here { (d : Draft) → AreMutualWhereAllHere d (instance_of d).programme_lists d.programme_lists d.resident_lists }
-    ensures all_here_too { (d : Draft) → AreMutualWhereAllHere d (instance_of d).resident_lists d.resident_lists d.programme_lists }
+    ensures acceptable { (d : Draft) (r p : ℕ)
+        → Acceptable (instance_of d) r p ↔ ListOneAnother d r p }
+    ensures struck { (d : Draft) → instance_of d
+        ≡ with_flags (instance_of (struck d)) d.programmes_withdrawn d.residents_withdrawn }
+    ensures all_here { (d : Draft) → AreMutualWhereAllHere d
+        (instance_of d).programme_lists d.programme_lists d.resident_lists }
+    ensures all_here_too { (d : Draft) → AreMutualWhereAllHere d
+        (instance_of d).resident_lists d.resident_lists d.programme_lists }
 {}

@@ -21,13 +21,19 @@ impl Model for WrittenLists {
 
     ghost Value = { Written };
 
-    ghost view = { λ w. record { programme_lists = given_lists w.programme_lists; resident_lists = given_lists w.resident_lists } };
+    ghost view = { λ w. record {
+      programme_lists = given_lists w.programme_lists;
+      resident_lists = given_lists w.resident_lists;
+    } };
 }
 
 impl WrittenLists {
     /// The written lists of both sides, from the lists that the builder was given.
     pub(crate) fn new(programme_lists: GivenLists, resident_lists: GivenLists) -> WrittenLists
-        ensures { result ≡ record { programme_lists = given_lists programme_lists; resident_lists = given_lists resident_lists } }
+        ensures { result ≡ record {
+          programme_lists = given_lists programme_lists;
+          resident_lists = given_lists resident_lists;
+        } }
     {
         WrittenLists {
             programme_lists,

@@ -54,7 +54,8 @@ impl<M: Mailboxes> Reserve<M> {
         inst: &Instance,
         workers: usize,
     ) -> Result<Reserve<M>, RunFault>
-        ensures made { IfOk result (λ reserve. length reserve.assignment ≡ length inst.now.resident_lists) }
+        ensures made { IfOk result (λ reserve.
+            length reserve.assignment ≡ length inst.now.resident_lists) }
         ensures uncounted { IfOk result (λ reserve. reserve.entered.items ≡ replicate workers 0) }
         ensures fault { IfErr result (λ fault. fault ≡ Memory) }
     {
@@ -123,10 +124,12 @@ fn outcome_of<J: ExchangeIdentity + WorkersIdentity, M: Mailboxes, G: Gate>(
     state: &RunState<'_, J, G>,
 ) -> Result<(Ledger<J, M::OfferPut, M::AnswerPut>, Ending), RunFault>
     requires { inst.now ≡ J.inst }
-    ensures closed { IfOk result (λ outcome. (outcome.1 ≡ Ending.Closed) ↔ IsClosed outcome.0.journal) }
+    ensures closed { IfOk result (λ outcome. (outcome.1 ≡ Ending.Closed)
+        ↔ IsClosed outcome.0.journal) }
     ensures stopped { IfOk result (λ outcome. outcome.1 ≡ Ending.Stopped → G.MAY_STOP ≡ true) }
     ensures fault { IfErr result (IsFault inst.now J.cap) }
-    ensures told { (fault : RunFault) → fault_of state.now.trouble ≡ Some fault → result ≡ Err fault }
+    ensures told { (fault : RunFault)
+        → fault_of state.now.trouble ≡ Some fault → result ≡ Err fault }
     ensures refused { exchange.out_of_step ≢ None → IfOk result (λ _. ⊥) }
 {
     match state.trouble() {
@@ -168,7 +171,8 @@ fn ending_of<J: ExchangeIdentity, M: Mailboxes>(
     stopped: bool,
 ) -> Result<Ending, RunFault>
     requires { inst.now ≡ J.inst }
-    ensures closed { IfOk result (λ ending. (ending ≡ Ending.Closed) ↔ IsClosed ledger.now.journal) }
+    ensures closed { IfOk result (λ ending. (ending ≡ Ending.Closed)
+        ↔ IsClosed ledger.now.journal) }
     ensures stopped { IfOk result (λ ending. ending ≡ Ending.Stopped → stopped ≡ true) }
     ensures fault { IfErr result (IsFault inst.now J.cap) }
 {
@@ -207,11 +211,14 @@ fn done_of<J: ExchangeIdentity, M: Mailboxes>(
     requires room { length assignment ≡ length inst.now.resident_lists }
     requires uncounted { entered.items ≡ replicate J.workers 0 }
     requires ending { (ending ≡ Ending.Closed) ↔ IsClosed ledger.journal }
-    requires takes { AreLogs taken_of agents.0.items (length inst.now.resident_lists) (λ r. takes r ledger.journal) }
+    requires takes { AreLogs taken_of agents.0.items (length inst.now.resident_lists) (λ r.
+        takes r ledger.journal) }
     requires taken { AreByResident M.OfferTake.taken agents.0.items }
-    requires hears { AreLogs heard_of agents.1.items (length inst.now.quotas) (λ p. hears p ledger.journal) }
+    requires hears { AreLogs heard_of agents.1.items (length inst.now.quotas) (λ p.
+        hears p ledger.journal) }
     requires heard { AreByProgramme M.AnswerTake.taken agents.1.items }
-    ensures { (may_stop : Bool) → (ending ≡ Ending.Stopped → may_stop ≡ true) → IsRunOf result M.OfferPut.puts
+    ensures { (may_stop : Bool)
+        → (ending ≡ Ending.Stopped → may_stop ≡ true) → IsRunOf result M.OfferPut.puts
         M.OfferTake.taken M.AnswerPut.puts M.AnswerTake.taken inst.now J.cap J.workers may_stop }
 {
     law_orderly();

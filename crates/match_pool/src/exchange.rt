@@ -28,7 +28,8 @@ impl<J: ExchangeIdentity, M: Mailboxes> Model for Exchange<J, M> {
 
     ghost Value = { Exchanged M.OfferPut M.AnswerPut };
 
-    ghost view = { λ e. record { ledger = e.ledger; out_of_step = e.out_of_step; waits = e.wait_queues } };
+    ghost view = { λ e.
+        record { ledger = e.ledger; out_of_step = e.out_of_step; waits = e.wait_queues } };
 
     ghost invariant = { λ e. IsRefusedForGood J.inst J.cap e.ledger e.out_of_step };
 }
@@ -127,7 +128,8 @@ impl<J: ExchangeIdentity, M: Mailboxes> Exchange<J, M> {
         resident: ResidentNo,
     ) -> Entry
         requires { inst.now ≡ J.inst }
-        ensures more { IfMade result (λ more woken. more ≡ answers_wait programme self.new.ledger.journal) }
+        ensures more { IfMade result (λ more woken.
+            more ≡ answers_wait programme self.new.ledger.journal) }
         ensures waits_not { IfMade result (λ more woken. linked_at self.new.waits.mailbox
             (number_of_programme inst.now programme) ≡ None) }
     {
@@ -157,8 +159,10 @@ impl<J: ExchangeIdentity, M: Mailboxes> Exchange<J, M> {
         kind: AnswerKind,
     ) -> Entry
         requires { inst.now ≡ J.inst }
-        ensures more { IfMade result (λ more woken. more ≡ offers_wait resident self.new.ledger.journal) }
-        ensures waits_not { IfMade result (λ more woken. linked_at self.new.waits.mailbox resident ≡ None) }
+        ensures more { IfMade result (λ more woken.
+            more ≡ offers_wait resident self.new.ledger.journal) }
+        ensures waits_not { IfMade result (λ more woken.
+            linked_at self.new.waits.mailbox resident ≡ None) }
     {
         let receiver = desk_of_programme(inst, programme);
         match self
@@ -213,7 +217,8 @@ impl<J: ExchangeIdentity, M: Mailboxes> Exchange<J, M> {
         kind: AnswerKind,
     ) -> Entry
         requires { inst.now ≡ J.inst }
-        ensures { IfMade result (λ more woken. more ≡ answers_wait programme self.new.ledger.journal) }
+        ensures { IfMade result (λ more woken.
+            more ≡ answers_wait programme self.new.ledger.journal) }
     {
         match self
             .ledger

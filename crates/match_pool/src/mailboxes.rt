@@ -40,7 +40,8 @@ pub trait Mailboxes {
         room: u32,
     ) -> Result<(Self::OfferPut, Self::OfferTake), MailFault>
         requires { room ≢ 0 }
-        ensures fresh { IfOk result (λ ends. (Self.OfferPut.puts ends.0 ≡ []) × (Self.OfferTake.taken ends.1 ≡ [])) }
+        ensures fresh { IfOk result (λ ends. (Self.OfferPut.puts ends.0 ≡ [])
+            × (Self.OfferTake.taken ends.1 ≡ [])) }
         ensures room { IfOk result (λ ends. offer_room ends.0 ≡ room) }
         ensures memory { IfErr result (λ fault. fault ≡ MailFault.Memory) };
 
@@ -52,7 +53,8 @@ pub trait Mailboxes {
         room: u32,
     ) -> Result<(Self::AnswerPut, Self::AnswerTake), MailFault>
         requires { room ≢ 0 }
-        ensures fresh { IfOk result (λ ends. (Self.AnswerPut.puts ends.0 ≡ []) × (Self.AnswerTake.taken ends.1 ≡ [])) }
+        ensures fresh { IfOk result (λ ends. (Self.AnswerPut.puts ends.0 ≡ [])
+            × (Self.AnswerTake.taken ends.1 ≡ [])) }
         ensures room { IfOk result (λ ends. answer_room ends.0 ≡ room) }
         ensures memory { IfErr result (λ fault. fault ≡ MailFault.Memory) };
 }

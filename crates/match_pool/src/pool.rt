@@ -103,7 +103,8 @@ fn run_named<
     requires instance { inst.now ≡ J.inst }
     requires capacity { cap ≡ J.cap }
     requires workers { (workers ≡ J.workers) × (1 ≤ workers) × (workers ≤ 8) }
-    requires entries { (blanks.entries.name ≡ J.name) × (blanks.entries.parts ≡ J.parts) × (J.parts ≡ 8) }
+    requires entries { (blanks.entries.name ≡ J.name)
+        × (blanks.entries.parts ≡ J.parts) × (J.parts ≡ 8) }
     requires holding { blanks.workers.holding.name ≡ J.holding }
     requires looking { blanks.workers.looking.name ≡ J.looking }
     requires resting { blanks.workers.resting.name ≡ J.resting }

@@ -52,8 +52,8 @@ fn push_each(
     reasons: &[Why],
 ) -> Result<(), AllocError>
     requires { length reasons.now ≡ length programmes.now }
-    ensures { OnOk result (string_bytes text.new ≡ string_bytes text.old
-        ++ lines (naming_of manner.now.names) manner.now.without_ranks resident programmes.now reasons.now) }
+    ensures { OnOk result (string_bytes text.new ≡ string_bytes text.old ++ lines
+        (naming_of manner.now.names) manner.now.without_ranks resident programmes.now reasons.now) }
 {
     for place in 0..programmes.len() {
         push_line(
@@ -78,7 +78,8 @@ fn push_lines(
     resident: ResidentNo,
 ) -> Result<(), AllocError>
     requires { IsResident case.now.docket.instance resident }
-    ensures { OnOk result (AppendsText (IsTextOn case.now (naming_of manner.now.names) manner.now.without_ranks resident)
+    ensures { OnOk result (AppendsText
+        (IsTextOn case.now (naming_of manner.now.names) manner.now.without_ranks resident)
         (Some (string_bytes text.old)) (Some (string_bytes text.new))) }
 {
     let answers = case.answers(alloc, resident)?;
@@ -98,8 +99,8 @@ fn push_rows<W: Write>(
     reasons: &[Why],
 ) -> Result<(), WriteFailed>
     requires { length reasons.now ≡ length programmes.now }
-    ensures { OnOk result (Adds W.contents rows.old rows.new
-        (rows_on (naming_of manner.now.names) manner.now.without_ranks resident programmes.now reasons.now)) }
+    ensures { OnOk result (Adds W.contents rows.old rows.new (rows_on (naming_of manner.now.names)
+        manner.now.without_ranks resident programmes.now reasons.now)) }
 {
     for k in 0..programmes.len() {
         push_row(
@@ -122,7 +123,8 @@ fn push_all_rows<W: Write>(
     case: &Case,
     manner: &Manner,
 ) -> Result<(), DocketFault>
-    ensures { OnOk result (AddsRows W.contents case.now (naming_of manner.now.names) manner.now.without_ranks
+    ensures { OnOk result
+        (AddsRows W.contents case.now (naming_of manner.now.names) manner.now.without_ranks
         (length case.now.docket.instance.resident_lists) rows.old rows.new) }
 {
     for r in 0..case.docket().instance().residents() {
@@ -167,7 +169,8 @@ fn write_table<W: Write>(
     case: &Case,
     manner: &Manner,
 ) -> Result<(), DocketFault>
-    ensures { OnOk result (AppendsText (IsTable case.now (naming_of manner.now.names) manner.now.without_ranks)
+    ensures { OnOk result
+        (AppendsText (IsTable case.now (naming_of manner.now.names) manner.now.without_ranks)
         (W.contents writer.old) (W.contents writer.new)) }
 {
     let mut room = room_for_rows(alloc)?;
@@ -181,7 +184,8 @@ fn write_table<W: Write>(
 // The row with the columns' names, and then all residents' rows. The text is made in memory, so the only fault is out
 // of memory.
 fn table_of(alloc: Global, case: &Case, manner: &Manner) -> Result<Vec<u8>, AllocError>
-    ensures { IfOk result (λ text. IsTable case.now (naming_of manner.now.names) manner.now.without_ranks text.items) }
+    ensures { IfOk result (λ text.
+        IsTable case.now (naming_of manner.now.names) manner.now.without_ranks text.items) }
 {
     let mut text = Vec::new(alloc);
     match write_table(alloc, &mut text, case, manner) {
@@ -198,7 +202,8 @@ fn lines_of(
     resident: ResidentNo,
 ) -> Result<Vec<u8>, AllocError>
     requires { IsResident case.now.docket.instance resident }
-    ensures { IfOk result (λ text. IsTextOn case.now (naming_of manner.now.names) manner.now.without_ranks resident text.items) }
+    ensures { IfOk result (λ text. IsTextOn case.now
+        (naming_of manner.now.names) manner.now.without_ranks resident text.items) }
 {
     let mut text = String::new(alloc);
     push_lines(alloc, &mut text, case, manner, resident)?;
@@ -215,7 +220,8 @@ fn line_of(
 ) -> Result<Vec<u8>, AllocError>
     requires resident { IsResident case.now.docket.instance resident }
     requires programme { IsProgramme case.now.docket.instance programme }
-    ensures { IfOk result (λ text. IsLineOn case.now (naming_of manner.now.names) manner.now.without_ranks resident programme text.items) }
+    ensures { IfOk result (λ text. IsLineOn case.now
+        (naming_of manner.now.names) manner.now.without_ranks resident programme text.items) }
 {
     let told = case.reason(resident, programme);
     let mut text = String::new(alloc);
@@ -234,7 +240,8 @@ fn line_of(
 // The text of the answer.
 fn told_text(alloc: Global, case: &Case, manner: &Manner, told: Told) -> Result<Vec<u8>, AllocError>
     requires { IsTold case.now.docket.instance told }
-    ensures { IfOk result (λ text. IsTextOf case.now (naming_of manner.now.names) manner.now.without_ranks told text.items) }
+    ensures { IfOk result (λ text.
+        IsTextOf case.now (naming_of manner.now.names) manner.now.without_ranks told text.items) }
 {
     match told {
         Told::All => table_of(alloc, case, manner),
@@ -285,9 +292,12 @@ fn key_of(
     docket: &Docket,
     key_bytes: Option<&[u8]>,
 ) -> Result<Key, WhyFault>
-    ensures none { IfOk result (λ key. option_copied key_bytes.entry ≡ None → HasNoNames key.residents × HasNoNames key.programmes) }
-    ensures key { IfOk result (λ key. IfSome (option_copied key_bytes.entry) (λ bytes. IsKeyOf docket.now bytes (both_of key))) }
-    ensures fault { IfErr result (λ fault. IsSomeAnd (option_copied key_bytes.entry) (λ bytes. IsKeyFault docket.now bytes fault)) }
+    ensures none { IfOk result (λ key. option_copied key_bytes.entry ≡ None
+        → HasNoNames key.residents × HasNoNames key.programmes) }
+    ensures key { IfOk result (λ key.
+        IfSome (option_copied key_bytes.entry) (λ bytes. IsKeyOf docket.now bytes (both_of key))) }
+    ensures fault { IfErr result (λ fault.
+        IsSomeAnd (option_copied key_bytes.entry) (λ bytes. IsKeyFault docket.now bytes fault)) }
 {
     match key_bytes {
         Some(bytes) => Key::read(alloc, keys, docket, bytes),
@@ -304,8 +314,10 @@ fn text_of(
     asked: Asked,
     without_ranks: bool,
 ) -> Result<Vec<u8>, WhyFault>
-    ensures text { IfOk result (λ text. Answers case.now (option_copied key_bytes.entry) asked.entry without_ranks text.items) }
-    ensures fault { IfErr result (IsTextFault case.now (option_copied key_bytes.entry) asked.entry) }
+    ensures text { IfOk result (λ text.
+        Answers case.now (option_copied key_bytes.entry) asked.entry without_ranks text.items) }
+    ensures fault { IfErr result
+        (IsTextFault case.now (option_copied key_bytes.entry) asked.entry) }
 {
     let docket = case.docket();
     let key = key_of(alloc, keys, docket, key_bytes)?;
@@ -331,10 +343,13 @@ pub fn serve_why<R: Read + Drop, W: Write, H: RandomSource>(
     without_ranks: bool,
     key_bytes: Option<&[u8]>,
 ) -> Result<(), WhyFault>
-    ensures text { OnOk result (AppendsText (AnswersFrom (R.remaining reader) (option_copied key_bytes.entry) asked.entry without_ranks)
+    ensures text { OnOk result (AppendsText
+        (AnswersFrom (R.remaining reader) (option_copied key_bytes.entry) asked.entry without_ranks)
         (W.contents writer.old) (W.contents writer.new)) }
-    ensures fault { IfErr result (IsServeFault (R.remaining reader) (option_copied key_bytes.entry) asked.entry) }
-    ensures before { IfErr result (λ fault. fault ≢ WhyFault.Docket DocketFault.Write → writer.new ≡ writer.old) }
+    ensures fault { IfErr result
+        (IsServeFault (R.remaining reader) (option_copied key_bytes.entry) asked.entry) }
+    ensures before { IfErr result (λ fault. fault ≢ WhyFault.Docket DocketFault.Write
+        → writer.new ≡ writer.old) }
 {
     serve_why_within(
         rt,
@@ -359,10 +374,13 @@ pub fn serve_why_within<R: Read + Drop, W: Write, H: RandomSource>(
     without_ranks: bool,
     key_bytes: Option<&[u8]>,
 ) -> Result<(), WhyFault>
-    ensures text { OnOk result (AppendsText (AnswersWithin limits (R.remaining reader) (option_copied key_bytes.entry) asked.entry without_ranks)
+    ensures text { OnOk result (AppendsText (AnswersWithin limits
+        (R.remaining reader) (option_copied key_bytes.entry) asked.entry without_ranks)
         (W.contents writer.old) (W.contents writer.new)) }
-    ensures fault { IfErr result (IsServeFaultWithin limits (R.remaining reader) (option_copied key_bytes.entry) asked.entry) }
-    ensures before { IfErr result (λ fault. fault ≢ WhyFault.Docket DocketFault.Write → writer.new ≡ writer.old) }
+    ensures fault { IfErr result (IsServeFaultWithin limits
+        (R.remaining reader) (option_copied key_bytes.entry) asked.entry) }
+    ensures before { IfErr result (λ fault. fault ≢ WhyFault.Docket DocketFault.Write
+        → writer.new ≡ writer.old) }
 {
     let text = match read_and_tell(rt, alloc, limits, reader, asked, without_ranks, key_bytes) {
         Ok(text) => text,
@@ -384,8 +402,10 @@ fn read_and_tell<R: Read + Drop, H: RandomSource>(
     without_ranks: bool,
     key_bytes: Option<&[u8]>,
 ) -> Result<Vec<u8>, WhyFault>
-    ensures text { IfOk result (λ text. AnswersWithin limits (R.remaining reader) (option_copied key_bytes.entry) asked.entry without_ranks text.items) }
-    ensures fault { IfErr result (IsTellFault limits (R.remaining reader) (option_copied key_bytes.entry) asked.entry) }
+    ensures text { IfOk result (λ text. AnswersWithin limits
+        (R.remaining reader) (option_copied key_bytes.entry) asked.entry without_ranks text.items) }
+    ensures fault { IfErr result
+        (IsTellFault limits (R.remaining reader) (option_copied key_bytes.entry) asked.entry) }
 {
     let Ok(keys) = RandomState::new(rt) else {
         return Err(WhyFault::Docket(DocketFault::Read { place: 1 }));

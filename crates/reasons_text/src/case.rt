@@ -33,7 +33,8 @@ impl Model for Case {
 
     ghost view = { λ c. case_of c.docket (unwrap_or c.docket.sheet []) c.lists c.takens.items };
 
-    ghost invariant = { λ c. IsCase (case_of c.docket (unwrap_or c.docket.sheet []) c.lists c.takens.items) };
+    ghost invariant = { λ c.
+        IsCase (case_of c.docket (unwrap_or c.docket.sheet []) c.lists c.takens.items) };
 }
 
 // One function drops the whole case. So a caller that drops a case need not prove anything about its parts.
@@ -66,7 +67,8 @@ fn all_taken(
 // How a programme's places are taken. If this was counted before, it is only looked up.
 fn taken_of(listed: &Listed, sheet: &Assignment, takens: &[Taken], programme: ProgrammeNo) -> Taken
     requires { AreTaken listed.now.written sheet.now takens.now }
-    ensures { IsTaken (list_at listed.now.written.programme_lists programme) sheet.now programme result }
+    ensures { IsTaken
+        (list_at listed.now.written.programme_lists programme) sheet.now programme result }
 {
     match takens.get(programme.0 as usize) {
         Some(taken) => *taken,
@@ -86,7 +88,8 @@ fn reason_from(
     requires case { IsCase (case_of docket.now sheet.now lists.now takens.now) }
     requires resident { IsResident docket.now.instance resident }
     requires programme { IsProgramme docket.now.instance programme }
-    ensures { IsAnswer (case_of docket.now sheet.now lists.now takens.now) resident programme result }
+    ensures { IsAnswer
+        (case_of docket.now sheet.now lists.now takens.now) resident programme result }
 {
     let listed = Listed::new(docket.instance(), lists);
     let taken = taken_of(&listed, sheet, takens, programme);
@@ -104,9 +107,10 @@ fn answers_from(
 ) -> Result<Answers, AllocError>
     requires case { IsCase (case_of docket.now sheet.now lists.now takens.now) }
     requires resident { IsResident docket.now.instance resident }
-    ensures first { IfOk result (λ answers. AreAnswers (case_of docket.now sheet.now lists.now takens.now)
-        resident answers.programmes.items answers.reasons.items) }
-    ensures record { IfOk result (λ answers. AreOfRecord docket.now lists.now resident answers.programmes.items) }
+    ensures first { IfOk result (λ answers. AreAnswers (case_of docket.now sheet.now
+        lists.now takens.now) resident answers.programmes.items answers.reasons.items) }
+    ensures record { IfOk result (λ answers.
+        AreOfRecord docket.now lists.now resident answers.programmes.items) }
 {
     // For the proof alone: the docket has a name for each member, and a sheet of its own members.
     let _inst = docket.instance();
@@ -134,7 +138,8 @@ impl Case {
         reader: R,
         are_all_told: bool,
     ) -> Result<Case, WhyFault>
-        ensures read { IfOk result (λ case. IsReadWithLists (R.remaining reader) case.docket case.written) }
+        ensures read { IfOk result (λ case.
+            IsReadWithLists (R.remaining reader) case.docket case.written) }
         ensures sheet { IfOk result (λ case. case.docket.sheet ≡ Some case.sheet) }
         ensures fault { IfErr result (IsCaseFault (R.remaining reader)) }
     {
@@ -149,7 +154,8 @@ impl Case {
         reader: R,
         are_all_told: bool,
     ) -> Result<Case, WhyFault>
-        ensures read { IfOk result (λ case. IsReadWithin limits (R.remaining reader) case.docket case.written) }
+        ensures read { IfOk result (λ case.
+            IsReadWithin limits (R.remaining reader) case.docket case.written) }
         ensures sheet { IfOk result (λ case. case.docket.sheet ≡ Some case.sheet) }
         ensures fault { IfErr result (IsCaseFaultWithin limits (R.remaining reader)) }
     {

@@ -44,10 +44,13 @@ pub fn serve_why_files<W: Write, H: RandomSource>(
     without_ranks: bool,
     key_bytes: Option<&[u8]>,
 ) -> Result<(), WhyFault>
-    ensures text { OnOk result (AppendsText (AnswersFiles docket.now sheet.now (option_copied key_bytes.entry) asked.entry without_ranks)
+    ensures text { OnOk result (AppendsText (AnswersFiles docket.now sheet.now
+        (option_copied key_bytes.entry) asked.entry without_ranks)
         (W.contents writer.old) (W.contents writer.new)) }
-    ensures fault { IfErr result (IsFilesFault docket.now sheet.now (option_copied key_bytes.entry) asked.entry) }
-    ensures before { IfErr result (λ fault. fault ≢ WhyFault.Docket DocketFault.Write → writer.new ≡ writer.old) }
+    ensures fault { IfErr result
+        (IsFilesFault docket.now sheet.now (option_copied key_bytes.entry) asked.entry) }
+    ensures before { IfErr result (λ fault. fault ≢ WhyFault.Docket DocketFault.Write
+        → writer.new ≡ writer.old) }
 {
     serve_why_files_within(
         rt,
@@ -74,10 +77,13 @@ pub fn serve_why_files_within<W: Write, H: RandomSource>(
     without_ranks: bool,
     key_bytes: Option<&[u8]>,
 ) -> Result<(), WhyFault>
-    ensures text { OnOk result (AppendsText (AnswersFilesWithin limits docket.now sheet.now (option_copied key_bytes.entry) asked.entry without_ranks)
+    ensures text { OnOk result (AppendsText (AnswersFilesWithin limits docket.now sheet.now
+        (option_copied key_bytes.entry) asked.entry without_ranks)
         (W.contents writer.old) (W.contents writer.new)) }
-    ensures fault { IfErr result (IsFilesFaultWithin limits docket.now sheet.now (option_copied key_bytes.entry) asked.entry) }
-    ensures before { IfErr result (λ fault. fault ≢ WhyFault.Docket DocketFault.Write → writer.new ≡ writer.old) }
+    ensures fault { IfErr result (IsFilesFaultWithin limits docket.now sheet.now
+        (option_copied key_bytes.entry) asked.entry) }
+    ensures before { IfErr result (λ fault. fault ≢ WhyFault.Docket DocketFault.Write
+        → writer.new ≡ writer.old) }
 {
     let joined = match join(alloc, docket, sheet, &[]) {
         Ok(joined) => joined,

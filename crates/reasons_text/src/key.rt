@@ -88,7 +88,8 @@ pub(crate) fn label_text(alloc: Global, name: &str, sign: &str) -> Result<String
 // A field of a row in the form in which it is shown, or none if the field's bytes are no text.
 #[tactic(auto, using(crate::proofs::TextFacts::is_text, crate::proofs::TextFacts::no_text))]
 fn row_text(alloc: Global, text: &[u8]) -> Result<Option<String>, AllocError>
-    ensures { IfOk result (λ shown. option_map string_bytes shown ≡ (if is_utf8 text.now then Some (shown_text text.now) else None)) }
+    ensures { IfOk result (λ shown. option_map string_bytes shown
+        ≡ (if is_utf8 text.now then Some (shown_text text.now) else None)) }
 {
     let Ok(text) = str::from_utf8(text) else {
         return Ok(None);
@@ -138,7 +139,8 @@ fn is_blank(row: &ByteRecord) -> bool
 
 // Puts a text at index `place`, if there is such an index.
 fn put(texts: &mut Vec<String>, place: usize, text: String)
-    ensures { map string_bytes texts.new.items ≡ slice_set (map string_bytes texts.old.items) place (string_bytes text) }
+    ensures { map string_bytes texts.new.items
+        ≡ slice_set (map string_bytes texts.old.items) place (string_bytes text) }
 {
     if let Some(slot) = texts.get_mut(place) {
         *slot = text;
@@ -170,7 +172,8 @@ impl SideKey {
 
     // Notes the name and the sign of a member. If the docket lacks the member, both stand after those of all members.
     fn note(&mut self, number: Option<u32>, name: String, sign: String) -> Result<(), AllocError>
-        ensures { OnOk result (side_of self.new ≡ noted (side_of self.old) number (string_bytes name) (string_bytes sign)) }
+        ensures { OnOk result (side_of self.new
+            ≡ noted (side_of self.old) number (string_bytes name) (string_bytes sign)) }
     {
         let Some(number) = number else {
             self.names.push(name)?;
@@ -203,9 +206,12 @@ impl SideKey {
         place: u64,
     ) -> Result<(), WhyFault>
         requires { AreNumbers numbers.now }
-        ensures row { OnOk result (side_of self.new ≡ with_row numbers.now.docket.now side (fields_of row.now) (side_of self.old)) }
-        ensures faultless { OnOk result (side_fault numbers.now.docket.now side (side_of self.old) place (fields_of row.now) ≡ None) }
-        ensures fault { IfErr result (IsFaultOrMemory (side_fault numbers.now.docket.now side (side_of self.old) place (fields_of row.now))) }
+        ensures row { OnOk result (side_of self.new
+            ≡ with_row numbers.now.docket.now side (fields_of row.now) (side_of self.old)) }
+        ensures faultless { OnOk result (side_fault numbers.now.docket.now side
+            (side_of self.old) place (fields_of row.now) ≡ None) }
+        ensures fault { IfErr result (IsFaultOrMemory
+            (side_fault numbers.now.docket.now side (side_of self.old) place (fields_of row.now))) }
     {
         if field(row, 1).is_empty() || field(row, 2).is_empty() {
             return Err(WhyFault::BadKey { place });
@@ -244,7 +250,8 @@ fn rows_of(alloc: Global, bytes: &[u8]) -> Reader<&[u8]>
 fn next_row(reader: &mut Reader<&[u8]>, row: &mut ByteRecord) -> Result<bool, WhyFault>
     requires plain { reader_trim reader.old ≡ trim.None }
     requires ready { Ready reader.old }
-    ensures reads { IfOk result (λ found. ReadRecord (λ s. Some s.now) reader.old reader.new found (fields_of row.new)) }
+    ensures reads { IfOk result (λ found.
+        ReadRecord (λ s. Some s.now) reader.old reader.new found (fields_of row.new)) }
     ensures ready { IfOk result (λ found. found ≡ true → Ready reader.new) }
     ensures memory { IfErr result (λ fault. fault ≡ WhyFault.Docket DocketFault.Memory) }
 {
@@ -306,8 +313,10 @@ impl Key {
         bytes: &[u8],
     ) -> Result<(), WhyFault>
         requires { AreNumbers numbers.now }
-        ensures all { OnOk result (AddsAll numbers.now.docket.now bytes.now (both_of self.old) (both_of self.new)) }
-        ensures fault { IfErr result (λ fault. (fault ≡ WhyFault.Docket DocketFault.Memory) ⊎ HasBadRow numbers.now.docket.now (both_of self.old) bytes.now fault) }
+        ensures all { OnOk result
+            (AddsAll numbers.now.docket.now bytes.now (both_of self.old) (both_of self.new)) }
+        ensures fault { IfErr result (λ fault. (fault ≡ WhyFault.Docket DocketFault.Memory)
+            ⊎ HasBadRow numbers.now.docket.now (both_of self.old) bytes.now fault) }
     {
         let mut reader = rows_of(alloc, bytes);
         let mut row = ByteRecord::new(alloc);
@@ -329,9 +338,12 @@ impl Key {
         place: u64,
     ) -> Result<(), WhyFault>
         requires { AreNumbers numbers.now }
-        ensures row { OnOk result (both_of self.new ≡ added numbers.now.docket.now (both_of self.old) (fields_of row.now)) }
-        ensures faultless { OnOk result (row_fault numbers.now.docket.now (both_of self.old) place (fields_of row.now) ≡ None) }
-        ensures fault { IfErr result (IsFaultOrMemory (row_fault numbers.now.docket.now (both_of self.old) place (fields_of row.now))) }
+        ensures row { OnOk result (both_of self.new
+            ≡ added numbers.now.docket.now (both_of self.old) (fields_of row.now)) }
+        ensures faultless { OnOk result
+            (row_fault numbers.now.docket.now (both_of self.old) place (fields_of row.now) ≡ None) }
+        ensures fault { IfErr result (IsFaultOrMemory
+            (row_fault numbers.now.docket.now (both_of self.old) place (fields_of row.now))) }
     {
         match side_of_row(row) {
             Some(Side::Programmes) => self

@@ -41,8 +41,9 @@ fn owner(owners: &Owners, name: &str) -> Meant
 
 // Notes that a member has this name. If the name is none, the map stays as it is.
 fn note<'a>(owners: &mut Owners<'a>, name: Option<&'a str>, number: usize) -> Result<(), AllocError>
-    ensures { OnOk result ((text : List ℕ) → owner_in owners.new text
-        ≡ (if is_this (option_copied name.entry) text then spec.owner_with (owner_in owners.old text) number else owner_in owners.old text)) }
+    ensures { OnOk result ((text : List ℕ)
+        → owner_in owners.new text ≡ (if is_this (option_copied name.entry) text
+        then spec.owner_with (owner_in owners.old text) number else owner_in owners.old text)) }
 {
     let Some(name) = name else {
         return Ok(());
@@ -112,7 +113,8 @@ fn label_if(
     key: &SideKey,
     number: u32,
 ) -> Result<String, AllocError>
-    ensures { IfOk result (λ label. string_bytes label ≡ spec.label_by owners.now (side_of key.now) number) }
+    ensures { IfOk result (λ label.
+        string_bytes label ≡ spec.label_by owners.now (side_of key.now) number) }
 {
     let place = number as usize;
     let Some(name) = text_in(key.names.as_slice(), place) else {
@@ -135,7 +137,8 @@ pub(crate) fn labels(
     side: Side,
     key: &SideKey,
 ) -> Result<Vec<String>, AllocError>
-    ensures { IfOk result (λ labels. AreLabels docket.now side (side_of key.now) (map string_bytes labels.items)) }
+    ensures { IfOk result (λ labels.
+        AreLabels docket.now side (side_of key.now) (map string_bytes labels.items)) }
 {
     let owners = owners(alloc, keys, docket, side, key.names.as_slice())?;
     let mut labels = Vec::new(alloc);

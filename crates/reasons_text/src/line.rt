@@ -137,7 +137,8 @@ fn matches_of<'a, S: AsStr>(
     words: &'a [S],
 ) -> Result<ArgMatches<'a>, clap::Error>
     requires { app_of command.old ≡ why_app }
-    ensures found { IfOk result (λ matches. rows_of (found_of matches) ≡ rows_in why_app (map S.text words.entry.now)) }
+    ensures found { IfOk result (λ matches.
+        rows_of (found_of matches) ≡ rows_in why_app (map S.text words.entry.now)) }
     ensures refused { IfErr result (HasKind (fault_of why_app (map S.text words.entry.now))) }
 {
     command.try_get_matches_from_mut(words)
@@ -145,7 +146,8 @@ fn matches_of<'a, S: AsStr>(
 
 // Whom the command line's words ask about. None if they ask about nobody, or about one resident and about all.
 fn asked<'a>(matches: &ArgMatches<'a>) -> Option<Asked<'a>>
-    ensures all { IfSome result (λ asked. IsFlagged (codes "all") (rows_of (found_of matches.now)) → asked ≡ Asked.All) }
+    ensures all { IfSome result (λ asked. IsFlagged (codes "all") (rows_of (found_of matches.now))
+        → asked ≡ Asked.All) }
     ensures one { IfSome result (λ asked. IsUnflagged (codes "all") (rows_of (found_of matches.now))
         → IsAskedBy (first_of (codes "resident") (rows_of (found_of matches.now)))
         (first_of (codes "programme") (rows_of (found_of matches.now))) asked) }
@@ -166,7 +168,8 @@ fn asked<'a>(matches: &ArgMatches<'a>) -> Option<Asked<'a>>
 
 // The message for words that ask about nobody, or about one resident and about all.
 fn nobody_asked(command: &mut Command, is_all: bool) -> LineFault
-    ensures { IsErrorOf (λ kind. (kind ≡ ErrorKind.ArgumentConflict) ⊎ (kind ≡ ErrorKind.MissingRequiredArgument)) result }
+    ensures { IsErrorOf (λ kind. (kind ≡ ErrorKind.ArgumentConflict)
+        ⊎ (kind ≡ ErrorKind.MissingRequiredArgument)) result }
 {
     let error = if is_all {
         command.error(

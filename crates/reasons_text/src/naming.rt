@@ -33,8 +33,8 @@ fn number_at(numbers: &Numbers, name: &[u8]) -> Option<u32>
 
 // Sets the number for this name, unless the name already has a number.
 fn put_first<'a>(numbers: &mut Numbers<'a>, name: &'a [u8], number: u32) -> Result<(), AllocError>
-    ensures { OnOk result ((text : List ℕ) → number_in numbers.new text
-        ≡ option_or (number_in numbers.old text) (if bytes_eq text name.entry.now then Some number else None)) }
+    ensures { OnOk result ((text : List ℕ) → number_in numbers.new text ≡ option_or
+        (number_in numbers.old text) (if bytes_eq text name.entry.now then Some number else None)) }
 {
     if number_at(numbers, name).is_some() {
         return Ok(());
@@ -80,7 +80,8 @@ impl<'a> MemberNumbers<'a> {
     /// The number of the first member of this side whose name in the docket is this name.
     pub(crate) fn number(&self, side: Side, name: &[u8]) -> Option<u32>
         requires { AreNumbers self.now }
-        ensures { result ≡ first_named self.now.docket.now side name.now (member_count_in self.now.docket.now side) }
+        ensures { result ≡ first_named self.now.docket.now side name.now
+            (member_count_in self.now.docket.now side) }
     {
         let numbers = match side {
             Side::Programmes => &self.programmes,

@@ -27,7 +27,8 @@ fn bytes_of<H: Files + AllocGlobal>(
     path: &str,
     unread: WhyFault,
 ) -> Result<Vec<u8>, WhyFault>
-    ensures { IfErr result (λ fault. (fault ≡ unread) ⊎ (fault ≡ WhyFault.Docket DocketFault.Memory)) }
+    ensures { IfErr result (λ fault. (fault ≡ unread)
+        ⊎ (fault ≡ WhyFault.Docket DocketFault.Memory)) }
 {
     match fs::read(rt, path) {
         Ok(bytes) => Ok(bytes),
@@ -64,7 +65,8 @@ fn lent(key: &Option<Vec<u8>>) -> Option<&[u8]>
 
 // The bytes of standard input.
 fn input_of<R: Read + Drop>(alloc: Global, reader: R) -> Result<Vec<u8>, WhyFault>
-    ensures bytes { IfOk result (λ docket. IfSome (R.remaining reader) (λ bytes. docket.items ≡ bytes)) }
+    ensures bytes { IfOk result (λ docket.
+        IfSome (R.remaining reader) (λ bytes. docket.items ≡ bytes)) }
     ensures fault { IfErr result IsUnreadInput }
 {
     let mut reader = reader;
@@ -89,9 +91,12 @@ fn serve_beside<R: Read + Drop, W: Write, H: RandomSource + Files + AllocGlobal>
     path: &str,
     key_bytes: Option<&[u8]>,
 ) -> Result<(), WhyFault>
-    ensures answered { OnOk result (AnswersBeside limits question.now (R.remaining reader) (option_copied key_bytes.entry) (W.contents writer.old) (W.contents writer.new)) }
-    ensures failed { IfErr result (FailsBeside limits question.now (R.remaining reader) (option_copied key_bytes.entry)) }
-    ensures before { IfErr result (λ fault. fault ≢ WhyFault.Docket DocketFault.Write → W.contents writer.new ≡ W.contents writer.old) }
+    ensures answered { OnOk result (AnswersBeside limits question.now (R.remaining reader)
+        (option_copied key_bytes.entry) (W.contents writer.old) (W.contents writer.new)) }
+    ensures failed { IfErr result
+        (FailsBeside limits question.now (R.remaining reader) (option_copied key_bytes.entry)) }
+    ensures before { IfErr result (λ fault. fault ≢ WhyFault.Docket DocketFault.Write
+        → W.contents writer.new ≡ W.contents writer.old) }
 {
     let sheet = match bytes_of(rt, path, WhyFault::SheetUnread) {
         Ok(sheet) => sheet,
@@ -123,8 +128,10 @@ fn serve<R: Read + Drop, W: Write, H: RandomSource + Files + AllocGlobal>(
     writer: &mut W,
     question: &Question,
 ) -> Result<(), WhyFault>
-    ensures answered { OnOk result (IsAnswered limits question.now (R.remaining reader) (W.contents writer.old) (W.contents writer.new)) }
-    ensures failed { IfErr result (IsFailed limits question.now (R.remaining reader) (W.contents writer.old) (W.contents writer.new)) }
+    ensures answered { OnOk result (IsAnswered limits question.now
+        (R.remaining reader) (W.contents writer.old) (W.contents writer.new)) }
+    ensures failed { IfErr result (IsFailed limits question.now
+        (R.remaining reader) (W.contents writer.old) (W.contents writer.new)) }
 {
     let key = match key_of(rt, question) {
         Ok(key) => key,
@@ -172,7 +179,8 @@ where
     W: Write,
     T: Eprint,
     H: RandomSource + Files + AllocGlobal,
-    ensures { EndsTold limits question.now (R.remaining reader) (W.contents writer.old) (W.contents writer.new) (exit_status_in result) }
+    ensures { EndsTold limits question.now (R.remaining reader)
+        (W.contents writer.old) (W.contents writer.new) (exit_status_in result) }
 {
     let answer = serve(rt, alloc, limits, reader, writer, question);
     if let Err(fault) = &answer {
@@ -200,7 +208,8 @@ where
     W: Write,
     T: Print + Eprint,
     H: RandomSource + Files + AllocGlobal,
-    ensures { Ends words (R.remaining reader) (W.contents writer.old) (W.contents writer.new) (exit_status_in result) }
+    ensures { Ends words (R.remaining reader)
+        (W.contents writer.old) (W.contents writer.new) (exit_status_in result) }
 {
     tell_words_within(rt, alloc, Limits::Standard, words, reader, writer, told)
 }
@@ -220,7 +229,8 @@ where
     W: Write,
     T: Print + Eprint,
     H: RandomSource + Files + AllocGlobal,
-    ensures { EndsWithin limits words (R.remaining reader) (W.contents writer.old) (W.contents writer.new) (exit_status_in result) }
+    ensures { EndsWithin limits words (R.remaining reader)
+        (W.contents writer.old) (W.contents writer.new) (exit_status_in result) }
 {
     let texts = match texts_of(words) {
         Ok(texts) => texts,

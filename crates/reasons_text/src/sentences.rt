@@ -74,7 +74,8 @@ fn full_sentence(
     quota: u32,
     without_ranks: bool,
 ) -> Result<String, AllocError>
-    ensures { IfOk result (λ text. string_bytes text ≡ said.full_sentence without_ranks rank last_rank quota) }
+    ensures { IfOk result (λ text.
+        string_bytes text ≡ said.full_sentence without_ranks rank last_rank quota) }
 {
     let Some(last_rank) = last_rank else {
         return format!(in alloc; "it had no places.");
@@ -101,7 +102,8 @@ fn withdrawn_sentence(
     names: &Names,
     resident: ResidentNo,
 ) -> Result<String, AllocError>
-    ensures { IfOk result (λ text. string_bytes text ≡ said.withdrawn_sentence (said.has_withdrawn (naming_of names.now) resident)) }
+    ensures { IfOk result (λ text. string_bytes text
+        ≡ said.withdrawn_sentence (said.has_withdrawn (naming_of names.now) resident)) }
 {
     if names.resident_withdrew(resident) {
         format!(in alloc; "you withdrew from the match.")
@@ -119,7 +121,8 @@ fn sentence(
     reason: Why,
     without_ranks: bool,
 ) -> Result<String, AllocError>
-    ensures { IfOk result (λ text. string_bytes text ≡ said.sentence (naming_of names.now) without_ranks resident reason) }
+    ensures { IfOk result (λ text.
+        string_bytes text ≡ said.sentence (naming_of names.now) without_ranks resident reason) }
 {
     match reason {
         Why::Withdrawn => withdrawn_sentence(alloc, names, resident),
@@ -213,7 +216,8 @@ fn outcome(
     list: &[ProgrammeNo],
     reasons: &[Why],
 ) -> Result<String, AllocError>
-    ensures { IfOk result (λ text. string_bytes text ≡ said.outcome (naming_of names.now) own list.now reasons.now) }
+    ensures { IfOk result (λ text.
+        string_bytes text ≡ said.outcome (naming_of names.now) own list.now reasons.now) }
 {
     match own {
         Some(own) => matched(alloc, names.programme(own), choice_of(list, own), reasons),
@@ -231,7 +235,8 @@ fn ended(
     list: &[ProgrammeNo],
     reasons: &[Why],
 ) -> Result<String, AllocError>
-    ensures { IfOk result (λ text. string_bytes text ≡ said.ended (naming_of names.now) resident own list.now reasons.now) }
+    ensures { IfOk result (λ text.
+        string_bytes text ≡ said.ended (naming_of names.now) resident own list.now reasons.now) }
 {
     if names.resident_withdrew(resident) {
         format!(in alloc; "You withdrew from the match.")

@@ -99,8 +99,8 @@ fn push_fields<'a, W: Write>(
     last: &'a [u8],
     quota: &'a [u8],
 ) -> Result<(), WriteFailed>
-    ensures { OnOk result (Adds W.contents rows.old rows.new (row
-        (resident.now ∷ programme.now ∷ choice.now ∷ word.now ∷ rank.now ∷ last.now ∷ quota.now ∷ []))) }
+    ensures { OnOk result (Adds W.contents rows.old rows.new (row (resident.now
+        ∷ programme.now ∷ choice.now ∷ word.now ∷ rank.now ∷ last.now ∷ quota.now ∷ []))) }
 {
     rows.push(&[resident, programme, choice, word, rank, last, quota])
 }
@@ -116,8 +116,8 @@ pub(crate) fn push_row<W: Write>(
     reason: &Why,
     without_ranks: bool,
 ) -> Result<(), WriteFailed>
-    ensures { OnOk result (Adds W.contents rows.old rows.new
-        (table.answer_row (naming_of names.now) without_ranks resident choice programme reason.now)) }
+    ensures { OnOk result (Adds W.contents rows.old rows.new (table.answer_row
+        (naming_of names.now) without_ranks resident choice programme reason.now)) }
 {
     let (mut first, mut second) = (itoa::Buffer::new(), itoa::Buffer::new());
     let (mut third, mut fourth) = (itoa::Buffer::new(), itoa::Buffer::new());

@@ -42,7 +42,8 @@ where
     W: Write,
     T: Eprint,
     H: Threads + Wait + RandomSource + Sync + Send + Copy,
-    ensures { EndsServingWithin limits order.now (R.remaining reader) (W.contents writer.old) (W.contents writer.new) (exit_status_in result) }
+    ensures { EndsServingWithin limits order.now (R.remaining reader)
+        (W.contents writer.old) (W.contents writer.new) (exit_status_in result) }
 {
     let answer = serve_within(rt, alloc, limits, order, reader, writer, &OpenGate);
     if let Err(fault) = &answer {
@@ -69,7 +70,8 @@ where
     W: Write,
     T: Print + Eprint,
     H: Threads + Wait + RandomSource + Sync + Send + Copy,
-    ensures { Ends words (R.remaining reader) (W.contents writer.old) (W.contents writer.new) (exit_status_in result) }
+    ensures { Ends words (R.remaining reader)
+        (W.contents writer.old) (W.contents writer.new) (exit_status_in result) }
 {
     serve_words_within(rt, alloc, Limits::Standard, words, reader, writer, told)
 }
@@ -89,7 +91,8 @@ where
     W: Write,
     T: Print + Eprint,
     H: Threads + Wait + RandomSource + Sync + Send + Copy,
-    ensures { EndsWithin limits words (R.remaining reader) (W.contents writer.old) (W.contents writer.new) (exit_status_in result) }
+    ensures { EndsWithin limits words (R.remaining reader)
+        (W.contents writer.old) (W.contents writer.new) (exit_status_in result) }
 {
     let texts = match texts_of(words) {
         Ok(texts) => texts,

@@ -35,7 +35,8 @@ fn push_wanted<W: Write>(
 ) -> Result<(), WriteFailed>
     requires journal { All (NamesMembers docket.now.instance) journal.now }
     requires by { IsByWorker journal.now by.now }
-    ensures { OnOk result (Adds W.contents rows.old rows.new (wanted_journal docket.now options.now journal.now by.now)) }
+    ensures { OnOk result (Adds W.contents rows.old rows.new
+        (wanted_journal docket.now options.now journal.now by.now)) }
 {
     match options.journal {
         JournalForm::Absent => Ok(()),
@@ -59,7 +60,8 @@ fn write_match<W: Write>(
     requires sheet { IsSheetOf docket.now assignment.now }
     requires journal { All (NamesMembers docket.now.instance) journal.now }
     requires by { IsByWorker journal.now by.now }
-    ensures text { OnOk result (Writes W.contents writer.old writer.new (wanted_match docket.now options.now assignment.now journal.now by.now)) }
+    ensures text { OnOk result (Writes W.contents writer.old writer.new
+        (wanted_match docket.now options.now assignment.now journal.now by.now)) }
     ensures fault { IfErr result IsWriteFault }
     ensures before { IfErr result (λ fault. fault ≢ DocketFault.Write → writer.new ≡ writer.old) }
 {
@@ -87,7 +89,8 @@ where
     H: Threads + Wait + Sync + Send + Copy,
     requires { G.MAY_STOP ≡ false }
     ensures status { IfOk result (λ status. status ≡ Status.Closed) }
-    ensures text { OnOk result (WritesMatch docket.now options.now (W.contents writer.old) (W.contents writer.new)) }
+    ensures text { OnOk result
+        (WritesMatch docket.now options.now (W.contents writer.old) (W.contents writer.new)) }
     ensures fault { IfErr result (IsMatchFault options.now docket.now) }
     ensures before { IfErr result (λ fault. IsBeforeWriting fault → writer.new ≡ writer.old) }
 {
@@ -128,7 +131,8 @@ fn write_audit<W: Write>(
     docket: &Docket,
     writer: &mut W,
 ) -> Result<Status, ServeFault>
-    ensures report { IfOk result (λ status. WritesReport docket.now status (W.contents writer.old) (W.contents writer.new)) }
+    ensures report { IfOk result (λ status.
+        WritesReport docket.now status (W.contents writer.old) (W.contents writer.new)) }
     ensures fault { IfErr result (IsAuditFault docket.now) }
     ensures before { IfErr result (λ fault. IsBeforeWriting fault → writer.new ≡ writer.old) }
 {
@@ -145,7 +149,8 @@ fn write_answer<W: Write>(
     docket: &Docket,
     writer: &mut W,
 ) -> Result<Status, ServeFault>
-    ensures answer { IfOk result (λ status. WritesReplay docket.now status (W.contents writer.old) (W.contents writer.new)) }
+    ensures answer { IfOk result (λ status.
+        WritesReplay docket.now status (W.contents writer.old) (W.contents writer.new)) }
     ensures fault { IfErr result (IsReplayFault docket.now) }
     ensures before { IfErr result (λ fault. IsBeforeWriting fault → writer.new ≡ writer.old) }
 {
@@ -174,9 +179,11 @@ where
     H: Threads + Wait + RandomSource + Sync + Send + Copy,
     requires { G.MAY_STOP ≡ false }
     ensures status { IfOk result (λ status. status ≡ Status.Closed) }
-    ensures text { OnOk result ((bytes : List ℕ) → R.remaining reader ≡ Some bytes
-        → AreDocketWithin limits (λ d. WritesMatch d options.now (W.contents writer.old) (W.contents writer.new)) bytes) }
-    ensures fault { IfErr result (λ fault. (bytes : List ℕ) → R.remaining reader ≡ Some bytes → IsFaultWithin limits (IsMatchFault options.now) bytes fault) }
+    ensures text { OnOk result ((bytes : List ℕ)
+        → R.remaining reader ≡ Some bytes → AreDocketWithin limits (λ d.
+        WritesMatch d options.now (W.contents writer.old) (W.contents writer.new)) bytes) }
+    ensures fault { IfErr result (λ fault. (bytes : List ℕ) → R.remaining reader ≡ Some bytes
+        → IsFaultWithin limits (IsMatchFault options.now) bytes fault) }
     ensures before { IfErr result (λ fault. IsBeforeWriting fault → writer.new ≡ writer.old) }
 {
     let docket = match read_docket_within(&rt, alloc, limits, reader) {
@@ -208,9 +215,10 @@ where
     H: Threads + Wait + RandomSource + Sync + Send + Copy,
     requires { G.MAY_STOP ≡ false }
     ensures status { IfOk result (λ status. status ≡ Status.Closed) }
-    ensures text { OnOk result ((bytes : List ℕ) → R.remaining reader ≡ Some bytes
-        → AreDocket (λ d. WritesMatch d options.now (W.contents writer.old) (W.contents writer.new)) bytes) }
-    ensures fault { IfErr result (λ fault. (bytes : List ℕ) → R.remaining reader ≡ Some bytes → IsFaultOf (IsMatchFault options.now) bytes fault) }
+    ensures text { OnOk result ((bytes : List ℕ) → R.remaining reader ≡ Some bytes → AreDocket (λ d.
+        WritesMatch d options.now (W.contents writer.old) (W.contents writer.new)) bytes) }
+    ensures fault { IfErr result (λ fault. (bytes : List ℕ)
+        → R.remaining reader ≡ Some bytes → IsFaultOf (IsMatchFault options.now) bytes fault) }
     ensures before { IfErr result (λ fault. IsBeforeWriting fault → writer.new ≡ writer.old) }
 {
     serve_match_within(rt, alloc, Limits::Standard, reader, writer, options, gate)
@@ -233,9 +241,11 @@ where
     H: Threads + Wait + RandomSource + Sync + Send + Copy,
     requires { G.MAY_STOP ≡ false }
     ensures status { IfOk result (λ status. status ≡ Status.Closed) }
-    ensures text { OnOk result ((bytes : List ℕ) → R.remaining reader ≡ Some bytes
-        → AreDocketWithin limits (λ d. WritesMatch d options.now (W.contents writer.old) (W.contents writer.new)) bytes) }
-    ensures fault { IfErr result (λ fault. (bytes : List ℕ) → R.remaining reader ≡ Some bytes → IsFaultWithin limits (IsMatchFault options.now) bytes fault) }
+    ensures text { OnOk result ((bytes : List ℕ)
+        → R.remaining reader ≡ Some bytes → AreDocketWithin limits (λ d.
+        WritesMatch d options.now (W.contents writer.old) (W.contents writer.new)) bytes) }
+    ensures fault { IfErr result (λ fault. (bytes : List ℕ) → R.remaining reader ≡ Some bytes
+        → IsFaultWithin limits (IsMatchFault options.now) bytes fault) }
     ensures before { IfErr result (λ fault. IsBeforeWriting fault → writer.new ≡ writer.old) }
 {
     match_read(
@@ -259,9 +269,11 @@ pub fn serve_audit<R: Read + Drop, W: Write, H: RandomSource>(
     reader: R,
     writer: &mut W,
 ) -> Result<Status, ServeFault>
-    ensures report { IfOk result (λ status. (bytes : List ℕ) → R.remaining reader ≡ Some bytes
-        → AreDocket (λ d. WritesReport d status (W.contents writer.old) (W.contents writer.new)) bytes) }
-    ensures fault { IfErr result (λ fault. (bytes : List ℕ) → R.remaining reader ≡ Some bytes → IsFaultOf IsAuditFault bytes fault) }
+    ensures report { IfOk result (λ status. (bytes : List ℕ)
+        → R.remaining reader ≡ Some bytes → AreDocket (λ d.
+        WritesReport d status (W.contents writer.old) (W.contents writer.new)) bytes) }
+    ensures fault { IfErr result (λ fault. (bytes : List ℕ)
+        → R.remaining reader ≡ Some bytes → IsFaultOf IsAuditFault bytes fault) }
     ensures before { IfErr result (λ fault. IsBeforeWriting fault → writer.new ≡ writer.old) }
 {
     serve_audit_within(rt, alloc, Limits::Standard, reader, writer)
@@ -275,9 +287,11 @@ pub fn serve_audit_within<R: Read + Drop, W: Write, H: RandomSource>(
     reader: R,
     writer: &mut W,
 ) -> Result<Status, ServeFault>
-    ensures report { IfOk result (λ status. (bytes : List ℕ) → R.remaining reader ≡ Some bytes
-        → AreDocketWithin limits (λ d. WritesReport d status (W.contents writer.old) (W.contents writer.new)) bytes) }
-    ensures fault { IfErr result (λ fault. (bytes : List ℕ) → R.remaining reader ≡ Some bytes → IsFaultWithin limits IsAuditFault bytes fault) }
+    ensures report { IfOk result (λ status. (bytes : List ℕ)
+        → R.remaining reader ≡ Some bytes → AreDocketWithin limits (λ d.
+        WritesReport d status (W.contents writer.old) (W.contents writer.new)) bytes) }
+    ensures fault { IfErr result (λ fault. (bytes : List ℕ)
+        → R.remaining reader ≡ Some bytes → IsFaultWithin limits IsAuditFault bytes fault) }
     ensures before { IfErr result (λ fault. IsBeforeWriting fault → writer.new ≡ writer.old) }
 {
     match read_docket_within(rt, alloc, limits, reader) {
@@ -294,9 +308,11 @@ pub fn serve_replay<R: Read + Drop, W: Write, H: RandomSource>(
     reader: R,
     writer: &mut W,
 ) -> Result<Status, ServeFault>
-    ensures answer { IfOk result (λ status. (bytes : List ℕ) → R.remaining reader ≡ Some bytes
-        → AreDocket (λ d. WritesReplay d status (W.contents writer.old) (W.contents writer.new)) bytes) }
-    ensures fault { IfErr result (λ fault. (bytes : List ℕ) → R.remaining reader ≡ Some bytes → IsFaultOf IsReplayFault bytes fault) }
+    ensures answer { IfOk result (λ status. (bytes : List ℕ)
+        → R.remaining reader ≡ Some bytes → AreDocket (λ d.
+        WritesReplay d status (W.contents writer.old) (W.contents writer.new)) bytes) }
+    ensures fault { IfErr result (λ fault. (bytes : List ℕ)
+        → R.remaining reader ≡ Some bytes → IsFaultOf IsReplayFault bytes fault) }
     ensures before { IfErr result (λ fault. IsBeforeWriting fault → writer.new ≡ writer.old) }
 {
     serve_replay_within(rt, alloc, Limits::Standard, reader, writer)
@@ -310,9 +326,11 @@ pub fn serve_replay_within<R: Read + Drop, W: Write, H: RandomSource>(
     reader: R,
     writer: &mut W,
 ) -> Result<Status, ServeFault>
-    ensures answer { IfOk result (λ status. (bytes : List ℕ) → R.remaining reader ≡ Some bytes
-        → AreDocketWithin limits (λ d. WritesReplay d status (W.contents writer.old) (W.contents writer.new)) bytes) }
-    ensures fault { IfErr result (λ fault. (bytes : List ℕ) → R.remaining reader ≡ Some bytes → IsFaultWithin limits IsReplayFault bytes fault) }
+    ensures answer { IfOk result (λ status. (bytes : List ℕ)
+        → R.remaining reader ≡ Some bytes → AreDocketWithin limits (λ d.
+        WritesReplay d status (W.contents writer.old) (W.contents writer.new)) bytes) }
+    ensures fault { IfErr result (λ fault. (bytes : List ℕ)
+        → R.remaining reader ≡ Some bytes → IsFaultWithin limits IsReplayFault bytes fault) }
     ensures before { IfErr result (λ fault. IsBeforeWriting fault → writer.new ≡ writer.old) }
 {
     match read_docket_within(rt, alloc, limits, reader) {
@@ -339,7 +357,9 @@ where
     G: Gate + Sync,
     H: Threads + Wait + RandomSource + Sync + Send + Copy,
     requires { G.MAY_STOP ≡ false }
-    ensures answer { (bytes : List ℕ) → R.remaining reader ≡ Some bytes → IsAnswerWithin limits order.now bytes (W.contents writer.old) (W.contents writer.new) result }
+    ensures answer { (bytes : List ℕ)
+        → R.remaining reader ≡ Some bytes → IsAnswerWithin limits order.now bytes
+        (W.contents writer.old) (W.contents writer.new) result }
 {
     match order {
         Order::Match(options) => {

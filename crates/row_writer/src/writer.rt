@@ -150,7 +150,8 @@ impl<'a, W: Write> RowWriter<'a, W> {
 
     // Adds the end of a row with these fields.
     fn put_end(&mut self, fields: &[&[u8]]) -> Result<(), WriteFailed>
-        ensures { OnOk result (Adds W.contents self.old self.new (row_end (map (λ f. f.now) fields.now))) }
+        ensures { OnOk result
+            (Adds W.contents self.old self.new (row_end (map (λ f. f.now) fields.now))) }
     {
         if is_blank(fields) {
             self.put(b"\"\"\n")
@@ -161,7 +162,8 @@ impl<'a, W: Write> RowWriter<'a, W> {
 
     /// Adds a row to the buffer. If the buffer is full, its bytes go to the writer.
     pub fn push(&mut self, fields: &[&[u8]]) -> Result<(), WriteFailed>
-        ensures { OnOk result (Adds W.contents self.old self.new (row (map (λ f. f.now) fields.now))) }
+        ensures { OnOk result
+            (Adds W.contents self.old self.new (row (map (λ f. f.now) fields.now))) }
     {
         for i in 0..fields.len() {
             self.put_comma(i)?;
@@ -172,7 +174,8 @@ impl<'a, W: Write> RowWriter<'a, W> {
 
     /// Sends the remaining bytes of the buffer to the writer.
     pub fn send(self) -> Result<(), WriteFailed>
-        ensures { OnOk result (Writes W.contents self.entry.writer.now self.exit.0.now self.entry.waiting.now.items) }
+        ensures { OnOk result
+            (Writes W.contents self.entry.writer.now self.exit.0.now self.entry.waiting.now.items) }
     {
         let RowWriter { writer, waiting } = self;
         match writer.write_all(waiting.as_slice()) {

@@ -25,13 +25,15 @@ impl Model for Tree {
 
     ghost view = { λ t. take t.count t.nodes.items };
 
-    ghost invariant = { λ t. (t.count ≤ length t.nodes.items) × (t.nodes.items ≡ all_levels (take t.count t.nodes.items)) };
+    ghost invariant = { λ t. (t.count ≤ length t.nodes.items)
+        × (t.nodes.items ≡ all_levels (take t.count t.nodes.items)) };
 }
 
 // Appends the level above the last level, which begins at `start`.
 fn push_parents(nodes: &mut Vec<[u8; 32]>, start: usize) -> Result<(), AllocError>
     requires { start ≤ vec_len nodes.old }
-    ensures { OnOk result (nodes.new.items ≡ nodes.old.items ++ pair_up (drop start nodes.old.items)) }
+    ensures { OnOk result
+        (nodes.new.items ≡ nodes.old.items ++ pair_up (drop start nodes.old.items)) }
 {
     let count = nodes.len() - start;
     for k in 0..count / 2 {

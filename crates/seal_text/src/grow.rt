@@ -27,7 +27,8 @@ pub(crate) fn put_number(text: &mut Vec<u8>, number: usize) -> Result<(), AllocE
 
 // Writes a row of these fields.
 fn write_row<W: Write>(alloc: Global, writer: &mut W, fields: &[&[u8]]) -> Result<(), DocketFault>
-    ensures { OnOk result (Appends (W.contents writer.old) (W.contents writer.new) (row (map (λ f. f.now) fields.now))) }
+    ensures { OnOk result (Appends
+        (W.contents writer.old) (W.contents writer.new) (row (map (λ f. f.now) fields.now))) }
 {
     let mut room = room_for_rows(alloc)?;
     let mut rows = RowWriter::new(writer, &mut room);

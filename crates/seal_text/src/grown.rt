@@ -96,7 +96,8 @@ impl Grown {
 
     /// Adds the row of its root.
     pub(crate) fn put_root(&self, alloc: Global, text: &mut Vec<u8>) -> Result<(), AllocError>
-        ensures { OnOk result (Grows text.old text.new (root_row self.now.section (length self.now.texts.items) (tree.root self.now.tree))) }
+        ensures { OnOk result (Grows text.old text.new
+            (root_row self.now.section (length self.now.texts.items) (tree.root self.now.tree))) }
     {
         let root = self.tree.root();
         put_root_row(alloc, text, self.section, self.texts.len(), &root)
@@ -112,7 +113,8 @@ impl Grown {
     ) -> Result<(), AllocError>
         requires grown { IsGrown secret.now self.now }
         requires index { index < length self.now.texts.items }
-        ensures { OnOk result (Grows text.old text.new (part_text secret.now self.now.section (texts_in self.now) index)) }
+        ensures { OnOk result (Grows text.old text.new
+            (part_text secret.now self.now.section (texts_in self.now) index)) }
     {
         self.put_root(alloc, text)?;
         let salt = salt(secret, self.section.tag(), index as u64);

@@ -44,7 +44,8 @@ pub(crate) fn leaf_hashes(
     section: Section,
     texts: &[Vec<u8>],
 ) -> Result<Vec<[u8; 32]>, AllocError>
-    ensures { IfOk result (λ hashes. hashes.items ≡ hashes_of secret.now section (map (λ (v : Vec ℕ). v.items) texts.now)) }
+    ensures { IfOk result (λ hashes.
+        hashes.items ≡ hashes_of secret.now section (map (λ (v : Vec ℕ). v.items) texts.now)) }
 {
     let mut hashes = Vec::new(alloc);
     for i in 0..texts.len() {

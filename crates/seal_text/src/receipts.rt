@@ -30,9 +30,11 @@ impl Trees {
         secret: &[u8; 32],
         index: usize,
     ) -> Result<(), AllocError>
-        requires outcome { IfSome self.now.outcome (IsGrownAs secret.now Outcome (length self.now.lists.texts.items)) }
+        requires outcome { IfSome self.now.outcome
+            (IsGrownAs secret.now Outcome (length self.now.lists.texts.items)) }
         requires index { index < length self.now.lists.texts.items }
-        ensures { OnOk result (Grows text.old text.new (result_text_if secret.now (results_in self.now) index)) }
+        ensures { OnOk result
+            (Grows text.old text.new (result_text_if secret.now (results_in self.now) index)) }
     {
         match &self.outcome {
             Some(outcome) => outcome.put_part(alloc, text, secret, index),
@@ -52,7 +54,8 @@ impl Trees {
     ) -> Result<(), AllocError>
         requires trees { AreTrees secret.now (length self.now.lists.texts.items) self.now }
         requires index { index < length self.now.lists.texts.items }
-        ensures { OnOk result (Grows text.old text.new (receipt_text secret.now kind.now name.now (lists_in self.now) (results_in self.now) index)) }
+        ensures { OnOk result (Grows text.old text.new (receipt_text secret.now kind.now name.now
+            (lists_in self.now) (results_in self.now) index)) }
     {
         put_row(alloc, text, &[b"member", kind, name])?;
         put_row(alloc, text, &[b"receipt", b"1", kind, name])?;
@@ -70,7 +73,9 @@ impl Trees {
     ) -> Result<(), AllocError>
         requires trees { AreTrees secret.now (length self.now.lists.texts.items) self.now }
         requires count { length self.now.lists.texts.items ≡ member_count docket.now }
-        ensures { OnOk result (Grows text.old text.new (flat_map (programme_receipt secret.now docket.now (lists_in self.now) (results_in self.now)) (range_with_len 0 (length docket.now.instance.quotas)))) }
+        ensures { OnOk result (Grows text.old text.new (flat_map
+            (programme_receipt secret.now docket.now (lists_in self.now) (results_in self.now))
+            (range_with_len 0 (length docket.now.instance.quotas)))) }
     {
         for p in 0..docket.instance().programmes() {
             let name = docket.programme_name(ProgrammeNo(p)).as_bytes();
@@ -89,7 +94,9 @@ impl Trees {
     ) -> Result<(), AllocError>
         requires trees { AreTrees secret.now (length self.now.lists.texts.items) self.now }
         requires count { length self.now.lists.texts.items ≡ member_count docket.now }
-        ensures { OnOk result (Grows text.old text.new (flat_map (resident_receipt secret.now docket.now (lists_in self.now) (results_in self.now)) (range_with_len 0 (length docket.now.instance.resident_lists)))) }
+        ensures { OnOk result (Grows text.old text.new (flat_map
+            (resident_receipt secret.now docket.now (lists_in self.now) (results_in self.now))
+            (range_with_len 0 (length docket.now.instance.resident_lists)))) }
     {
         let programmes = docket.instance().programmes() as usize;
         for r in 0..docket.instance().residents() {
@@ -109,7 +116,8 @@ impl Trees {
     ) -> Result<(), AllocError>
         requires trees { AreTrees secret.now (length self.now.lists.texts.items) self.now }
         requires count { length self.now.lists.texts.items ≡ member_count docket.now }
-        ensures { OnOk result (Grows text.old text.new (receipts_text secret.now docket.now (lists_in self.now) (results_in self.now))) }
+        ensures { OnOk result (Grows text.old text.new
+            (receipts_text secret.now docket.now (lists_in self.now) (results_in self.now))) }
     {
         self.put_programmes(alloc, text, secret, docket)?;
         self.put_residents(alloc, text, secret, docket)
@@ -117,8 +125,9 @@ impl Trees {
 
     /// Adds the rows of the roots.
     pub(crate) fn put_roots(&self, alloc: Global, text: &mut Vec<u8>) -> Result<(), AllocError>
-        ensures { (secret : List ℕ) → AreTrees secret (length self.now.lists.texts.items) self.now →
-            OnOk result (Grows text.old text.new (roots_text secret (lists_in self.now) (results_in self.now))) }
+        ensures { (secret : List ℕ) → AreTrees secret (length self.now.lists.texts.items) self.now
+            → OnOk result (Grows text.old text.new
+            (roots_text secret (lists_in self.now) (results_in self.now))) }
     {
         self.lists.put_root(alloc, text)?;
         match &self.outcome {

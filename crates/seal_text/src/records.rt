@@ -62,7 +62,8 @@ pub(crate) fn is_triple(row: &ByteRecord, first: &[u8], second: &[u8], third: &[
 fn next_row<R: Read>(reader: &mut Reader<R>, row: &mut ByteRecord) -> Result<bool, AllocError>
     requires reading { IsReading reader.old }
     ensures reading { IfOk result (λ found. found ≡ true → IsReading reader.new) }
-    ensures gives { IfOk result (λ found. GivesRow (rows_left R.remaining reader.old) (rows_left R.remaining reader.new) found (fields_of row.new)) }
+    ensures gives { IfOk result (λ found. GivesRow (rows_left R.remaining reader.old)
+        (rows_left R.remaining reader.new) found (fields_of row.new)) }
 {
     let read = reader.read_byte_record(row);
     match &read {
@@ -146,7 +147,8 @@ impl ListRecords {
 
     /// The `P` record of this name, if there is one.
     pub(crate) fn of_programme(&self, name: &[u8]) -> Option<&ByteRecord>
-        ensures { option_map (λ row. fields_of row.now) result ≡ find (λ row. bytes_eq (field_in row 1) name.now) (rows_in self.now.programmes.items) }
+        ensures { option_map (λ row. fields_of row.now) result
+            ≡ find (λ row. bytes_eq (field_in row 1) name.now) (rows_in self.now.programmes.items) }
     {
         let rows = self.programmes.as_slice();
         for k in 0..rows.len() {
@@ -160,7 +162,8 @@ impl ListRecords {
 
     /// The `R` record of the resident of this number, if there is one.
     pub(crate) fn of_resident(&self, number: usize) -> Option<&ByteRecord>
-        ensures { option_map (λ row. fields_of row.now) result ≡ slice_get (rows_in self.now.residents.items) number }
+        ensures { option_map (λ row. fields_of row.now) result
+            ≡ slice_get (rows_in self.now.residents.items) number }
     {
         self.residents.get(number)
     }

@@ -42,8 +42,10 @@ fn grown_if(
     secret: &[u8; 32],
     texts: Option<Vec<Vec<u8>>>,
 ) -> Result<Option<Grown>, AllocError>
-    ensures grown { IfOk result (λ grown. (count : ℕ) → IfSome texts (λ texts. length texts.items ≡ count) → IfSome grown (IsGrownAs secret.now Outcome count)) }
-    ensures texts { IfOk result (λ grown. option_map texts_in grown ≡ option_map (λ texts. texts_of texts.items) texts) }
+    ensures grown { IfOk result (λ grown. (count : ℕ) → IfSome texts (λ texts.
+        length texts.items ≡ count) → IfSome grown (IsGrownAs secret.now Outcome count)) }
+    ensures texts { IfOk result (λ grown.
+        option_map texts_in grown ≡ option_map (λ texts. texts_of texts.items) texts) }
 {
     match texts {
         Some(texts) => {
@@ -65,7 +67,8 @@ fn put_wanted(
 ) -> Result<(), AllocError>
     requires trees { AreTrees secret.now (length trees.now.lists.texts.items) trees.now }
     requires count { length trees.now.lists.texts.items ≡ member_count docket.now }
-    ensures { OnOk result (Grows text.old text.new (serving.text_of wanted secret.now docket.now (lists_in trees.now) (results_in trees.now))) }
+    ensures { OnOk result (Grows text.old text.new (serving.text_of wanted secret.now docket.now
+        (lists_in trees.now) (results_in trees.now))) }
 {
     match wanted {
         Wanted::Roots => trees.put_roots(alloc, text),
@@ -84,7 +87,8 @@ fn text_of(
 ) -> Result<Vec<u8>, AllocError>
     requires lists { length lists.items ≡ member_count docket.now }
     requires outcome { IfSome outcome (λ texts. length texts.items ≡ member_count docket.now) }
-    ensures { IfOk result (λ text. text.items ≡ serving.text_of wanted secret.now docket.now (texts_of lists.items) (option_map (λ texts. texts_of texts.items) outcome)) }
+    ensures { IfOk result (λ text. text.items ≡ serving.text_of wanted secret.now docket.now
+        (texts_of lists.items) (option_map (λ texts. texts_of texts.items) outcome)) }
 {
     let lists = Grown::new(alloc, secret, Section::Lists, lists)?;
     let outcome = grown_if(alloc, secret, outcome)?;
@@ -103,7 +107,9 @@ fn text_of_case(
     docket_bytes: &[u8],
 ) -> Result<Vec<u8>, AllocError>
     requires { HasSheet case.now }
-    ensures { IfOk result (λ text. (results : List (List ℕ)) × AreResultTexts case.now results × (text.items ≡ serving.text_of wanted secret.now case.now.docket (texts.lists_texts case.now.docket (rows_of docket_bytes.now)) (Some results))) }
+    ensures { IfOk result (λ text. (results : List (List ℕ)) × AreResultTexts case.now results
+        × (text.items ≡ serving.text_of wanted secret.now case.now.docket
+        (texts.lists_texts case.now.docket (rows_of docket_bytes.now)) (Some results))) }
 {
     let records = ListRecords::read(alloc, docket_bytes)?;
     let lists = lists_texts(alloc, case.docket(), &records)?;
@@ -119,7 +125,8 @@ fn text_of_docket(
     docket: &Docket,
     docket_bytes: &[u8],
 ) -> Result<Vec<u8>, AllocError>
-    ensures { IfOk result (λ text. text.items ≡ serving.text_of wanted secret.now docket.now (texts.lists_texts docket.now (rows_of docket_bytes.now)) None) }
+    ensures { IfOk result (λ text. text.items ≡ serving.text_of wanted secret.now docket.now
+        (texts.lists_texts docket.now (rows_of docket_bytes.now)) None) }
 {
     let records = ListRecords::read(alloc, docket_bytes)?;
     let lists = lists_texts(alloc, docket, &records)?;
@@ -156,7 +163,8 @@ fn full_text<H: RandomSource>(
     sheet: &[u8],
     secret: &[u8; 32],
 ) -> Result<Vec<u8>, FilesFault>
-    ensures text { IfOk result (λ text. IsFullText wanted docket.now sheet.now secret.now text.items) }
+    ensures text { IfOk result (λ text.
+        IsFullText wanted docket.now sheet.now secret.now text.items) }
     ensures fault { IfErr result (IsCaseFault docket.now sheet.now) }
 {
     let case = match read_case(rt, alloc, docket, sheet) {
@@ -180,7 +188,8 @@ fn text_from<H: RandomSource>(
     sheet: Option<&[u8]>,
     secret: &[u8; 32],
 ) -> Result<Vec<u8>, FilesFault>
-    ensures text { IfOk result (λ text. IsTextFrom wanted docket.now (option_copied sheet.entry) secret.now text.items) }
+    ensures text { IfOk result (λ text.
+        IsTextFrom wanted docket.now (option_copied sheet.entry) secret.now text.items) }
     ensures fault { IfErr result (IsFilesFault docket.now (option_copied sheet.entry)) }
 {
     match sheet {
@@ -199,9 +208,12 @@ fn serve<W: Write, H: RandomSource>(
     secret: &[u8],
     writer: &mut W,
 ) -> Result<(), SealFault>
-    ensures text { OnOk result ((text : List ℕ) × IsServed wanted docket.now (option_copied sheet.entry) secret.now text × Appends (W.contents writer.old) (W.contents writer.new) text) }
+    ensures text { OnOk result ((text : List ℕ)
+        × IsServed wanted docket.now (option_copied sheet.entry) secret.now text
+        × Appends (W.contents writer.old) (W.contents writer.new) text) }
     ensures fault { IfErr result (IsSealFault docket.now (option_copied sheet.entry) secret.now) }
-    ensures before { IfErr result (λ fault. fault ≢ SealFault.Files FilesFault.Write → writer.new ≡ writer.old) }
+    ensures before { IfErr result (λ fault. fault ≢ SealFault.Files FilesFault.Write
+        → writer.new ≡ writer.old) }
 {
     let secret = match read_secret(secret) {
         Ok(secret) => secret,
@@ -227,9 +239,12 @@ pub fn serve_seal<W: Write, H: RandomSource>(
     secret: &[u8],
     writer: &mut W,
 ) -> Result<(), SealFault>
-    ensures text { OnOk result ((text : List ℕ) × IsServed Wanted.Roots docket.now (option_copied sheet.entry) secret.now text × Appends (W.contents writer.old) (W.contents writer.new) text) }
+    ensures text { OnOk result ((text : List ℕ)
+        × IsServed Wanted.Roots docket.now (option_copied sheet.entry) secret.now text
+        × Appends (W.contents writer.old) (W.contents writer.new) text) }
     ensures fault { IfErr result (IsSealFault docket.now (option_copied sheet.entry) secret.now) }
-    ensures before { IfErr result (λ fault. fault ≢ SealFault.Files FilesFault.Write → writer.new ≡ writer.old) }
+    ensures before { IfErr result (λ fault. fault ≢ SealFault.Files FilesFault.Write
+        → writer.new ≡ writer.old) }
 {
     serve(rt, alloc, Wanted::Roots, docket, sheet, secret, writer)
 }
@@ -244,9 +259,12 @@ pub fn serve_receipts<W: Write, H: RandomSource>(
     secret: &[u8],
     writer: &mut W,
 ) -> Result<(), SealFault>
-    ensures text { OnOk result ((text : List ℕ) × IsServed Wanted.Receipts docket.now (option_copied sheet.entry) secret.now text × Appends (W.contents writer.old) (W.contents writer.new) text) }
+    ensures text { OnOk result ((text : List ℕ)
+        × IsServed Wanted.Receipts docket.now (option_copied sheet.entry) secret.now text
+        × Appends (W.contents writer.old) (W.contents writer.new) text) }
     ensures fault { IfErr result (IsSealFault docket.now (option_copied sheet.entry) secret.now) }
-    ensures before { IfErr result (λ fault. fault ≢ SealFault.Files FilesFault.Write → writer.new ≡ writer.old) }
+    ensures before { IfErr result (λ fault. fault ≢ SealFault.Files FilesFault.Write
+        → writer.new ≡ writer.old) }
 {
     serve(rt, alloc, Wanted::Receipts, docket, sheet, secret, writer)
 }

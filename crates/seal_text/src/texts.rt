@@ -28,7 +28,8 @@ use std::io::Write;
 
 // Adds the line of a record, if there is one.
 fn put_line_if(text: &mut Vec<u8>, row: Option<&ByteRecord>) -> Result<(), AllocError>
-    ensures { OnOk result (Grows text.old text.new (line_if (option_map (λ row. fields_of row.now) row.entry))) }
+    ensures { OnOk result
+        (Grows text.old text.new (line_if (option_map (λ row. fields_of row.now) row.entry))) }
 {
     match row {
         Some(row) => put_line(text, row),
@@ -70,7 +71,8 @@ fn programme_lists(
     programme: ProgrammeNo,
 ) -> Result<Vec<u8>, AllocError>
     requires programme { IsProgramme docket.now.instance programme }
-    ensures { IfOk result (λ text. (rows : List Fields) → AreListsOf rows records.now → text.items ≡ spec.programme_lists docket.now rows programme) }
+    ensures { IfOk result (λ text. (rows : List Fields) → AreListsOf rows records.now
+        → text.items ≡ spec.programme_lists docket.now rows programme) }
 {
     let name = docket.programme_name(programme).as_bytes();
     let quota = docket.instance().quota(programme);
@@ -90,7 +92,8 @@ fn resident_lists(
     resident: ResidentNo,
 ) -> Result<Vec<u8>, AllocError>
     requires resident { IsResident docket.now.instance resident }
-    ensures { IfOk result (λ text. (rows : List Fields) → AreListsOf rows records.now → text.items ≡ spec.resident_lists docket.now rows resident) }
+    ensures { IfOk result (λ text. (rows : List Fields)
+        → AreListsOf rows records.now → text.items ≡ spec.resident_lists docket.now rows resident) }
 {
     let name = docket.resident_name(resident).as_bytes();
     let gone = docket.instance().resident_withdrawn(resident);
@@ -107,7 +110,10 @@ fn push_programme_lists(
     docket: &Docket,
     records: &ListRecords,
 ) -> Result<(), AllocError>
-    ensures { OnOk result ((rows : List Fields) → AreListsOf rows records.now → texts_of texts.new.items ≡ texts_of texts.old.items ++ map (spec.programme_lists docket.now rows) (range_with_len 0 (length docket.now.instance.quotas))) }
+    ensures { OnOk result ((rows : List Fields)
+        → AreListsOf rows records.now → texts_of texts.new.items
+        ≡ texts_of texts.old.items ++ map (spec.programme_lists docket.now rows)
+        (range_with_len 0 (length docket.now.instance.quotas))) }
 {
     for p in 0..docket.instance().programmes() {
         let text = programme_lists(alloc, docket, records, ProgrammeNo(p))?;
@@ -123,7 +129,10 @@ fn push_resident_lists(
     docket: &Docket,
     records: &ListRecords,
 ) -> Result<(), AllocError>
-    ensures { OnOk result ((rows : List Fields) → AreListsOf rows records.now → texts_of texts.new.items ≡ texts_of texts.old.items ++ map (spec.resident_lists docket.now rows) (range_with_len 0 (length docket.now.instance.resident_lists))) }
+    ensures { OnOk result ((rows : List Fields)
+        → AreListsOf rows records.now → texts_of texts.new.items
+        ≡ texts_of texts.old.items ++ map (spec.resident_lists docket.now rows)
+        (range_with_len 0 (length docket.now.instance.resident_lists))) }
 {
     for r in 0..docket.instance().residents() {
         let text = resident_lists(alloc, docket, records, ResidentNo(r))?;
@@ -138,7 +147,8 @@ pub(crate) fn lists_texts(
     docket: &Docket,
     records: &ListRecords,
 ) -> Result<Vec<Vec<u8>>, AllocError>
-    ensures { IfOk result (λ texts. (rows : List Fields) → AreListsOf rows records.now → texts_of texts.items ≡ spec.lists_texts docket.now rows) }
+    ensures { IfOk result (λ texts. (rows : List Fields)
+        → AreListsOf rows records.now → texts_of texts.items ≡ spec.lists_texts docket.now rows) }
 {
     let mut texts = Vec::new(alloc);
     push_programme_lists(alloc, &mut texts, docket, records)?;
@@ -179,7 +189,8 @@ fn push_members<W: Write>(
 ) -> Result<(), WriteFailed>
     requires programme { IsProgramme docket.now.instance programme }
     requires sheet { IsSheetOf docket.now sheet.now }
-    ensures { OnOk result (Adds W.contents rows.old rows.new (member_rows docket.now sheet.now programme (length docket.now.instance.resident_lists))) }
+    ensures { OnOk result (Adds W.contents rows.old rows.new
+        (member_rows docket.now sheet.now programme (length docket.now.instance.resident_lists))) }
 {
     for r in 0..docket.instance().residents() {
         let resident = ResidentNo(r);
@@ -198,7 +209,8 @@ fn push_programme_result<W: Write>(
 ) -> Result<(), WriteFailed>
     requires case { HasSheet case.now }
     requires programme { IsProgramme case.now.docket.instance programme }
-    ensures { OnOk result (Adds W.contents rows.old rows.new (spec.programme_result case.now.docket case.now.sheet programme)) }
+    ensures { OnOk result (Adds W.contents rows.old rows.new
+        (spec.programme_result case.now.docket case.now.sheet programme)) }
 {
     let (docket, sheet) = (case.docket(), case.sheet());
     push_programme(rows, docket, b"F", programme, filled_of(sheet, programme))?;
@@ -214,7 +226,8 @@ fn push_mark<W: Write>(
 ) -> Result<(), WriteFailed>
     requires resident { IsResident docket.now.instance resident }
     requires programme { (p : ℕ) → programme ≡ Some p → IsProgramme docket.now.instance p }
-    ensures { OnOk result (Adds W.contents rows.old rows.new (mark_row docket.now resident programme)) }
+    ensures { OnOk result
+        (Adds W.contents rows.old rows.new (mark_row docket.now resident programme)) }
 {
     let name = docket.resident_name(resident).as_bytes();
     match programme {
@@ -247,7 +260,8 @@ fn write_programme_result<W: Write>(
 ) -> Result<(), DocketFault>
     requires case { HasSheet case.now }
     requires programme { IsProgramme case.now.docket.instance programme }
-    ensures { OnOk result (Appends (W.contents writer.old) (W.contents writer.new) (spec.programme_result case.now.docket case.now.sheet programme)) }
+    ensures { OnOk result (Appends (W.contents writer.old)
+        (W.contents writer.new) (spec.programme_result case.now.docket case.now.sheet programme)) }
 {
     let mut room = room_for_rows(alloc)?;
     let mut rows = RowWriter::new(writer, &mut room);
@@ -265,7 +279,8 @@ fn write_resident_result<W: Write>(
 ) -> Result<(), DocketFault>
     requires case { HasSheet case.now }
     requires resident { IsResident case.now.docket.instance resident }
-    ensures { OnOk result (AppendsText (IsResidentResult case.now resident) (W.contents writer.old) (W.contents writer.new)) }
+    ensures { OnOk result (AppendsText
+        (IsResidentResult case.now resident) (W.contents writer.old) (W.contents writer.new)) }
 {
     let mut room = room_for_rows(alloc)?;
     let mut rows = RowWriter::new(writer, &mut room);
@@ -282,7 +297,8 @@ fn programme_result(
 ) -> Result<Vec<u8>, AllocError>
     requires case { HasSheet case.now }
     requires programme { IsProgramme case.now.docket.instance programme }
-    ensures { IfOk result (λ text. text.items ≡ spec.programme_result case.now.docket case.now.sheet programme) }
+    ensures { IfOk result (λ text.
+        text.items ≡ spec.programme_result case.now.docket case.now.sheet programme) }
 {
     let mut text = Vec::new(alloc);
     match write_programme_result(alloc, &mut text, case, programme) {
@@ -311,7 +327,9 @@ fn push_programme_results(
     case: &Case,
 ) -> Result<(), AllocError>
     requires { HasSheet case.now }
-    ensures { OnOk result (texts_of texts.new.items ≡ texts_of texts.old.items ++ map (spec.programme_result case.now.docket case.now.sheet) (range_with_len 0 (length case.now.docket.instance.quotas))) }
+    ensures { OnOk result (texts_of texts.new.items
+        ≡ texts_of texts.old.items ++ map (spec.programme_result case.now.docket case.now.sheet)
+        (range_with_len 0 (length case.now.docket.instance.quotas))) }
 {
     for p in 0..case.docket().instance().programmes() {
         let text = programme_result(alloc, case, ProgrammeNo(p))?;
@@ -327,7 +345,8 @@ fn push_resident_results(
     case: &Case,
 ) -> Result<(), AllocError>
     requires { HasSheet case.now }
-    ensures { OnOk result (PushesResults case.now (length case.now.docket.instance.resident_lists) (texts_of texts.old.items) (texts_of texts.new.items)) }
+    ensures { OnOk result (PushesResults case.now (length case.now.docket.instance.resident_lists)
+        (texts_of texts.old.items) (texts_of texts.new.items)) }
 {
     for r in 0..case.docket().instance().residents() {
         let text = resident_result(alloc, case, ResidentNo(r))?;

@@ -33,7 +33,8 @@ fn listed_residents(
     listed: &mut Vec<ResidentNo>,
 ) -> Result<(), DocketFault>
     ensures listed { OnOk result (listed.new.items ≡ map (member_at residents.now) names.now) }
-    ensures fault { Answers (unless (list_all (is_member residents.now) names.now) (UnknownName place)) result }
+    ensures fault { Answers
+        (unless (list_all (is_member residents.now) names.now) (UnknownName place)) result }
 {
     listed.clear();
     for name in names {
@@ -53,7 +54,8 @@ fn listed_programmes(
     listed: &mut Vec<ProgrammeNo>,
 ) -> Result<(), DocketFault>
     ensures listed { OnOk result (listed.new.items ≡ map (member_at programmes.now) names.now) }
-    ensures fault { Answers (unless (list_all (is_member programmes.now) names.now) (UnknownName place)) result }
+    ensures fault { Answers
+        (unless (list_all (is_member programmes.now) names.now) (UnknownName place)) result }
 {
     listed.clear();
     for name in names {
@@ -73,8 +75,23 @@ fn rank_residents(
     builder: &mut InstanceBuilder,
     listed: &mut Vec<ResidentNo>,
 ) -> Result<(), DocketFault>
-    ensures ranked { OnOk result ((texts : Fields) (rows : List Fields) (k : ℕ) → IsNext texts programmes.now residents.now builder.old rows k (record { place = row.now.place; kind = Ranking Programmes; owner = row.now.owner; listed = row.now.listed.now }) → IsRanked builder.new rows (take (k + 1) rows)) }
-    ensures fault { (texts : Fields) (rows : List Fields) (k : ℕ) → IsNext texts programmes.now residents.now builder.old rows k (record { place = row.now.place; kind = Ranking Programmes; owner = row.now.owner; listed = row.now.listed.now }) → Answers (ranking_fault rows (take k rows) (row_at rows k)) result }
+    ensures ranked { OnOk result ((texts : Fields) (rows : List Fields) (k : ℕ)
+        → IsNext texts programmes.now residents.now builder.old rows k
+        (record {
+          place = row.now.place;
+          kind = Ranking Programmes;
+          owner = row.now.owner;
+          listed = row.now.listed.now;
+        }) → IsRanked builder.new rows (take (k + 1) rows)) }
+    ensures fault { (texts : Fields) (rows : List Fields) (k : ℕ)
+        → IsNext texts programmes.now residents.now builder.old rows k
+        (record {
+          place = row.now.place;
+          kind = Ranking Programmes;
+          owner = row.now.owner;
+          listed = row.now.listed.now;
+        })
+        → Answers (ranking_fault rows (take k rows) (row_at rows k)) result }
     ensures limits { OnOk result (builder.new.limits ≡ builder.old.limits) }
 {
     let Some(owner) = programmes.member(row.owner as usize) else {
@@ -95,8 +112,23 @@ fn rank_programmes(
     builder: &mut InstanceBuilder,
     listed: &mut Vec<ProgrammeNo>,
 ) -> Result<(), DocketFault>
-    ensures ranked { OnOk result ((texts : Fields) (rows : List Fields) (k : ℕ) → IsNext texts programmes.now residents.now builder.old rows k (record { place = row.now.place; kind = Ranking Residents; owner = row.now.owner; listed = row.now.listed.now }) → IsRanked builder.new rows (take (k + 1) rows)) }
-    ensures fault { (texts : Fields) (rows : List Fields) (k : ℕ) → IsNext texts programmes.now residents.now builder.old rows k (record { place = row.now.place; kind = Ranking Residents; owner = row.now.owner; listed = row.now.listed.now }) → Answers (ranking_fault rows (take k rows) (row_at rows k)) result }
+    ensures ranked { OnOk result ((texts : Fields) (rows : List Fields) (k : ℕ)
+        → IsNext texts programmes.now residents.now builder.old rows k
+        (record {
+          place = row.now.place;
+          kind = Ranking Residents;
+          owner = row.now.owner;
+          listed = row.now.listed.now;
+        }) → IsRanked builder.new rows (take (k + 1) rows)) }
+    ensures fault { (texts : Fields) (rows : List Fields) (k : ℕ)
+        → IsNext texts programmes.now residents.now builder.old rows k
+        (record {
+          place = row.now.place;
+          kind = Ranking Residents;
+          owner = row.now.owner;
+          listed = row.now.listed.now;
+        })
+        → Answers (ranking_fault rows (take k rows) (row_at rows k)) result }
     ensures limits { OnOk result (builder.new.limits ≡ builder.old.limits) }
 {
     let Some(owner) = residents.member(row.owner as usize) else {
@@ -115,8 +147,22 @@ fn withdraw_programme(
     programmes: &Members,
     builder: &mut InstanceBuilder,
 ) -> Result<(), DocketFault>
-    ensures ranked { OnOk result ((texts : Fields) (rows : List Fields) (residents : List ℕ) (k : ℕ) → IsNext texts programmes.now residents builder.old rows k (record { place = row.now.place; kind = Withdrawal Programmes; owner = row.now.owner; listed = [] }) → IsRanked builder.new rows (take (k + 1) rows)) }
-    ensures fault { (texts : Fields) (rows : List Fields) (residents : List ℕ) (k : ℕ) → IsNext texts programmes.now residents builder.old rows k (record { place = row.now.place; kind = Withdrawal Programmes; owner = row.now.owner; listed = [] }) → Answers (ranking_fault rows (take k rows) (row_at rows k)) result }
+    ensures ranked { OnOk result ((texts : Fields) (rows : List Fields) (residents : List ℕ) (k : ℕ)
+        → IsNext texts programmes.now residents builder.old rows k (record {
+          place = row.now.place;
+          kind = Withdrawal Programmes;
+          owner = row.now.owner;
+          listed = [];
+        })
+        → IsRanked builder.new rows (take (k + 1) rows)) }
+    ensures fault { (texts : Fields) (rows : List Fields) (residents : List ℕ) (k : ℕ)
+        → IsNext texts programmes.now residents builder.old rows k (record {
+          place = row.now.place;
+          kind = Withdrawal Programmes;
+          owner = row.now.owner;
+          listed = [];
+        })
+        → Answers (ranking_fault rows (take k rows) (row_at rows k)) result }
     ensures limits { OnOk result (builder.new.limits ≡ builder.old.limits) }
 {
     let Some(programme) = programmes.member(row.owner as usize) else {
@@ -134,8 +180,22 @@ fn withdraw_resident(
     residents: &Members,
     builder: &mut InstanceBuilder,
 ) -> Result<(), DocketFault>
-    ensures ranked { OnOk result ((texts : Fields) (rows : List Fields) (programmes : List ℕ) (k : ℕ) → IsNext texts programmes residents.now builder.old rows k (record { place = row.now.place; kind = Withdrawal Residents; owner = row.now.owner; listed = [] }) → IsRanked builder.new rows (take (k + 1) rows)) }
-    ensures fault { (texts : Fields) (rows : List Fields) (programmes : List ℕ) (k : ℕ) → IsNext texts programmes residents.now builder.old rows k (record { place = row.now.place; kind = Withdrawal Residents; owner = row.now.owner; listed = [] }) → Answers (ranking_fault rows (take k rows) (row_at rows k)) result }
+    ensures ranked { OnOk result ((texts : Fields) (rows : List Fields)
+        (programmes : List ℕ) (k : ℕ) → IsNext texts programmes residents.now builder.old rows k
+        (record {
+          place = row.now.place;
+          kind = Withdrawal Residents;
+          owner = row.now.owner;
+          listed = [];
+        }) → IsRanked builder.new rows (take (k + 1) rows)) }
+    ensures fault { (texts : Fields) (rows : List Fields) (programmes : List ℕ) (k : ℕ)
+        → IsNext texts programmes residents.now builder.old rows k (record {
+          place = row.now.place;
+          kind = Withdrawal Residents;
+          owner = row.now.owner;
+          listed = [];
+        })
+        → Answers (ranking_fault rows (take k rows) (row_at rows k)) result }
     ensures limits { OnOk result (builder.new.limits ≡ builder.old.limits) }
 {
     let Some(resident) = residents.member(row.owner as usize) else {
@@ -158,8 +218,14 @@ fn rank_row(
     of_resident: &mut Vec<ProgrammeNo>,
 ) -> Result<(), DocketFault>
     requires { j < length lists.now.entries }
-    ensures ranked { OnOk result ((texts : Fields) (rows : List Fields) (k : ℕ) (entry : KeptEntry) → slice_get lists.now.entries j ≡ Some entry → IsNext texts programmes.now residents.now builder.old rows k entry → IsRanked builder.new rows (take (k + 1) rows)) }
-    ensures fault { (texts : Fields) (rows : List Fields) (k : ℕ) (entry : KeptEntry) → slice_get lists.now.entries j ≡ Some entry → IsNext texts programmes.now residents.now builder.old rows k entry → Answers (ranking_fault rows (take k rows) (row_at rows k)) result }
+    ensures ranked { OnOk result ((texts : Fields) (rows : List Fields) (k : ℕ) (entry : KeptEntry)
+        → slice_get lists.now.entries j ≡ Some entry
+        → IsNext texts programmes.now residents.now builder.old rows k entry
+        → IsRanked builder.new rows (take (k + 1) rows)) }
+    ensures fault { (texts : Fields) (rows : List Fields) (k : ℕ) (entry : KeptEntry)
+        → slice_get lists.now.entries j ≡ Some entry
+        → IsNext texts programmes.now residents.now builder.old rows k entry
+        → Answers (ranking_fault rows (take k rows) (row_at rows k)) result }
     ensures limits { OnOk result (builder.new.limits ≡ builder.old.limits) }
 {
     let row = lists.row(j);
@@ -183,8 +249,12 @@ fn rank(
     residents: &Members,
     builder: &mut InstanceBuilder,
 ) -> Result<(), DocketFault>
-    ensures ranked { OnOk result ((texts : Fields) (rows : List Fields) → AreLists texts lists.now rows → AreKnown texts programmes.now residents.now rows → IsRanked builder.old rows [] → IsRanked builder.new rows rows) }
-    ensures fault { (texts : Fields) (rows : List Fields) → AreLists texts lists.now rows → AreKnown texts programmes.now residents.now rows → IsRanked builder.old rows [] → Answers (first_from (ranking_fault rows) [] rows) result }
+    ensures ranked { OnOk result ((texts : Fields) (rows : List Fields)
+        → AreLists texts lists.now rows → AreKnown texts programmes.now residents.now rows
+        → IsRanked builder.old rows [] → IsRanked builder.new rows rows) }
+    ensures fault { (texts : Fields) (rows : List Fields)
+        → AreLists texts lists.now rows → AreKnown texts programmes.now residents.now rows
+        → IsRanked builder.old rows [] → Answers (first_from (ranking_fault rows) [] rows) result }
     ensures limits { OnOk result (builder.new.limits ≡ builder.old.limits) }
 {
     let mut of_programme = Vec::new(alloc);
@@ -209,9 +279,12 @@ fn finished(
     records: u32,
     keeps_lists: bool,
 ) -> Result<(Instance, Option<WrittenLists>), DocketFault>
-    ensures instance { IfOk result (λ made. (rows : List Fields) → IsRanked builder rows rows → made.0 ≡ made_of (draft_of rows)) }
-    ensures lists { IfOk result (λ made. (rows : List Fields) → IsRanked builder rows rows → made.1 ≡ lists_if keeps_lists rows) }
-    ensures fault { (rows : List Fields) → IsRanked builder rows rows → records ≡ length rows → Answers (pairs_fault builder.limits rows) result }
+    ensures instance { IfOk result (λ made. (rows : List Fields)
+        → IsRanked builder rows rows → made.0 ≡ made_of (draft_of rows)) }
+    ensures lists { IfOk result (λ made. (rows : List Fields)
+        → IsRanked builder rows rows → made.1 ≡ lists_if keeps_lists rows) }
+    ensures fault { (rows : List Fields) → IsRanked builder rows rows
+        → records ≡ length rows → Answers (pairs_fault builder.limits rows) result }
 {
     match builder.finish_with_lists() {
         Ok((instance, lists)) if keeps_lists => Ok((instance, Some(lists))),
@@ -231,9 +304,16 @@ pub(crate) fn instance_of(
     mut builder: InstanceBuilder,
     keeps_lists: bool,
 ) -> Result<(Instance, Option<WrittenLists>), DocketFault>
-    ensures instance { IfOk result (λ made. (texts : Fields) (rows : List Fields) → AreLists texts lists.now rows → AreKnown texts programmes.now residents.now rows → IsRanked builder rows [] → records ≡ length rows → made.0 ≡ made_of (draft_of rows)) }
-    ensures lists { IfOk result (λ made. (texts : Fields) (rows : List Fields) → AreLists texts lists.now rows → AreKnown texts programmes.now residents.now rows → IsRanked builder rows [] → records ≡ length rows → made.1 ≡ lists_if keeps_lists rows) }
-    ensures fault { (texts : Fields) (rows : List Fields) → AreLists texts lists.now rows → AreKnown texts programmes.now residents.now rows → IsRanked builder rows [] → records ≡ length rows → Answers (option_or (first_from (ranking_fault rows) [] rows) (pairs_fault builder.limits rows)) result }
+    ensures instance { IfOk result (λ made. (texts : Fields) (rows : List Fields)
+        → AreLists texts lists.now rows → AreKnown texts programmes.now residents.now rows
+        → IsRanked builder rows [] → records ≡ length rows → made.0 ≡ made_of (draft_of rows)) }
+    ensures lists { IfOk result (λ made. (texts : Fields) (rows : List Fields)
+        → AreLists texts lists.now rows → AreKnown texts programmes.now residents.now rows
+        → IsRanked builder rows [] → records ≡ length rows → made.1 ≡ lists_if keeps_lists rows) }
+    ensures fault { (texts : Fields) (rows : List Fields)
+        → AreLists texts lists.now rows → AreKnown texts programmes.now residents.now rows
+        → IsRanked builder rows [] → records ≡ length rows → Answers (option_or
+        (first_from (ranking_fault rows) [] rows) (pairs_fault builder.limits rows)) result }
 {
     rank(alloc, lists, programmes, residents, &mut builder)?;
     finished(builder, records, keeps_lists)

@@ -39,7 +39,8 @@ fn all_set(flags: &[bool]) -> bool
 fn known(members: &Members, text: u32, place: u32) -> Result<u32, DocketFault>
     ensures member { IfOk result (λ member. position (nat_eq text) members.now ≡ Some member) }
     ensures below { IfOk result (λ member. member < length members.now) }
-    ensures fault { Answers (unless (is_some (position (nat_eq text) members.now)) (DocketFault.UnknownName place)) result }
+    ensures fault { Answers (unless
+        (is_some (position (nat_eq text) members.now)) (DocketFault.UnknownName place)) result }
 {
     match members.member(text as usize) {
         Some(member) => Ok(member),
@@ -94,9 +95,16 @@ impl Marks {
         programme: u32,
     ) -> Result<(), DocketFault>
         requires sizes { IsSized self.old (length programmes.now) (length residents.now) }
-        ensures sizes { OnOk result (IsSized self.new (length programmes.now) (length residents.now)) }
-        ensures marked { OnOk result ((texts : Fields) (all before : List Fields) (row : Fields) → StandsAfter texts programmes.now residents.now all before place (Mark.Matched resident programme) row → IsMarked self.old all before → IsMarked self.new all (before ++ row ∷ [])) }
-        ensures fault { (texts : Fields) (all before : List Fields) (row : Fields) → StandsAfter texts programmes.now residents.now all before place (Mark.Matched resident programme) row → IsMarked self.old all before → Answers (mark_fault all before row) result }
+        ensures sizes { OnOk result
+            (IsSized self.new (length programmes.now) (length residents.now)) }
+        ensures marked { OnOk result ((texts : Fields) (all before : List Fields) (row : Fields)
+            → StandsAfter texts programmes.now residents.now all before place
+            (Mark.Matched resident programme) row
+            → IsMarked self.old all before → IsMarked self.new all (before ++ row ∷ [])) }
+        ensures fault { (texts : Fields) (all before : List Fields) (row : Fields)
+            → StandsAfter texts programmes.now residents.now all before place
+            (Mark.Matched resident programme) row
+            → IsMarked self.old all before → Answers (mark_fault all before row) result }
     {
         let resident = known(residents, resident, place)?;
         let programme = known(programmes, programme, place)?;
@@ -118,9 +126,17 @@ impl Marks {
         resident: u32,
     ) -> Result<(), DocketFault>
         requires sizes { length self.old.marked.items ≡ length residents.now }
-        ensures sizes { (programmes : ℕ) → IsSized self.old programmes (length residents.now) → OnOk result (IsSized self.new programmes (length residents.now)) }
-        ensures marked { (programmes : List ℕ) → OnOk result ((texts : Fields) (all before : List Fields) (row : Fields) → StandsAfter texts programmes residents.now all before place (Mark.Unmatched resident) row → IsMarked self.old all before → IsMarked self.new all (before ++ row ∷ [])) }
-        ensures fault { (programmes : List ℕ) (texts : Fields) (all before : List Fields) (row : Fields) → StandsAfter texts programmes residents.now all before place (Mark.Unmatched resident) row → IsMarked self.old all before → Answers (mark_fault all before row) result }
+        ensures sizes { (programmes : ℕ) → IsSized self.old programmes (length residents.now)
+            → OnOk result (IsSized self.new programmes (length residents.now)) }
+        ensures marked { (programmes : List ℕ)
+            → OnOk result ((texts : Fields) (all before : List Fields) (row : Fields)
+            → StandsAfter texts programmes residents.now all before place
+            (Mark.Unmatched resident) row
+            → IsMarked self.old all before → IsMarked self.new all (before ++ row ∷ [])) }
+        ensures fault { (programmes : List ℕ) (texts : Fields) (all before : List Fields)
+            (row : Fields) → StandsAfter texts programmes residents.now all before place
+            (Mark.Unmatched resident) row
+            → IsMarked self.old all before → Answers (mark_fault all before row) result }
     {
         let resident = known(residents, resident, place)?;
         if self.marked[resident as usize] {
@@ -138,9 +154,18 @@ impl Marks {
         programme: u32,
     ) -> Result<(), DocketFault>
         requires sizes { length self.old.filled.items ≡ length programmes.now }
-        ensures sizes { (residents : ℕ) → IsSized self.old (length programmes.now) residents → OnOk result (IsSized self.new (length programmes.now) residents) }
-        ensures marked { (filled quota : ℕ) (residents : List ℕ) → OnOk result ((texts : Fields) (all before : List Fields) (row : Fields) → StandsAfter texts programmes.now residents all before place (Mark.Filled programme filled quota) row → IsMarked self.old all before → IsMarked self.new all (before ++ row ∷ [])) }
-        ensures fault { (filled quota : ℕ) (residents : List ℕ) (texts : Fields) (all before : List Fields) (row : Fields) → StandsAfter texts programmes.now residents all before place (Mark.Filled programme filled quota) row → IsMarked self.old all before → Answers (mark_fault all before row) result }
+        ensures sizes { (residents : ℕ) → IsSized self.old (length programmes.now) residents
+            → OnOk result (IsSized self.new (length programmes.now) residents) }
+        ensures marked { (filled quota : ℕ) (residents : List ℕ)
+            → OnOk result ((texts : Fields) (all before : List Fields) (row : Fields)
+            → StandsAfter texts programmes.now residents all before place
+            (Mark.Filled programme filled quota) row
+            → IsMarked self.old all before → IsMarked self.new all (before ++ row ∷ [])) }
+        ensures fault { (filled quota : ℕ)
+            (residents : List ℕ) (texts : Fields) (all before : List Fields) (row : Fields)
+            → StandsAfter texts programmes.now residents all before place
+            (Mark.Filled programme filled quota) row
+            → IsMarked self.old all before → Answers (mark_fault all before row) result }
     {
         let programme = known(programmes, programme, place)?;
         if self.filled[programme as usize] {
@@ -158,9 +183,14 @@ impl Marks {
         kept: SheetRow,
     ) -> Result<(), DocketFault>
         requires sizes { IsSized self.old (length programmes.now) (length residents.now) }
-        ensures sizes { OnOk result (IsSized self.new (length programmes.now) (length residents.now)) }
-        ensures marked { OnOk result ((texts : Fields) (all before : List Fields) (row : Fields) → StandsAfter texts programmes.now residents.now all before kept.place kept.mark row → IsMarked self.old all before → IsMarked self.new all (before ++ row ∷ [])) }
-        ensures fault { (texts : Fields) (all before : List Fields) (row : Fields) → StandsAfter texts programmes.now residents.now all before kept.place kept.mark row → IsMarked self.old all before → Answers (mark_fault all before row) result }
+        ensures sizes { OnOk result
+            (IsSized self.new (length programmes.now) (length residents.now)) }
+        ensures marked { OnOk result ((texts : Fields) (all before : List Fields) (row : Fields)
+            → StandsAfter texts programmes.now residents.now all before kept.place kept.mark row
+            → IsMarked self.old all before → IsMarked self.new all (before ++ row ∷ [])) }
+        ensures fault { (texts : Fields) (all before : List Fields) (row : Fields)
+            → StandsAfter texts programmes.now residents.now all before kept.place kept.mark row
+            → IsMarked self.old all before → Answers (mark_fault all before row) result }
     {
         let place = kept.place;
         match kept.mark {
@@ -181,9 +211,14 @@ impl Marks {
         residents: &Members,
     ) -> Result<(), DocketFault>
         requires sizes { IsSized self.old (length programmes.now) (length residents.now) }
-        ensures sizes { OnOk result (IsSized self.new (length programmes.now) (length residents.now)) }
-        ensures marked { OnOk result ((texts : Fields) (all : List Fields) → AreSheetRows texts rows.now all → AreKnown texts programmes.now residents.now all → IsMarked self.old all [] → IsMarked self.new all all) }
-        ensures fault { (texts : Fields) (all : List Fields) → AreSheetRows texts rows.now all → AreKnown texts programmes.now residents.now all → IsMarked self.old all [] → Answers (first_from (mark_fault all) [] all) result }
+        ensures sizes { OnOk result
+            (IsSized self.new (length programmes.now) (length residents.now)) }
+        ensures marked { OnOk result ((texts : Fields) (all : List Fields)
+            → AreSheetRows texts rows.now all → AreKnown texts programmes.now residents.now all
+            → IsMarked self.old all [] → IsMarked self.new all all) }
+        ensures fault { (texts : Fields) (all : List Fields)
+            → AreSheetRows texts rows.now all → AreKnown texts programmes.now residents.now all
+            → IsMarked self.old all [] → Answers (first_from (mark_fault all) [] all) result }
     {
         for kept in rows {
             self.add_row(programmes, residents, *kept)?;
@@ -193,7 +228,8 @@ impl Marks {
 
     // Whether each resident has an M or U row, and each programme has an F row.
     fn is_complete(&self) -> bool
-        ensures { result ≡ (list_all (λ flag. flag) self.now.marked.items && list_all (λ flag. flag) self.now.filled.items) }
+        ensures { result ≡ (list_all (λ flag.
+            flag) self.now.marked.items && list_all (λ flag. flag) self.now.filled.items) }
     {
         all_set(self.marked.as_slice()) && all_set(self.filled.as_slice())
     }
@@ -202,7 +238,11 @@ impl Marks {
     fn is_right(&self, programmes: &Members, kept: SheetRow, instance: &Instance) -> bool
         requires sizes { length self.now.counts.items ≡ length programmes.now }
         requires quotas { length instance.now.quotas ≡ length programmes.now }
-        ensures { (texts : Fields) (residents : List ℕ) (all before : List Fields) (row : Fields) → StandsAfter texts programmes.now residents all before kept.place kept.mark row → IsMarked self.now all all → instance.now.quotas ≡ quotas_of all → first_from (mark_fault all) [] all ≡ None → filled_fault all before row ≡ unless result (DocketFault.BadSheet kept.place) }
+        ensures { (texts : Fields) (residents : List ℕ) (all before : List Fields) (row : Fields)
+            → StandsAfter texts programmes.now residents all before kept.place kept.mark row
+            → IsMarked self.now all all
+            → instance.now.quotas ≡ quotas_of all → first_from (mark_fault all) [] all ≡ None
+            → filled_fault all before row ≡ unless result (DocketFault.BadSheet kept.place) }
     {
         let Mark::Filled {
             programme,
@@ -228,7 +268,10 @@ impl Marks {
     ) -> Result<(), DocketFault>
         requires sizes { length self.now.counts.items ≡ length programmes.now }
         requires quotas { length instance.now.quotas ≡ length programmes.now }
-        ensures { (texts : Fields) (residents : List ℕ) (all : List Fields) → AreSheetRows texts rows.now all → AreKnown texts programmes.now residents all → IsMarked self.now all all → instance.now.quotas ≡ quotas_of all → first_from (mark_fault all) [] all ≡ None → Answers (first_from (filled_fault all) [] all) result }
+        ensures { (texts : Fields) (residents : List ℕ) (all : List Fields)
+            → AreSheetRows texts rows.now all → AreKnown texts programmes.now residents all
+            → IsMarked self.now all all → instance.now.quotas ≡ quotas_of all → first_from
+            (mark_fault all) [] all ≡ None → Answers (first_from (filled_fault all) [] all) result }
     {
         for kept in rows {
             if !self.is_right(programmes, *kept, instance) {
@@ -249,8 +292,12 @@ pub(crate) fn sheet_of(
     instance: &Instance,
 ) -> Result<Assignment, DocketFault>
     requires quotas { length instance.now.quotas ≡ length programmes.now }
-    ensures sheet { IfOk result (λ sheet. (texts : Fields) (all : List Fields) → AreSheetRows texts rows.now all → AreKnown texts programmes.now residents.now all → instance.now.quotas ≡ quotas_of all → records ≡ length all → sheet ≡ placement_of all) }
-    ensures fault { (texts : Fields) (all : List Fields) → AreSheetRows texts rows.now all → AreKnown texts programmes.now residents.now all → instance.now.quotas ≡ quotas_of all → records ≡ length all → Answers (placement_fault all) result }
+    ensures sheet { IfOk result (λ sheet. (texts : Fields) (all : List Fields)
+        → AreSheetRows texts rows.now all → AreKnown texts programmes.now residents.now all
+        → instance.now.quotas ≡ quotas_of all → records ≡ length all → sheet ≡ placement_of all) }
+    ensures fault { (texts : Fields) (all : List Fields) → AreSheetRows texts rows.now all
+        → AreKnown texts programmes.now residents.now all → instance.now.quotas ≡ quotas_of all
+        → records ≡ length all → Answers (placement_fault all) result }
 {
     let mut marks = Marks::new(alloc, programmes.len(), residents.len())?;
     marks.add_rows(rows.rows(), programmes, residents)?;

@@ -26,8 +26,11 @@ pub(crate) fn list_row(
 ) -> Result<usize, DocketFault>
     requires kind { kind_of (fields_of row.now) ≡ list_letter side }
     ensures texts { StartsWith texts.old texts.new }
-    ensures owner { IfOk result (λ n. slice_get texts.new n ≡ Some (field_of (fields_of row.now) 1)) }
-    ensures kept { OnOk result ((rows : List Fields) → place ≡ next_place rows → AreLists texts.old lists.old rows → AreLists texts.new lists.new (rows ++ fields_of row.now ∷ [])) }
+    ensures owner { IfOk result (λ n.
+        slice_get texts.new n ≡ Some (field_of (fields_of row.now) 1)) }
+    ensures kept { OnOk result ((rows : List Fields)
+        → place ≡ next_place rows → AreLists texts.old lists.old rows
+        → AreLists texts.new lists.new (rows ++ fields_of row.now ∷ [])) }
     ensures fault { Answers (list_row_fault place (fields_of row.now)) result }
 {
     if row.len() < 2 {
@@ -49,8 +52,11 @@ pub(crate) fn withdrawal_row(
     requires kind { kind_of (fields_of row.now) ≡ WITHDRAWAL }
     ensures texts { StartsWith texts.old texts.new }
     ensures side { IfOk result (λ gone. field_of (fields_of row.now) 1 ≡ side_text gone.0) }
-    ensures name { IfOk result (λ gone. slice_get texts.new gone.1 ≡ Some (field_of (fields_of row.now) 2)) }
-    ensures kept { OnOk result ((rows : List Fields) → place ≡ next_place rows → AreLists texts.old lists.old rows → AreLists texts.new lists.new (rows ++ fields_of row.now ∷ [])) }
+    ensures name { IfOk result (λ gone.
+        slice_get texts.new gone.1 ≡ Some (field_of (fields_of row.now) 2)) }
+    ensures kept { OnOk result ((rows : List Fields)
+        → place ≡ next_place rows → AreLists texts.old lists.old rows
+        → AreLists texts.new lists.new (rows ++ fields_of row.now ∷ [])) }
     ensures fault { Answers (withdrawal_row_fault place (fields_of row.now)) result }
 {
     if row.len() != 3 {

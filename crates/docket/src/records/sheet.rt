@@ -17,7 +17,8 @@ use docket_names::{Texts, is_name, number_of};
 
 // Tests that field `i` is a name.
 fn check_name(row: &ByteRecord, i: usize, place: u32) -> Result<(), DocketFault>
-    ensures { Answers (unless (named (field_of (fields_of row.now) i)) (DocketFault.BadName place)) result }
+    ensures { Answers
+        (unless (named (field_of (fields_of row.now) i)) (DocketFault.BadName place)) result }
 {
     if is_name(field(row, i)) {
         Ok(())
@@ -30,7 +31,8 @@ fn check_name(row: &ByteRecord, i: usize, place: u32) -> Result<(), DocketFault>
 fn name_in(texts: &mut Texts, row: &ByteRecord, i: usize, place: u32) -> Result<u32, DocketFault>
     ensures texts { StartsWith texts.old texts.new }
     ensures number { IfOk result (λ n. IsText texts.new n i (fields_of row.now)) }
-    ensures fault { Answers (unless (named (field_of (fields_of row.now) i)) (DocketFault.BadName place)) result }
+    ensures fault { Answers
+        (unless (named (field_of (fields_of row.now) i)) (DocketFault.BadName place)) result }
 {
     let Some(number) = texts.name(field(row, i))? else {
         return Err(DocketFault::BadName { place });
@@ -44,7 +46,8 @@ fn name_in(texts: &mut Texts, row: &ByteRecord, i: usize, place: u32) -> Result<
 // The number in field `i` of an F row.
 fn count_in(row: &ByteRecord, i: usize, place: u32) -> Result<u32, DocketFault>
     ensures number { IfOk result (λ n. number_in (field_of (fields_of row.now) i) ≡ Some n) }
-    ensures fault { Answers (unless (is_number (field_of (fields_of row.now) i)) (DocketFault.BadSheet place)) result }
+    ensures fault { Answers
+        (unless (is_number (field_of (fields_of row.now) i)) (DocketFault.BadSheet place)) result }
 {
     match number_of(field(row, i)) {
         Some(number) => Ok(number),
@@ -61,7 +64,9 @@ pub(crate) fn matched_row(
 ) -> Result<(), DocketFault>
     requires kind { kind_of (fields_of row.now) ≡ MATCHED }
     ensures texts { StartsWith texts.old texts.new }
-    ensures kept { OnOk result ((rows : List Fields) → place ≡ next_place rows → AreSheetRows texts.old sheet.old rows → AreSheetRows texts.new sheet.new (rows ++ fields_of row.now ∷ [])) }
+    ensures kept { OnOk result ((rows : List Fields)
+        → place ≡ next_place rows → AreSheetRows texts.old sheet.old rows
+        → AreSheetRows texts.new sheet.new (rows ++ fields_of row.now ∷ [])) }
     ensures fault { Answers (matched_row_fault place (fields_of row.now)) result }
 {
     if row.len() != 3 {
@@ -92,7 +97,9 @@ pub(crate) fn unmatched_row(
 ) -> Result<(), DocketFault>
     requires kind { kind_of (fields_of row.now) ≡ UNMATCHED }
     ensures texts { StartsWith texts.old texts.new }
-    ensures kept { OnOk result ((rows : List Fields) → place ≡ next_place rows → AreSheetRows texts.old sheet.old rows → AreSheetRows texts.new sheet.new (rows ++ fields_of row.now ∷ [])) }
+    ensures kept { OnOk result ((rows : List Fields)
+        → place ≡ next_place rows → AreSheetRows texts.old sheet.old rows
+        → AreSheetRows texts.new sheet.new (rows ++ fields_of row.now ∷ [])) }
     ensures fault { Answers (unmatched_row_fault place (fields_of row.now)) result }
 {
     if row.len() != 2 {
@@ -108,8 +115,10 @@ pub(crate) fn unmatched_row(
 
 // The number of residents and the quota in an F row.
 fn counts_in(row: &ByteRecord, place: u32) -> Result<(u32, u32), DocketFault>
-    ensures numbers { IfOk result (λ n. (number_in (field_of (fields_of row.now) 2) ≡ Some n.0) × (number_in (field_of (fields_of row.now) 3) ≡ Some n.1)) }
-    ensures fault { Answers (unless (is_number (field_of (fields_of row.now) 2) && is_number (field_of (fields_of row.now) 3)) (DocketFault.BadSheet place)) result }
+    ensures numbers { IfOk result (λ n. (number_in (field_of (fields_of row.now) 2) ≡ Some n.0)
+        × (number_in (field_of (fields_of row.now) 3) ≡ Some n.1)) }
+    ensures fault { Answers (unless (is_number (field_of (fields_of row.now) 2)
+        && is_number (field_of (fields_of row.now) 3)) (DocketFault.BadSheet place)) result }
 {
     let filled = count_in(row, 2, place)?;
     let quota = count_in(row, 3, place)?;
@@ -125,7 +134,9 @@ pub(crate) fn filled_row(
 ) -> Result<(), DocketFault>
     requires kind { kind_of (fields_of row.now) ≡ FILLED }
     ensures texts { StartsWith texts.old texts.new }
-    ensures kept { OnOk result ((rows : List Fields) → place ≡ next_place rows → AreSheetRows texts.old sheet.old rows → AreSheetRows texts.new sheet.new (rows ++ fields_of row.now ∷ [])) }
+    ensures kept { OnOk result ((rows : List Fields)
+        → place ≡ next_place rows → AreSheetRows texts.old sheet.old rows
+        → AreSheetRows texts.new sheet.new (rows ++ fields_of row.now ∷ [])) }
     ensures fault { Answers (filled_row_fault place (fields_of row.now)) result }
 {
     if row.len() != 4 {

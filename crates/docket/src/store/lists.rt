@@ -61,7 +61,8 @@ impl Model for Lists {
 
     ghost Value = { KeptLists };
 
-    ghost view = { λ a. record { entries = map (entry_at a.names.items) a.rows.items; brought = a.brought } };
+    ghost view = { λ a.
+        record { entries = map (entry_at a.names.items) a.rows.items; brought = a.brought } };
 
     ghost invariant = { λ a. ArePartsOf a.names.items a.rows.items };
 }
@@ -92,7 +93,8 @@ fn number_name(
     ensures number { IfOk result (λ n. IfSome n (λ n. slice_get texts.new n ≡ Some text.now)) }
     ensures texts { StartsWith texts.old texts.new }
     ensures joined { IfOk result (λ n. IsJoined texts.old texts.new text.now) }
-    ensures counted { OnOk result (brought.old ≤ MOST_NAMES → brought.new + length texts.old ≡ brought.old + length texts.new) }
+    ensures counted { OnOk result (brought.old ≤ MOST_NAMES
+        → brought.new + length texts.old ≡ brought.old + length texts.new) }
     ensures cut { OnOk result (MOST_NAMES < brought.old → brought.new ≡ brought.old) }
 {
     let before = texts.len();
@@ -124,7 +126,9 @@ fn add_name(
     text: &[u8],
 ) -> Result<bool, AllocError>
     ensures named { IfOk result (λ named. named ≡ words.is_name text.now) }
-    ensures walked { IfOk result (λ named. named ≡ true → AreWalked texts.old numbers.old.items brought.old texts.new numbers.new.items brought.new (text.now ∷ [])) }
+    ensures walked { IfOk result (λ named. named ≡ true
+        → AreWalked texts.old numbers.old.items brought.old texts.new numbers.new.items brought.new
+        (text.now ∷ [])) }
     ensures texts { StartsWith texts.old texts.new }
     ensures grown { length numbers.old.items ≤ length numbers.new.items }
 {
@@ -146,8 +150,11 @@ fn add_names(
     texts: &mut Texts,
     row: &ByteRecord,
 ) -> Result<bool, AllocError>
-    ensures named { IfOk result (λ named. named ≡ list_all words.is_name (drop 2 (fields_of row.now))) }
-    ensures walked { IfOk result (λ named. named ≡ true → AreWalked texts.old numbers.old.items brought.old texts.new numbers.new.items brought.new (drop 2 (fields_of row.now))) }
+    ensures named { IfOk result (λ named.
+        named ≡ list_all words.is_name (drop 2 (fields_of row.now))) }
+    ensures walked { IfOk result (λ named. named ≡ true
+        → AreWalked texts.old numbers.old.items brought.old texts.new numbers.new.items brought.new
+        (drop 2 (fields_of row.now))) }
     ensures texts { StartsWith texts.old texts.new }
     ensures grown { length numbers.old.items ≤ length numbers.new.items }
 {
@@ -170,7 +177,13 @@ fn push_row(
     start: usize,
     end: usize,
 ) -> Result<(), AllocError>
-    ensures pushed { OnOk result (rows.new.items ≡ rows.old.items ++ record { place = place; kind = kind; owner = owner; start = start; end = end } ∷ []) }
+    ensures pushed { OnOk result (rows.new.items ≡ rows.old.items ++ record {
+      place = place;
+      kind = kind;
+      owner = owner;
+      start = start;
+      end = end;
+    } ∷ []) }
     ensures refused { OnErr result (rows.new.items ≡ rows.old.items) }
 {
     let (Ok(owner), Ok(start), Ok(end)) = (
@@ -211,10 +224,15 @@ impl Lists {
         side: Side,
         place: u32,
     ) -> Result<Option<usize>, AllocError>
-        ensures named { IfOk result (λ owner. is_some owner ≡ (words.is_name (field_of (fields_of row.now) 1) && list_all words.is_name (drop 2 (fields_of row.now)))) }
-        ensures owner { IfOk result (λ owner. IfSome owner (λ n. slice_get texts.new n ≡ Some (field_of (fields_of row.now) 1))) }
+        ensures named { IfOk result (λ owner.
+            is_some owner ≡ (words.is_name (field_of (fields_of row.now) 1)
+            && list_all words.is_name (drop 2 (fields_of row.now)))) }
+        ensures owner { IfOk result (λ owner.
+            IfSome owner (λ n. slice_get texts.new n ≡ Some (field_of (fields_of row.now) 1))) }
         ensures texts { StartsWith texts.old texts.new }
-        ensures kept { IfOk result (λ owner. is_some owner ≡ true → AddsEntry texts.old texts.new self.old self.new (list_entry place side (fields_of row.now))) }
+        ensures kept { IfOk result (λ owner. is_some owner ≡ true
+            → AddsEntry texts.old texts.new self.old self.new
+            (list_entry place side (fields_of row.now))) }
     {
         let was_cut = self.brought > MOST_NAMES;
         let mut brought = self.brought;
@@ -249,10 +267,14 @@ impl Lists {
         side: Side,
         place: u32,
     ) -> Result<Option<usize>, AllocError>
-        ensures named { IfOk result (λ owner. is_some owner ≡ words.is_name (field_of (fields_of row.now) 2)) }
-        ensures owner { IfOk result (λ owner. IfSome owner (λ n. slice_get texts.new n ≡ Some (field_of (fields_of row.now) 2))) }
+        ensures named { IfOk result (λ owner.
+            is_some owner ≡ words.is_name (field_of (fields_of row.now) 2)) }
+        ensures owner { IfOk result (λ owner.
+            IfSome owner (λ n. slice_get texts.new n ≡ Some (field_of (fields_of row.now) 2))) }
         ensures texts { StartsWith texts.old texts.new }
-        ensures kept { IfOk result (λ owner. is_some owner ≡ true → AddsEntry texts.old texts.new self.old self.new (gone_entry place side (fields_of row.now))) }
+        ensures kept { IfOk result (λ owner. is_some owner ≡ true
+            → AddsEntry texts.old texts.new self.old self.new
+            (gone_entry place side (fields_of row.now))) }
     {
         let was_cut = self.brought > MOST_NAMES;
         let mut brought = self.brought;
@@ -284,7 +306,12 @@ impl Lists {
     /// Row `k`, from 0.
     pub(crate) fn row(&self, k: usize) -> ListRow
         requires { k < length self.now.entries }
-        ensures { slice_get self.now.entries k ≡ Some (record { place = result.place; kind = result.kind; owner = result.owner; listed = result.listed.now }) }
+        ensures { slice_get self.now.entries k ≡ Some (record {
+          place = result.place;
+          kind = result.kind;
+          owner = result.owner;
+          listed = result.listed.now;
+        }) }
     {
         let row = self.rows[k];
         ListRow {

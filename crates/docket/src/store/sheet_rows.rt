@@ -78,7 +78,9 @@ impl SheetRows {
     /// Keeps what the record at this place says.
     pub(crate) fn add(&mut self, place: u32, mark: Mark) -> Result<(), AllocError>
         requires { length self.old ≤ MOST_NAMES }
-        ensures { OnOk result ((texts : Fields) (rows : List Fields) (row : Fields) → place ≡ next_place rows → MarkSays texts mark row → AreSheetRows texts self.old rows → AreSheetRows texts self.new (rows ++ row ∷ [])) }
+        ensures { OnOk result ((texts : Fields) (rows : List Fields) (row : Fields)
+            → place ≡ next_place rows → MarkSays texts mark row
+            → AreSheetRows texts self.old rows → AreSheetRows texts self.new (rows ++ row ∷ [])) }
     {
         self.rows.push(SheetRow { place, mark })?;
         Ok(())

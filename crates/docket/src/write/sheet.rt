@@ -24,7 +24,8 @@ fn push_mark<W: Write>(
 ) -> Result<(), WriteFailed>
     requires resident { IsResident docket.now.instance resident }
     requires programme { (p : ℕ) → programme ≡ Some p → IsProgramme docket.now.instance p }
-    ensures { OnOk result (Adds W.contents rows.old rows.new (mark_row docket.now resident programme)) }
+    ensures { OnOk result
+        (Adds W.contents rows.old rows.new (mark_row docket.now resident programme)) }
 {
     let name = docket.resident_name(resident).as_bytes();
     match programme {
@@ -63,7 +64,8 @@ fn push_residents<W: Write>(
     assignment: &Assignment,
 ) -> Result<(), WriteFailed>
     requires sheet { IsSheetOf docket.now assignment.now }
-    ensures { OnOk result (Adds W.contents rows.old rows.new (resident_rows docket.now assignment.now)) }
+    ensures { OnOk result
+        (Adds W.contents rows.old rows.new (resident_rows docket.now assignment.now)) }
 {
     for r in 0..docket.instance().residents() {
         let resident = ResidentNo(r);
@@ -84,7 +86,8 @@ pub fn push_programme<W: Write>(
     filled: u32,
 ) -> Result<(), WriteFailed>
     requires { IsProgramme docket.now.instance programme }
-    ensures { OnOk result (Adds W.contents rows.old rows.new (programme_row docket.now kind.now programme filled)) }
+    ensures { OnOk result
+        (Adds W.contents rows.old rows.new (programme_row docket.now kind.now programme filled)) }
 {
     let (mut places, mut residents) = (itoa::Buffer::new(), itoa::Buffer::new());
     let quota = places.format(docket.instance().quota(programme)).as_bytes();
@@ -100,7 +103,8 @@ fn push_programmes<W: Write>(
     counts: &[u32],
 ) -> Result<(), WriteFailed>
     requires counts { length counts.now ≡ length docket.now.programmes }
-    ensures { OnOk result ((m : List (Option ℕ)) → AreCountsOf m counts.now (length docket.now.programmes)
+    ensures { OnOk result ((m : List (Option ℕ))
+        → AreCountsOf m counts.now (length docket.now.programmes)
         → Adds W.contents rows.old rows.new (filled_rows docket.now m)) }
 {
     for p in 0..docket.instance().programmes() {
@@ -121,8 +125,10 @@ pub fn push_sheet<W: Write>(
     assignment: &Assignment,
 ) -> Result<(), DocketFault>
     requires { IsSheetOf docket.now assignment.now }
-    ensures rows { OnOk result (Adds W.contents rows.old rows.new (sheet_text docket.now assignment.now)) }
-    ensures fault { IfErr result (λ fault. (fault ≡ DocketFault.Memory) ⊎ (fault ≡ DocketFault.Write)) }
+    ensures rows { OnOk result
+        (Adds W.contents rows.old rows.new (sheet_text docket.now assignment.now)) }
+    ensures fault { IfErr result (λ fault. (fault ≡ DocketFault.Memory)
+        ⊎ (fault ≡ DocketFault.Write)) }
     ensures before { IfErr result (λ fault. fault ≢ DocketFault.Write → Keeps rows.old rows.new) }
 {
     let programmes = docket.instance().programmes() as usize;
@@ -140,8 +146,10 @@ pub fn write_sheet<W: Write>(
     writer: &mut W,
 ) -> Result<(), DocketFault>
     requires { IsSheetOf docket.now assignment.now }
-    ensures ok { OnOk result (Writes W.contents writer.old writer.new (sheet_text docket.now assignment.now)) }
-    ensures fault { IfErr result (λ fault. (fault ≡ DocketFault.Memory) ⊎ (fault ≡ DocketFault.Write)) }
+    ensures ok { OnOk result
+        (Writes W.contents writer.old writer.new (sheet_text docket.now assignment.now)) }
+    ensures fault { IfErr result (λ fault. (fault ≡ DocketFault.Memory)
+        ⊎ (fault ≡ DocketFault.Write)) }
     ensures before { IfErr result (λ fault. fault ≢ DocketFault.Write → writer.new ≡ writer.old) }
 {
     let mut room = room_for_rows(alloc)?;

@@ -168,7 +168,8 @@ fn ends_of<'a, M: Copy + Eq, R: Wait + Copy>(
     is_lost: bool,
 ) -> Result<(LatchedPut<'a, M, R>, LatchedTake<'a, M, R>), MailFault>
     requires { room ≢ 0 }
-    ensures made { IfOk result (λ ends. (ends.0.room ≡ room) × (ends.0.puts ≡ []) × (ends.1.taken ≡ [])) }
+    ensures made { IfOk result (λ ends. (ends.0.room ≡ room)
+        × (ends.0.puts ≡ []) × (ends.1.taken ≡ [])) }
     ensures memory { IfErr result (λ fault. fault ≡ MailFault.Memory) }
 {
     let (put, take) = mailbox(alloc, rt, room)?;
