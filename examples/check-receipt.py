@@ -49,7 +49,8 @@ def resident(rows, at, name, listed):
         need(row[3] in right, at + choice + 1, f"`{row[3]}` cannot be with this result")
         numbers = [int(cell) if re.fullmatch(NUMBER, cell) else None for cell in row[4:]]
         is_before = numbers[0] and (row[5:] == ["", "0"] or numbers[1] and numbers[1] < numbers[0] and numbers[2])
-        need(is_before if row[3] == "full" else not any(row[4:]), at + choice + 1, "the last rank is not before yours")
+        need(row[3] == "full" or not any(row[4:]), at + choice + 1, f"`{row[3]}` has no numbers")
+        need(is_before or row[3] != "full", at + choice + 1, "the last rank is not before yours")
         last = f", the last of them {row[5]}" if row[5] else ""
         full = f"you have rank {row[4]} there, and its {row[6]} places went to others before you{last}."
         yield f"{choice}. {one}: {SAYS.get(row[3], full)}"
@@ -60,7 +61,7 @@ def programme(rows, at, name, places, listed):
     is_right = rows[at] == ["F", name, str(len(members)), places] and len(members) <= int(places)
     need(is_right, at + 1, f"it is not `F,{name}`, the number of `M` rows, at most the places, and {places}")
     for number, one in enumerate(members, at + 2):
-        need(rows[number - 1] == ["M", one, name] and one in listed and members.count(one) == 1, number, "no one of your list, named once")
+        need(rows[number - 1] == ["M", one, name] and one in listed and members.index(one) == number - at - 2, number, "no one of your list, named once")
     yield f"The result: {len(members)} of {places} places are filled; {', '.join(members) or 'nobody'}."
 
 words = argparse.ArgumentParser(description=__doc__)
@@ -70,7 +71,8 @@ words.add_argument("receipt", metavar="RECEIPT", type=argparse.FileType("rb"))
 given = words.parse_args()
 lines = given.receipt.read().decode("latin-1").split("\n")
 bad = [number for number, line in enumerate(lines[:-1], 1) if not re.fullmatch(ROW, line)]
-need(not bad and lines.pop() == "" and len(lines) > 3, (bad + [len(lines)])[0], "it is no row of a receipt, or the receipt is cut")
+need(not bad, bad and bad[0], "it is no row of a receipt")
+need(lines.pop() == "" and len(lines) > 3, len(lines) + 1, "the receipt is cut off here")
 rows = [line.split(",") for line in lines]
 need(len(rows[0]) == 4 and rows[0][:3] in (["receipt", "1", "P"], ["receipt", "1", "R"]), 1, "no `receipt,1`, a side and a name")
 (_, _, side, name), end = rows[0], next((at for at in range(3, len(rows)) if rows[at][0] == "result"), len(rows))

@@ -1,7 +1,8 @@
 #!/usr/bin/env python3
 """Notes what ./check has passed, so that a release is made of nothing else.
 
-checked.py begin: before the first part. checked.py end: after the last one; what it notes is kept in .build/passed."""
+checked.py begin: before the first part. checked.py end: after the last one; what it notes is kept in .build/passed.
+checked.py end --anew: nothing counted that an earlier check kept."""
 from __future__ import annotations
 
 import hashlib
@@ -15,7 +16,7 @@ from programs import PROGRAMS, listed  # noqa: E402
 from tree import said_by, state_of  # noqa: E402
 
 # A note names one, so a note that an earlier form of this file left is none.
-FORM = 1
+FORM = 2
 
 
 def built(top: str, name: str) -> str:
@@ -74,7 +75,7 @@ def begin(top: str) -> None:
         json.dump(state_of(top), file)
 
 
-def end(top: str) -> str:
+def end(top: str, anew: bool) -> str:
     """Notes that all has passed, and answers what is to be told of it."""
     with open(f"{top}/.build/begun") as file:
         before = json.load(file)
@@ -85,9 +86,11 @@ def end(top: str) -> str:
         what = f"has changes ({now['changed'].splitlines()[0].strip()})" if now["changed"] else "changed meanwhile"
         return f"check: passed; no release can be made of it, since the checkout {what}"
     note = {"form": FORM, "commit": now["commit"], "tree": now["tree"], "toolchain": toolchain(top), "programs": sums_of(top),
-            "parts": lines_of(f"{top}/.build/parts")}
+            "parts": lines_of(f"{top}/.build/parts"), "anew": anew}
     with open(f"{top}/.build/passed", "w") as file:
         json.dump(note, file, indent=1)
+    if not anew:
+        return "check: passed; tools/release makes a release of what ./check --anew has passed"
     return f"check: passed; tools/release may make a release of {now['commit'][:12]}"
 
 
@@ -95,7 +98,7 @@ if __name__ == "__main__":
     ROOT = os.path.dirname(os.path.dirname(os.path.abspath(__file__)))
     if sys.argv[1:] == ["begin"]:
         begin(ROOT)
-    elif sys.argv[1:] == ["end"]:
-        print(end(ROOT))
+    elif sys.argv[1:] in (["end"], ["end", "--anew"]):
+        print(end(ROOT, "--anew" in sys.argv))
     else:
         sys.exit("checked.py: begin or end is wanted")

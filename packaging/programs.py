@@ -1,4 +1,4 @@
-"""The programs of a release, each with the crate that builds it: a program more is a line here, and no other place lists them.
+"""The programs of a release, each with the crate that builds it: a program more is a line here.
 
 A release has those whose crates stand in crates.txt. The office's command is Python, and comes with the package."""
 from __future__ import annotations

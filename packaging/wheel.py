@@ -21,9 +21,8 @@ def name_of(version: str, glibc: Tuple[int, int]) -> str:
 
 
 def scripts_of(programs: List[str]) -> str:
-    """What stands on the path: each program by the package's launcher, and the office's command."""
-    head, own = build_wheel.SCRIPTS.split("\n", 1)
-    return "".join([f"{head}\n", *(f"{name} = residency.launch:main\n" for name in programs), own])
+    """What stands on the path besides the office's command: each program by the package's launcher."""
+    return "".join(["[console_scripts]\n", *(f"{name} = residency.launch:main\n" for name in programs)])
 
 
 def contents(files: Files, programs: List[str]) -> Files:
@@ -36,4 +35,5 @@ def contents(files: Files, programs: List[str]) -> Files:
 
 def wheel(files: Files, programs: List[str], version: str, glibc: Tuple[int, int]) -> bytes:
     """The wheel's bytes, which follow from the archive's files."""
-    return build_wheel.packed(contents(files, programs), version, TAG.format(*glibc), scripts_of(programs))
+    made = contents(files, programs)
+    return build_wheel.packed({**made, **build_wheel.office_script(made, version)}, version, TAG.format(*glibc), scripts_of(programs))

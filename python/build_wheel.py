@@ -12,8 +12,10 @@ from typing import Dict, Iterable, Mapping, Optional, Tuple
 
 TOP = Path(__file__).resolve().parent
 PURE = "py3-none-any"
-# What the package puts on the path, with the programs or without them.
-SCRIPTS = "[console_scripts]\nresidency-office = residency.office.command:main\n"
+# The file of the package that is put on the path as residency-office.
+START = "residency/office/start.py"
+# A clone has this among its examples.
+OPINION = "residency/office/second-opinion.py"
 # By its path the bytes of a file, and whether it is a program.
 Files = Mapping[str, Tuple[bytes, bool]]
 Settings = Optional[Dict[str, object]]
@@ -69,14 +71,21 @@ def packed(files: Files, version: str, tag: str = PURE, scripts: str = "") -> by
     return made.getvalue()
 
 
+def office_script(files: Files, version: str) -> Dict[str, Tuple[bytes, bool]]:
+    """What a wheel of these files puts on the path for the office, where they have its command: pip writes its own Python's name."""
+    made = f"{_field('name')}-{version}.data/scripts/residency-office"
+    return {made: (b"#!python\n" + files[START][0], True)} if START in files else {}
+
+
 def _package() -> Iterable[Path]:
     return sorted(path for path in (TOP / "residency").rglob("*") if path.is_file() and "__pycache__" not in path.parts)
 
 
-def _write(folder: str, files: Dict[str, bytes], scripts: str = "") -> str:
+def _write(folder: str, files: Dict[str, bytes]) -> str:
     """Writes a wheel of these files; gives its file's name."""
     name = f"{_field('name')}-{_version()}-{PURE}.whl"
-    (Path(folder) / name).write_bytes(packed({path: (data, False) for path, data in files.items()}, _version(), PURE, scripts))
+    made = {path: (data, False) for path, data in files.items()}
+    (Path(folder) / name).write_bytes(packed({**made, **office_script(made, _version())}, _version()))
     return name
 
 
@@ -88,8 +97,11 @@ def _home() -> Path:
 def build_wheel(wheel_directory: str, config_settings: Settings = None, metadata_directory: Optional[str] = None) -> str:
     """The package's wheel, without the programs."""
     files = {path.relative_to(TOP).as_posix(): path.read_bytes() for path in _package()}
+    example = TOP.parent / "examples" / "second-opinion.py"
+    if OPINION not in files and example.is_file():
+        files[OPINION] = example.read_bytes()
     return _write(wheel_directory, {**files, "residency/VERSION": f"{_version()}\n".encode("ascii"),
-                                    "residency/HOME": os.fsencode(_home())}, SCRIPTS)
+                                    "residency/HOME": os.fsencode(_home())})
 
 
 def build_editable(wheel_directory: str, config_settings: Settings = None, metadata_directory: Optional[str] = None) -> str:

@@ -4,7 +4,7 @@ from __future__ import annotations
 from .calls import audit, match, replay, why, why_all
 from .docket import Docket, Journal, read_docket, write_docket
 from .errors import (DocketFault, KeyFault, MarketFault, NotValid, OtherOptimum, ProgramError, ProgramFailed, ProgramMissing,
-                     ProgramTimeout, ResidencyError, UnknownStatus)
+                     ProgramTimeout, ResidencyError, UnknownMember, UnknownStatus)
 from .key import from_cell, read_key, to_cell, write_key
 from .lint import lint
 from .market import Market
@@ -17,5 +17,5 @@ __version__ = _version()
 
 __all__ = ["Audit", "Docket", "DocketFault", "Journal", "KeyFault", "Market", "MarketFault", "Match", "Member", "Names",
            "NotValid", "OtherOptimum", "ProgramError", "ProgramFailed", "ProgramMissing", "ProgramTimeout", "Replay",
-           "ResidencyError", "UnknownStatus", "Why", "audit", "docket_names", "find_program", "from_cell", "lint", "match",
+           "ResidencyError", "UnknownMember", "UnknownStatus", "Why", "audit", "docket_names", "find_program", "from_cell", "lint", "match",
            "read_docket", "read_key", "replay", "to_cell", "why", "why_all", "write_docket", "write_key", "__version__"]

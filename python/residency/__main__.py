@@ -3,8 +3,9 @@
     python3 -m residency WORD..                               the program with these words
     python3 -m residency match|audit|replay --json WORD..     its answer as one line of JSON
 
-Names are those of the docket, and the exit status is the program's. A fault is the program's own line on standard error, and
-then nothing is written. What is proved of the program is proved of its own rows: this form of them is only tested.
+Names are those of the docket, and the exit status is the program's. A fault is the program's own line on standard error; of a
+docket at fault all faults are written, as `{"faults": [..]}`. What is proved of the program is proved of its own rows: this form of
+them is only tested.
 """
 from __future__ import annotations
 
@@ -16,6 +17,7 @@ from typing import Callable, Dict, List, Optional, Sequence, Union
 
 from .answers import read_audit, read_replay, read_sheet
 from .errors import ResidencyError
+from .lint import lint
 from .program import environment, find_program
 from .results import Audit, Match, Replay
 
@@ -31,6 +33,23 @@ def as_json(command: str, status: int, answer: bytes) -> str:
         return json.dumps(READERS[command](status, answer).to_dict())
     except (IndexError, KeyError, ValueError) as error:
         raise ValueError(f"the program wrote an answer that isn't a {command}'s") from error
+
+
+def faults_of(data: bytes) -> str:
+    """Every fault of a docket as one line of JSON; one that the program alone tells isn't among them."""
+    return json.dumps({"faults": [fault.to_dict() for fault in lint(data)]})
+
+
+def written(line: str, status: int) -> int:
+    """Writes a line, and answers the status; another one where it can't be written."""
+    try:
+        sys.stdout.write(line + "\n")
+        sys.stdout.flush()
+    except OSError:
+        # What is left in the buffer goes nowhere, so that the end of Python has nothing to fail at.
+        os.dup2(os.open(os.devnull, os.O_WRONLY), sys.stdout.fileno())
+        return told("the output could not be written", 1)
+    return status
 
 
 def told(text: str, status: int) -> int:
@@ -50,23 +69,17 @@ def main(words: Optional[Sequence[str]] = None) -> int:
     wants_json = len(left) < len(given) and not {"--help", "-h", "--version"} & set(left)
     if wants_json and left[:1] not in [[command] for command in READERS]:
         return told(f"--json goes with {', '.join(READERS)}", 2)
-    done = subprocess.run([program, *left], stdout=subprocess.PIPE if wants_json else None, env=environment(), check=False)
     if not wants_json:
-        return done.returncode
-    if done.returncode not in (0, 4):
+        return subprocess.run([program, *left], env=environment(), check=False).returncode
+    data = b"" if sys.stdin is None else sys.stdin.buffer.read()
+    done = subprocess.run([program, *left], input=data, stdout=subprocess.PIPE, env=environment(), check=False)
+    if done.returncode not in (0, 3, 4):
         return done.returncode if done.returncode > 0 else told(f"the program ended by signal {-done.returncode}", 1)
     try:
-        line = as_json(left[0], done.returncode, done.stdout)
+        line = as_json(left[0], done.returncode, done.stdout) if done.returncode != 3 else faults_of(data)
     except ValueError as error:
         return told(str(error), 1)
-    try:
-        sys.stdout.write(line + "\n")
-        sys.stdout.flush()
-    except OSError:
-        # What is left in the buffer goes nowhere, so that the end of Python has nothing to fail at.
-        os.dup2(os.open(os.devnull, os.O_WRONLY), sys.stdout.fileno())
-        return told("the output could not be written", 1)
-    return done.returncode
+    return written(line, done.returncode)
 
 
 if __name__ == "__main__":

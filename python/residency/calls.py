@@ -7,7 +7,7 @@ from .answers import cut, read_audit, read_replay, rows_of
 from .dictionaries import dictionary, told_name
 from .docket import read_docket, sheet_rows
 from .errors import DocketFault, MarketFault, NotValid, UnknownStatus
-from .ordered import is_nothing
+from .ordered import as_name, is_nothing, wanted, whole
 from .program import DEFAULT_TIMEOUT, run_program
 from .records import records
 from .results import Audit, Match, Replay, Why
@@ -24,8 +24,9 @@ _KINDS, _SHEET, _JOURNAL = tuple("VQPRWMUFCE"), tuple("MUF"), tuple("CE")
 def match(market: Market, workers: int = 2, capacity: Optional[int] = None, journal: Union[bool, str] = False,
           timeout: float = DEFAULT_TIMEOUT) -> Match:
     """The match of a market; see `Market.match`."""
-    words = ["match", "--workers", str(workers), "--capacity", "full" if capacity is None else str(capacity)]
-    if journal not in (False, True, "by worker"):
+    _test_market(market)
+    words = ["match", "--workers", _count("workers", workers), "--capacity", "full" if capacity is None else _count("capacity", capacity)]
+    if not (isinstance(journal, bool) or isinstance(journal, str) and journal == "by worker"):
         raise ValueError(f"{journal!r} is no form of a journal: False, True or 'by worker'")
     words += ["--journal" if journal is True else "--journal-by-worker"] if journal else []
     status, answer = run_program("residency", words, market.docket(), timeout)
@@ -38,8 +39,22 @@ def match(market: Market, workers: int = 2, capacity: Optional[int] = None, jour
     return found
 
 
+def _test_market(market: object) -> None:
+    """NotRead, a TypeError, for what is no market."""
+    from .market import Market as Known
+    wanted("the first argument is a Market", Known, market)
+
+
+def _count(what: str, given: object) -> str:
+    number = whole(given)
+    if number is None:
+        raise ValueError(f"{what} is a whole number, and this is {shown(repr(given))}")
+    return str(number)
+
+
 def read_match(market: Market, sheet: bytes, journal: bytes = b"") -> Match:
     """A match of the market from a sheet's bytes; see `Market.read_match`."""
+    wanted("a journal is bytes", bytes, journal)
     _refuse_others(sheet, _SHEET, market.docket())
     places = read_docket(market.docket() + sheet).sheet
     if places is None:
@@ -65,7 +80,7 @@ def _refuse_others(rows: bytes, own: Tuple[str, ...], before: bytes) -> None:
 def _sheet(market: Market, places: Places) -> bytes:
     """The sheet's rows of these places; MarketFault for one that lacks a resident or has a name that no member has."""
     given: Mapping[str, Optional[str]] = places.places if isinstance(places, Match) else {
-        resident: None if is_nothing(name) else name for resident, name in dictionary("the residents' places", places).items()}
+        resident: None if is_nothing(name) else as_name(name) for resident, name in dictionary("the residents' places", places).items()}
     faults = [f"resident {shown(name)} has no place, and no None" for name in market.resident_lists if name not in given]
     faults += [f"no resident is named {told_name(name)}" for name in given if name not in market.resident_lists]
     faults += [f"resident {told_name(resident)}: no programme is named {told_name(name)}" for resident, name in given.items()
@@ -79,6 +94,7 @@ def _sheet(market: Market, places: Places) -> bytes:
 
 def audit(market: Market, places: Places, timeout: float = DEFAULT_TIMEOUT) -> Audit:
     """Whether these places are stable; see `Market.audit`."""
+    _test_market(market)
     status, answer = run_program("residency", ["audit"], market.docket() + _sheet(market, places), timeout)
     try:
         return read_audit(status, answer, market.names.name)
@@ -97,7 +113,9 @@ def check_validity(market: Market, places: Places, timeout: float = DEFAULT_TIME
 def replay(market: Market, journal: Union[Match, bytes], places: Optional[Places] = None,
            timeout: float = DEFAULT_TIMEOUT) -> Replay:
     """Whether a journal is a good exchange; see `Market.replay`."""
-    rows = journal if isinstance(journal, bytes) else journal.journal
+    _test_market(market)
+    rows = wanted("a journal is a Match or bytes", (Match, bytes), journal)
+    rows = rows.journal if isinstance(rows, Match) else rows
     if places is None and isinstance(journal, Match):
         places = journal
     given = market.docket() + (b"" if places is None else _sheet(market, places))
@@ -113,9 +131,10 @@ def replay(market: Market, journal: Union[Match, bytes], places: Optional[Places
 def why(market: Market, places: Places, resident: str, programme: Optional[str] = None,
         timeout: float = DEFAULT_TIMEOUT) -> Tuple[Why, ...]:
     """Why a resident isn't with a programme, or with each of its list; see `Market.why`."""
-    faults = [f"no resident is named {shown(resident)}"] if resident not in market.resident_lists else []
-    if programme is not None and programme not in market.quotas:
-        faults.append(f"no programme is named {shown(programme)}")
+    _test_market(market)
+    resident, programme = as_name(resident), as_name(programme)
+    asked = [("resident", resident, market.resident_lists)] + ([] if programme is None else [("programme", programme, market.quotas)])
+    faults = [f"no {who} is named {told_name(name)}" for who, name, known in asked if not isinstance(name, str) or name not in known]
     if faults:
         raise MarketFault(faults)
     data = market.docket() + _sheet(market, places)
@@ -127,6 +146,7 @@ def why(market: Market, places: Places, resident: str, programme: Optional[str] 
 
 def why_all(market: Market, places: Places, timeout: float = DEFAULT_TIMEOUT) -> Tuple[Why, ...]:
     """Why each resident is, or isn't, with each programme of its list, by the residents' order, in one run of the program."""
+    _test_market(market)
     return tuple(_why_all(market, market.docket() + _sheet(market, places), timeout).values())
 
 

@@ -1,12 +1,11 @@
 """Reads a market's dictionaries, and tells all that is wrong with them at once, in the caller's names."""
 from __future__ import annotations
 
-import operator
 from typing import Any, Dict, List, Mapping, Sequence, Tuple
 
 from .errors import MarketFault
 from .near import MOST_NEAR, NearNames
-from .ordered import NotRead, as_dictionary, as_list, as_names, is_nothing
+from .ordered import NotRead, as_dictionary, as_list, as_name, as_names, is_nothing, whole
 from .passes import MOST_PAIRS, MOST_PLACES, MOST_PROGRAMMES, MOST_RESIDENTS
 from .text import shown
 
@@ -19,17 +18,22 @@ def told_name(name: object) -> str:
 
 
 def dictionary(what: str, value: Any) -> Dict[Any, Any]:
-    """A mapping or a Series as a dictionary; MarketFault says what it was to be."""
+    """A mapping or a Series as a dictionary by names; MarketFault says what it was to be, or which name comes twice."""
     try:
-        return as_dictionary(value)
+        given = as_dictionary(value)
     except NotRead as why:
         raise MarketFault([f"{what}: {why}"]) from None
+    read = {as_name(name): one for name, one in given.items()}
+    if len(read) < len(given):
+        names = [as_name(name) for name in given]
+        raise MarketFault([f"{what}: {told_name(name)} comes twice" for name in read if names.count(name) > 1])
+    return read
 
 
 def withdrawals(who: str, names: Any) -> List[Any]:
     """Who of a side is said to be withdrawn; MarketFault for what is neither a list nor a set."""
     try:
-        return as_names(names)
+        return list(map(as_name, as_names(names)))
     except NotRead as why:
         raise MarketFault([f"the withdrawn {who}s: {why}"]) from None
 
@@ -46,15 +50,9 @@ def _is_name(name: object) -> bool:
 
 
 def _number(quota: Any) -> int:
-    """A whole number, Python's own or that of a data frame, a float among them; -1 for anything else."""
-    is_own = isinstance(quota, (int, float)) or not hasattr(quota, "item") or getattr(quota, "ndim", 0) != 0
-    one = quota if is_own else quota.item()
-    if isinstance(one, float):
-        return int(one) if one.is_integer() else -1
-    try:
-        return -1 if isinstance(one, bool) else operator.index(one)
-    except TypeError:
-        return -1
+    """A whole number; -1 for anything else."""
+    found = whole(quota)
+    return -1 if found is None else found
 
 
 def _places_fault(name: object, quota: object) -> str:
@@ -81,7 +79,7 @@ class Reader:
                           if not _is_name(name)]
         read = {name: -1 if is_nothing(quota) else _number(quota) for name, quota in self._quotas.items()}
         self.told += [_places_fault(name, self._quotas[name]) for name, quota in read.items() if not 0 <= quota <= MOST_PLACES]
-        return {_plain(name): quota for name, quota in read.items()}
+        return read
 
     def lists(self, who: str) -> Dict[str, Tuple[str, ...]]:
         """The lists of a side's members, as they were given."""
@@ -90,12 +88,12 @@ class Reader:
             if owner not in self._members[who]:
                 self.told.append(f"programme {told_name(owner)} has no places{self._is_it('programme', owner)}")
             try:
-                members = as_list(listed)
+                members = list(map(as_name, as_list(listed)))
             except NotRead as why:
                 self.told.append(f"{who} {told_name(owner)}: {why}")
                 continue
             self._choices(who, owner, members)
-            read[_plain(owner)] = tuple(map(_plain, members))
+            read[owner] = tuple(members)
         return read
 
     def _is_it(self, who: str, name: object) -> str:
@@ -131,11 +129,6 @@ class Reader:
         self.told += [f"withdrawn: {self._unknown(who, name)}" for name in given
                       if not isinstance(name, str) or name not in self._members[who]]
         return tuple(dict.fromkeys(str(name) for name in given))
-
-
-def _plain(name: Any) -> Any:
-    """A name as Python's own text, where it is an array's."""
-    return str(name) if isinstance(name, str) else name
 
 
 def limits(quotas: Mapping[str, int], programme_lists: Mapping[str, Sequence[str]], resident_lists: Mapping[str, Sequence[str]],

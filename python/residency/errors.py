@@ -1,7 +1,7 @@
 """The exceptions of the package; each is a `ResidencyError`, and none stands for an empty result."""
 from __future__ import annotations
 
-from typing import Optional, Sequence, Tuple
+from typing import Dict, Optional, Sequence, Tuple, Union
 
 from .text import shown
 
@@ -34,6 +34,10 @@ class DocketFault(ResidencyError):
         self.name = name
         self.detail = detail
 
+    def to_dict(self) -> Dict[str, Union[int, str, None]]:
+        """The fault as `json.dumps` takes it; `cell` is the field."""
+        return {"record": self.record, "cell": self.field, "text": self.text, "name": self.name, "detail": self.detail, "line": str(self)}
+
     @property
     def line(self) -> str:
         """What the program says of it: `record 3: unknown name`."""
@@ -55,6 +59,21 @@ class MarketFault(ResidencyError, ValueError):
 
     def __str__(self) -> str:
         return _in_part(self.faults)
+
+
+class UnknownMember(ResidencyError, KeyError):
+    """A name that no member of a side has: `who` is `programme` or `resident`, `name` what was given, and `near` the known
+    name that is likely to be meant, or None."""
+
+    def __init__(self, who: str, name: object, near: Optional[str] = None) -> None:
+        super().__init__(who, name, near)
+        self.who = who
+        self.name = name
+        self.near = near
+
+    def __str__(self) -> str:
+        told = shown(self.name) if isinstance(self.name, str) else shown(repr(self.name))
+        return f"no {self.who} is named {told}" + (f"; is it {shown(self.near)}?" if self.near else "")
 
 
 class NotValid(ResidencyError):

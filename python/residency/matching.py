@@ -10,6 +10,7 @@ from typing import Any, Dict, List, Mapping, Optional, Sequence, Tuple
 from .dictionaries import told_name
 from .errors import MarketFault, NotValid, OtherOptimum
 from .market import Market
+from .ordered import as_name
 
 __all__ = ["Hospital", "HospitalResident", "MatchingError", "Player"]
 
@@ -53,9 +54,9 @@ class Hospital(Player):
 
 def _lists(players: Sequence[Player]) -> Dict[str, List[str]]:
     """Whom each of these players ranks, by name; MarketFault for two of one name."""
-    lists = {each.name: each.pref_names for each in players}
+    lists = {as_name(each.name): each.pref_names for each in players}
     if len(lists) < len(players):
-        names = [each.name for each in players]
+        names = [as_name(each.name) for each in players]
         raise MarketFault([f"two players are called {told_name(name)}" for name in lists if names.count(name) > 1])
     return lists
 
@@ -97,7 +98,7 @@ class HospitalResident:
     def _market(self) -> Market:
         """The market of the players as they are now."""
         residents, hospitals = _lists(self.residents), _lists(self.hospitals)
-        return Market.from_dictionaries(residents, hospitals, {each.name: each.capacity for each in self.hospitals})
+        return Market.from_dictionaries(residents, hospitals, {as_name(each.name): each.capacity for each in self.hospitals})
 
     def solve(self, optimal: str = "resident") -> Dict[Hospital, List[Player]]:
         """The hospitals' optimum, each hospital with its residents, best first, which becomes each player's `matching`.
@@ -107,11 +108,11 @@ class HospitalResident:
         if optimal != "hospital":
             raise OtherOptimum(optimal, "hospital")
         places = self._market().match().places
-        by_name = {each.name: each for each in self.hospitals}
+        by_name = {as_name(each.name): each for each in self.hospitals}
         for hospital in self.hospitals:
             hospital.matching = []
         for resident in self.residents:
-            name = places[resident.name]
+            name = places[as_name(resident.name)]
             resident.matching = None if name is None else by_name[name]
             if resident.matching is not None:
                 resident.matching.matching.append(resident)
@@ -122,7 +123,7 @@ class HospitalResident:
 
     def _places(self) -> Dict[str, Optional[str]]:
         """Each resident's hospital as the players have it now."""
-        return {each.name: None if each.matching is None else each.matching.name for each in self.residents}
+        return {as_name(each.name): None if each.matching is None else each.matching.name for each in self.residents}
 
     def check_validity(self) -> bool:
         """True where the residents' matchings are acceptable and no hospital is over its capacity; else MatchingError."""
@@ -130,8 +131,8 @@ class HospitalResident:
 
     def check_stability(self) -> bool:
         """Whether no pair blocks the residents' matchings; `blocking_pairs` has those that do."""
-        residents = {each.name: each for each in self.residents}
-        hospitals = {each.name: each for each in self.hospitals}
+        residents = {as_name(each.name): each for each in self.residents}
+        hospitals = {as_name(each.name): each for each in self.hospitals}
         pairs = self._market().audit(self._places()).blocking
         self.blocking_pairs = [(residents[resident], hospitals[hospital]) for resident, hospital in pairs]
         return not pairs

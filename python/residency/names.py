@@ -6,10 +6,10 @@ from __future__ import annotations
 
 import itertools
 import unicodedata
-from typing import Dict, Iterable, Iterator, List, NamedTuple, Optional, Sequence, Tuple, Union
+from typing import Any, Dict, Iterable, Iterator, List, NamedTuple, Optional, Sequence, Tuple, Union
 
 from .errors import KeyFault
-from .ordered import as_members
+from .ordered import NotRead, as_list, as_members, as_name, wanted
 from .text import shown
 
 PROGRAMME = "P"
@@ -53,6 +53,12 @@ def _words(text: str) -> List[str]:
     return kept.split()
 
 
+def _codes(text: str) -> List[str]:
+    """The words of a text in another script, each as the code points of its letters and signs; a text of nothing else has none."""
+    words = ("".join(f"{ord(c):x}" for c in word if not unicodedata.category(c).startswith(("C", "M", "P", "Z"))) for word in text.split())
+    return [f"u{word}" for word in words if word]
+
+
 def _fit(words: List[str], most: int) -> str:
     """The words with `-` between them in at most so many letters: the longest words lose letters at their ends."""
     name = "-".join(words)
@@ -76,7 +82,7 @@ def _made(texts: Iterable[str], letter: str) -> Iterator[str]:
     used = set()
     counts: Dict[str, int] = {}
     for text in texts:
-        words = _words(text) or [letter]
+        words = _words(text) or _codes(text) or [letter]
         name = _fit(words, MOST_LETTERS)
         if name in used:
             stem = _fit(words, _STEM)
@@ -92,15 +98,25 @@ def _made(texts: Iterable[str], letter: str) -> Iterator[str]:
 def docket_names(names: Iterable[str], letter: str = "n") -> Dict[str, str]:
     """A docket name for each of these texts, unlike one another: a dictionary from text to docket name, in their order.
 
-    Names are in small letters. What has no plain letters (another script) is called by the letter and a number. The time
-    grows with the number of names, whatever they are. NotRead, a TypeError, for a text, a set or what is no list.
+    Names are in small letters. What has no plain letters (another script) is called by its code points, and what has no
+    letters at all by the letter and a number. The time grows with the number of names, whatever they are. NotRead, a
+    TypeError, for a text, a set or what is no list.
 
     >>> made = docket_names(["St. Mary's, East", "St Marys East", "Universitätsklinik Köln – Chirurgie", "王芳", "李娜"], "p")
     >>> list(made.values())
-    ['st-marys-east', 'st-marys-east-2', 'universitatsklini-koln-chirurgie', 'p', 'p-2']
+    ['st-marys-east', 'st-marys-east-2', 'universitatsklini-koln-chirurgie', 'u738b82b3', 'u674e5a1c']
     """
-    texts = list(dict.fromkeys(as_members(names)))
+    texts = list(dict.fromkeys(wanted("a name is a text", str, as_name(name)) for name in as_members(names)))
     return dict(zip(texts, _made(texts, letter)))
+
+
+def _pair(given: Any) -> Tuple[str, str]:
+    """A name and an ID, of a name or of a pair of both; whole numbers are read as their digits."""
+    both = (given, "") if isinstance(as_name(given), str) else as_list(given)
+    if len(both) != 2:
+        raise NotRead(f"a member is a name, or a pair of a name and an ID, and this has {len(both)} parts")
+    name, id_ = (wanted("a name or an ID is a text", str, as_name(one)) for one in both)
+    return name, id_
 
 
 class Names:
@@ -145,7 +161,7 @@ class Names:
         """
         members: List[Member] = []
         for side, named in ((PROGRAMME, programmes), (RESIDENT, residents)):
-            pairs = [(one, "") if isinstance(one, str) else (one[0], one[1]) for one in as_members(named)]
+            pairs = [_pair(one) for one in as_members(named)]
             made = _made((name for name, _ in pairs), side.lower())
             members += [Member(side, docket_name, *pair) for docket_name, pair in zip(made, pairs)]
         return cls(members)

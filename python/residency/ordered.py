@@ -5,14 +5,56 @@ A Series of pandas and an array of numpy are known by what they offer, and neith
 from __future__ import annotations
 
 import math
+import operator
 from collections.abc import Iterable, KeysView, Mapping, Set
-from typing import Any, Dict, List
+from typing import Any, Dict, List, Optional
 
-__all__ = ["NotRead", "as_dictionary", "as_list", "as_members", "as_names", "is_nothing"]
+__all__ = ["NotRead", "as_dictionary", "as_list", "as_members", "as_name", "as_names", "is_nothing", "wanted", "whole"]
 
 
 class NotRead(TypeError):
     """Why a value isn't read, as the end of a sentence that began with whose it is."""
+
+
+def wanted(what: str, kind: Any, value: Any) -> Any:
+    """The value, where it is of this kind (a type, or several); else NotRead says what was wanted and what was given.
+
+    >>> wanted("a docket is bytes", bytes, "Q,north,1")
+    Traceback (most recent call last):
+        ...
+    residency.ordered.NotRead: a docket is bytes, and this is a str
+    """
+    if not isinstance(value, kind):
+        raise NotRead(f"{what}, and this is {'an' if type(value).__name__[0] in 'aeiouAEIOU' else 'a'} {type(value).__name__}")
+    return value
+
+
+def whole(value: Any) -> Optional[int]:
+    """The whole number that a value is, Python's own or a data frame's, a float among them; None for anything else.
+
+    >>> whole(7), whole(7.0), whole(7.5), whole(True), whole("7")
+    (7, 7, None, None, None)
+    """
+    is_own = isinstance(value, (int, float)) or not hasattr(value, "item") or getattr(value, "ndim", 0) != 0
+    one = value if is_own else value.item()
+    if isinstance(one, float):
+        return int(one) if one.is_integer() else None
+    try:
+        return None if isinstance(one, bool) else operator.index(one)
+    except TypeError:
+        return None
+
+
+def as_name(value: Any) -> Any:
+    """A name: a text as Python's own, a whole number as its digits, as in a table's cells; anything else as it is.
+
+    >>> as_name("Kim"), as_name(1042), as_name(None)
+    ('Kim', '1042', None)
+    """
+    if isinstance(value, str):
+        return str(value)
+    number = whole(value)
+    return value if number is None else str(number)
 
 
 def is_nothing(value: object) -> bool:

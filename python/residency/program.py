@@ -8,8 +8,10 @@ A program is looked for in this order:
 3. the clone that this package is part of: `crates/residency_cli/out/residency_cli`, `crates/residency_why/out/residency_why`,
    `crates/residency_audit/out/residency_audit`;
 4. the clone or the release from which pip installed the package, as the package's file `HOME` tells;
-5. an unpacked release: the one that this package is part of, or the newest beside the clone (`residency-*/bin/residency`);
+5. the unpacked release that this package is part of, in its `lib/residency/python`;
 6. PATH: `residency`, `residency-why`, `residency-audit`.
+
+Nothing that lies above a clone or beside it is taken: who may write there isn't known.
 """
 from __future__ import annotations
 
@@ -26,6 +28,8 @@ from .errors import DocketFault, ProgramFailed, ProgramMissing, ProgramTimeout, 
 DEFAULT_TIMEOUT = 600.0
 # The package's folder of programs, in a wheel.
 WITHIN = "programs"
+# Where a release has the package.
+_RELEASE = ("lib", "residency", "python", "residency")
 _FAULT = re.compile(r"record ([0-9]+): (.*)")
 # Large pages, and memory that is kept once it is had, spare a large match an eighth of its time.
 _TUNABLES = "glibc.malloc.hugetlb=1:glibc.malloc.mmap_threshold=33554432"
@@ -58,11 +62,6 @@ def _named(name: str, named: Path) -> List[Path]:
     return list(_in_folder(name, named.parent))
 
 
-def _version(path: Path) -> Tuple[List[int], str]:
-    """What orders releases by their versions, the newest last."""
-    return [int(digits) for digits in re.findall("[0-9]+", path.parent.parent.name)], str(path)
-
-
 def _places(name: str) -> Iterator[Path]:
     """Where a program may be without `RESIDENCY_BIN`, but for PATH."""
     crate, file = _files(name)
@@ -72,9 +71,8 @@ def _places(name: str) -> Iterator[Path]:
     yield clone / "crates" / crate / "out" / crate
     if (package / "HOME").is_file():
         yield from _in_folder(name, Path(os.fsdecode((package / "HOME").read_bytes())))
-    for folder in (folder for folder in list(package.parents)[:4] if folder.name):
-        yield folder / "bin" / file
-    yield from sorted(clone.parent.glob(f"residency-*/bin/{file}"), key=_version, reverse=True)
+    if package.parts[-4:] == _RELEASE:
+        yield package.parents[3] / "bin" / file
 
 
 def find_program(name: str = "residency") -> Path:

@@ -5,6 +5,9 @@ from dataclasses import asdict, dataclass
 from html import escape
 from typing import Dict, List, Mapping, Optional, Sequence, Tuple
 
+from .errors import UnknownMember
+from .near import NearNames
+from .ordered import as_name
 from .text import shown
 
 # The rows that a notebook shows of an answer.
@@ -56,8 +59,18 @@ class Match:
         return tuple(r for r, p in self.places.items() if p is None)
 
     def residents_of(self, programme: str) -> Tuple[str, ...]:
-        """The residents matched with a programme, in the residents' order."""
-        return tuple(r for r, p in self.places.items() if p == programme)
+        """The residents matched with a programme, in the residents' order; UnknownMember, a KeyError, where there is none of
+        that name.
+
+        >>> Match({"Kim": "City"}, {"City": 1}, {"City": 1}, b"").residents_of("Ctiy")
+        Traceback (most recent call last):
+            ...
+        residency.errors.UnknownMember: no programme is named Ctiy; is it City?
+        """
+        name = as_name(programme)
+        if not isinstance(name, str) or name not in self.quotas:
+            raise UnknownMember("programme", name, NearNames(self.quotas).near(name) if isinstance(name, str) else None)
+        return tuple(r for r, p in self.places.items() if p == name)
 
     def _said(self) -> str:
         left = len(self.unmatched)

@@ -11,6 +11,8 @@ import zipfile
 
 import planted
 from residency.office import sheets
+from residency.office.faults import Fault
+from residency.office.sentences import cause
 from support import PROGRAMMES, RESIDENTS, SAMPLES, OfficeTest, office
 
 KIND = "http://schemas.openxmlformats.org/officeDocument/2006/relationships"
@@ -44,7 +46,7 @@ class Cells(unittest.TestCase):
     """What a cell shows, by hand-written parts."""
 
     def read(self, *words, wanted=None, **more):
-        return sheets.sheet_of(sheet(*words, **more), "residents", wanted).rows
+        return sheets.sheet_of(sheet(*words, **more), wanted).rows
 
     def test_kinds_of_cells(self) -> None:
         text = (
@@ -92,11 +94,11 @@ class Cells(unittest.TestCase):
         names = '<sheet name="Notes" r:id="c"/><sheet name="Old" state="hidden" r:id="b"/><sheet name="Table" r:id="b"/>'
         text = '<row r="1"><c><v>1</v></c></row><row r="2" hidden="1"><c><v>2</v></c></row>'
         # The sheet of notes isn't in the file, so that one visible sheet has cells.
-        found = sheets.sheet_of(sheet(text, names=names), "residents")
+        found = sheets.sheet_of(sheet(text, names=names))
         self.assertEqual((found.name, len(found.rows), found.hidden), ("Table", 2, [2]))
-        self.assertEqual(sheets.sheet_of(sheet(text, names=names), "residents", "old").name, "Old")
+        self.assertEqual(sheets.sheet_of(sheet(text, names=names), "old").name, "Old")
         with self.assertRaises(sheets.BadBook):
-            sheets.sheet_of(sheet(text, names=names), "residents", "Notes")
+            sheets.sheet_of(sheet(text, names=names), "Notes")
 
     def test_what_is_no_workbook(self) -> None:
         for data in (b"", b"Applicant,Rank 1\r\n", b"P", "Applicant;Rank 1\n".encode("utf-16"), b"<3,Kim"):
@@ -108,9 +110,9 @@ class Cells(unittest.TestCase):
         for at in range(4, len(data), 7):
             for broken in (data[:at], data[:at] + bytes([data[at] ^ 0x55]) + data[at + 1:]):
                 try:
-                    sheets.sheet_of(broken, "residents")
+                    sheets.sheet_of(broken)
                 except sheets.BadBook as fault:
-                    self.assertTrue(str(fault).isprintable())
+                    self.assertTrue(cause(Fault(fault.code, "residents", values={**fault.values, "table": "residents"})).isprintable())
 
 
 class Runs(OfficeTest):
@@ -184,7 +186,7 @@ book.save(sys.argv[1])
         path = str(self.folder / "book.xlsx")
         subprocess.run([python, "-c", self.WRITES, path], input=table.encode(), check=True)
         with open(path, "rb") as file:
-            found = sheets.sheet_of(file.read(), "residents")
+            found = sheets.sheet_of(file.read())
         self.assertEqual(found.rows, [(1, ["Applicant", "ID", "Rank 1", "Born"]), (2, ["Zoë <&> 王", "1042", "x\ny", "2026-03-01"]),
                                       (3, [" a ", "00042", "2.5", "TRUE"])])
 
@@ -201,7 +203,7 @@ book.save(sys.argv[1])
 
         book = converted("xlsx", source, "--infilter=CSV:44,34,76")
         text = converted("csv:Text - txt - csv (StarCalc):44,34,76", str(self.folder / "made" / "table.xlsx"))
-        read = [row for _, row in sheets.sheet_of(book, "residents").rows]
+        read = [row for _, row in sheets.sheet_of(book).rows]
         wanted = [row for row in csv.reader(io.StringIO(text.decode("utf-8"))) if any(row)]
         self.assertEqual([row + [""] * (len(wanted[0]) - len(row)) for row in read], wanted)
         for kind, words in (("ods", "this is an .ods file"), ("xls", "this is an old .xls file")):

@@ -22,17 +22,17 @@ MEGABYTES = 1000
 MORE, GROWTH = 8, 10
 # A measure that is too large is taken again, so often at most: other work only adds to it.
 MOST = 6
-# Starts the office's command and tells, besides its own end, what it took itself: seconds of a processor, and kilobytes. The most
-# that `getrusage` tells may be those of the process that started it.
+# Starts the office's command and tells, besides its own end, what it took with the process that reads its tables: seconds of a
+# processor, and kilobytes. The most that `getrusage` tells of itself may be those of the process that started it.
 MEASURED = """
 import resource, sys
 sys.path.insert(0, sys.argv.pop(1))
 from residency.office import main
 status = main(sys.argv[1:])
-used = resource.getrusage(resource.RUSAGE_SELF)
+used = [resource.getrusage(who) for who in (resource.RUSAGE_SELF, resource.RUSAGE_CHILDREN)]
 with open("/proc/self/status") as lines:
-    kilobytes = next(line.split()[1] for line in lines if line.startswith("VmHWM:"))
-print(f"took {used.ru_utime + used.ru_stime} {kilobytes}", file=sys.stderr)
+    kilobytes = next(int(line.split()[1]) for line in lines if line.startswith("VmHWM:"))
+print(f"took {sum(one.ru_utime + one.ru_stime for one in used)} {max(kilobytes, used[1].ru_maxrss)}", file=sys.stderr)
 sys.exit(status)
 """
 

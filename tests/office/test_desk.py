@@ -6,6 +6,7 @@ import unittest
 import planted
 from residency.lint import lint
 from residency.near import NearNames, edits
+from residency.office import sentences
 from residency.office.cells import other_mark
 from residency.office.faults import MOST_KEPT, MOST_SHOWN, Faults
 from residency.office.remarks import is_remark
@@ -160,11 +161,11 @@ class Rows(OfficeTest):
         self.assertIn("programmes, row 2, cell 4 (D2): IDs match but for zeros before them: 7 is 007", said.out)
 
     def test_rows_that_are_parted_by_another_sign(self) -> None:
-        for row, found in ((["Ana;North"], "semicolons"), (["Ana\tNorth"], "tabs"), (["Ana|North"], "bars"), (["Ana, North, South"], None),
+        for row, found in ((["Ana;North"], ";"), (["Ana\tNorth"], "\t"), (["Ana|North"], "|"), (["Ana, North, South"], None),
                            (["Ana;North", "x"], None), (["Ana"], None), ([";"], None)):
             self.assertEqual(other_mark(row, ","), found, row)
         self.assertEqual(other_mark(["Abel, Ana"], ";"), None)
-        self.assertEqual(other_mark(["Ana,North,South"], ";"), "commas")
+        self.assertEqual(other_mark(["Ana,North,South"], ";"), ",")
 
     def test_remarks(self) -> None:
         table = Table("residents", "resident", "", "", None, None)  # type: ignore[arg-type]
@@ -190,31 +191,32 @@ class Rows(OfficeTest):
     def test_whole_rows_are_shown_of_twenty_faults(self) -> None:
         faults = Faults()
         for number in range(1, 31):
-            faults.tell("rank", "t", number, 1, f"rank {number}")
-            faults.tell("name", "t", number, 1, f"name {number}")
-        faults.tell("file", "t", None, None, "file")
-        report = faults.report()
+            faults.tell("rank.none", "t", number, 1, {"item": f"rank {number}"})
+            faults.tell("name.no-id", "t", number, 1, {"name": f"name {number}"})
+        faults.tell("file.empty", "t", None, None)
+        report = sentences.report(faults)
         self.assertEqual((len(report), report[0], report[-1]), (
-            MOST_SHOWN + 1, "t: file", "and 41 more: 21 names at fault, 20 ranks at fault (--all tells each)"))
-        self.assertEqual(len(faults.report(True)), 61)
+            MOST_SHOWN + 1, "t: the table is empty", "and 41 more: 21 names at fault, 20 ranks at fault (--all tells each)"))
+        self.assertEqual(len(sentences.report(faults, True)), 61)
 
     def test_one_fault_more_than_are_shown(self) -> None:
         faults = Faults()
         for number in range(1, MOST_SHOWN + 1):
-            faults.tell("row", "t", number, 1, "x")
-        self.assertEqual((len(faults.report()), faults.report()[-1]), (MOST_SHOWN, f"t, row {MOST_SHOWN}, cell 1 (A{MOST_SHOWN}): x"))
-        faults.tell("row", "t", 99, 1, "x")
-        self.assertEqual((len(faults.report()), faults.report()[-1]), (
+            faults.tell("row.heading", "t", number, 1)
+        self.assertEqual((len(sentences.report(faults)), sentences.report(faults)[-1]), (
+            MOST_SHOWN, f"t, row {MOST_SHOWN}, cell 1 (A{MOST_SHOWN}): the heading stands here again; leave the row out"))
+        faults.tell("row.heading", "t", 99, 1)
+        self.assertEqual((len(sentences.report(faults)), sentences.report(faults)[-1]), (
             MOST_SHOWN + 1, "and 1 more: 1 fault in rows (--all tells each)"))
 
     def test_faults_beyond_those_that_are_kept_are_counted(self) -> None:
         faults = Faults()
         for number in range(MOST_KEPT + 5):
-            faults.tell("name", "t", number + 1, 1, "x")
+            faults.tell("name.no-id", "t", number + 1, 1, {"name": "x"})
         self.assertEqual((len(faults), faults.is_full("name"), faults.is_full("row")), (MOST_KEPT + 5, True, False))
-        every = faults.report(True)
+        every = sentences.report(faults, True)
         self.assertEqual((len(every), every[-1]), (MOST_KEPT + 1, "and 5 more: 5 names at fault"))
-        self.assertIn("and 49,985 more: 49,985 names at fault", faults.report()[-1])
+        self.assertIn("and 49,985 more: 49,985 names at fault", sentences.report(faults)[-1])
 
 
 class Parts(unittest.TestCase):

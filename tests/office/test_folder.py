@@ -170,7 +170,8 @@ class Written(OfficeTest):
             text = (self.out / "letters" / f"{made}.txt").read_text(encoding="utf-8")
             listed, where = self.wanted.resident_lists[name], self.wanted.match[name]
             self.assertTrue(text.startswith(f"20 March 2026\n\n{name}\n\n"), text)
-            self.assertIn(f"you are {made}. Its SHA-256 is\n{sha256(self.out / 'docket.csv')}", text)
+            self.assertTrue(text.endswith(f"\n\nIn the docket that was matched you are {made}.\n"), text)
+            self.assertNotIn(sha256(self.out / "docket.csv"), text)
             if where:
                 self.assertIn(
                     f"You are matched with {where},\nthe {['1st', '2nd', '3rd', '4th', '5th', '6th'][self.wanted.choice(name) - 1]} "

@@ -368,7 +368,7 @@ class Kept(OfficeTest):
             (["Email"], ["email"]),
             (["E-Mail address", "Straße 1", "2nd email"], ["e_mail_address", "strasse_1", "column_2nd_email"]),
             (["Name", "Title", "name", "TITLE"], ["name_2", "title_2", "name_3", "title_3"]),
-            (["Email", "email", "E.mail", "电话", "#"], ["email", "email_2", "email_3", "column", "column_2"]),
+            (["Email", "email", "E.mail", "电话", "#"], ["email", "email_2", "email_3", "u75358bdd", "column"]),
         ):
             self.assertEqual(list(fields_of(columns)), fields)
         self.assertEqual(checked_template("$email\r$name", ["Email"]), "$email\n$name")

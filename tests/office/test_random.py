@@ -109,7 +109,7 @@ class Random(OfficeTest):
                 rows = (given.long() if chance.random() < 0.5 else given.wide())[side]
                 files.append(self.write(f"{side}.csv", saved(chance, rows, mark).encode(encoding)))
             words = ["check", *files, "--allow-short", "--allow-alone"] + ["--encoding", "cp1252"] * (encoding == "cp1252")
-            _, market = command.read_tables(*files, command.options_of(line.parser().parse_args(words)))
+            market = command.read_tables(*files, command.settings_of(line.parser().parse_args(words))).market
             called: Dict[str, str] = {}
             for member in market.names.members("R"):
                 called[market.names.name("R", member.docket_name)] = member.id or member.name
@@ -172,7 +172,7 @@ class Random(OfficeTest):
 
     def nothing_is_lost(self, seed: int, files: List[str], texts: List[bytes]) -> None:
         """Of tables that are taken, every row is a member and every cell of a list a name in it."""
-        _, market = command.read_tables(*files, command.options_of(line.parser().parse_args(["check", *files])))
+        market = command.read_tables(*files, command.settings_of(line.parser().parse_args(["check", *files]))).market
         for data, lists, first in zip(texts, (market.programme_lists, market.resident_lists), (2, 1)):
             text = data.decode("utf-16") if data.startswith((b"\xff\xfe", b"\xfe\xff")) else self.decoded(data)
             if '"' in text:

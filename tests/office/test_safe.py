@@ -102,6 +102,22 @@ class Places(OfficeTest):
                 self.assertEqual((done.returncode, done.stderr), (0, b""), launcher)
                 self.assertTrue((out / "SHA256SUMS").exists())
 
+    def test_a_program_named_by_its_file_in_a_crate(self) -> None:
+        """The others are those of the crates beside it, for the command by its launcher, too."""
+        for name in ("residency", "why", "seal"):
+            crate = "residency_cli" if name == "residency" else f"residency_{name}"
+            out = self.folder / "crates" / crate / "out"
+            out.mkdir(parents=True)
+            shutil.copy(find_program(name), out / crate)
+        env = {**os.environ, "RESIDENCY_BIN": str(self.folder / "crates" / "residency_cli" / "out" / "residency_cli")}
+        for words in (["seal", *self.tables()], ["run", str(self.folder / "1")], ["verify", str(self.folder / "2")],
+                      ["run", *self.tables()], ["verify", str(self.folder / "4")]):
+            self.at = getattr(self, "at", 0) + 1
+            out = ["--out", str(self.folder / str(self.at))] * (words[0] != "verify")
+            done = subprocess.run([OFFICE, *words, *out], env=env, capture_output=True)
+            self.assertEqual((done.returncode, done.stderr), (0, b""), words)
+        self.assertIn(b"second opinion: S,stable", done.stdout)
+
     def test_words_are_handed_on_as_they_come(self) -> None:
         """With blanks, signs of the shell and without a letter, by the clone's launcher and by a release's."""
         files = [self.write(name, text) for name, text in (("a  b *.csv", PROGRAMMES), ("$HOME ; c.csv", RESIDENTS))]
@@ -192,6 +208,38 @@ class Stops(OfficeTest):
                 self.assertTrue((self.folder / "out" / "SHA256SUMS").exists())
         self.assertIn(1, ends)
 
+    def test_a_killed_run(self) -> None:
+        """What it left is for its owner alone; the next run says so and removes it, and leaves alone what another run is making."""
+        old = os.umask(0)
+        self.addCleanup(os.umask, old)
+        with self.slow() as killed, self.slow() as running:
+            while len(self.left()) < 2 or not all((self.folder / name / "docket.csv").exists() for name in self.left()):
+                time.sleep(0.01)
+            killed.kill()
+            killed.communicate(timeout=100)
+            parts = self.left()
+            self.assertEqual([oct(mode_of(self.folder / name)) for name in parts], [oct(0o700)] * 2)
+            said = office("run", *self.tables(), "--out", self.folder / "next")
+            gone = [name for name in parts if name not in self.left()]
+            self.assertEqual((said.status, said.err, len(gone)), (0, f"office: a run that was killed left {gone[0]}, which was removed\n", 1))
+            _, err = running.communicate(timeout=100)
+        self.assertEqual((running.returncode, err, self.left()), (0, b"", ["next", "out"]))
+
+    def test_what_only_looks_left(self) -> None:
+        """Another name, a file, a link and, where no lock is had, a folder stay."""
+        part = f".part-{'0' * 32}"
+        (self.folder / f"{part}x").mkdir()
+        (self.folder / f".part-{'1' * 32}").write_text("kept")
+        os.symlink(self.folder / "nowhere", self.folder / f".part-{'2' * 32}")
+        (self.folder / part).mkdir()
+        before = self.left()
+        with mock.patch("fcntl.flock", side_effect=OSError(95, "Operation not supported")):
+            self.run_tables(out="a")
+        self.assertEqual(self.left(), sorted([*before, "a"]))
+        said = office("run", *self.tables(), "--out", self.folder / "b")
+        self.assertEqual((said.status, said.err), (0, f"office: a run that was killed left {part}, which was removed\n"))
+        self.assertEqual(self.left(), sorted([*(name for name in before if name != part), "a", "b"]))
+
     def test_a_stop_when_all_is_done(self) -> None:
         """A stop while signals are given back to whoever had them changes nothing, and is no traceback."""
         text = (
@@ -238,7 +286,7 @@ class Writes(OfficeTest):
 
     def setUp(self) -> None:
         super().setUp()
-        self.runs = [str(self.run_tables(out=name)) for name in ("before", "now")]
+        self.runs = [self.run_tables(out=name) for name in ("before", "now")]
 
     def every(self, out: str) -> List[List[str]]:
         return [
@@ -315,15 +363,34 @@ class Writes(OfficeTest):
     def test_who_may_read_what(self) -> None:
         old = os.umask(0o022)
         self.addCleanup(os.umask, old)
-        out, letters, changes = (self.folder / name for name in ("out", "letters", "changes.csv"))
+        tables, letters, changes = self.tables(), self.folder / "letters", self.folder / "changes.csv"
         self.assertEqual([office(*words).status for words in (
-            ["withdraw", self.runs[0], "Ana Silva", "--out", out], ["letters", out, "--out", letters],
-            ["compare", self.runs[0], out, "--out", changes])], [0, 0, 0])
-        owners = {out / "key.csv", out / "matches.csv", out / "letters.html", *(out / "letters").rglob("*"), *letters.rglob("*")}
-        folders = {out / "letters", letters}
-        for path in (out, letters, changes, *out.rglob("*"), *letters.rglob("*")):
-            wanted = 0o700 if path in folders else 0o755 if path.is_dir() else 0o600 if path in owners else 0o644
-            self.assertEqual(oct(mode_of(path)), oct(wanted), path)
+            ["letters", self.runs[0], "--out", letters], ["compare", *self.runs, "--out", changes])], [0, 0])
+        self.assertEqual(oct(mode_of(changes)), oct(0o644))
+        self.tell_modes(letters, {"letters.html"}, {""}, {".txt"})
+        owners = {"key.csv", "matches.csv", "letters.html", *(f"letters/{path.name}" for path in (self.runs[0] / "letters").iterdir())}
+        lists = {"docket.csv", "journal.csv", "page.html", "changes.csv", "manifest.json", "SHA256SUMS",
+                 *(f"rosters/{path.name}" for path in (self.runs[0] / "rosters").iterdir())}
+        for number, words in enumerate((["run", *tables], ["withdraw", self.runs[0], "Ana Silva"])):
+            out, readable = self.folder / f"own{number}", self.folder / f"readable{number}"
+            self.assertEqual([office(*words, "--out", out).status, office(*words, "--out", readable, "--readable").status], [0, 0])
+            self.tell_modes(out, owners | lists, {"letters", "rosters"})
+            self.tell_modes(readable, owners, {"letters"})
+
+    def tell_modes(self, out: Path, files: "set[str]", folders: "set[str]", endings: "set[str]" = frozenset()) -> None:
+        """Whether these files and folders of a folder are for their owner alone, and no others."""
+        for path in (out, *out.rglob("*")):
+            name = path.relative_to(out).as_posix().replace(".", "", path == out)
+            is_own = name in folders if path.is_dir() else name in files or path.suffix in endings
+            self.assertEqual(oct(mode_of(path)), oct((0o755, 0o700)[is_own] if path.is_dir() else (0o644, 0o600)[is_own]), path)
+
+    def test_a_sealed_folder_is_for_its_owner(self) -> None:
+        sealed, out = self.folder / "sealed", self.folder / "out"
+        self.assertEqual(office("seal", *self.tables(), "--out", sealed).status, 0)
+        for words in (["run", sealed], ["withdraw", sealed, "Ana Silva"]):
+            said = office(*words, "--out", out, "--readable")
+            self.assertEqual((said.status, said.out, said.err, out.exists()), (
+                2, "", "office: --readable is for a match that isn't sealed: of a sealed one others may read public/ alone\n", False))
 
     def test_the_masks_own_will(self) -> None:
         old = os.umask(0o077)

@@ -1,5 +1,6 @@
 """Sealed matches: what seal, run and withdraw write, which tables are refused, what may be published, and what verify finds."""
 import csv
+import hashlib
 import io
 import json
 import os
@@ -130,6 +131,24 @@ class Written(Sealed):
         self.assertEqual(office("run", *self.tables(PROGRAMMES, residents), "--keep", "Email", "--out", plain).status, 0)
         self.assertEqual((match / "matches.csv").read_bytes(), (plain / "matches.csv").read_bytes())
         self.assertIn("a@x.org", (match / "matches.csv").read_text(encoding="utf-8"))
+
+    def test_no_letter_has_the_hash_of_the_docket(self) -> None:
+        """A template of a sealed match may not ask for it, in either form; and no file that is given away has it, or the sheet's, or the key's."""
+        sealed = self.sealed()
+        for line in ("$docket_sha256", "a ${docket_sha256} b", "$$$docket_sha256"):
+            template = self.write("letter.txt", f"$name\n{line}\n")
+            match = self.matched(sealed, out=f"match{len(line)}")
+            for words in (["run", sealed], ["letters", match], ["withdraw", match, "Kim Lee"]):
+                said = office(*words, "--template", template, "--out", self.folder / "refused")
+                self.assertEqual((said.status, said.out, said.err, (self.folder / "refused").exists()), (
+                    3, "", "office: the template, line 2: $docket_sha256 is a hash from which others' lists can be guessed, and this match is "
+                    "sealed; $lists_root and $result_root are the published roots\n", False))
+        hashes = [hashlib.sha256((match / name).read_bytes()).hexdigest() for name in ("docket.csv", "sheet.csv", "key.csv")]
+        for path in (path for part in ("letters", "receipts", "rosters", "public") for path in (match / part).iterdir()):
+            self.assertEqual([one for one in hashes if one[:16] in path.read_text(encoding="utf-8")], [], path)
+        template = self.write("letter.txt", "$$docket_sha256 of $name\n")
+        letter = self.matched(sealed, "--template", template, out="own") / "letters" / "kim-lee.txt"
+        self.assertEqual(letter.read_text(encoding="utf-8"), "$docket_sha256 of Kim Lee\n")
 
     def test_letters_tell_the_roots(self) -> None:
         match = self.matched(self.sealed())
@@ -333,61 +352,69 @@ class Again(Sealed):
 
 
 class Verified(Sealed):
+    """What verify says of roots and receipts; tests/office/test_altered.py has each kind of file that is altered."""
+
+    LEFT = "not checked: lists and names, for want of the tables (--tables)"
+
     def verify(self, folder: Path, *words: str) -> List[str]:
         said = office("verify", folder, *words)
         self.assertEqual(said.err, "")
         lines = said.out.splitlines()
-        self.assertEqual(said.status, 0 if lines[-1] == "everything holds" else 4)
+        self.assertEqual(said.status, 4 if lines[-1].startswith("this does not hold: ") else 0)
         return lines
 
     def test_roots_and_receipts(self) -> None:
         match = self.matched(self.sealed())
         rows = (match / "root.txt").read_text().split()
         lists, result = (row.split(",")[2] for row in rows)
-        lines = self.verify(match, "--lists", lists, "--result", result)
+        events = (match / "replay.csv").read_text().strip().partition(",")[2]
+        lines = self.verify(match, "--lists", f"11,{lists}", "--result", f"11,{result}")
         by = "by the program seal and by the office's own trees" if sealing.is_built() else "by the office's own trees; the program seal isn't here"
-        self.assertEqual(lines[-5:], [f"roots: {rows[0]} and {rows[1]}, {by}",
-                                      "published: the same roots", "root.txt: it has these roots", "receipts: 11 receipts as made again",
-                                      "everything holds"])
-        self.assertEqual(self.verify(match)[-4], "published: not given (--lists, --result); compare these roots with what was published")
-        self.assertEqual(self.verify(match, "--lists", result, "--result", result)[-4:], [
-            f"published: for the lists {result} was published", "root.txt: it has these roots", "receipts: 11 receipts as made again",
-            "this does not hold: published"])
-        self.assertEqual(office("verify", match, "--lists", lists.upper()).status, 2)
+        # Seven letters, four rosters, five files of public/ and fifteen at the top.
+        held = f"30 files made again, 11 receipts, the result, the journal of {events} events"
+        self.assertEqual(lines[-4:], [f"roots: {rows[0]} and {rows[1]}, {by}", "published: the same roots, of 11 members",
+                                      "files: 41 as made again", f"{held}; {self.LEFT}"])
+        self.assertEqual(self.verify(match)[-1], f"{held}; {self.LEFT}; what was published, for want of --lists and --result")
+        self.assertEqual(self.verify(match, "--lists", lists, "--result", result)[-1],
+                         f"{held}; {self.LEFT}; how many members were published, for want of N,ROOT")
+        self.assertEqual(self.verify(match, "--lists", f"12,{result}", "--result", f"11,{result}")[-3:], [
+            f"published: for the lists {result} was published; 12 members were published for the lists, and there are 11",
+            "files: 41 as made again", f"this does not hold: published; {self.LEFT}"])
+        for word in (lists.upper(), f"x,{lists}", f"11,{lists[1:]}", ",".join(rows)):
+            self.assertEqual(office("verify", match, "--lists", word).status, 2)
 
-    def test_what_was_changed(self) -> None:
+    def test_a_match_that_is_none_of_what_was_published(self) -> None:
+        """Roots were published, and the folder has none."""
+        said = self.verify(self.run_tables(out="plain"), "--lists", f"11,{'0' * 64}")
+        self.assertIn("published: this match isn't sealed, and has no roots", said)
+        self.assertEqual(said[-1], f"this does not hold: published; {self.LEFT}")
+
+    def test_the_list_of_one_who_got_what_it_wants(self) -> None:
+        """The match is the same, and whoever makes all else again is told by the roots."""
         match = self.matched(self.sealed())
-        lists, result = (row.split(",")[2] for row in (match / "root.txt").read_text().split())
+        published = [row.split(",", 1)[1] for row in (match / "root.txt").read_text().split()]
+        other = self.sealed(out="other", residents=RESIDENTS.replace("Rosa Rossi,,,", "Rosa Rossi,East Ward,,"))
+        forged = self.matched(other, out="forged")
+        self.assertEqual((forged / "sheet.csv").read_bytes(), (match / "sheet.csv").read_bytes())
+        self.assertEqual(self.verify(forged, "--lists", published[0], "--result", published[1])[-1], f"this does not hold: published; {self.LEFT}")
 
-        def changed(name: str, old: bytes, new: bytes) -> List[str]:
-            data = (match / name).read_bytes()
-            self.assertIn(old, data)
-            (match / name).write_bytes(data.replace(old, new))
-            lines = self.verify(match, "--lists", lists, "--result", result)
-            (match / name).write_bytes(data)
-            return lines[-1].split(": ", 1)[-1].split(", ")
-
-        # The list of one who got what it wants: the match is the same, and only the roots tell.
-        self.assertEqual(changed("docket.csv", b"R,rosa-rossi\n", b"R,rosa-rossi,east-ward\n")[-3:], ["published", "root.txt", "receipts"])
-        self.assertEqual(changed("receipts/resident-kim-lee.csv", b"R,kim-lee,", b"R,kim-lex,"), ["digests", "receipts"])
-        self.assertEqual(changed("root.txt", lists[:9].encode(), b"000000000"), ["digests", "root.txt"])
-        self.assertEqual(changed("secret.txt", (match / "secret.txt").read_bytes(), b"0" * 64 + b"\n"), ["digests", "roots"])
-        self.assertEqual(changed("secret.txt", (match / "secret.txt").read_bytes(), b"1" * 64 + b"\n"),
-                         ["digests", "published", "root.txt", "receipts"])
-        (match / "receipts" / "resident-nobody.csv").write_bytes(b"receipt,1,R,nobody\n")
-        self.assertEqual(self.verify(match)[-1], "this does not hold: digests, receipts")
+    def test_without_the_secret(self) -> None:
+        match = self.matched(self.sealed())
         (match / "secret.txt").unlink()
-        self.assertEqual(self.verify(match, "--lists", lists)[-1], "this does not hold: digests, roots")
+        lines = self.verify(match)
+        self.assertEqual(lines[-3:-1], ["roots and receipts and 11 files made of them: not checked: needs the secret", "files: 29 as made again"])
+        self.assertIn("; roots and receipts and 11 files made of them, for want of the secret", lines[-1])
 
     def test_without_the_program(self) -> None:
         """Where the program isn't here, the office's own trees alone make the same, and verify says so."""
         with mock.patch.object(sealing, "is_built", lambda: False):
             match = self.matched(self.sealed())
-            self.assertIn("by the office's own trees; the program seal isn't here", self.verify(match)[-5])
+            self.assertIn("by the office's own trees; the program seal isn't here", self.verify(match)[-3])
         self.assertEqual(self.receipts(match), derived(match, True).receipts())
-        self.assertEqual(self.verify(match)[-1], "everything holds")
+        self.assertIn("files: 41 as made again", self.verify(match))
 
     def test_in_a_process_of_its_own(self) -> None:
         match = self.matched(self.sealed())
         done = spawn(["verify", str(match)])
-        self.assertEqual((done.status, done.out.splitlines()[-1], done.err), (0, "everything holds", ""))
+        self.assertEqual((done.status, done.err), (0, ""))
+        self.assertIn("\nfiles: 41 as made again\n", done.out)

@@ -35,8 +35,7 @@ class Tables(OfficeTest):
     def docket(self, programmes=PROGRAMMES, residents=RESIDENTS, *words: str) -> List[str]:
         """The docket of two tables."""
         given = line.parser().parse_args(["check", *self.tables(programmes, residents), *words])
-        _, market = command.read_tables(*given.files, command.options_of(given))
-        return rows_of(market.docket())
+        return rows_of(command.read_tables(*given.files, command.settings_of(given)).market.docket())
 
     def same(self, *tables) -> None:
         self.assertEqual(self.docket(*tables), DOCKET.splitlines())

@@ -1,18 +1,38 @@
-"""`office verify`: a folder holds as it was made, and each thing that is changed in it is told, with status 4."""
-import csv
+"""`office verify`: what it says of a folder as it was made, of one without a part, and of parts that the programs refuse."""
+import contextlib
 import hashlib
 import io
+import json
+import os
 import shutil
+import subprocess
 import sys
 import tempfile
 import unittest
 from pathlib import Path
-from typing import Callable, List, Optional
 from unittest import mock
 
-from support import PROGRAMMES, RESIDENTS, office
+from residency.office import steps
+from support import OFFICE, PROGRAMMES, RESIDENTS, office
 
-SUMS, SHEET, DOCKET, MATCHES = "SHA256SUMS", "sheet.csv", "docket.csv", "matches.csv"
+SUMS, SHEET, DOCKET, MANIFEST = "SHA256SUMS", "sheet.csv", "docket.csv", "manifest.json"
+NO_TABLES = "not checked: lists and names, for want of the tables (--tables)"
+
+
+def make_sums_again(folder: Path) -> None:
+    """Makes every digest of a folder again, as whoever forges one would."""
+    def digest(path: Path) -> str:
+        return hashlib.sha256(path.read_bytes()).hexdigest()
+
+    if (folder / MANIFEST).is_file():
+        manifest = json.loads((folder / MANIFEST).read_text(encoding="utf-8"))
+        tops = [path for path in sorted(folder.iterdir()) if path.is_file() and path.name not in (MANIFEST, SUMS)]
+        manifest["sha256"] = {path.name: digest(path) for path in tops}
+        (folder / MANIFEST).write_text(json.dumps(manifest, ensure_ascii=False, indent=1) + "\n", encoding="utf-8")
+    if (folder / SUMS).is_file():
+        files = {path.relative_to(folder).as_posix(): path for path in folder.rglob("*") if path.is_file()}
+        files.pop(SUMS)
+        (folder / SUMS).write_text("".join(f"{digest(files[name])}  {name}\n" for name in sorted(files)), encoding="utf-8")
 
 
 class Verify(unittest.TestCase):
@@ -21,11 +41,11 @@ class Verify(unittest.TestCase):
     @classmethod
     def setUpClass(cls) -> None:
         cls.room = tempfile.TemporaryDirectory()
-        room = Path(cls.room.name)
-        (room / "programmes.csv").write_text(PROGRAMMES, encoding="utf-8")
-        (room / "residents.csv").write_text(RESIDENTS, encoding="utf-8")
-        cls.whole = room / "whole"
-        said = office("run", room / "programmes.csv", room / "residents.csv", "--out", cls.whole)
+        cls.tables = [str(Path(cls.room.name) / name) for name in ("programmes.csv", "residents.csv")]
+        for path, text in zip(cls.tables, (PROGRAMMES, RESIDENTS)):
+            Path(path).write_text(text, encoding="utf-8")
+        cls.whole = Path(cls.room.name) / "whole"
+        said = office("run", *cls.tables, "--out", cls.whole)
         assert said.status == 0, said
 
     @classmethod
@@ -37,47 +57,105 @@ class Verify(unittest.TestCase):
         shutil.copytree(self.whole, self.at)
 
     def change(self, name: str, text: str) -> None:
-        """Writes a file, and its digest into SHA256SUMS, as whoever forges a folder would."""
+        """Writes a file, and all digests again."""
         (self.at / name).write_bytes(text.encode("utf-8"))
-        digest = hashlib.sha256((self.at / name).read_bytes()).hexdigest()
-        lines = [line for line in (self.at / SUMS).read_text(encoding="utf-8").splitlines() if not line.endswith(f"  {name}")]
-        (self.at / SUMS).write_text("\n".join([*lines, f"{digest}  {name}", ""]), encoding="utf-8")
+        make_sums_again(self.at)
 
     def text(self, name: str) -> str:
         return (self.at / name).read_bytes().decode("utf-8")
 
-    def fails(self, *what: str) -> str:
+    def fails(self, *what: str, left: str = NO_TABLES) -> str:
         said = office("verify", self.at)
         self.assertEqual((said.status, said.err), (4, ""))
-        self.assertEqual(said.out.splitlines()[-1], f"this does not hold: {', '.join(what)}", said.out)
+        self.assertEqual(said.out.splitlines()[-1], f"this does not hold: {', '.join(what)}" + (left and f"; {left}"), said.out)
         return said.out
 
-    def test_a_whole_folder_holds(self) -> None:
-        said = office("verify", self.at)
+    def holds(self, *words: str) -> "list[str]":
+        said = office("verify", self.at, *words)
         self.assertEqual((said.status, said.err), (0, ""), said)
-        lines = said.out.splitlines()
-        for line in ("members: 4 programmes and 7 residents", "withdrawn: nobody", "audit: S,stable", "result: Y,result",
-                     "reasons: matches.csv says the same of 7 residents", "letters: 7 say the same"):
-            self.assertIn(line, lines)
-        digest = hashlib.sha256((self.at / DOCKET).read_bytes()).hexdigest()
-        self.assertIn(f"docket.csv: SHA-256 {digest}", lines)
-        self.assertEqual(lines[-1], "everything holds")
+        return said.out.splitlines()
 
-    def test_without_a_key_or_a_journal(self) -> None:
-        names = ("key.csv", "journal.csv")
-        for name in names:
+    def test_a_whole_folder_holds(self) -> None:
+        """Four programmes, seven residents, 4 places filled: 7 letters, 4 rosters and 12 files at the top."""
+        events = len([line for line in self.text("journal.csv").splitlines() if line.startswith("E,")])
+        digests = [f"{name}: SHA-256 {hashlib.sha256((self.at / name).read_bytes()).hexdigest()}" for name in (DOCKET, SHEET, "journal.csv")]
+        self.assertEqual(self.holds(), [
+            "parts: each file has its own records alone", *digests, "members: 4 programmes and 7 residents", "withdrawn: nobody",
+            "audit: S,stable", "result: Y,result", f"replay: G,{events}", f"second opinion: S,stable G,{events}, the same",
+            "reasons: the program says what the letters say", "files: 23 as made again",
+            f"23 files made again, the result, the journal of {events} events; {NO_TABLES}"])
+
+    def test_what_is_told_is_a_value(self) -> None:
+        """The step has each line with what it is about and whether it holds, gives each to the call, and prints nothing."""
+        told = []
+        with contextlib.redirect_stdout(io.StringIO()) as out:
+            done = steps.verify(str(self.at), progress=told.append)
+            (self.at / "page.html").unlink()
+            amiss = steps.verify(str(self.at))
+        self.assertEqual((done.lines, done.wrong, len(done.held), out.getvalue()), (told, [], 3, ""))
+        self.assertEqual([one.what for one in told if one.holds is None], [DOCKET, SHEET, "journal.csv", "members", "withdrawn"])
+        self.assertEqual((told[-1], told[-1].line()), (("files", "23 as made again", True), "files: 23 as made again"))
+        self.assertEqual((amiss.lines[-2:], amiss.wrong, amiss.verdict()), (
+            [("page.html", "missing", False), ("files", "1 file of 23 differ, are missing or are more", False)], ["files"],
+            f"this does not hold: files; {NO_TABLES}"))
+
+    def test_with_the_tables(self) -> None:
+        lines = self.holds("--tables", *self.tables)
+        self.assertIn("tables: the files that the manifest names, and the docket and key that they give", lines)
+        self.assertRegex(lines[-1], r"\A23 files made again, the result, the journal of [0-9]+ events\Z")
+        spaced = Path(self.tables[1]).with_name("spaced.csv")
+        spaced.write_text(RESIDENTS + ",,,\n", encoding="utf-8")
+        self.assertIn("tables: other files than the manifest names, and the docket and key that they give",
+                      self.holds("--tables", self.tables[0], str(spaced)))
+
+    def test_a_folder_of_other_tables(self) -> None:
+        """Whoever makes the whole folder of other lists, or exchanges two people, is told by the tables alone."""
+        for text, wanted in ((RESIDENTS.replace("Jürgen Groß,North Clinic", "Jürgen Groß,East Ward"), "tables: docket.csv: differs, first at line "),
+                             (RESIDENTS.replace("Omar Haddad,", "Omer Haddad,"), "tables: ")):
+            other = Path(self.tables[1]).with_name("other.csv")
+            other.write_text(text, encoding="utf-8")
+            programmes = Path(self.tables[0]).with_name("other-programmes.csv")
+            programmes.write_text(PROGRAMMES.replace("Omar Haddad", "Omer Haddad") if "Omer" in text else PROGRAMMES, encoding="utf-8")
+            shutil.rmtree(self.at)
+            self.assertEqual(office("run", programmes, other, "--out", self.at).status, 0)
+            self.holds()
+            said = office("verify", self.at, "--tables", *self.tables)
+            self.assertEqual(said.status, 4)
+            self.assertIn(wanted, said.out)
+            self.assertTrue(said.out.splitlines()[-1].startswith("this does not hold: tables, "))
+
+    def test_tables_at_fault(self) -> None:
+        said = office("verify", self.at, "--tables", self.tables[0], self.tables[0])
+        self.assertEqual((said.status, said.out), (2, ""))
+
+    def test_without_a_key(self) -> None:
+        """What has names isn't checked, whether it is there or not, and all else is."""
+        events = len([line for line in self.text("journal.csv").splitlines() if line.startswith("E,")])
+        (self.at / "key.csv").unlink()
+        lines = self.holds()
+        self.assertEqual(lines[-3:], [
+            "names and 15 files made of them: not checked: needs the key", "files: 7 as made again",
+            f"7 files made again, the result, the journal of {events} events; {NO_TABLES}; names and 15 files made of them, for want of the key"])
+        for name in ("letters", "rosters"):
+            shutil.rmtree(self.at / name)
+        for name in ("letters.html", "page.html", "matches.csv", "unfilled.csv"):
             (self.at / name).unlink()
-        lines = [line for line in self.text(SUMS).splitlines() if not line.endswith(names)]
-        (self.at / SUMS).write_text("\n".join([*lines, ""]), encoding="utf-8")
-        said = office("verify", self.at)
-        self.assertEqual((said.status, said.out.splitlines()[-1]), (0, "everything holds"), said)
-        self.assertIn("replay: there is no journal", said.out)
+        self.assertEqual(self.holds()[-3], "names: not checked: needs the key")
+        self.change("audit.csv", "S,unstable\n")
+        self.assertIn("audit.csv: differs, first at line 1\n", self.fails("files", left=f"{NO_TABLES}; names, for want of the key"))
+
+    def test_without_a_journal(self) -> None:
+        (self.at / "journal.csv").unlink()
+        make_sums_again(self.at)
+        said = self.fails("files", left="not checked: replay, for want of the journal; lists and names, for want of the tables (--tables)")
+        self.assertIn("replay: not checked: needs the journal\n", said)
+        self.assertIn("\njournal.csv: missing\n", said)
 
     def test_a_withdrawal_in_the_sheet(self) -> None:
         matched = next(line.split(",")[1] for line in self.text(SHEET).splitlines() if line.startswith("M,"))
         for rows in (f"W,R,{matched}\n{self.text(SHEET)}", f"{self.text(SHEET)}W,R,{matched}\n"):
             self.change(SHEET, rows)
-            self.assertIn("belongs to another part", self.fails("parts"))
+            self.assertIn("belongs to another part", self.fails("parts", left=""))
 
     def test_each_kind_of_record_in_each_wrong_file(self) -> None:
         letters = {DOCKET: "VQPRW", SHEET: "MUF", "journal.csv": "CE"}
@@ -90,17 +168,8 @@ class Verify(unittest.TestCase):
                 for at in (0, len(rows) // 2, len(rows)):
                     for form in forms:
                         self.change(name, form([*rows[:at], f"{row}\n", *rows[at:]]))
-                        self.assertIn(f"parts: {name}: record {at + 1}: belongs to another part", self.fails("parts"))
+                        self.assertIn(f"parts: {name}: record {at + 1}: belongs to another part", self.fails("parts", left=""))
             self.change(name, "".join(rows))
-
-    def test_a_changed_file(self) -> None:
-        (self.at / "page.html").write_text("other", encoding="utf-8")
-        self.assertIn("digests: page.html changed", self.fails("digests"))
-
-    def test_a_missing_and_a_new_file(self) -> None:
-        (self.at / "page.html").unlink()
-        (self.at / "more.txt").write_text("more", encoding="utf-8")
-        self.assertIn("page.html missing; more.txt not in SHA256SUMS", self.fails("digests"))
 
     def test_a_sheet_that_is_not_the_result(self) -> None:
         rows = [line.split(",") for line in self.text(SHEET).splitlines()]
@@ -108,117 +177,53 @@ class Verify(unittest.TestCase):
         changed = [["U", gone[1]] if row is gone else ["F", row[1], str(int(row[2]) - 1), row[3]] if row[:2] == ["F", gone[2]] else row
                    for row in rows]
         self.change(SHEET, "".join(",".join(row) + "\n" for row in changed))
-        said = self.fails("audit", "result", "replay", "reasons", "letters")
+        said = self.fails("audit", "result", "replay", "files")
         self.assertIn("audit: S,unstable; 3 blocking pairs", said)
         self.assertIn(f"result: D,{gone[1]}", said)
-
-    def test_a_match_that_is_told_otherwise(self) -> None:
-        rows = list(csv.reader(io.StringIO(self.text(MATCHES))))
-        matched = next(row for row in rows if row[3] == "matched")
-        matched[4] = next(row[4] for row in rows[1:] if row[4] not in ("", matched[4]))
-        text = io.StringIO()
-        csv.writer(text, lineterminator="\n").writerows(rows)
-        self.change(MATCHES, text.getvalue())
-        self.assertIn(f"matches.csv says something else of {matched[0]}", self.fails("reasons"))
-
-    def told_otherwise(self, change: Callable[[List[List[str]]], str]) -> None:
-        """Changes rows of matches.csv, the first of which is the heading; whose row it was is told."""
-        rows = list(csv.reader(io.StringIO(self.text(MATCHES))))
-        who = change(rows)
-        text = io.StringIO()
-        csv.writer(text, lineterminator="\n").writerows(rows)
-        kept = self.text(MATCHES)
-        self.change(MATCHES, text.getvalue())
-        self.assertIn(f"matches.csv says something else of {who}\n", self.fails("reasons"))
-        self.change(MATCHES, kept)
-
-    def test_rows_of_matches(self) -> None:
-        """Another standing, programme or choice, a row less, a row more, and a row twice."""
-        rows = list(csv.reader(io.StringIO(self.text(MATCHES))))
-        matched = next(place for place, row in enumerate(rows) if row[3] == "matched" and row[7] == "1")
-        alone = next(place for place, row in enumerate(rows) if row[3] == "ranked back by nobody")
-
-        def put(place: int, **cells: str) -> Callable[[List[List[str]]], str]:
-            def change(given: List[List[str]]) -> str:
-                for heading, text in cells.items():
-                    given[place][given[0].index(heading)] = text
-                return given[place][0]
-            return change
-
-        for changed in ({"choice": "2"}, {"choice": ""}, {"standing": "lost out"}, {"programme_docket_name": ""},
-                        {"standing": "lost out", "programme_docket_name": "", "choice": ""}):
-            self.told_otherwise(put(matched, **changed))
-        for changed in ({"choice": "1"}, {"standing": "matched"}, {"programme_docket_name": rows[matched][4]},
-                        {"standing": "matched", "programme_docket_name": rows[matched][4], "choice": "1"}):
-            self.told_otherwise(put(alone, **changed))
-        for place in (matched, alone):
-            self.told_otherwise(lambda given, place=place: given.pop(place)[0])
-        self.told_otherwise(lambda given: given.append(["nobody-known", *given[matched][1:]]) or "nobody-known")
-
-    def test_a_letter_that_says_otherwise(self) -> None:
-        letters = sorted((self.at / "letters").iterdir())
-        words = next(line.split(": ", 1)[1] for path in letters for line in path.read_text(encoding="utf-8").splitlines()
-                     if "matched here" in line)
-        path = next(path for path in letters if "matched here" not in path.read_text(encoding="utf-8") and "  1. " in path.read_text(encoding="utf-8"))
-        lines = path.read_text(encoding="utf-8").split("\n")
-        at = next(at for at, line in enumerate(lines) if line.startswith("  1. "))
-        lines[at] = f"{lines[at].split(': ')[0]}: {words}"
-        self.change(f"letters/{path.name}", "\n".join(lines))
-        self.assertIn("say something else", self.fails("letters"))
-
-    def letter_fails(self, path: Path, lines: Optional[List[str]]) -> None:
-        """A letter of other lines, or none at all."""
-        name, kept = f"letters/{path.name}", path.read_text(encoding="utf-8")
-        if lines is None:
-            path.unlink()
-            sums = [line for line in self.text(SUMS).splitlines() if not line.endswith(f"  {name}")]
-            (self.at / SUMS).write_text("\n".join([*sums, ""]), encoding="utf-8")
-        else:
-            self.change(name, "\n".join(lines))
-        self.assertIn(f"letters: those of {path.stem} say something else\n", self.fails("letters"))
-        self.change(name, kept)
-
-    def test_lines_of_letters(self) -> None:
-        """A letter less; a choice less or twice, or under another number; a match at a second choice besides."""
-        letters = [(path, path.read_text(encoding="utf-8").split("\n")) for path in sorted((self.at / "letters").iterdir())]
-        path, lines = next((path, lines) for path, lines in letters if any(line.startswith("  2. ") and "not needed" in line
-                                                                          for line in lines))
-        first, second = (next(at for at, line in enumerate(lines) if line.startswith(f"  {number}. ")) for number in (1, 2))
-        words = lines[first].split(": ", 1)[1]
-        self.assertEqual(words, "you are matched here")
-        for changed in (None, lines[:second] + lines[second + 1:], lines[:second] + lines[first:], lines[:first] + lines[second:],
-                        [*lines[:second], lines[second].replace("  2. ", "  3. "), *lines[second + 1:]],
-                        [*lines[:second], f"{lines[second].split(': ')[0]}: {words}", *lines[second + 1:]]):
-            self.letter_fails(path, changed)
-
-    def test_files_in_another_form_hold(self) -> None:
-        """A mark at the start, other line ends, quotes, and no end of the last line: what is read is what is checked."""
-        kept = {name: self.text(name) for name in (DOCKET, SHEET, "journal.csv")}
-        forms = (lambda text: "\ufeff" + text, lambda text: text.rstrip("\n"), lambda text: text.replace("\n", "\r\n"),
-                 lambda text: "\ufeff" + text.rstrip("\n").replace("\n", "\r"),
-                 lambda text: "".join('"' + row.replace(",", '","') + '"\n' for row in text.splitlines()))
-        for form in forms:
-            for name, text in kept.items():
-                self.change(name, form(text))
-            said = office("verify", self.at)
-            self.assertEqual((said.status, said.out.splitlines()[-1]), (0, "everything holds"), said)
+        self.assertIn(f"\nsheet.csv: differs, first at line {rows.index(gone) + 1}\n", said)
 
     def test_what_the_program_refuses(self) -> None:
         """A sheet without a resident's row, and a docket at fault, are told by each check that the program refuses."""
         rows = self.text(SHEET).splitlines(keepends=True)
         gone = next(row for row in rows if row.startswith("U,"))
         self.change(SHEET, "".join(row for row in rows if row != gone))
-        said = self.fails("audit", "result", "replay", "second opinion", "reasons")
+        said = self.fails("audit", "result", "replay", "second opinion", "files")
         self.assertRegex(said, "audit: .*bad sheet")
         self.change(SHEET, "".join(rows))
         docket = self.text(DOCKET)
         self.change(DOCKET, docket.replace("\nP,", "\nP,nobody,", 1))
-        said = self.fails("audit", "result", "replay", "second opinion", "reasons")
+        said = self.fails("audit", "result", "replay", "second opinion", "docket and key", left="")
         self.assertRegex(said, "result: .*unknown name")
+
+    def test_files_in_another_form(self) -> None:
+        """A mark at the start, other line ends, quotes, and no end of the last line say the same, and are no file that office wrote."""
+        kept = {name: self.text(name) for name in (DOCKET, SHEET)}
+        forms = (lambda text: "\ufeff" + text, lambda text: text.rstrip("\n"), lambda text: text.replace("\n", "\r\n"),
+                 lambda text: "".join('"' + row.replace(",", '","') + '"\n' for row in text.splitlines()))
+        for form in forms:
+            for name, text in kept.items():
+                self.change(name, form(text))
+            said = self.fails("files")
+            for line in ("audit: S,stable", "result: Y,result"):
+                self.assertIn(f"\n{line}\n", said)
+            for name in kept:
+                self.assertIn(f"\n{name}: differs, first at line ", said)
 
     def test_a_journal_of_another_exchange(self) -> None:
         self.change("journal.csv", "".join(self.text("journal.csv").splitlines(keepends=True)[:-1]))
-        self.assertIn("not-closed", self.fails("replay"))
+        self.assertIn("not-closed", self.fails("replay", "files"))
+
+    def test_a_manifest_of_something_else(self) -> None:
+        """Whatever it is in place of a manifest is told, and no traceback."""
+        good = json.loads(self.text(MANIFEST))
+        for text in ("", "[]", "{}", "[" * 9000, '"x"', *(json.dumps({**good, name: value}) for name, value in (
+                ("title", 1), ("date", 2), ("date", "2026-13-01"), ("withdrawn", {}), ("withdrawn", [["R"]]), ("details", "x"), ("details", [1]),
+                ("sealed", []), ("sealed", {}), ("from", 1), ("from", {}), ("template", 1), ("template", "$nobody"), ("order", []),
+                ("cut_offs", "x"), ("tables", 1), ("sha256", 1), ("auditor", 1), ("auditor", {"key": 1})))):
+            (self.at / MANIFEST).write_text(text, encoding="utf-8")
+            said = office("verify", self.at)
+            self.assertEqual((said.status, said.err), (4, ""), text[:80])
+            self.assertTrue(said.out.splitlines()[-1].startswith("this does not hold: "), text[:80])
 
     def test_a_second_opinion_of_something_else(self) -> None:
         """It has to say what the program says: a line more or less, another status or no word at all fails."""
@@ -236,11 +241,47 @@ class Verify(unittest.TestCase):
         with mock.patch.object(module, "second_opinion", return_value=None):
             self.fails("second opinion")
 
+    def test_reasons_of_something_else(self) -> None:
+        """What the program says of each choice has to be what the letters say."""
+        module = sys.modules["residency.office.verify"]
+        real = module.run_program
+        for old, new in ((b"full", b"unranked"), (b"unranked", b"better"), (b"matched", b"full"), (b"better", b"full")):
+            with mock.patch.object(module, "run_program", lambda name, words, *more, old=old, new=new: (
+                    0, real(name, words, *more)[1].replace(old, new, 1) if name == "why" else real(name, words, *more)[1])):
+                self.assertIn("reasons: the program says something else of ", self.fails("reasons"))
+
+    def test_no_code_of_the_folder_is_run(self) -> None:
+        """A file of each name that Python imports at its start or later stands in the folder, which is on PYTHONPATH, too."""
+        for name in ("sitecustomize", "usercustomize", "csv", "io", "json", "encodings", "second-opinion"):
+            (self.at / f"{name}.py").write_text(f"open({str(self.at.parent / 'told')!r}, 'a').write({name!r})\n")
+        env = {**os.environ, "PYTHONPATH": str(self.at)}
+        done = subprocess.run([OFFICE, "verify", "."], cwd=self.at, env=env, capture_output=True, text=True)
+        self.assertEqual((done.returncode, done.stderr, (self.at.parent / "told").exists()), (4, "", False))
+        self.assertIn("\nsitecustomize.py: more than the folder has\n", done.stdout)
+        self.assertIn(", the same\n", done.stdout)
+
+    def test_names_of_files(self) -> None:
+        """A line's end or a code for a terminal in a file's name is shown, and never sent."""
+        for name in ("a\nthe result holds", "b\x1b[2J", "c\u202e", "letters/d\r"):
+            (self.at / name).write_text("more")
+        lines = self.fails("files").splitlines()
+        for line in (r"a\nthe result holds: more than the folder has", r"b\x1b[2J: more than the folder has", r"c\u202e: more than the folder has",
+                     r"letters/d\r: more than the folder has"):
+            self.assertIn(line, lines)
+
+    def test_links_are_no_files(self) -> None:
+        kept = self.at.parent / "page.html"
+        shutil.move(self.at / "page.html", kept)
+        (self.at / "page.html").symlink_to(kept)
+        said = office("verify", self.at)
+        self.assertEqual((said.status, said.err), (3, f"office: {self.at}: page.html is no file\n"))
+
     def test_no_folder(self) -> None:
         self.assertEqual(office("verify", self.at / "none").status, 1)
-        (self.at / SHEET).unlink()
-        said = office("verify", self.at)
-        self.assertEqual((said.status, "sheet.csv is missing" in said.err), (3, True), said)
+        for name in (SHEET, DOCKET):
+            (self.at / name).unlink()
+            said = office("verify", self.at)
+            self.assertEqual((said.status, said.out, said.err), (3, "", f"office: {self.at}: {name} is missing\n"))
 
 
 if __name__ == "__main__":

@@ -105,7 +105,7 @@ class Answers(unittest.TestCase):
         match = market.match(journal=True)
         self.assertEqual(json.loads(json.dumps(match.to_dict())), {
             "places": {"王": "Köln", "x": "B", "y": None}, "filled": {"Köln": 1, "B": 1}, "quotas": {"Köln": 1, "B": 1},
-            "unmatched": ["y"], "sheet": "M,r,koln\nM,x,b\nU,y\nF,koln,1,1\nF,b,1,1\n", "journal": match.journal.decode()})
+            "unmatched": ["y"], "sheet": "M,u738b,koln\nM,x,b\nU,y\nF,koln,1,1\nF,b,1,1\n", "journal": match.journal.decode()})
         again = market.read_match(match.to_dict()["sheet"].encode(), match.to_dict()["journal"].encode())
         self.assertEqual(again, match)
         self.assertEqual(json.loads(json.dumps(self.AUDIT.to_dict())), {

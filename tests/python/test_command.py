@@ -83,8 +83,14 @@ class Json(unittest.TestCase):
         for words, data, status in ((["match"], b"Q,a,1\nQ,a,1\n", 3), (["audit"], good, 3), (["replay"], good, 3),
                                     (["match", "--workers", "9"], good, 2), (["match", "--nothing"], good, 2)):
             said, own = ask([*words, "--json"], data), of_program(words, data)
-            self.assertEqual((said.returncode, said.stdout, said.stderr), (own.returncode, own.stdout, own.stderr))
-            self.assertEqual((said.returncode, said.stdout), (status, b""))
+            self.assertEqual((said.returncode, said.stderr, said.stdout == b""), (own.returncode, own.stderr, status != 3))
+            self.assertEqual((said.returncode, own.stdout), (status, b""))
+        said = ask(["match", "--json"], b"Q,a,1\nQ,a,1\nP,b\n")
+        self.assertEqual((said.stderr, json.loads(said.stdout)), (b"residency: record 2: declared twice\n", {"faults": [
+            {"record": 2, "cell": 2, "text": "declared twice", "name": "a", "detail": "cell 2: a, as in record 1",
+             "line": "record 2: declared twice (cell 2: a, as in record 1)"},
+            {"record": 3, "cell": 2, "text": "unknown name", "name": "b", "detail": "cell 2: b",
+             "line": "record 3: unknown name (cell 2: b)"}]}))
         for words in (["--json"], ["why", "--json"], ["--workers", "2", "match", "--json"]):
             said = ask(words, good)
             self.assertEqual((said.returncode, said.stdout, said.stderr),

@@ -85,6 +85,11 @@ class Page(unittest.TestCase):
         test = doctest.DocTestParser().get_doctest(blocks()[1], {"Market": residency.Market}, "python.md", "docs/python.md", 0)
         self.assertEqual(doctest.DocTestRunner(verbose=False).run(test, out=lambda text: self.fail(text)), (0, 1))
 
+    def test_the_offices_steps(self):
+        (block,) = [one for one in blocks() if "steps.check" in one]
+        test = doctest.DocTestParser().get_doctest(block, {}, "python.md", "docs/python.md", 0)
+        self.assertEqual(doctest.DocTestRunner(verbose=False).run(test, out=self.fail), (0, 6))
+
     def test_every_name_is_there(self):
         for name in re.findall(r"`((?:Market|market|residency)\.[a-z_]+|[a-z_]+(?=\())", PAGE):
             owner, _, last = name.rpartition(".")
@@ -179,7 +184,7 @@ print(ascii(residency.Market({"Köln": 1}, {"Köln": ["王"]}, {"王": ["Köln"]
             said = subprocess.run([f"{folder}/site/bin/residency-office", "--help"], capture_output=True, text=True, check=False,
                                   env={**os.environ, "PYTHONPATH": f"{folder}/site"})
             self.assertRegex(said.stdout, "^usage: residency-office")
-            self.assertEqual(files(Path(folder) / "site"), files(TOP / "python") | {"residency/VERSION", "residency/HOME"})
+            self.assertEqual(files(Path(folder) / "site"), files(TOP / "python") | {"residency/VERSION", "residency/HOME", "residency/office/second-opinion.py"})
 
 
 def files(folder):

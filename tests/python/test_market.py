@@ -30,11 +30,11 @@ def market():
 class Building(unittest.TestCase):
     def test_dictionaries(self):
         one = market()
-        self.assertEqual(one.docket().decode(), "Q,koln,2\nQ,lodz-east,1\nP,koln,zoe-weiss,anna-1,r\nP,lodz-east,zoe-weiss\n"
-                         "R,zoe-weiss,lodz-east,koln\nR,anna-1,koln\nR,r,koln\n")
+        self.assertEqual(one.docket().decode(), "Q,koln,2\nQ,lodz-east,1\nP,koln,zoe-weiss,anna-1,u738b82b3\nP,lodz-east,zoe-weiss\n"
+                         "R,zoe-weiss,lodz-east,koln\nR,anna-1,koln\nR,u738b82b3,koln\n")
         self.assertEqual((one.quotas, one.programme_lists["=Köln"], one.resident_lists["王芳"]),
                          (PLACES, tuple(PROGRAMMES["=Köln"]), ("=Köln",)))
-        self.assertEqual(one.names.name("R", "r"), "王芳")
+        self.assertEqual(one.names.name("R", "u738b82b3"), "王芳")
 
     def test_numbers_of_a_data_frame(self):
         class Number:
@@ -51,11 +51,11 @@ class Building(unittest.TestCase):
 
     def test_dictionaries_at_fault(self):
         with self.assertRaises(MarketFault) as caught:
-            Market.from_dictionaries({"Kim": ["Nort", "South", "South"], "": [], "Lee": "North", 7: [], "Ann": [None]},
+            Market.from_dictionaries({"Kim": ["Nort", "South", "South"], "": [], "Lee": "North", 7.5: [], "Ann": [None]},
                                      {"Nrth": ["Kim"], "South": ["Kin"]},
                                      {"North": 10001, "South": True, "East": "2", "West": -1}, ["West", "Wesst"], "Kim")
         self.assertEqual(list(caught.exception.faults), [
-            "a resident is called '', which is no name", "a resident is called 7, which is no name",
+            "a resident is called '', which is no name", "a resident is called 7.5, which is no name",
             "programme North: 10001 is no number of places from 0 to 10000",
             "programme South: True is no number of places from 0 to 10000",
             "programme East: 2 is no number of places from 0 to 10000",
@@ -160,7 +160,7 @@ class Building(unittest.TestCase):
         self.assertEqual((again.quotas, again.programme_lists, again.resident_lists),
                          (one.quotas, one.programme_lists, one.resident_lists))
         self.assertEqual((again.withdrawn_programmes, again.withdrawn_residents), (("Łódź, East",), ("王芳",)))
-        self.assertEqual(Market.from_docket(one.docket()).withdrawn_residents, ("r",))
+        self.assertEqual(Market.from_docket(one.docket()).withdrawn_residents, ("u738b82b3",))
         with self.assertRaises(DocketFault):
             Market.from_docket(b"Q,a,1\nQ,a,1\n")
         with self.assertRaisesRegex(KeyFault, "the key has no resident zoe-weiss of the docket"):
@@ -183,7 +183,7 @@ class Answers(unittest.TestCase):
         self.assertEqual((match.filled, match.quotas, match.unmatched), ({"=Köln": 2, "Łódź, East": 1}, PLACES, ()))
         self.assertEqual(match.residents_of("=Köln"), ("Anna (1)", "王芳"))
         self.assertEqual((match.sheet, match.journal),
-                         (b"M,zoe-weiss,lodz-east\nM,anna-1,koln\nM,r,koln\nF,koln,2,2\nF,lodz-east,1,1\n", b""))
+                         (b"M,zoe-weiss,lodz-east\nM,anna-1,koln\nM,u738b82b3,koln\nF,koln,2,2\nF,lodz-east,1,1\n", b""))
         with self.assertRaises(FrozenInstanceError):
             match.sheet = b""
 
@@ -243,7 +243,7 @@ class Answers(unittest.TestCase):
         self.assertEqual((by_worker.good, len(by_worker.by_worker), sum(by_worker.by_worker)), (True, 3, by_worker.events))
         for journal, answer in ((b"C,full\n", Replay(False, place=1, word="not-closed")),
                                 (b"C,full\nE,close\n", Replay(False, place=1, word="still-pending", pending="wish", at="=Köln")),
-                                (b"C,full\nE,offer,koln,r\n", Replay(False, place=1, word="not-next")),
+                                (b"C,full\nE,offer,koln,u738b82b3\n", Replay(False, place=1, word="not-next")),
                                 (b"C,full\nE,offer,koln,zoe-weiss\nE,close\n",
                                  Replay(False, place=2, word="still-pending", pending="offers", at="Zoë Weiß"))):
             self.assertEqual(one.replay(journal), answer)
@@ -340,7 +340,7 @@ cat "$ROWS"
 
     def test_table(self):
         one = market()
-        with self.in_folder("r,koln,1,matched,,,\n"):
+        with self.in_folder("u738b82b3,koln,1,matched,,,\n"):
             self.assertEqual(one.why(MATCHED, "Zoë Weiß"),
                              (Why("Zoë Weiß", "Łódź, East", choice=1, answer="matched"),
                               Why("Zoë Weiß", "=Köln", choice=2, answer="better")))
@@ -349,8 +349,8 @@ cat "$ROWS"
                              [("Zoë Weiß", "Łódź, East"), ("Zoë Weiß", "=Köln"), ("Anna (1)", "=Köln"), ("王芳", "=Köln")])
 
     def test_a_table_that_leaves_somebody_out(self):
-        for last in ("", "r,koln,x,matched,,,\n", "r,koln,1,matched\n",
-                     "r,koln,1,matched,,,\nr,koln,1,matched,,,\nr,lodz-east,2,matched,,,\n"):
+        for last in ("", "u738b82b3,koln,x,matched,,,\n", "u738b82b3,koln,1,matched\n",
+                     "u738b82b3,koln,1,matched,,,\nu738b82b3,koln,1,matched,,,\nu738b82b3,lodz-east,2,matched,,,\n"):
             with self.in_folder(last), self.assertRaises(UnknownStatus):
                 market().why(MATCHED, "Zoë Weiß")
 

@@ -27,7 +27,11 @@ class DocketNames(unittest.TestCase):
                            # Every word keeps its start, the longest lose most.
                            ("Universitätsklinik Köln – Chirurgie", "universitatsklini-koln-chirurgie"), ("a" * 40, "a" * 32),
                            ("Centre hospitalier universitaire de Montpellier – Pédiatrie", "centr-hospi-unive-de-montp-pedia"),
-                           ("王芳", "n"), ("🙂", "n"), ("...", "n")):
+                           # Of more than 16 words the first and the last eight are kept.
+                           ("a b c d e f g h i j k l m n o p", "a-b-c-d-e-f-g-h-i-j-k-l-m-n-o-p"),
+                           ("a b c d e f g h i j k l m n o p q", "a-b-c-d-e-f-g-h-j-k-l-m-n-o-p-q"),
+                           ("aa bb cc dd ee ff gg hh ii jj kk ll mm nn oo pp qq rr", "aa-b-c-d-e-f-g-h-k-l-m-n-o-p-q-r"),
+                           ("王芳", "u738b82b3"), ("王 芳", "u738b-u82b3"), ("שלום", "u5e95dc5d55dd"), ("🙂", "u1f642"), ("...", "n")):
             with self.subTest(text=text):
                 self.assertEqual(docket_names([text]), {text: name})
 

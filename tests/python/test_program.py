@@ -98,12 +98,17 @@ class Finding(Folders):
     def test_the_order(self):
         package = self.folder / "clone" / "python" / "residency"
         self.assertIn("ProgramMissing: there is no built program residency: looked for", self.found_by(package))
-        for path in ("path/residency", "residency-1.0.0-x86_64-linux/bin/residency", "residency-1.9.0-x86_64-linux/bin/residency",
-                     "residency-1.10.0-x86_64-linux/bin/residency",
-                     "clone/bin/residency",
-                     "clone/crates/residency_cli/out/residency_cli"):
+        for path in ("path/residency", "clone/crates/residency_cli/out/residency_cli"):
             place = self.put(path)
             self.assertEqual(self.found_by(package), str(place))
+
+    def test_nothing_above_a_clone(self):
+        """What lies above a clone, beside it or in a folder `bin` of it is taken by no package of that clone."""
+        package = self.folder / "clone" / "python" / "residency"
+        for path in ("bin", "clone/bin", "clone/python/bin", "residency-1.0.0-x86_64-linux/bin", "../bin", "crates/residency_cli/out"):
+            for name in ("residency", "residency_cli"):
+                self.put(f"{path}/{name}")
+        self.assertIn("ProgramMissing: there is no built program residency: looked for", self.found_by(package))
 
     def test_what_pip_installed_from(self):
         """The programs of the clone, or of the installed release, from whose folder pip made the package."""
@@ -132,8 +137,9 @@ class Finding(Folders):
 
     def test_an_unpacked_release(self):
         place = self.put("residency-1.0.0-x86_64-linux/bin/residency")
-        for path in ("residency", "python/residency", "lib/python/residency", "lib/residency/python/residency"):
-            self.assertEqual(self.found_by(place.parent.parent / path), str(place))
+        self.assertEqual(self.found_by(place.parent.parent / "lib" / "residency" / "python" / "residency"), str(place))
+        for path in ("residency", "python/residency", "lib/python/residency", "libs/residency/python/residency"):
+            self.assertIn("ProgramMissing", self.found_by(place.parent.parent / path))
 
 
 class Exceptions(unittest.TestCase):

@@ -146,7 +146,8 @@ class Lists(unittest.TestCase):
         names = [f"resident {number:02}" for number in range(20)] + ["7"]
         one = Market(PLACES, {}, dict.fromkeys(names, []))
         self.assertEqual(one.withdraw(residents=set(names)).withdrawn_residents, tuple(sorted(names)))
-        self.assertEqual(self.faults(lambda: one.withdraw(residents=[7])), ["withdrawn: no resident is named 7"])
+        self.assertEqual(one.withdraw(residents=[7]).withdrawn_residents, ("7",))
+        self.assertEqual(self.faults(lambda: one.withdraw(residents=[8])), ["withdrawn: no resident is named 8"])
 
     def test_in_what_is_no_dictionary(self):
         for value, told in (([("North", 1)], "list is no dictionary"), ("North", "str is no dictionary"),

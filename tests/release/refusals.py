@@ -60,11 +60,11 @@ class Scratch:
         with open(f"{self.folder}/{path}", "a") as file:
             file.write(text)
 
-    def check(self, part: str = PART) -> str:
-        """What ./check does at its begin and at its end, with a part between."""
+    def check(self, part: str = PART, *words: str) -> str:
+        """What ./check --anew does at its begin and at its end, with a part between; with other words, what these say."""
         self.run("packaging/checked.py", "begin")
         self.append(".build/parts", part + "\n")
-        return self.run("packaging/checked.py", "end")[1]
+        return self.run("packaging/checked.py", *(words or ("end", "--anew")))[1]
 
     def made(self) -> List[str]:
         return sorted(glob.glob(f"{self.folder}/dist/*"))
@@ -201,12 +201,14 @@ def gate(trial: Trial, scratch: Scratch) -> None:
     scratch.refuses("./check passed commit ", "of another commit")
     scratch.check(PART + ", not tried: mandoc")
     scratch.refuses("./check left something out: gate", "after a check that left something out")
+    scratch.check(PART, "end")
+    scratch.refuses("./check counted what an earlier check kept", "after a check without --anew")
     scratch.check()
     scratch.run("packaging/checked.py", "begin")
     scratch.refuses("./check has passed nothing here", "while a check runs, or after one that failed")
     scratch.append("new.txt", "\n")
     scratch.commit()
-    trial.tell("changed meanwhile" in scratch.run("packaging/checked.py", "end")[1], "a commit while ./check runs")
+    trial.tell("changed meanwhile" in scratch.run("packaging/checked.py", "end", "--anew")[1], "a commit while ./check runs")
     scratch.check()
 
 

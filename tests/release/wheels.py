@@ -11,6 +11,7 @@ import re
 import shutil
 import subprocess
 import sys
+import tempfile
 import zipfile
 from typing import TYPE_CHECKING, Dict, List, Set, Tuple
 
@@ -57,7 +58,12 @@ def opened(trial: Trial, path: str, archive: str, programs: List[str]) -> None:
         entries = wheel.infolist()
         data = {entry.filename: wheel.read(entry) for entry in entries}
     info = f"{name}-{version}.dist-info"
-    wanted = wanted_of(archive, programs)
+    wanted, office = wanted_of(archive, programs), f"{name}-{version}.data/scripts/residency-office"
+    has_office = os.path.exists(f"{archive}/bin/residency-office")
+    if has_office:
+        wanted[office] = b"#!python\n" + wanted["residency/office/start.py"]
+        trial.tell(wanted.get("residency/office/second-opinion.py") == read(f"{archive}/examples/second-opinion.py"),
+                   "the wheel's second opinion isn't the example")
     trial.same(set(data), {*wanted, *(f"{info}/{each}" for each in OWN)}, "the wheel's files")
     for each in sorted(set(wanted) & set(data)):
         trial.tell(data[each] == wanted[each], f"the wheel's {each} isn't the archive's")
@@ -66,7 +72,7 @@ def opened(trial: Trial, path: str, archive: str, programs: List[str]) -> None:
     trial.same((inner, own), (sorted(inner), [*sorted(own[:-1]), f"{info}/RECORD"]), "the order of the wheel's files")
     trial.same({entry.date_time for entry in entries}, {(2020, 1, 1, 0, 0, 0)}, "the times of the wheel's files")
     for entry in entries:
-        is_program = entry.filename in {f"residency/programs/{each}" for each in programs}
+        is_program = entry.filename in {office, *(f"residency/programs/{each}" for each in programs)}
         trial.same((oct(entry.external_attr >> 16), entry.create_system), (oct(0o100755 if is_program else 0o100644), 3),
                    f"the mode of the wheel's {entry.filename}")
     record = [line.rsplit(",", 2) for line in data[f"{info}/RECORD"].decode().splitlines()]
@@ -80,8 +86,7 @@ def opened(trial: Trial, path: str, archive: str, programs: List[str]) -> None:
     lines = data[f"{info}/METADATA"].decode().splitlines()
     trial.tell({"Name: residency", f"Version: {version}", "Requires-Python: >=3.9"} <= set(lines), f"METADATA says {lines}")
     trial.tell(not any(line.startswith("Requires-Dist") for line in lines), "the wheel wants another package")
-    office = ["residency-office = residency.office.command:main"] if os.path.exists(f"{archive}/bin/residency-office") else []
-    scripts = ["[console_scripts]", *(f"{each} = residency.launch:main" for each in programs), *office]
+    scripts = ["[console_scripts]", *(f"{each} = residency.launch:main" for each in programs)]
     trial.same(data[f"{info}/entry_points.txt"].decode().splitlines(), scripts, "the wheel's scripts")
     for each, text in data.items():
         if each.endswith(".py"):
@@ -132,6 +137,17 @@ class Venv:
         return {path for path in files_below(self.folder) if "__pycache__" not in path}
 
 
+def without_the_callers_code(venv: Venv, tables: List[str]) -> Tuple[int, bytes, List[str]]:
+    """How the office's command ends where PYTHONPATH and the current folder have modules of Python's own names, and which were run."""
+    with tempfile.TemporaryDirectory() as folder:
+        for name in ("csv", "re", "json", "argparse", "residency", "signal"):
+            with open(f"{folder}/{name}.py", "w") as file:
+                file.write(f"open({folder!r} + '/told-{name}', 'w')\n")
+        done = subprocess.run([f"{venv.folder}/bin/residency-office", "check", *tables], cwd=folder, capture_output=True, check=False,
+                              env={"PATH": os.environ["PATH"], "PYTHONPATH": f"{folder}:."})
+        return done.returncode, done.stderr, sorted(name for name in os.listdir(folder) if name.startswith("told-"))
+
+
 def installed(trial: Trial, python: str, room: str, wheel: str, archive: str, programs: List[str]) -> None:
     """As a user takes it: installed without an index, run by its scripts and by calls, and removed."""
     venv = Venv(python, room)
@@ -168,6 +184,10 @@ def installed(trial: Trial, python: str, room: str, wheel: str, archive: str, pr
                    f"the wheel's residency-office: {status}, {err!r}")
         trial.tell(b"usage: residency-office" in venv.run("residency-office", "--help")[1],
                    "the wheel's residency-office has another name")
+        status, out, err = venv.run("residency-office", "verify", "new", "--tables", *tables)
+        trial.tell((status, err) == (0, b"") and b", the same\n" in out, f"the wheel's residency-office verify: {status}, {out!r}, {err!r}")
+        told = without_the_callers_code(venv, tables)
+        trial.same(told, (0, b"", []), "the wheel's residency-office with PYTHONPATH")
     trial.same(venv.pip("uninstall", "--yes", "residency")[0], 0, "pip uninstall")
     trial.same(venv.files() ^ before, set(), "what pip uninstall leaves")
     trial.same(venv.run("python", "-c", "import residency")[0], 1, "the package after pip uninstall")

@@ -2,7 +2,8 @@
 from __future__ import annotations
 
 import hashlib
-from typing import Callable, Dict, List, NamedTuple, Optional, Sequence, Tuple
+import re
+from typing import Any, Callable, Dict, List, NamedTuple, Optional, Sequence, Tuple
 
 # The secret with which the page's roots of examples/nrmp.csv are made.
 SECRET = bytes(31) + b"\1"
@@ -150,6 +151,92 @@ class Results:
         return (*row, "full", self.rank[programme][name], self.last[programme] or "", self.market.quotas[programme])
 
 
+class Shown:
+    """What a member's receipt shows, and the words in which each checker says so."""
+
+    def __init__(self, market: Market, places: Optional[Places], side: str, name: str) -> None:
+        self.side, self.name, self.is_gone = side, name, (side, name) in set(market.gone)
+        self.quota = market.quotas[name] if side == "P" else 0
+        self.listed = market.programme_lists.get(name, []) if side == "P" else market.resident_lists[name]
+        self.has_result, self.where = places is not None, (places or {}).get(name) if side == "R" else None
+        told = Results(market, places or {})
+        self.filled = told.residents[name] if side == "P" else []
+        self.reasons = [told.reason(name, choice, one) for choice, one in enumerate(self.listed, 1)] if side == "R" and places is not None else []
+
+    def by_program(self) -> str:
+        places = f"quota of {self.quota}, and your " if self.side == "P" else ""
+        lines = [f"{self.name}: the sealed lists have your {places}list: {', '.join(self.listed) or 'nobody'}."]
+        lines += ["You are withdrawn."] * self.is_gone
+        if self.has_result and self.side == "P":
+            lines.append(f"The sealed result has {len(self.filled)} of your places filled: {', '.join(self.filled) or 'nobody'}.")
+        elif self.has_result:
+            lines.append(f"The sealed result has you {f'matched with {self.where}' if self.where else 'unmatched'}.")
+        says = {"matched": "you are matched there", "withdrawn": "you or the programme is withdrawn", "unranked": "it did not rank you",
+                "better": "you have a programme that you ranked higher"}
+        for _, one, _, answer, rank, last, quota in self.reasons:
+            ends: Dict[object, str] = {0: ", and it has no places", 1: f". Its place went to a resident it ranked higher, {ordinal(last)}"}
+            more = f". Its {quota} places went to residents it ranked higher, the last of them {ordinal(last)}"
+            lines.append(f"{one}: {says[str(answer)] if answer != 'full' else f'it ranked you {ordinal(rank)}{ends.get(quota, more)}'}.")
+        return "".join(f"{line}\n" for line in lines)
+
+    def by_script(self) -> str:
+        who = "a resident" if self.side == "R" else f"a programme with {self.quota} places"
+        lines = [f"{self.name}: {who}{', withdrawn' * self.is_gone}.", f"The list that was sealed: {', '.join(self.listed) or 'nobody'}."]
+        if self.has_result and self.side == "P":
+            lines.append(f"The result: {len(self.filled)} of {self.quota} places are filled; {', '.join(self.filled) or 'nobody'}.")
+        elif self.has_result:
+            lines.append(f"The result: {f'matched with {self.where}' if self.where else 'unmatched'}.")
+        says = {"matched": "you are matched here.", "withdrawn": "you or it withdrew.", "unranked": "it did not rank you.",
+                "better": "you have one that you ranked higher."}
+        for _, one, choice, answer, rank, last, quota in self.reasons:
+            full = f"you have rank {rank} there, and its {quota} places went to others before you{f', the last of them {last}' if last else ''}."
+            lines.append(f"{choice}. {one}: {says.get(str(answer), full)}")
+        return "".join(f"{line}\n" for line in lines)
+
+    def by_page(self) -> List[object]:
+        """The class of the answer, and each of its elements with its text; a list has its items."""
+        who = "a resident" if self.side == "R" else f"a programme of {self.quota} place{'s' * (self.quota != 1)}"
+        told: List[object] = ["good", "H3 This receipt holds", f"P It is that of {self.name}, {who}{', who is withdrawn' * self.is_gone}.",
+                              "H3 Your list, as it was sealed", self.listed or "P It ranks nobody.",
+                              "P Compare it with the list that you handed in. If it is another one, tell the office."]
+        if self.has_result:
+            told += ["H3 Your result", f"P {self.result_on_page()}"]
+        if self.reasons:
+            told += ["H3 Why, choice by choice", [f"{reason[1]}: {self.reason_on_page(reason)}" for reason in self.reasons]]
+        return told
+
+    def result_on_page(self) -> str:
+        if self.side == "P":
+            names = f": {', '.join(self.filled)}" if self.filled else ""
+            return f"{len(self.filled)} of your {self.quota} places {'is' if len(self.filled) == 1 else 'are'} filled{names}."
+        if self.where is None:
+            return "You are not matched."
+        return f"You are matched with {self.where}, your {self.mine()} choice of {len(self.listed)}."
+
+    def mine(self) -> str:
+        return ordinal(self.listed.index(self.where or "") + 1)
+
+    def reason_on_page(self, reason: Sequence[object]) -> str:
+        _, _, choice, answer, rank, last, quota = reason
+        if answer == "full" and quota == 0:
+            return "it had no places."
+        if answer == "full":
+            rest = f"one place went to the resident it ranked {ordinal(last)}" if quota == 1 else (
+                f"{quota} places went to residents it ranked higher, the last of them {ordinal(last)}")
+            return f"it ranked you {ordinal(rank)}. Its {rest}."
+        if answer == "better":
+            return f"this was your {ordinal(choice)} choice, and you have your {self.mine()}, {self.where}."
+        return {"matched": "you are matched here.", "unranked": "it did not rank you.",
+                "withdrawn": f"{'you' if self.is_gone else 'it'} withdrew from the match."}[str(answer)]
+
+
+def ordinal(number: object) -> str:
+    """1st, 2nd, 3rd, 4th, and 11th to 13th."""
+    digits = str(number)
+    is_teen = digits[-2:-1] == "1"
+    return digits + ("th" if is_teen else {"1": "st", "2": "nd", "3": "rd"}.get(digits[-1:], "th"))
+
+
 class Tree:
     """A hash tree, level by level: neighbours are paired, and an odd last one goes up as it is."""
 
@@ -176,6 +263,166 @@ class Tree:
 
 def sha(*parts: bytes) -> bytes:
     return hashlib.sha256(b"".join(parts)).digest()
+
+
+NAME = "[A-Za-z0-9_.-]"
+ANSWERS = {"unmatched": ("withdrawn", "unranked", "full"), "before": ("withdrawn", "unranked", "full"), "at": ("matched",),
+           "after": ("withdrawn", "unranked", "better")}
+
+
+class Wrong(Exception):
+    """The row of a receipt with which something is wrong, from 1, and what it is, with the words that tell it."""
+
+    def __init__(self, row: int, cause: str, *words: Any) -> None:
+        super().__init__(row, cause, *words)
+        self.row, self.cause, self.words = row, cause, words
+
+
+def want(holds: object, row: int, cause: str, *words: Any) -> None:
+    if not holds:
+        raise Wrong(row, cause, *words)
+
+
+def is_number(text: str) -> bool:
+    return re.fullmatch("0|[1-9][0-9]{0,8}", text) is not None
+
+
+def is_digest(text: str) -> bool:
+    return re.fullmatch("[0-9a-f]{64}", text) is not None
+
+
+def siblings(index: int, count: int) -> List[str]:
+    """On which side the sibling is, level by level, where there is one."""
+    sides = []
+    while count > 1:
+        sides += ["left"] if index % 2 else ["right"] if index + 1 < count else []
+        index, count = index // 2, (count + 1) // 2
+    return sides
+
+
+def open_part(rows: List[List[str]], at: int, until: int, word: str, published: Tuple[int, str]) -> int:
+    """The index of a part that begins at this row, from 0, and ends before another one."""
+    head = rows[at] if at < until else []
+    want(head[:1] == [word] and len(head) == 3 and is_number(head[1]) and is_digest(head[2]), at + 1, "root row", word)
+    want(head[2] == published[1], at + 1, "root", head, published)
+    want(int(head[1]) == published[0], at + 1, "count", head, published)
+    opens = rows[at + 1] if at + 1 < until else []
+    want(opens[:2] == ["opens", word] and len(opens) > 3 and is_number(opens[2]) and all(map(is_digest, opens[3:])), at + 2, "opening")
+    want(int(opens[2]) < published[0], at + 2, "index", opens[2], published[0])
+    sides, path = siblings(int(opens[2]), published[0]), [bytes.fromhex(one) for one in opens[4:]]
+    want(len(path) >= len(sides), at + 2, "short")
+    want(len(path) == len(sides), at + 2, "long")
+    top = sha(b"\0", bytes.fromhex(opens[3]), text_of(rows[at + 2:until]))
+    for side, one in zip(sides, path):
+        top = sha(b"\1", one, top) if side == "left" else sha(b"\1", top, one)
+    want(top.hex() == published[1], at + 2, "climb")
+    return int(opens[2])
+
+
+def fault(receipt: bytes, roots: Dict[str, Tuple[int, str]]) -> None:
+    """Raises Wrong at the first thing that is wrong with a receipt, in the order in which it is read: rows, openings, list, result."""
+    *lines, end = receipt.decode("latin-1").split("\n")
+    for number, line in enumerate(lines, 1):
+        want(re.fullmatch(f"{NAME}+(,{NAME}*)+", line), number, "fields" if re.fullmatch(f"({NAME}|,)+", line) else "form")
+    want(not end and len(lines) > 3, len(lines) + 1, "cut", receipt)
+    rows = [line.split(",") for line in lines]
+    want(len(rows[0]) == 4 and ",".join(rows[0][:3]) in ("receipt,1,P", "receipt,1,R"), 1, "head")
+    side, name = rows[0][2:]
+    split = next((at for at, row in enumerate(rows) if at > 2 and row[0] == "result"), len(rows))
+    index = open_part(rows, 1, split, "lists", roots["lists"])
+    want((split < len(rows)) == ("result" in roots), split + 1, "asked", split < len(rows))
+    if "result" in roots:
+        other = open_part(rows, split, len(rows), "result", roots["result"])
+        want(other == index and roots["result"][0] == roots["lists"][0], split + 1, "member")
+    own = rows[3:split]
+    own = own[:-1] if own[-1:] == [["W", side, name]] else own
+    heads = [row[:2] for row in own]
+    want(heads in ([["R", name]] if side == "R" else [["Q", name]], [["Q", name], ["P", name]] if side == "P" else None)
+         and (side == "R" or len(own[0]) == 3 and is_number(own[0][2])), 4, "list", name)
+    listed = own[-1][2:] if own[-1][0] in "PR" else []
+    if "result" in roots and side == "R":
+        fault_of_reasons(rows, split + 2, name, listed)
+    elif "result" in roots:
+        fault_of_places(rows, split + 2, name, own[0][2], listed)
+
+
+def fault_of_reasons(rows: List[List[str]], at: int, name: str, listed: List[str]) -> None:
+    first = rows[at] if at < len(rows) else []
+    want(first[:2] == ["U", name] and len(first) == 2 or first[:2] == ["M", name] and len(first) == 3, at + 1, "result", name)
+    reasons = rows[at + 1:]
+    want(len(reasons) == len(listed), at + 1, "reasons", len(reasons), len(listed))
+    own = [choice for choice, row in enumerate(reasons, 1) if row[3:4] == ["matched"]]
+    want(len(own) == (first[0] == "M"), at + 1, "matches")
+    for choice, (row, one) in enumerate(zip(reasons, listed), 1):
+        number = at + 1 + choice
+        want(row[:3] == [name, one, str(choice)] and len(row) == 7, number, "choice", choice, one)
+        stand = "unmatched" if not own else "before" if choice < own[0] else "after" if choice > own[0] else "at"
+        want(row[3] in ANSWERS[stand] and (stand != "at" or one == first[2]), number, "answer", row[3])
+        rank, last, quota = row[4:]
+        want(row[3] == "full" or not rank + last + quota, number, "numbers", row[3], one)
+        is_some = [is_number(text) and text != "0" for text in (rank, last, quota)]
+        is_right = is_some[0] and (last == "" and quota == "0" or is_some[1] and is_some[2] and int(last) < int(rank))
+        want(row[3] != "full" or is_right, number, "full", one)
+
+
+def fault_of_places(rows: List[List[str]], at: int, name: str, places: str, listed: List[str]) -> None:
+    members = rows[at + 1:]
+    want(at < len(rows) and rows[at] == ["F", name, str(len(members)), places] and len(members) <= int(places), at + 1, "filled", name, places)
+    for number, row in enumerate(members):
+        is_right = len(row) == 3 and row[0] == "M" and row[2] == name and row[1] in listed and row not in members[:number]
+        want(is_right, at + 2 + number, "resident")
+
+
+def said_by_script(wrong: Wrong) -> str:
+    """How check-receipt.py tells what is wrong."""
+    one, other = (*wrong.words, "", "")[:2]
+    says = {"form": "it is no row of a receipt", "cut": "the receipt is cut off here", "head": "no `receipt,1`, a side and a name",
+            "root row": f"it is not `{one}`, a number of members and a root of 64 small digits",
+            "root": f"it has {','.join(one[1:])}; {other[0]},{other[1]} was published" if wrong.cause in ("root", "count") else "",
+            "opening": "it is no opening: an index, a salt and a path", "index": f"there is no member {one} among {other}, counted from 0",
+            "short": "the path is too short", "long": "the path is too long",
+            "climb": "what follows is not what was sealed: it does not lead to the root",
+            "asked": "a result and its published root go together, and one is missing", "member": "count or index is not that of the list",
+            "list": f"what is sealed is not one list of {one}", "result": f"it is no result of {one}",
+            "reasons": f"{one} reasons follow, and the list has {other} programmes", "matches": "the reasons tell another result",
+            "choice": f"it is not about choice {one}, {other}", "answer": f"`{one}` cannot be with this result",
+            "numbers": f"`{one}` has no numbers", "full": "the last rank is not before yours",
+            "filled": f"it is not `F,{one}`, the number of `M` rows, at most the places, and {other}",
+            "resident": "no one of your list, named once"}
+    says.update(count=says["root"], fields=says["form"])
+    return f"row {wrong.row}: {says[wrong.cause]}\n"
+
+
+def said_by_page(wrong: Wrong) -> str:
+    """How the page tells what is wrong."""
+    one, other = (*wrong.words, "", "")[:2]
+    asked = ("the receipt has a result, and this page is from before the match. Take the page of after the match." if one is True else
+             "the receipt has no result: it is from before the match. Ask the office for the one of after the match.")
+    says = {**dict.fromkeys(("form", "fields"), "this is no row of a receipt."), "cut": "the receipt is cut off here." if one else "the receipt is empty.",
+            "head": "a receipt begins with receipt,1, then P or R, and a name.",
+            "root row": f"here a row \u201c{one}\u201d is wanted, with the number of members and a root of 64 small digits.",
+            "root": "its root is not the one that the office published.",
+            "count": f"it tells of {one[1]} members, and the office published {other[0]}." if wrong.cause == "count" else "",
+            "opening": "here an opening is wanted: an index, a salt and a path.", "index": f"there is no member {one} among {other}, counted from 0.",
+            "short": "its path is too short.", "long": "its path is too long.",
+            "climb": "what follows is not what the office sealed: it does not lead to the published root.", "asked": asked,
+            "member": "list and result are not of one member.", "list": f"what was sealed is not one list of {one}.",
+            "result": f"here the result of {one} is wanted.", "reasons": f"{one} reasons follow, and your list has {other} programmes.",
+            "matches": "the reasons tell another result.", "answer": f"\u201c{one}\u201d cannot be with this result.",
+            "choice": f"here the reason of your {ordinal(one)} choice is wanted, {other}.",
+            "numbers": f"here no numbers are wanted, since {other} is not told full.",
+            "full": f"{one} is told full, and its last rank is not before yours.",
+            "filled": f"here \u201cF,{one}\u201d is wanted, with the number of residents that follow, at most the places, and {other} places.",
+            "resident": "here a resident of your list is wanted, each once."}
+    return f"P Row {wrong.row}: {says[wrong.cause]}"
+
+
+# What the program tells of these causes; where it finds others, it reads in another order, and tells another row.
+PROGRAM = {"form": "not written as a receipt's rows are", "head": "not the first row of a receipt", "root row": "not the row of a root",
+           "root": "another root than the published one", "opening": "not the row of an opening",
+           **dict.fromkeys(("index", "short", "long", "climb"), "what follows doesn't open the published root"),
+           "result": "not a row of this member's result", "choice": "not the reason of this choice", "numbers": "a reason that can't stand here",
+           "full": "full, but not of residents who are ranked before"}
 
 
 def read(docket: bytes) -> Market:

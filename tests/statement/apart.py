@@ -4,7 +4,7 @@ It takes the sources word by word and knows nothing of how the page is made. A t
 all of its lines, a call its whole contract, and each bracket is closed."""
 import glob
 import re
-from typing import Iterator, List, NamedTuple, Optional, Set, Tuple
+from typing import Dict, Iterable, Iterator, List, NamedTuple, Optional, Set, Tuple
 
 CLOSING = {"(": ")", "[": "]", "{": "}"}
 HEAD = re.compile(r"^(?:pub(?:\(\w+\))? )?(struct|enum|trait|const|type|fn) (\w+)", re.M)
@@ -14,6 +14,12 @@ RECORD = re.compile(r"^(?:\w+ )*record (\w+)")
 PREMISE = {"AreDocket", "WritesMatch"}
 # How a definition begins that stands at the margin.
 STARTS = re.compile(r"(?:abbrev|unfoldable|pub)\b")
+
+
+# What the language has of its own, and the page explains; and Rust's own words.
+WORDS = set("abbrev unfoldable pub record data where module let in if then else λ Type Unit tt result requires ensures fn struct enum const "
+            "trait impl for type mut ghost crate self Self dyn bool char str u8 u16 u32 u64 usize i32 i64 clauses of which always holds _ "
+            "io::Result clap::Error".split())
 
 
 class Block(NamedTuple):
@@ -26,7 +32,8 @@ class Block(NamedTuple):
 
 def blocks(page: str) -> "List[Block]":
     found = re.findall(r"^`(crates/\S+)`:\n\n```(rust)?\n(.*?)^```$", page, re.M | re.S)
-    return [*dense_blocks(page), *(Block(path, bool(rust), text) for path, rust, text in found)]
+    dense = [it for text in re.findall(r"^```\n(-- crates/.*?)^```$", page, re.M | re.S) for it in dense_blocks(text)]
+    return [*dense, *(Block(path, bool(rust), text) for path, rust, text in found)]
 
 
 def theorem(page: str) -> str:
@@ -34,22 +41,32 @@ def theorem(page: str) -> str:
     return page[:page.index("\n## The other calls\n") + 1]
 
 
-def dense_blocks(page: str) -> "List[Block]":
-    """The definitions of the theorem, file by file, laid out as the others are: a sentence that stands behind a line comes above
-    it, and an empty line between two definitions."""
-    block = re.search(r"^```\n(.*?)^```$", theorem(page), re.M | re.S)
+def theorem_blocks(page: str) -> "List[Block]":
+    """The definitions of the theorem."""
+    block = re.search(r"^```\n(-- crates/.*?)^```$", theorem(page), re.M | re.S)
+    return dense_blocks(block[1]) if block else []
+
+
+def dense_blocks(text_of: str) -> "List[Block]":
+    """Definitions, file by file, laid out as in the sources: a sentence that stands behind a line comes above it, and an empty
+    line between two definitions."""
     found: "List[Block]" = []
-    for line in block[1].rstrip("\n").split("\n") if block else []:
+    for line in text_of.rstrip("\n").split("\n"):
         file = re.fullmatch(r"-- (crates/\S+)", line)
         if file:
             found.append(Block(file[1], file[1].endswith(".rt"), ""))
             continue
         path, is_rust, text = found[-1]
         mark = "///" if is_rust else "--"
-        behind = re.fullmatch(r"(\S.*?)  (?://|--) (.*)", line)
-        begins = behind is not None or STARTS.match(line) is not None
+        behind = re.fullmatch(r"(\S.*?)  (?://|--) (?!in clauses: )(.*)", line)
+        begins = behind is not None or STARTS.match(line) is not None or line.startswith("module ")
         above = text.rstrip("\n").split("\n")[-1]
-        if text and (begins or line.startswith(mark)) and not above.startswith(mark):
+        inside = re.match(r"  (?:--|abbrev |unfoldable |pub record)", line) is not None and text.rpartition("\n\n")[2].startswith("module ")
+        is_new = (begins or line.startswith(mark)) and not above.startswith(mark)
+        if inside and not above.startswith(("  --", "module ")):
+            module = text.rpartition("\n\n")[2].split("\n")[0]
+            text += f"\n{module}\n"
+        elif text and is_new:
             text += "\n"
         lines = f"{mark} {behind[2]}\n{behind[1]}" if behind else line
         found[-1] = Block(path, is_rust, f"{text}{lines}\n")
@@ -126,11 +143,47 @@ def members(code: str) -> "List[str]":
     return [f"{it};" for it in body.split(";\n") if it.strip()]
 
 
+def flat(lines: "Iterable[str]") -> str:
+    """Lines as one, with a single blank between words, and of comments the words alone."""
+    stripped = (it.strip() for it in lines)
+    return f" {' '.join(' '.join(re.sub(r'^(?:///?|--)(?= )', '', it) for it in stripped).split())} "
+
+
+def restored(text: str, source: str, path: str) -> str:
+    """The text with each name of a crate, `crate::name`, as its source's file calls it: by its imports, or its own."""
+    own = path.split("/")[1]
+    called: "Dict[Tuple[str, str], str]" = {}
+    for crate, names in re.findall(r"use (?:Rattle\.)?(\w+)[.:][\w.:]*?[.:]\{([^}]*)\}", source):
+        for one in names.split(","):
+            name, _, other = one.strip().partition(" as ")
+            called.setdefault((own if crate == "crate" else crate, name), other or name)
+    for crate, name in re.findall(r"use (\w+)::(?:\w+::)*(\w+);", source):
+        called.setdefault((own if crate == "crate" else crate, name), name)
+
+    for (crate, name), other in called.items():
+        if crate == "std" and other != name:
+            text = re.sub(rf"(?<![\w.:]){name}(?!\w)", other, text)
+    modules = re.findall(r"use Rattle\.(\w+)\.specs\.\w+ as (\w+)", source)
+
+    def back(found: "re.Match[str]") -> str:
+        several = [f"{word}.{found[2]}" for crate, word in modules if crate == found[1] and f"{word}.{found[2]}" in source]
+        if several and (found[1], found[2]) not in called:
+            return several[0]
+        if found[1] == own and re.search(rf"(?:^|\s){found[2]}(?= [:({{]|;|<)", source):
+            return found[2]
+        return called.get((found[1], found[2]), found[2] if found[1] == own else found[0])
+
+    text = re.sub(r"(?<![\w:])(\w+)::(\w+)", back, text)
+    for kind, word in re.findall(r"\.(\w+)\.TheVariants as (\w+)", source):
+        text = re.sub(rf"(?<![\w.:]){kind}\.(?=[A-Z])", f"{word}.", text)
+    return text
+
+
 def contract(source: str, name: str) -> "List[str]":
     """The lines of a function from its name to where its body begins, without empty ones."""
     lines = source.split("\n")
     for at, line in enumerate(lines):
-        if re.match(rf"pub fn {name}\b", line):
+        if re.match(rf"pub(?:\(crate\))? fn {name}\b", line):
             end = next(it for it in range(at, len(lines)) if lines[it].startswith("{"))
             return [it.rstrip() for it in lines[at:end] if it.strip()]
     return []
@@ -140,6 +193,12 @@ def rust_faults(block: Block, source: str) -> "Iterator[str]":
     bracket = unclosed(block.text)
     if bracket:
         yield f"{block.path}: a bracket {bracket} has no other"
+    if block.text.startswith("impl"):
+        head, calls = block.text.rstrip().rstrip("}").split("\n", 1)
+        whole = words(re.sub(r",\s*>", ">", source))
+        for part in (head, *(f"{it} {{" for it in calls.split("\n\n"))):
+            if not stands_in(words(part), whole):
+                yield f"{block.path}: this isn't the source's: {part}"
     for kind, name, text in shown(block.text):
         code = "\n".join(it for it in text.split("\n") if not it.startswith("///"))
         extra = re.findall(r"^impl (\w+) for (\w+): (.*)$", code, re.M)
@@ -148,7 +207,7 @@ def rust_faults(block: Block, source: str) -> "Iterator[str]":
                 yield f"{block.path}: {trait} of {owner} has no {item}"
         code = re.sub(r"^impl \w+ for .*\n?", "", code, flags=re.M)
         if kind == "fn":
-            if [it.rstrip() for it in code.split("\n") if it.strip()] != contract(source, name):
+            if flat(code.split("\n")) != flat(contract(source, name)):
                 yield f"{block.path}: the contract of {name} isn't the source's"
         elif kind == "trait":
             own = declaration(words(source), kind, name)
@@ -156,7 +215,7 @@ def rust_faults(block: Block, source: str) -> "Iterator[str]":
                 yield f"{block.path}: trait {name} isn't the source's"
         elif "// in clauses: " in code:
             value, kept = model_of(source, name), kept_of(source, name)
-            if not value or code.split("// in clauses: ")[1].strip() != value + kept:
+            if not value or flat([code.split("// in clauses: ")[1]]).strip() != value + kept:
                 yield f"{block.path}: clauses see {name} as {value}{kept}"
         else:
             own = declaration(words(source), kind, name)
@@ -180,31 +239,32 @@ def record_lines(lines: "List[str]", name: str) -> "List[str]":
 
 def has_none(text: "List[str]", lines: "List[str]") -> bool:
     """Whether no sentence stands above this in its file."""
-    at = lines.index(text[0])
+    at = next((at for at, line in enumerate(lines) if flat([line]).startswith(flat(text[:1]))), 0)
     return at > 0 and not lines[at - 1].startswith("--")
 
 
 def spec_faults(block: Block, source: str) -> "Iterator[str]":
     lines = source.split("\n")
     plain = [it.strip() for it in lines if it.strip()]
+    whole = flat(plain)
     for part in block.text.strip("\n").split("\n\n"):
         own = [it.strip() for it in part.split("\n") if it.strip()]
         own = own[own[0].startswith("module _"):]
         sentence = [it for it in own if it.startswith("--")]
         text = own[len(sentence):]
-        if not stands_in(text, plain) or not (stands_in(sentence, plain) if sentence else has_none(text, plain)):
+        if flat(text) not in whole or not (flat(sentence) in whole if sentence else has_none(text, plain)):
             yield f"{block.path}: {own[-1]} doesn't stand so in the source"
     shown_lines = block.text.split("\n")
     for line in shown_lines:
         head = RECORD.match(line.strip())
-        if head and record_lines(shown_lines, head[1]) != record_lines(lines, head[1]):
+        if head and flat(record_lines(shown_lines, head[1])) != flat(record_lines(lines, head[1])):
             yield f"{block.path}: record {head[1]} isn't the source's"
 
 
 def defined(text: str) -> "Set[str]":
     """The names that a text of specs/ or of src/ defines: at its margin, or in a module with parameters."""
     specs = r"^(?:(?:(?:abbrev|unfoldable|pub|record|data) )+|  (?:abbrev|unfoldable) pub )(\S+?)(?= [:({])"
-    sources = r"^(?:pub(?:\(\w+\))? )?(?:struct|enum|trait|const|type) (\w+)"
+    sources = r"^(?:pub(?:\(\w+\))? )?(?:struct|enum|trait|const|type) ((?:\w+::)?\w+)"
     return {*re.findall(specs, text, re.M), *re.findall(sources, text, re.M)}
 
 
@@ -218,14 +278,53 @@ def bound(text: str) -> "Set[str]":
 
 def outsiders(page: str, top: str) -> "List[str]":
     """What the theorem names and doesn't define, though some crate defines it, but for the names of its premise."""
-    own = "".join(it.text for it in dense_blocks(page))
+    own = "".join(it.text for it in theorem_blocks(page))
     clauses = "".join(re.findall(r"^    (?:requires|ensures).*?(?=^    (?:requires|ensures)|^```)", theorem(page), re.M | re.S))
-    used = set(re.findall(r"(?<![\w.])\w+", re.sub(r"^\s*(?:--|///).*", "", own, flags=re.M) + clauses))
+    used = used_in(re.sub(r"^\s*(?:--|///).*", "", own, flags=re.M) + clauses)
     known: "Set[str]" = set()
     for path in [*glob.glob(f"{top}/crates/*/specs/**/*.antt", recursive=True), *glob.glob(f"{top}/crates/*/src/**/*.rt", recursive=True)]:
         with open(path) as file:
             known |= defined(file.read())
-    return sorted((used & known) - defined(own) - bound(own) - PREMISE)
+    shared = {it for it in used if "::" in it and it.split("::")[1] in known}
+    return sorted(((used & known) | shared) - defined(own) - bound(own) - PREMISE)
+
+
+def used_in(text: str) -> "Set[str]":
+    """The names of a text, but for fields; a crate before a name belongs to it."""
+    return set(re.findall(r"(?<![\w.:'])(?:[a-z]\w*::)?[A-Za-z_]\w*(?!\w|::)", text))
+
+
+def parts_of(block: Block) -> "List[str]":
+    """The definitions of a block, or its one contract, without comments and texts."""
+    code = re.sub(r'b?"[^"]*"|b?\'.\'', "", re.sub(r"^\s*(?:--|///?) .*|(?<=\S)  (?://|--) (?!in clauses: ).*", "", block.text, flags=re.M))
+    return [code] if block.is_rust else code.split("\n\n")
+
+
+def bound_wide(text: str) -> "Set[str]":
+    """What a definition binds on one line or on several: left of an equation's sign, behind a λ, after `let`, between braces."""
+    left = re.findall(r"^\s*(?:\w+::)?\w+ ([^=:]*?) =(?= |\n)", text, re.M)
+    others = re.findall(r"λ ([^.]*)\.", text) + re.findall(r"let (\w+)", text) + re.findall(r"[({]([\w ,]+) :", text) + re.findall(r"<([^>]*)>", text)
+    others += re.findall(r"(?:[{;]|^ )\s*(\w+) =\s", text, re.M) + re.findall(r"[({]([^(){}:]*) :", text)
+    others += re.findall(r"fn (\w+)", text)
+    variables = {it for one in left + others for it in re.findall(r"(?<![\w.])[a-z_]\w*", one)}
+    return variables | set(re.findall(r"(\w+)(?=\.[A-Z])", text)) | {it for one in others for it in re.findall(r"\b[A-Z]\b", one)}
+
+
+def nowhere(page: str) -> "List[str]":
+    """The names that a definition or a contract of the page uses, and that the page neither defines, binds nor explains."""
+    found = blocks(page)
+    everything = "\n".join(it.text for it in found)
+    known = defined(everything) | WORDS | set(re.findall(r"^\| `(?:[\w.]*\.)?(\w+)`", page, re.M)) | set(re.findall(r"`([A-Za-z]\w+)", page.split("## The theorem")[0]))
+    known |= set(re.findall(r"^`crates/\S+`:\n\n```rust\n(?:.*\n)*?pub fn (\w+)", page, re.M))
+    variants = re.findall(r"^(?:pub(?:\(crate\))? )?enum [\w:]+(?:<[^{]*>)? \{(.*?)\}$", everything, re.M | re.S) + re.findall(r"^  (\w+) : ", everything, re.M)
+    known |= {name for it in variants for name in re.findall(r"\b[A-Z]\w*", it)}
+    missing: "Set[str]" = set()
+    for block in found:
+        for part in parts_of(block):
+            own = bound(part) | set(re.findall(r"(?:requires|ensures) (\w+) \{", part)) | set(re.findall(r"(\w+):(?!:)", part))
+            own |= bound_wide(part)
+            missing |= used_in(part) - known - own
+    return sorted(missing)
 
 
 def faults(page: str, top: str) -> "List[str]":
@@ -234,7 +333,10 @@ def faults(page: str, top: str) -> "List[str]":
     for block in blocks(page):
         with open(f"{top}/{block.path}") as file:
             source = file.read()
-        found += (rust_faults if block.is_rust else spec_faults)(block, source)
+        # (the head of an impl block may stand on two lines)
+        text = re.sub(r"^(impl<.*>)\n    (\w.* \{)$", r"\1 \2", block.text, flags=re.M)
+        own = block._replace(text=restored(text, source, block.path))
+        found += (rust_faults if block.is_rust else spec_faults)(own, source)
     return found
 
 
@@ -248,6 +350,8 @@ def count(page: str) -> "Tuple[int, int]":
 def cuts(block: Block) -> "Iterator[Tuple[str, str]]":
     """The block with something cut: a bracket or a line of each declaration and contract, a line of each record, a sentence."""
     if block.is_rust:
+        for line in re.findall(r"^ {8,}.+\n", block.text, re.M) if block.text.startswith("impl") else []:
+            yield line.strip(), block.text.replace(line, "", 1)
         for _, name, text in shown(block.text):
             last = max(text.rfind(it) for it in ")}]")
             if last >= 0 and "// in clauses" not in text:

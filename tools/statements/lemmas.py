@@ -1,10 +1,36 @@
-"""The map of a crate's files of lemmas: one line on each, from the comment that it begins with."""
+"""The map of a crate's files of lemmas: one line on each, from the comment that it begins with; and what specs/ defines."""
+import glob
 import os
 import re
 from typing import List
 
-from .definitions import heading, modules_of
+from .antt import Missing, read_spec
 from .marked import cell
+
+
+def heading(lines: List[str]) -> str:
+    """The comment that a file begins with, or nothing."""
+    end = next((at for at, line in enumerate(lines) if not line.startswith("--")), len(lines))
+    return " ".join(it.strip().lstrip("-").strip() for it in lines[:end])
+
+
+def modules_of(folder: str) -> List[str]:
+    """The files of a folder of antt, in the order in which its Lib.antt has them."""
+    with open(f"{folder}/Lib.antt", encoding="utf-8") as lib:
+        listed = re.findall(r"^(?:pub )?mod (\w+)$", lib.read(), re.M)
+    there = {it[:-len(".antt")] for it in os.listdir(folder) if it.endswith(".antt")} - {"Lib"}
+    if there != set(listed):
+        raise Missing(f"{folder}/Lib.antt doesn't list {', '.join(sorted(there ^ set(listed)))} as it is there")
+    return listed
+
+
+def definition_count(top: str) -> int:
+    """How many definitions the crates' specs/ have."""
+    count = 0
+    for path in glob.glob(f"{top}/crates/*/specs/*.antt"):
+        with open(path, encoding="utf-8") as file:
+            count += len(read_spec(path, file.read().split("\n"))[0])
+    return count
 
 
 def first_sentence(text: str) -> str:

@@ -1,6 +1,6 @@
 """Parts of pages that a tool makes, each between two marks."""
 import re
-from typing import Dict
+from typing import Dict, Iterable
 
 END = "<!-- end of what is made -->"
 PART = re.compile(r"^<!-- made by tools/pages: (\w+) -->\n(.*?)^" + re.escape(END) + "$", re.M | re.S)
@@ -21,6 +21,21 @@ def with_part(text: str, name: str, part: str) -> str:
     if len(marks) != 1:
         raise ValueError(f"it has {len(marks)} parts {begin(name)} that end with {END}, not 1")
     return f"{text[:marks[0].start(2)]}{part.strip()}\n{text[marks[0].end(2):]}"
+
+
+def shared(top: str, name: str, made: Iterable[str] = ()) -> str:
+    """What stands once, in a page of statements/; a line of capitals alone is another such page, but for what is made."""
+    def filled(line: "re.Match[str]") -> str:
+        return line[0] if line[0] in made else shared(top, line[0].lower(), made)
+
+    with open(f"{top}/tools/statements/{name}.md", encoding="utf-8") as file:
+        return re.sub(r"^[A-Z]+$", filled, file.read().strip(), flags=re.M)
+
+
+def points(text: str) -> str:
+    """What stands in bold in the items of a list, each a short sentence, with a link to the list."""
+    heads = [f"{it.rstrip('.')}." for it in re.findall(r"^- \*\*(.*?)\*\*", text, re.M)]
+    return f"[docs/statement.md](docs/statement.md#what-is-not-claimed) explains these {len(heads)} points. {' '.join(heads)}"
 
 
 def cell(text: str) -> str:

@@ -25,7 +25,7 @@ RECIPES: Dict[str, Recipe] = {
     ]),
     "fault": Recipe("the fault `bad withdrawal row` of a docket", r"\bBadWithdrawal\b|bad withdrawal", [
         "First add the fault's variant with its text, and define when the fault is told. Then change the clause about the fault, and the body.",
-        "A fault that reaches a program has an exit status (`residency/src/status.rt`). The README lists these statuses too.",
+        "A fault that reaches a program has an exit status (`residency/src/status.rt`). ",
         "If a higher crate relies on the fault, add an edit that must fail and tells another fault.",
     ]),
     "event": Recipe("the event `Hear`", r"/\w*hear\w*[/.]|\bHear\b|\bHEAR\b|\b\w*_hear\b|\bhear_\w+|\bfn hear\b|E,hear|\"hear\"", [
@@ -36,10 +36,23 @@ RECIPES: Dict[str, Recipe] = {
         "A lemma for two functions goes into the file of `proofs/` with its subject. A new file begins with a comment that says what it has.",
         "The folder's `Lib` has to list the file. `tools/pages --write` adds the file to the map of the crate's README.",
     ]),
+    "command": Recipe("the command `replay`", r"\bserve_replay\b|\breplay-help\b|\bOrder(?:::|\.)Replay\b|\bresidency replay\b", [
+        "First define what the words of the command order, and what the command writes. Then write the call that serves it, with its statuses.",
+        "The statement takes the call by a line of `tools/statements/calls.txt`. The help of the command stands in `docs/help/` and is compared with the program.",
+    ]),
+    "crate": Recipe("the crate `row_writer` in a list of crates", r"^row_writer:|`row_writer`|row_writer/README", [
+        "First add the crate's line to `crates.txt`, above all crates that use it. Then write its README, with an example from a test.",
+    ]),
+    "program": Recipe("the program `residency-seal` with its crate", r"\bresidency[-_]seal\b", [
+        "First write the crate with its `main`, and a line for it in `packaging/programs.py`. Then add its start in the top folder, and its help.",
+    ]),
+    "phrase": Recipe("the phrase *it did not rank you* of an answer", r"it did not rank you", [
+        "A phrase stands in the definition of its sentence, in the code and in a derivation of the tests, which are written apart.",
+    ]),
 }
 # Files that are searched, and pages that are made of them or that tell what once was.
 SEARCHED = (".antt", ".rt", ".edit", ".py", ".md", ".csv", ".plants", ".rs", ".txt")
-LEFT_OUT = ("docs/statement.md", "docs/definitions.md", "docs/decisions/", "CONTRIBUTING.md", "CHANGELOG.md", "tools/statements/", "tests/docs/")
+LEFT_OUT = ("docs/statement.md", "docs/decisions/", "CONTRIBUTING.md", "CHANGELOG.md", "tools/statements/", "tests/docs/")
 MADE = {".git", ".build", ".bench", "dist", "out", "__pycache__"}
 IN_CRATES = ("specs", "src", "proofs", "must-fail")
 AFTER = ("tests", "bench", "python", "examples", "tools", "docs")

@@ -1,8 +1,8 @@
 -- How the text of an answer grows row by row.
 use Rattle.std.proofs.Common.{add-one, ◌≡◌, ◌+◌, ℕ, List, Bool, ◌++◌}
 use Rattle.std.specs.Global.{Vec}
-use Rattle.docket_parts.specs.Lines.{Grows}
-use Rattle.docket_parts.proofs.LineFacts.{grows_none, grows_both}
+use Rattle.records.specs.Lines.{Grows}
+use Rattle.records.proofs.LineFacts.{grows_none, grows_both}
 use Rattle.audit_files.specs.Rows.{withdrawn_row, withdrawn_rows}
 
 -- the text after four texts were added, one after another

@@ -1,13 +1,11 @@
 -- What an audit over files answers. Each file is read apart from the others, as the docket, the sheet or the journal.
-use Rattle.std.specs.Prelude.{◌≡◌, ◌⊎◌, ℕ, ◌++◌, [], Bool, true, false, Option, Some, None, List, MatchOption, unwrap_or, length, ⊤}
+use Rattle.std.specs.Prelude.{◌≡◌, ◌⊎◌, ℕ, ◌++◌, [], Bool, Option, Some, None, List, MatchOption, unwrap_or, ⊤}
 use Rattle.settle_law.specs.Stable.{IsSettled}
 use Rattle.match_audit.specs.Result.{IsUnlikeResult}
-use Rattle.docket.specs.Contents.{Contents, contents_of}
-use Rattle.docket.specs.Passes.{fault_of}
-use Rattle.docket.specs.declared.fault.DocketFault.{DocketFault}
-use Rattle.docket.specs.declared.fault.DocketFault.TheVariants.{Read}
-use Rattle.docket_parts.specs.Parts.{rows_of, rows_of_all, fault_of_all}
-use Rattle.docket_parts.specs.declared.fault.PartFault.{PartFault}
+use Rattle.match_model.specs.declared.limits.Limits.TheVariants.{Standard}
+use Rattle.docket.specs.Contents.{Contents}
+use Rattle.docket.specs.Parts.{IsInFiles, Tells as IsFaultOfFiles, fault_of_files}
+use Rattle.docket.specs.declared.file_fault.FileFault.{FileFault}
 use Rattle.audit_text.specs.Serving.{WritesReport, WritesReplay}
 use Rattle.audit_text.specs.declared.status.Status.{Status}
 use Rattle.audit_text.specs.declared.status.Status.TheVariants.{Stable, ReplayGood}
@@ -18,32 +16,16 @@ use Rattle.audit_files.specs.declared.fault.FilesFault.TheVariants as files
 use Rattle.audit_files.specs.declared.serve.Verdict.{Verdict}
 use Rattle.audit_files.specs.declared.serve.Verdict.TheVariants.{Good, Bad}
 
--- Each record of the three files belongs to its file. All records, one file after another, are this docket, without a
--- fault.
-pub record IsDocketIn (docket sheet journal : List ℕ) (d : Contents) : Type 0 where
-  pub own : fault_of_all docket sheet journal ≡ None
-  pub sound : fault_of (rows_of_all docket sheet journal) ≡ None
-  pub docket_is : d ≡ contents_of (rows_of_all docket sheet journal)
+-- the three files have no fault, and this is the docket of their records
+abbrev pub IsDocketIn : List ℕ → List ℕ → List ℕ → Contents → Type 0
+IsDocketIn docket sheet journal d = IsInFiles Standard docket sheet journal d
 
--- Each record belongs to its file. The fault is the first fault of a docket with these records, and is reported with
--- its file; or the machine had no random bytes for the reader.
-pub record HasDocketFault (docket sheet journal : List ℕ) (fault : FilesFault) : Type 0 where
-  pub own : fault_of_all docket sheet journal ≡ None
-  pub first : DocketFault
-  pub is_first : ((place : ℕ) × (first ≡ Read place)) ⊎ (fault_of (rows_of_all docket sheet journal) ≡ Some first)
-  pub is_told : fault ≡ told (length (rows_of docket)) (length (rows_of sheet)) first
-
--- the fault is the first record that belongs to another file or to no file
-pub record HasPartFault (docket sheet journal : List ℕ) (fault : FilesFault) : Type 0 where
-  pub first : PartFault
-  pub is_first : fault_of_all docket sheet journal ≡ Some first
-  pub is_told : fault ≡ files.Part first
-
--- why three files are no docket: memory ran out, a record belongs to another file or to no file, or the records have a
--- fault
-abbrev pub IsReadingFault : List ℕ → List ℕ → List ℕ → FilesFault → Type 0
-IsReadingFault docket sheet journal fault =
-    (fault ≡ files.Memory) ⊎ (HasPartFault docket sheet journal fault ⊎ HasDocketFault docket sheet journal fault)
+-- why three files are no docket: their first fault, which is told with its file; or memory ran out, or the machine had
+-- no random bytes for the reader
+pub record IsReadingFault (docket sheet journal : List ℕ) (fault : FilesFault) : Type 0 where
+  pub first : FileFault
+  pub is_first : IsFaultOfFiles (fault_of_files Standard docket sheet journal) first
+  pub is_told : fault ≡ told first
 
 -- none if the docket's sheet is the match's result; else the first resident for whom the sheet differs
 abbrev pub TellsFirst : Contents → Option ℕ → Type 0

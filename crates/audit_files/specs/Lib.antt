@@ -1,4 +1,7 @@
 pub mod Place
 pub mod Rows
 pub mod Answer
+pub mod Line
+pub mod Loading
 pub mod Status
+pub mod Program

@@ -1,6 +1,6 @@
 //! The facts about the files: their digests, the numbers of members, and the withdrawn members.
 ghost use Rattle.std.specs.Prelude.{◌≡◌, ◌≤◌, ◌++◌, OnOk, option_copied, codes, length};
-ghost use Rattle.docket_parts.specs.Lines.{Grows};
+ghost use Rattle.records.specs.Lines.{Grows};
 ghost use Rattle.match_model.specs.Instance.{IsProgramme, IsResident};
 ghost use Rattle.docket.specs.Texts.{programme_name, resident_name};
 ghost use Rattle.audit_files.specs.Rows as spec;

@@ -1,15 +1,13 @@
 //! Why an audit over files gave no answer.
+ghost use Rattle.std.specs.Prelude.{◌≡◌};
+ghost use Rattle.audit_files.specs.Place as spec;
 
-use docket::DocketFault;
-use docket_parts::{Part, PartFault};
+use docket::{DocketFault, FileFault, Part};
 use thiserror::Error;
 
 /// Why an audit over files gave no answer.
 #[derive(Clone, Copy, Debug, PartialEq, Eq, Error)]
 pub enum FilesFault {
-    /// A record in one of the files belongs to another file, or to none of them.
-    #[error(transparent)]
-    Part(PartFault),
     /// The docket has this fault, in this file. The fault has the number of the record in the file.
     #[error("{fault}")]
     Docket { file: Part, fault: DocketFault },
@@ -27,16 +25,27 @@ pub enum FilesFault {
     Write,
 }
 
+/// A fault of the docket's reader as a fault of the audit over files. Memory that ran out has no file.
+pub fn told(there: FileFault) -> FilesFault
+    ensures { result ≡ spec.told there }
+{
+    match there.fault {
+        DocketFault::Memory => FilesFault::Memory,
+        fault => FilesFault::Docket {
+            file: there.file,
+            fault,
+        },
+    }
+}
+
 impl FilesFault {
     /// The file in which the fault is, if the fault is in a file.
     pub fn file(&self) -> Option<Part> {
         match self {
-            FilesFault::Part(PartFault::AnotherPart { file, .. })
-            | FilesFault::Part(PartFault::UnknownKind { file, .. })
-            | FilesFault::Docket { file, .. } => Some(*file),
+            FilesFault::Docket { file, .. } => Some(*file),
             FilesFault::NoSheet => Some(Part::Sheet),
             FilesFault::NoJournal => Some(Part::Journal),
-            FilesFault::Part(PartFault::Memory) | FilesFault::Memory | FilesFault::Write => None,
+            FilesFault::Memory | FilesFault::Write => None,
         }
     }
 }

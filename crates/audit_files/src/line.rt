@@ -1,6 +1,11 @@
 //! The command line.
+ghost use Rattle.std.specs.Prelude.{◌≡◌, IfErr, IfOk, IfSome, codes, false, map};
+ghost use Rattle.clap.specs.Words.{HasKind, app_of, fault_of, found_of, matches_of as rows_in, rows_of, rule_of};
+ghost use Rattle.program_shell.specs.Flags.{flag_rule, required, word_rule};
+ghost use Rattle.audit_files.specs.Line.{GivesOrder, Orders, Refuses, audit_app, program_app};
 
-use clap::{Arg, ArgAction, Command};
+use crate::order::{Order, is_twice};
+use clap::{Arg, ArgAction, ArgMatches, Command};
 use program_shell::{LineFault, line_fault};
 use std::alloc::{AllocError, Global};
 use std::convert::AsStr;
@@ -26,49 +31,63 @@ command line; 1 where memory, reading or writing failed.
 Examples: residency-audit docket.csv sheet.csv
           residency-audit docket.csv sheet.csv journal.csv --facts";
 
-/// Which files the command line asks to audit.
-#[derive(Clone, Copy, Debug, PartialEq, Eq)]
-pub(crate) struct Order<'a> {
-    /// The path of the docket's file.
-    pub(crate) docket: &'a str,
-    /// The path of the sheet's file.
-    pub(crate) sheet: &'a str,
-    /// The path of the journal's file, if a journal is named.
-    pub(crate) journal: Option<&'a str>,
-    /// Whether the rows of facts are asked for.
-    pub(crate) facts: bool,
-}
-
 // The command line's argument for a file that has to be named.
 fn file_argument<'a>(
     alloc: Global,
     id: &'static str,
     name: &'static str,
     help: &'static str,
-) -> Arg<'a> {
+) -> Arg<'a>
+    ensures rule { rule_of result ≡ required (word_rule id.entry.now) }
+    ensures own { result.global ≡ false }
+{
     Arg::new(alloc, id)
         .value_name(name)
         .help(help)
         .required(true)
 }
 
+// The command line's argument for the journal's file.
+fn journal_argument<'a>(alloc: Global) -> Arg<'a>
+    ensures rule { rule_of result ≡ word_rule (codes "journal") }
+    ensures own { result.global ≡ false }
+{
+    Arg::new(alloc, "journal")
+        .value_name("JOURNAL")
+        .help("The file with the events of the exchange")
+}
+
 // The command line's option for the rows of facts.
-fn facts_option<'a>(alloc: Global) -> Arg<'a> {
+fn facts_option<'a>(alloc: Global) -> Arg<'a>
+    ensures rule { rule_of result ≡ flag_rule (codes "facts") }
+    ensures own { result.global ≡ false }
+{
     Arg::new(alloc, "facts")
         .long("facts")
         .help("First the SHA-256 of each file, how many members there are, and who is withdrawn")
         .action(ArgAction::SetTrue)
 }
 
-// The description of the program for the command line's parser.
-fn command<'a>(alloc: Global) -> Result<Command<'a>, AllocError> {
-    let command = Command::new(alloc, "residency-audit").bin_name("residency-audit")?;
-    let command = command
-        .about("Audits a sheet, its result and its journal, each file read as its own part")
-        .override_usage("residency-audit [OPTIONS] DOCKET SHEET [JOURNAL]")
-        .after_help(HELP)
-        .version(VERSION)
-        .no_binary_name(true);
+// The description of the program for the command line's parser, without its files and its option.
+fn program<'a>(alloc: Global) -> Result<Command<'a>, AllocError>
+    ensures { IfOk result (λ command. app_of command ≡ program_app) }
+{
+    let program = Command::new(alloc, "residency-audit").bin_name("residency-audit")?;
+    Ok(
+        program
+            .about("Audits a sheet, its result and its journal, each file read as its own part")
+            .override_usage("residency-audit [OPTIONS] DOCKET SHEET [JOURNAL]")
+            .after_help(HELP)
+            .version(VERSION)
+            .no_binary_name(true),
+    )
+}
+
+// The description of the program for the command line's parser, with its files and its option.
+fn command<'a>(alloc: Global) -> Result<Command<'a>, AllocError>
+    ensures { IfOk result (λ command. app_of command ≡ audit_app) }
+{
+    let command = program(alloc)?;
     let command = command.arg(file_argument(
         alloc,
         "docket",
@@ -81,29 +100,54 @@ fn command<'a>(alloc: Global) -> Result<Command<'a>, AllocError> {
         "SHEET",
         "The file with the placement",
     ))?;
-    let journal = Arg::new(alloc, "journal")
-        .value_name("JOURNAL")
-        .help("The file with the events of the exchange");
-    let command = command.arg(journal)?;
+    let command = command.arg(journal_argument(alloc))?;
     command.arg(facts_option(alloc))
 }
 
-/// Which files the command line's words ask to audit. The words are those after the program's own name.
-pub(crate) fn read_line<'a, S: AsStr>(
-    alloc: Global,
+// What the parser finds in the words, for this command.
+fn matches_of<'a, S: AsStr>(
+    command: &mut Command<'a>,
     words: &'a [S],
-) -> Result<Order<'a>, LineFault> {
+) -> Result<ArgMatches<'a>, clap::Error>
+    requires { app_of command.old ≡ audit_app }
+    ensures found { IfOk result (λ matches.
+        rows_of (found_of matches) ≡ rows_in audit_app (map S.text words.entry.now)) }
+    ensures refused { IfErr result (HasKind (fault_of audit_app (map S.text words.entry.now))) }
+{
+    command.try_get_matches_from_mut(words)
+}
+
+// The files that the words name, if they name a docket and a sheet.
+fn order_named<'a>(matches: &ArgMatches<'a>) -> Option<Order<'a>>
+    ensures { IfSome result (GivesOrder (rows_of (found_of matches.now))) }
+{
+    let Some(docket) = matches.get_str("docket") else {
+        return None;
+    };
+    let Some(sheet) = matches.get_str("sheet") else {
+        return None;
+    };
+    Some(Order {
+        docket,
+        sheet,
+        journal: matches.get_str("journal"),
+        facts: matches.get_flag("facts"),
+    })
+}
+
+/// The audit that the command line's words order. The words are those after the program's own name.
+pub(crate) fn read_line<'a, S: AsStr>(alloc: Global, words: &'a [S]) -> Result<Order<'a>, LineFault>
+    ensures order { IfOk result (Orders (map S.text words.entry.now)) }
+    ensures refused { IfErr result (Refuses (map S.text words.entry.now)) }
+{
     let mut command = command(alloc)?;
-    match command.try_get_matches_from_mut(words) {
-        Ok(matches) => match (matches.get_str("docket"), matches.get_str("sheet")) {
-            (Some(docket), Some(sheet)) => Ok(Order {
-                docket,
-                sheet,
-                journal: matches.get_str("journal"),
-                facts: matches.get_flag("facts"),
-            }),
-            _ => Err(LineFault::Memory),
-        },
-        Err(error) => Err(line_fault(error)),
+    let matches = match matches_of(&mut command, words) {
+        Ok(matches) => matches,
+        Err(error) => return Err(line_fault(error)),
+    };
+    match order_named(&matches) {
+        Some(order) if is_twice(&order) => Err(LineFault::SecondInput),
+        Some(order) => Ok(order),
+        None => Err(LineFault::Memory),
     }
 }

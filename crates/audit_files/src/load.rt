@@ -1,11 +1,13 @@
 //! The bytes of the files that the command line names.
-ghost use Rattle.std.specs.Prelude.{◌≡◌};
+ghost use Rattle.std.specs.Prelude.{◌≡◌, IfOk, Some, option_map};
+ghost use Rattle.audit_files.specs.Line.{IsTwice};
+ghost use Rattle.audit_files.specs.Loading.{AreFiles, NamesInput};
 
-use crate::line::Order;
+use crate::order::Order;
+use program_shell::{Unread, load_file, load_if};
 use std::alloc::Global;
 use std::io::Read;
 use std::rt::Files;
-use std::{fs, io};
 
 /// The bytes of the three files.
 #[derive(Drop)]
@@ -18,73 +20,19 @@ pub(crate) struct Loaded {
     pub(crate) journal: Option<Vec<u8>>,
 }
 
-/// A file that could not be read.
-#[derive(Clone, Copy, Debug, PartialEq, Eq)]
-pub(crate) struct Unread<'a> {
-    /// The path of the file.
-    pub(crate) path: &'a str,
-    /// Whether the reason is that memory ran out.
-    pub(crate) memory: bool,
-}
-
-// Whether the word stands for standard input.
-pub(crate) fn is_input(path: &str) -> bool {
-    path == "-"
-}
-
-// The bytes of standard input.
-fn load_input<R: Read>(alloc: Global, reader: &mut R) -> io::Result<Vec<u8>> {
-    let mut bytes = Vec::new(alloc);
-    match reader.read_to_end(&mut bytes) {
-        Ok(_) => Ok(bytes),
-        Err(error) => Err(error),
-    }
-}
-
-// The bytes of a file, or of standard input if the word stands for it.
-fn load_file<'a, R: Read, H: Files + AllocGlobal>(
-    rt: &H,
-    alloc: Global,
-    path: &'a str,
-    reader: &mut R,
-) -> Result<Vec<u8>, Unread<'a>> {
-    let bytes = if is_input(path) {
-        load_input(alloc, reader)
-    } else {
-        fs::read(rt, path)
-    };
-    match bytes {
-        Ok(bytes) => Ok(bytes),
-        Err(error) => Err(Unread {
-            path,
-            memory: error.kind() == io::ErrorKind::OutOfMemory,
-        }),
-    }
-}
-
-// The bytes of a file or of standard input, if the command line names a file.
-fn load_if<'a, R: Read, H: Files + AllocGlobal>(
-    rt: &H,
-    alloc: Global,
-    path: Option<&'a str>,
-    reader: &mut R,
-) -> Result<Option<Vec<u8>>, Unread<'a>> {
-    match path {
-        None => Ok(None),
-        Some(path) => match load_file(rt, alloc, path, reader) {
-            Ok(bytes) => Ok(Some(bytes)),
-            Err(unread) => Err(unread),
-        },
-    }
-}
-
 /// The bytes of all files that the command line names.
 pub(crate) fn load<'a, R: Read, H: Files + AllocGlobal>(
     rt: &H,
     alloc: Global,
     order: &Order<'a>,
     reader: &mut R,
-) -> Result<Loaded, Unread<'a>> {
+) -> Result<Loaded, Unread<'a>>
+    requires once { IsTwice (Some order.now.docket.now) (Some order.now.sheet.now)
+        (option_map (λ path. path.now) order.now.journal) → ⊥ }
+    ensures files { IfOk result (λ loaded. AreFiles order.now (R.remaining reader.old)
+        loaded.docket.items loaded.sheet.items (option_map (λ bytes. bytes.items) loaded.journal)) }
+    ensures kept { (NamesInput order.now → ⊥) → R.remaining reader.new ≡ R.remaining reader.old }
+{
     let docket = match load_file(rt, alloc, order.docket, reader) {
         Ok(bytes) => bytes,
         Err(unread) => return Err(unread),

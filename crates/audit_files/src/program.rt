@@ -1,16 +1,20 @@
 //! The program, over any streams. The program audits the files that the command line names. The program's exit status
 //! says what was found, or why no answer was written.
-ghost use Rattle.std.specs.Prelude.{◌≡◌};
+ghost use Rattle.std.specs.Prelude.{ℕ, List, Option, Some, option_map};
 ghost use Rattle.std.specs.Process.{exit_status as exit_status_in};
-ghost use Rattle.audit_files.specs.Status.{Ends, EndsServed, EndsUnread};
+ghost use Rattle.program_shell.specs.Ends.{EndsAnswered};
+ghost use Rattle.audit_files.specs.Line.{IsTwice};
+ghost use Rattle.audit_files.specs.Loading.{AreFiles};
+ghost use Rattle.audit_files.specs.Program.{AnswersOrder, Ends, Serves};
+ghost use Rattle.audit_files.specs.Status.{exit_status_of};
 
 use crate::fault::FilesFault;
-use crate::line::{Order, read_line};
-use crate::load::{Loaded, Unread, is_input, load};
+use crate::line::read_line;
+use crate::load::{Loaded, load};
+use crate::order::Order;
 use crate::serve::serve_files;
 use crate::status::exit_status;
-use docket_parts::Part;
-use program_shell::{UsageFault, refuse, texts_of};
+use program_shell::{UsageFault, lent, refuse, refuse_unread, texts_of};
 use std::alloc::Global;
 use std::io;
 use std::io::{Read, Write};
@@ -18,45 +22,12 @@ use std::process::ExitCode;
 use std::random::RandomSource;
 use std::rt::Files;
 
-// The path of the file for this part.
-fn path_of<'a>(order: &Order<'a>, part: Part) -> &'a str {
-    match (part, order.journal) {
-        (Part::Docket, _) => order.docket,
-        (Part::Sheet, _) => order.sheet,
-        (Part::Journal, Some(path)) => path,
-        (Part::Journal, None) => "-",
-    }
-}
-
-// Whether the command line names standard input for more than one file.
-fn is_twice(order: &Order) -> bool {
-    let journal = match order.journal {
-        Some(path) => is_input(path),
-        None => false,
-    };
-    let (docket, sheet) = (is_input(order.docket), is_input(order.sheet));
-    docket && sheet || docket && journal || sheet && journal
-}
-
 // Prints why the answer is missing or incomplete. The exit status never depends on whether this text could be written.
 fn tell<T: Eprint>(told: &T, order: &Order, fault: &FilesFault) {
     let _ = match fault.file() {
-        Some(part) => eprintln!(told; "residency: {}: {fault}", path_of(order, part)),
+        Some(part) => eprintln!(told; "residency: {}: {fault}", order.path_of(part)),
         None => eprintln!(told; "residency: {fault}"),
     };
-}
-
-// Prints that a file could not be read.
-fn tell_unread<T: Eprint>(told: &T, unread: &Unread) -> ExitCode
-    ensures { exit_status_in result ≡ 1 }
-{
-    let why = if unread.memory {
-        "out of memory"
-    } else {
-        "could not be read"
-    };
-    let _ = eprintln!(told; "residency: {}: {why}", unread.path);
-    ExitCode::from(1)
 }
 
 // Writes the answer over the bytes of the files, or prints why there is no answer.
@@ -68,19 +39,18 @@ fn serve_loaded<W: Write, T: Eprint, H: RandomSource>(
     writer: &mut W,
     told: &T,
 ) -> ExitCode
-    ensures { EndsServed (W.contents writer.old) (W.contents writer.new) (exit_status_in result) }
+    ensures { (input : Option (List ℕ)) → AreFiles order.now input loaded.now.docket.items
+        loaded.now.sheet.items (option_map (λ bytes. bytes.items) loaded.now.journal)
+        → EndsAnswered (AnswersOrder order.now input
+        (W.contents writer.old) (W.contents writer.new)) exit_status_of (exit_status_in result) }
 {
-    let journal = match &loaded.journal {
-        Some(bytes) => Some(bytes.as_slice()),
-        None => None,
-    };
     let answer = serve_files(
         rt,
         alloc,
         order.facts,
         loaded.docket.as_slice(),
         loaded.sheet.as_slice(),
-        journal,
+        lent(&loaded.journal),
         writer,
     );
     if let Err(fault) = &answer {
@@ -103,20 +73,15 @@ where
     W: Write,
     T: Eprint,
     H: RandomSource + Files + AllocGlobal,
-    ensures { Ends (W.contents writer.old) (W.contents writer.new) (exit_status_in result) }
+    requires { IsTwice (Some order.now.docket.now) (Some order.now.sheet.now)
+        (option_map (λ path. path.now) order.now.journal) → ⊥ }
+    ensures { Serves (R.remaining reader.old) (R.remaining reader.new) (W.contents writer.old)
+        (W.contents writer.new) (exit_status_in result) order.now }
 {
     match load(rt, alloc, order, reader) {
         Ok(loaded) => serve_loaded(rt, alloc, order, &loaded, writer, told),
-        Err(unread) => tell_unread(told, &unread),
+        Err(unread) => refuse_unread(told, &unread),
     }
-}
-
-// Prints that more than one file would come from standard input.
-fn refuse_inputs<T: Eprint>(told: &T) -> ExitCode
-    ensures { exit_status_in result ≡ 2 }
-{
-    let _ = eprintln!(told; "residency: only one of the files can be standard input");
-    ExitCode::from(2)
 }
 
 /// Audits the files that the words name, and returns the exit status. The status is 0 if everything is good, and 4 if
@@ -138,18 +103,15 @@ where
     W: Write,
     T: Print + Eprint,
     H: RandomSource + Files + AllocGlobal,
-    ensures { Ends (W.contents writer.old) (W.contents writer.new) (exit_status_in result) }
+    ensures { Ends words (R.remaining reader.old) (R.remaining reader.new) (W.contents writer.old)
+        (W.contents writer.new) (exit_status_in result) }
 {
     let texts = match texts_of(words) {
         Ok(texts) => texts,
         Err(fault) => return refuse(told, &fault),
     };
-    let order = match read_line(alloc, texts.as_slice()) {
-        Ok(order) => order,
-        Err(fault) => return refuse(told, &UsageFault::Line(fault)),
-    };
-    if is_twice(&order) {
-        return refuse_inputs(told);
+    match read_line(alloc, texts.as_slice()) {
+        Ok(order) => serve_order(rt, alloc, &order, reader, writer, told),
+        Err(fault) => refuse(told, &UsageFault::Line(fault)),
     }
-    serve_order(rt, alloc, &order, reader, writer, told)
 }

@@ -2,10 +2,9 @@
 ghost use Rattle.std.specs.Prelude.{◌≡◌, IfOk, IfErr};
 ghost use Rattle.audit_files.specs.Answer.{IsDocketIn, IsReadingFault};
 
-use crate::fault::FilesFault;
-use crate::place::told;
-use docket::{Docket, read_docket};
-use docket_parts::{PartFault, join};
+use crate::fault::{FilesFault, told};
+use docket::{Docket, read_parts};
+use match_model::Limits;
 use std::alloc::Global;
 use std::random::RandomSource;
 
@@ -20,13 +19,8 @@ pub fn read_files<H: RandomSource>(
     ensures docket { IfOk result (IsDocketIn docket.now sheet.now journal.now) }
     ensures fault { IfErr result (IsReadingFault docket.now sheet.now journal.now) }
 {
-    let joined = match join(alloc, docket, sheet, journal) {
-        Ok(joined) => joined,
-        Err(PartFault::Memory) => return Err(FilesFault::Memory),
-        Err(fault) => return Err(FilesFault::Part(fault)),
-    };
-    match read_docket(rt, alloc, joined.text.as_slice()) {
+    match read_parts(rt, alloc, Limits::Standard, docket, sheet, journal) {
         Ok(docket) => Ok(docket),
-        Err(fault) => Err(told(&joined, fault)),
+        Err(there) => Err(told(there)),
     }
 }

@@ -1,6 +1,6 @@
 //! The rows that an audit over files writes besides the rows of an audit and of a replay.
 ghost use Rattle.std.specs.Prelude.{◌≡◌, ℕ, OnOk};
-ghost use Rattle.docket_parts.specs.Lines.{Grows};
+ghost use Rattle.records.specs.Lines.{Grows};
 ghost use Rattle.audit_files.specs.Rows as spec;
 ghost use Rattle.match_model.specs.Instance.{IsResident};
 

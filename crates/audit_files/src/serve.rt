@@ -1,7 +1,7 @@
 //! From the bytes of three files to the bytes of an answer.
 ghost use Rattle.std.specs.Prelude.{◌≡◌, ◌≢◌, ℕ, [], Some, List, IfOk, IfErr, option_copied, unwrap_or};
 ghost use Rattle.std.specs.Io.KnownBytes.{Appends};
-ghost use Rattle.docket_parts.specs.Lines.{Grows};
+ghost use Rattle.records.specs.Lines.{Grows};
 ghost use Rattle.audit_text.specs.Serving.{WritesReport, WritesReplay};
 ghost use Rattle.audit_files.specs.Rows.{facts_if, result_row};
 ghost use Rattle.audit_files.specs.Answer.{Replays, Tells, AnswersFiles, IsAnswerFault, IsServingFault, TellsFirst, verdict_of};

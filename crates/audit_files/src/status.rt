@@ -1,11 +1,21 @@
 //! The exit status of the program.
 ghost use Rattle.std.specs.Prelude.{◌≡◌};
-ghost use Rattle.audit_files.specs.Status.{exit_status_of};
+ghost use Rattle.audit_files.specs.Status.{exit_status_of, fault_status_of};
 
 use crate::fault::FilesFault;
 use crate::serve::Verdict;
-use docket_parts::PartFault;
 use program_shell::docket_status;
+
+/// The exit status after files at fault. The status is 1 if memory, reading or writing failed, else 3.
+pub fn files_status(fault: &FilesFault) -> u8
+    ensures { result ≡ fault_status_of fault.now }
+{
+    match fault {
+        FilesFault::Docket { fault, .. } => docket_status(fault),
+        FilesFault::Memory | FilesFault::Write => 1,
+        FilesFault::NoSheet | FilesFault::NoJournal => 3,
+    }
+}
 
 /// The exit status after an audit over files. The status is 0 if everything is good, and 4 if something is bad. The
 /// status is 1 if memory, reading or writing failed, and 3 if a file is at fault.
@@ -15,8 +25,6 @@ pub(crate) fn exit_status(answer: &Result<Verdict, FilesFault>) -> u8
     match answer {
         Ok(Verdict::Good) => 0,
         Ok(Verdict::Bad) => 4,
-        Err(FilesFault::Docket { fault, .. }) => docket_status(fault),
-        Err(FilesFault::Part(PartFault::Memory) | FilesFault::Memory | FilesFault::Write) => 1,
-        Err(FilesFault::Part(_) | FilesFault::NoSheet | FilesFault::NoJournal) => 3,
+        Err(fault) => files_status(fault),
     }
 }

@@ -2,6 +2,7 @@
 //! lock.
 #![tactic(auto)]
 
+mod ranks;
 mod scheduler;
 mod shift;
 mod side;
@@ -11,6 +12,7 @@ mod wake;
 mod woken;
 mod workers;
 
+pub use ranks::{RANK_PARTS, RankLedger, Ranks};
 pub use scheduler::{Next, Scheduler};
 pub use shift::{Hand, Shift, TurnOf};
 pub use turn::Turn;
@@ -18,5 +20,5 @@ pub use wait_queues::WaitQueues;
 pub use wake::Wake;
 pub use woken::Woken;
 pub use workers::{
-    Holding, Looking, Resting, WORKER_PARTS, WorkerBlanks, Workers, WorkersIdentity,
+    Crew, Holding, Looking, Resting, WORKER_PARTS, WorkerBlanks, Workers, WorkersIdentity,
 };

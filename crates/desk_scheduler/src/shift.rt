@@ -1,5 +1,5 @@
 //! The workers of a run and its desks, as one value under one lock.
-ghost use Rattle.std.specs.Prelude.{◌≡◌, ◌+◌, ◌<◌, ◌≤◌, ◌||◌, ◌&&◌, [], false, true, fold, nat_lt, IfOk, IfErr, IfSome, IfNone};
+ghost use Rattle.std.specs.Prelude.{◌≡◌, ◌⊎◌, ◌+◌, ◌<◌, ◌≤◌, ◌||◌, ◌&&◌, [], false, true, fold, nat_lt, IfOk, IfErr, IfSome, IfNone};
 ghost use Rattle.desk_scheduler.specs.Desks.{letting_go};
 ghost use Rattle.desk_scheduler.specs.Shift.{GetDesks, next_in, desks_in};
 ghost use Rattle.desk_scheduler.specs.Turns.{IsInHand, at_desk, next_of, claim_or_next_of, waiting_now, ended_now, any_ready, woken_by};
@@ -7,7 +7,7 @@ ghost use Rattle.desk_scheduler.specs.Turns.{IsInHand, at_desk, next_of, claim_o
 use crate::scheduler::{Next, Scheduler};
 use crate::turn::Turn;
 use crate::woken::Woken;
-use crate::workers::{Holding, Looking, Resting, Workers, WorkersIdentity};
+use crate::workers::{Crew, Holding, Looking, Resting, Workers, WorkersIdentity};
 use std::marker::Model;
 
 /// A desk that a worker has. Only a worker that looked for a desk gets a `Hand`, and the worker gives the `Hand` up
@@ -68,16 +68,18 @@ impl<J: WorkersIdentity> Shift<J> {
         Shift { scheduler, workers }
     }
 
-    /// One more worker begins, and looks for a desk. The result is none if 63 workers have begun.
-    pub fn begins(&mut self) -> Option<Looking<J>>
+    /// One more worker of the crew begins, and looks for a desk. The result is none if 63 workers have begun, or if the
+    /// crew has no worker left.
+    pub fn begins(&mut self, crew: &mut Crew<J>) -> Option<Looking<J>>
         ensures begun { IfSome result (λ _. self.new.begun ≡ self.old.begun + 1) }
         ensures looks { IfSome result (λ _. self.new.looking ≡ self.old.looking + 1) }
         ensures others { (self.new.holding ≡ self.old.holding)
             × (self.new.resting ≡ self.old.resting) }
-        ensures none { IfNone result ((63 ≤ self.old.begun) × (self.new ≡ self.old)) }
+        ensures none { IfNone result (((63 ≤ self.old.begun) ⊎ (crew.old.left ≡ 0))
+            × (self.new ≡ self.old)) }
         ensures schedule { self.new.schedule ≡ self.old.schedule }
     {
-        self.workers.begins()
+        self.workers.begins(crew)
     }
 
     /// Lists all noted desks, and removes the notes.

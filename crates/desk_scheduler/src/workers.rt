@@ -1,6 +1,7 @@
 //! The workers of a run, counted under the scheduler's lock. Each worker has a desk, looks for a desk, or rests.
-ghost use Rattle.std.specs.Prelude.{◌≡◌, ◌+◌, ◌-◌, ◌<◌, ◌≤◌, ℕ, IfOk, IfErr, IfSome, IfNone};
+ghost use Rattle.std.specs.Prelude.{◌≡◌, ◌≢◌, ◌⊎◌, ◌+◌, ◌-◌, ◌<◌, ◌≤◌, ℕ, IfOk, IfErr, IfSome, IfNone};
 
+use crate::ranks::{RANK_PARTS, Ranks};
 use std::marker::{Brand, PhantomData};
 use std::sync::ledger::{Blank, Book, Ledger, Share};
 
@@ -10,13 +11,16 @@ const MOST: u64 = 63;
 /// Into how many parts each of the three ledgers of counts is cut.
 pub const WORKER_PARTS: u64 = 64;
 
-/// The names of the three ledgers that count the workers of a run. Each run has three ledgers of its own.
+/// The names of a run's four ledgers: three count the workers, and the fourth has the ranks of the threads. Each run has
+/// four ledgers of its own.
 pub trait WorkersIdentity {
     ghost holding: { ℕ };
 
     ghost looking: { ℕ };
 
     ghost resting: { ℕ };
+
+    ghost ranks: { ℕ };
 }
 
 impl WorkersIdentity for Brand {
@@ -25,9 +29,11 @@ impl WorkersIdentity for Brand {
     ghost looking = { 0 };
 
     ghost resting = { 0 };
+
+    ghost ranks = { 0 };
 }
 
-/// Three ledgers without a name, for the counts of one run's workers.
+/// Four ledgers without a name, for the counts of one run's workers and the ranks of its threads.
 #[derive(Drop)]
 pub struct WorkerBlanks {
     /// The ledger for the workers that have a desk.
@@ -36,32 +42,40 @@ pub struct WorkerBlanks {
     pub looking: Blank,
     /// The ledger for the workers that rest.
     pub resting: Blank,
+    /// The ledger for the ranks of the threads.
+    pub ranks: Blank,
     pub ghost parts: { (holding.parts ≡ 64) × (looking.parts ≡ 64) × (resting.parts ≡ 64) },
+    pub ghost rank_parts: { ranks.parts ≡ 128 },
 }
 
 impl WorkerBlanks {
-    /// Three ledgers that are not open yet.
+    /// Four ledgers that are not open yet.
     pub fn new() -> WorkerBlanks {
         WorkerBlanks {
             holding: Blank::new(WORKER_PARTS),
             looking: Blank::new(WORKER_PARTS),
             resting: Blank::new(WORKER_PARTS),
+            ranks: Blank::new(RANK_PARTS),
         }
     }
 
-    /// Opens the three ledgers of the run that the type names, before any worker begins.
-    pub fn open<J: WorkersIdentity>(self) -> Workers<J>
+    /// Opens the four ledgers of the run that the type names, before any worker begins: the counts, what workers need to
+    /// begin, and the ranks of all threads.
+    pub fn open<J: WorkersIdentity>(self) -> (Workers<J>, Crew<J>, Ranks<J>)
         requires holding { self.holding.name ≡ J.holding }
         requires looking { self.looking.name ≡ J.looking }
         requires resting { self.resting.name ≡ J.resting }
-        ensures { (result.begun ≡ 0) × (result.without ≡ 0) }
+        requires ranks { self.ranks.name ≡ J.ranks }
+        ensures { (result.0.begun ≡ 0) × (result.0.without ≡ 0) }
     {
         let WorkerBlanks {
             holding,
             looking,
             resting,
+            ranks,
         } = self;
-        Workers::none(holding, looking, resting)
+        let (workers, crew) = Workers::none(holding, looking, resting);
+        (workers, crew, Ranks::all(ranks))
     }
 }
 
@@ -123,6 +137,18 @@ pub struct Resting<J: WorkersIdentity> {
     ghost amounts: { (holds.amount ≡ 0) × (looks.amount ≡ 0) × (rests.amount ≡ 1) },
 }
 
+/// The workers that have not begun: their parts of the three ledgers. Only the thread that starts the workers has this
+/// value, so a worker that has begun can't begin again.
+#[derive(Drop)]
+pub struct Crew<J: WorkersIdentity> {
+    left: u64,
+    holds: Share<HoldingLedger<J>>,
+    looks: Share<LookingLedger<J>>,
+    rests: Share<RestingLedger<J>>,
+    ghost parts: { (holds.parts ≡ left) × (looks.parts ≡ left) × (rests.parts ≡ left) },
+    ghost amounts: { (holds.amount ≡ 0) × (looks.amount ≡ 0) × (rests.amount ≡ 0) },
+}
+
 /// How many workers have begun, and how many of them look for a desk or rest. Three ledgers count the workers that have
 /// a desk, that look for a desk and that rest. Each worker's token is the worker's part of a ledger. At no time do all
 /// workers rest.
@@ -133,57 +159,59 @@ pub struct Workers<J: WorkersIdentity> {
     holding: Book<HoldingLedger<J>>,
     looking: Book<LookingLedger<J>>,
     resting: Book<RestingLedger<J>>,
-    holds: Share<HoldingLedger<J>>,
-    looks: Share<LookingLedger<J>>,
-    rests: Share<RestingLedger<J>>,
     ghost all: { holding.total + looking.total + resting.total ≡ begun },
     ghost without_are: { looking.total + resting.total ≡ without },
     ghost awake: { resting.total ≤ begun - 1 },
-    ghost parts: { (holds.parts + begun ≡ 64)
-        × (looks.parts + begun ≡ 64) × (rests.parts + begun ≡ 64) },
-    ghost amounts: { (holds.amount ≡ 0) × (looks.amount ≡ 0) × (rests.amount ≡ 0) },
+    ghost most: { begun ≤ 63 },
 }
 
 impl<J: WorkersIdentity> Workers<J> {
-    /// The counts before any worker has begun.
-    pub fn none(holding: Blank, looking: Blank, resting: Blank) -> Workers<J>
+    /// The counts before any worker has begun, and the crew of all workers.
+    pub fn none(holding: Blank, looking: Blank, resting: Blank) -> (Workers<J>, Crew<J>)
         requires names { (holding.name ≡ J.holding)
             × (looking.name ≡ J.looking) × (resting.name ≡ J.resting) }
         requires parts { (holding.parts ≡ 64) × (looking.parts ≡ 64) × (resting.parts ≡ 64) }
-        ensures { (result.begun ≡ 0) × (result.without ≡ 0) }
+        ensures { (result.0.begun ≡ 0) × (result.0.without ≡ 0) }
     {
         let (holding, holds) = holding.open::<HoldingLedger<J>>();
         let (looking, looks) = looking.open::<LookingLedger<J>>();
         let (resting, rests) = resting.open::<RestingLedger<J>>();
-        Workers {
+        let workers = Workers {
             begun: 0,
             without: 0,
             holding,
             looking,
             resting,
+        };
+        let crew = Crew {
+            left: WORKER_PARTS,
             holds,
             looks,
             rests,
-        }
+        };
+        (workers, crew)
     }
 
-    /// One more worker begins, and looks for a desk. The result is none if 63 workers have begun.
-    pub fn begins(&mut self) -> Option<Looking<J>>
+    /// One more worker of the crew begins, and looks for a desk. The result is none if 63 workers have begun, or if the
+    /// crew has no worker left.
+    pub fn begins(&mut self, crew: &mut Crew<J>) -> Option<Looking<J>>
         ensures begun { IfSome result (λ _. self.new.begun ≡ self.old.begun + 1) }
         ensures looks { IfSome result (λ _. self.new.looking.total ≡ self.old.looking.total + 1) }
         ensures others { (self.new.holding.total ≡ self.old.holding.total)
             × (self.new.resting.total ≡ self.old.resting.total) }
-        ensures none { IfNone result ((63 ≤ self.old.begun) × (self.new ≡ self.old)) }
+        ensures none { IfNone result (((63 ≤ self.old.begun) ⊎ (crew.old.left ≡ 0))
+            × (self.new ≡ self.old)) }
     {
-        if self.begun >= MOST {
+        if self.begun >= MOST || crew.left == 0 {
             return None;
         }
-        Some(self.cut())
+        Some(self.cut(crew))
     }
 
-    // Cuts a part of each ledger for one more worker, which looks for a desk.
-    fn cut(&mut self) -> Looking<J>
-        requires { self.old.begun < 63 }
+    // Cuts a part of each ledger for one more worker of the crew, which looks for a desk.
+    fn cut(&mut self, crew: &mut Crew<J>) -> Looking<J>
+        requires begun { self.old.begun < 63 }
+        requires left { crew.old.left ≢ 0 }
         ensures begun { self.new.begun ≡ self.old.begun + 1 }
         ensures looks { self.new.looking.total ≡ self.old.looking.total + 1 }
         ensures others { (self.new.holding.total ≡ self.old.holding.total)
@@ -193,11 +221,15 @@ impl<J: WorkersIdentity> Workers<J> {
             begun,
             without,
             looking,
+            ..
+        } = self;
+        let Crew {
+            left,
             holds,
             looks,
             rests,
-            ..
-        } = self;
+        } = crew;
+        *left -= 1;
         let held = holds.split_off(1, 0);
         let mut looked = looks.split_off(1, 0);
         let rested = rests.split_off(1, 0);

@@ -8,6 +8,7 @@ pub mod NumberFacts
 pub mod WidestFacts
 pub mod PassFacts
 pub mod ReadRowsInvariant
+pub mod PartFacts
 pub mod RankingFacts
 pub mod RankedFacts
 pub mod GoneFacts

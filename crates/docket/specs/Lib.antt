@@ -21,3 +21,5 @@ pub mod Context
 pub mod WithLists
 pub mod ListPass
 pub mod SheetMarks
+pub mod FileFault
+pub mod Parts

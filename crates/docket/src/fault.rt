@@ -45,6 +45,8 @@ pub enum DocketFault {
     BadVersion { place: u32 },
     /// A withdrawal is neither for a programme nor for a resident.
     BadWithdrawal { place: u32 },
+    /// The record belongs to another part than its file.
+    AnotherPart { place: u32 },
 }
 
 impl DocketFault {
@@ -72,7 +74,8 @@ impl DocketFault {
             | DocketFault::BadEvent { place }
             | DocketFault::BadSheet { place }
             | DocketFault::BadVersion { place }
-            | DocketFault::BadWithdrawal { place } => Some(place),
+            | DocketFault::BadWithdrawal { place }
+            | DocketFault::AnotherPart { place } => Some(place),
             DocketFault::Memory | DocketFault::Write => None,
         }
     }
@@ -101,6 +104,7 @@ impl DocketFault {
             DocketFault::Write => "the output could not be written",
             DocketFault::BadVersion { .. } => "unknown version",
             DocketFault::BadWithdrawal { .. } => "bad withdrawal row",
+            DocketFault::AnotherPart { .. } => "belongs to another part",
         })
     }
 }

@@ -12,6 +12,9 @@
 mod declarations;
 mod docket;
 mod fault;
+mod file_fault;
+mod part;
+mod parts;
 mod passes;
 mod read;
 mod reading;
@@ -25,6 +28,9 @@ mod write;
 
 pub use crate::docket::{ByWorker, Docket, Journal};
 pub use fault::{DocketFault, FaultWithin};
+pub use file_fault::FileFault;
+pub use part::Part;
+pub use parts::{read_parts, read_parts_with_lists};
 pub use read::{
     read_docket, read_docket_with_lists, read_docket_with_lists_within, read_docket_within,
 };

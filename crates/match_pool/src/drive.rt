@@ -4,11 +4,11 @@ ghost use Rattle.match_pool.specs.declared.fault.RunFault.TheVariants.{Memory, T
 
 use crate::fault::{RunFault, Trouble};
 use crate::gate::Gate;
-use crate::locks::InnerRank;
+use crate::locks::{InnerRank, ranks_of};
 use crate::mailboxes::Mailboxes;
 use crate::shared::SharedState;
 use crate::worker::Worker;
-use desk_scheduler::WorkersIdentity;
+use desk_scheduler::{Crew, Ranks, WorkersIdentity};
 use match_model::Instance;
 use offer_ledger::{ExchangeIdentity, Tally};
 use std::alloc::Global;
@@ -31,6 +31,8 @@ pub(crate) fn drive<J, M, G, R>(
     shared: &SharedState<'_, J, M, G>,
     gate: &G,
     tallies: Vec<Tally<J>>,
+    crew: Crew<J>,
+    ranks: Ranks<J>,
 ) -> Result<Vec<Tally<J>>, RunFault>
 where
     J: ExchangeIdentity + WorkersIdentity + Send + Sync,
@@ -54,7 +56,7 @@ where
             requires instance { inst.now ≡ J.inst }
             requires none { handles.items ≡ [] }
             requires room { length tallies.items ≤ vec_capacity handles }
-        { start_all(scope, rt, inst, shared, gate, tallies, handles) },
+        { start_all(scope, rt, inst, shared, gate, tallies, handles, crew, ranks) },
     );
     let Some(handles) = started else {
         return Err(RunFault::Thread);
@@ -63,6 +65,25 @@ where
         back.push(handle.join(rt))?;
     }
     Ok(back)
+}
+
+// What the thread that starts the workers has: the workers that have not begun, the ranks that no thread has yet, and a
+// rank of its own.
+#[derive(Drop)]
+struct Starter<J: WorkersIdentity> {
+    crew: Crew<J>,
+    ranks: Ranks<J>,
+    inner: InnerRank<J>,
+    ghost idle: { inner.own.parts ≡ 1 },
+}
+
+impl<J: WorkersIdentity> Starter<J> {
+    // Takes ranks for the starting thread, which never takes a desk's lock. The result is none if there are no ranks.
+    fn new(crew: Crew<J>, ranks: Ranks<J>) -> Option<Starter<J>> {
+        let mut ranks = ranks;
+        let (_, inner) = ranks_of(ranks.of_thread()?);
+        Some(Starter { crew, ranks, inner })
+    }
 }
 
 // Starts a worker for each tally. The result is none if the system refuses to start a worker; then the run is ended.
@@ -74,6 +95,8 @@ fn start_all<'s, 'f, E, J, M, G, R>(
     gate: &'s G,
     tallies: Vec<Tally<J>>,
     handles: Handles<J>,
+    crew: Crew<J>,
+    ranks: Ranks<J>,
 ) -> Option<Handles<J>>
 where
     J: ExchangeIdentity + WorkersIdentity + Send + Sync,
@@ -88,23 +111,62 @@ where
     requires none { handles.items ≡ [] }
     requires room { length tallies.items ≤ vec_capacity handles }
 {
+    let mut starter = Starter::new(crew, ranks)?;
     let mut handles = handles;
     let mut number = 0;
     for tally in tallies {
-        let thread = Builder::new().stack_size(STACK_BYTES);
-        let spawned = thread.spawn_scoped(
-            scope,
-            move || -> Tally<J>
-                requires { inst.now ≡ J.inst }
-            { Worker::new(rt, inst, gate, shared, number, tally).work() },
-        );
-        let Ok(handle) = spawned else {
-            let mut rank = InnerRank::of_thread();
-            shared.fail(rt, &mut rank, Trouble::Thread);
-            return None;
-        };
+        let handle = start_one(scope, rt, inst, shared, gate, number, tally, &mut starter)?;
         handles.push_reserved(handle);
         number = number.saturating_add(1);
     }
     Some(handles)
+}
+
+// Starts the worker with this number and tally. The result is none if the system refuses; then the run is ended.
+fn start_one<'s, 'f, E, J, M, G, R>(
+    scope: &Scope<'s, E>,
+    rt: &'s R,
+    inst: &'s Instance,
+    shared: &'s SharedState<'f, J, M, G>,
+    gate: &'s G,
+    number: usize,
+    tally: Tally<J>,
+    starter: &mut Starter<J>,
+) -> Option<JoinHandle<Tally<J>>>
+where
+    J: ExchangeIdentity + WorkersIdentity + Send + Sync,
+    M: Mailboxes + Send + Sync,
+    M::OfferPut: Send,
+    M::OfferTake: Send,
+    M::AnswerPut: Send,
+    M::AnswerTake: Send,
+    G: Gate + Sync,
+    R: Wait + Sync,
+    requires { inst.now ≡ J.inst }
+{
+    let begun = shared.begin_one(rt, &mut starter.inner, &mut starter.crew);
+    let (Some(own), Some(parts)) = (begun, starter.ranks.of_thread()) else {
+        shared.fail(rt, &mut starter.inner, Trouble::Thread);
+        return None;
+    };
+    let thread = Builder::new().stack_size(STACK_BYTES);
+    let spawned = thread.spawn_scoped(
+        scope,
+        move || -> Tally<J>
+            requires instance { inst.now ≡ J.inst }
+            requires parts { (parts.parts ≡ 2) × (parts.amount ≡ 0) }
+        {
+            let (desk, inner) = ranks_of(parts);
+            let worker = Worker::new(rt, inst, gate, shared, number, tally, inner);
+            let (tally, _own) = worker.work(desk, own);
+            tally
+        },
+    );
+    match spawned {
+        Ok(handle) => Some(handle),
+        Err(_) => {
+            shared.fail(rt, &mut starter.inner, Trouble::Thread);
+            None
+        }
+    }
 }

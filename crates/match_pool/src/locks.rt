@@ -1,106 +1,266 @@
 //! The locks of a run, and the order in which a worker takes them: first a desk's lock, then the ledger's lock or the
-//! schedule's lock.
-ghost use Rattle.std.specs.Prelude.{◌≡◌, true, false};
+//! schedule's lock. Here is also where a worker waits for news. No other file of the crate has a mutex or a condition
+//! variable.
+ghost use Rattle.std.specs.Prelude.{◌≡◌};
 
+use crate::gate::Gate;
 use crate::naps::{NapRoom, Naps};
+use crate::run_state::RunState;
+use desk_scheduler::{RankLedger, Resting, WorkersIdentity};
+use offer_ledger::ExchangeIdentity;
 use std::hint::spin_loop;
-use std::snapshot::Snapshot;
-use std::sync::{Mutex, MutexGuard, Wait};
+use std::marker::PhantomData;
+use std::sync::ledger::Share;
+use std::sync::{Condvar, Mutex, MutexGuard, Wait};
 
-/// The token of a thread that holds no desk's lock. The token has no bytes. A thread that takes a desk's lock gives up
-/// the token, and gets the token back when it releases the lock.
+/// A thread's rank for desks: one of the two parts that the thread has of the run's ledger of ranks. The rank has no
+/// bytes. While the thread holds a desk's lock, the guard of this lock has the rank.
 #[derive(Drop)]
-pub(crate) struct DeskRank(());
-
-/// The token that says whether a thread may take the ledger's lock or the schedule's lock. A thread may hold only one
-/// of these two locks. The token has no bytes.
-#[derive(Drop)]
-pub(crate) struct InnerRank {
-    free: Snapshot<bool>,
+pub(crate) struct DeskRank<J: WorkersIdentity> {
+    own: Share<RankLedger<J>>,
+    ghost one: { own.parts ≡ 1 },
+    ghost none: { own.amount ≡ 0 },
 }
 
-impl DeskRank {
-    /// The token that a thread has at its start.
-    pub(crate) fn of_thread() -> DeskRank {
-        DeskRank(())
-    }
+/// A thread's rank for the ledger's lock and the schedule's lock: the thread's other part of the ledger of ranks. While
+/// the thread holds one of these two locks, the guard of this lock has the part, and the rank has none.
+#[derive(Drop)]
+pub(crate) struct InnerRank<J: WorkersIdentity> {
+    own: Share<RankLedger<J>>,
+    ghost none: { own.amount ≡ 0 },
 }
 
-impl InnerRank {
-    /// The token that a thread has at its start.
-    pub(crate) fn of_thread() -> InnerRank
-        ensures { result.free.value ≡ true }
+/// The two ranks of a thread, made of exactly the two parts that the thread has of the run's ledger of ranks.
+pub(crate) fn ranks_of<J: WorkersIdentity>(
+    parts: Share<RankLedger<J>>,
+) -> (DeskRank<J>, InnerRank<J>)
+    requires parts { parts.parts ≡ 2 }
+    requires amount { parts.amount ≡ 0 }
+    ensures { result.1.own.parts ≡ 1 }
+{
+    let mut parts = parts;
+    let own = parts.split_off(1, 0);
+    (DeskRank { own: parts }, InnerRank { own })
+}
+
+impl<J: WorkersIdentity> InnerRank<J> {
+    // Takes the part out of the rank, for the guard of a lock.
+    #[inline(always)]
+    fn take_part(&mut self) -> HeldPart<J>
+        requires { self.old.own.parts ≡ 1 }
+        ensures { self.new.own.parts ≡ 0 }
     {
-        InnerRank {
-            free: Snapshot::of(&true),
+        HeldPart {
+            own: self.own.split_off(1, 0),
         }
     }
 
-    /// Notes that the thread took the ledger's lock or the schedule's lock.
+    /// Releases the ledger's lock or the schedule's lock. Only the guard of this lock has the part that the rank lacks.
     #[inline(always)]
-    pub(crate) fn taken(&mut self)
-        requires { self.old.free.value ≡ true }
-        ensures { self.new.free.value ≡ false }
+    pub(crate) fn give_back<T>(&mut self, guard: InnerGuard<'_, J, T>)
+        requires { self.old.own.parts ≡ 0 }
+        ensures { self.new.own.parts ≡ 1 }
     {
-        self.free = Snapshot::of(&false);
-    }
-
-    /// Releases the ledger's lock or the schedule's lock.
-    #[inline(always)]
-    pub(crate) fn give_back<T>(&mut self, guard: MutexGuard<'_, T>)
-        requires { self.old.free.value ≡ false }
-        ensures { self.new.free.value ≡ true }
-    {
+        let InnerGuard {
+            guard,
+            held: HeldPart { own },
+        } = guard;
         drop(guard);
-        self.free = Snapshot::of(&true);
+        self.own.merge(own);
     }
 }
 
-/// A value under a desk's lock.
+/// A value under the ledger's lock or the schedule's lock.
 #[derive(Drop)]
-pub(crate) struct DeskLock<T>(Mutex<T>);
-
-/// A value under a desk's lock, while the lock is held.
-#[derive(Drop)]
-pub(crate) struct DeskGuard<'a, T> {
-    pub(crate) value: MutexGuard<'a, T>,
+pub(crate) struct InnerLock<J: WorkersIdentity, T> {
+    lock: Mutex<T>,
+    run: PhantomData<J>,
 }
 
-impl<T> DeskLock<T> {
+/// The ledger's lock or the schedule's lock, while a thread holds it, with the thread's part of the ledger of ranks.
+#[derive(Drop)]
+pub(crate) struct InnerGuard<'a, J: WorkersIdentity, T> {
+    guard: MutexGuard<'a, T>,
+    held: HeldPart<J>,
+}
+
+/// The part of the ledger of ranks that a thread's `InnerRank` lacks while the thread holds one of these two locks.
+#[derive(Drop)]
+struct HeldPart<J: WorkersIdentity> {
+    own: Share<RankLedger<J>>,
+    ghost one: { own.parts ≡ 1 },
+    ghost none: { own.amount ≡ 0 },
+}
+
+impl<J: WorkersIdentity, T> InnerLock<J, T> {
     /// A lock that no thread holds.
-    pub(crate) fn new(value: T) -> DeskLock<T> {
-        DeskLock(Mutex::new(value))
+    pub(crate) fn new(value: T) -> InnerLock<J, T> {
+        InnerLock {
+            lock: Mutex::new(value),
+            run: PhantomData,
+        }
     }
 
-    /// Waits for the desk's lock, and returns the value under it. The thread holds no lock.
+    /// Gets the lock. The thread naps in this room while another thread holds the lock.
     #[inline(always)]
     pub(crate) fn lock<R: Wait>(
         &self,
         rt: &R,
-        _desk: DeskRank,
-        inner: &InnerRank,
-    ) -> DeskGuard<'_, T>
-        requires { inner.now.free.value ≡ true }
+        inner: &mut InnerRank<J>,
+        room: &NapRoom,
+    ) -> InnerGuard<'_, J, T>
+        requires { inner.old.own.parts ≡ 1 }
+        ensures { inner.new.own.parts ≡ 0 }
     {
-        DeskGuard {
-            value: self.0.lock(rt),
+        let held = inner.take_part();
+        InnerGuard {
+            guard: lock_soon(rt, &self.lock, room),
+            held,
+        }
+    }
+
+    /// Gets the lock, and does not nap.
+    pub(crate) fn lock_at_once<R: Wait>(
+        &self,
+        rt: &R,
+        inner: &mut InnerRank<J>,
+    ) -> InnerGuard<'_, J, T>
+        requires { inner.old.own.parts ≡ 1 }
+        ensures { inner.new.own.parts ≡ 0 }
+    {
+        let held = inner.take_part();
+        InnerGuard {
+            guard: self.lock.lock(rt),
+            held,
         }
     }
 
     /// Takes the value out of its lock.
     pub(crate) fn into_inner(self) -> T {
-        let DeskLock(value) = self;
-        value.into_inner()
+        let InnerLock { lock, run: _ } = self;
+        lock.into_inner()
     }
 }
 
-impl<'a, T> DeskGuard<'a, T> {
+impl<'a, J: WorkersIdentity, T> InnerGuard<'a, J, T> {
+    /// The value under the lock.
+    #[inline(always)]
+    pub(crate) fn value(&mut self) -> &mut T {
+        &mut self.guard
+    }
+}
+
+impl<'s, 'a, J: ExchangeIdentity + WorkersIdentity, G: Gate> InnerGuard<'s, J, RunState<'a, J, G>> {
+    /// Waits for news without the schedule's lock, until a desk is listed or the run ends. Only a worker that is counted
+    /// as resting has a `Resting`.
+    pub(crate) fn rest<R: Wait>(
+        self,
+        rt: &R,
+        news: &News,
+        _resting: &Resting<J>,
+    ) -> InnerGuard<'s, J, RunState<'a, J, G>> {
+        let InnerGuard { guard, held } = self;
+        InnerGuard {
+            guard: news
+                .0
+                .wait_while(rt, guard, |state| !state.shift.has_news()),
+            held,
+        }
+    }
+}
+
+/// Where workers that rest wait for news.
+#[derive(Drop)]
+pub(crate) struct News(Condvar);
+
+/// A run's end of which workers that rest have not heard. This value can't be dropped: only `News::wake_all` takes it.
+/// So each function that ends the run wakes these workers before it returns.
+pub(crate) struct Unheard(());
+
+impl Unheard {
+    /// An end that nobody has heard of.
+    pub(crate) fn end() -> Unheard {
+        Unheard(())
+    }
+}
+
+impl News {
+    /// The place, while no worker waits.
+    pub(crate) fn new() -> News {
+        News(Condvar::new())
+    }
+
+    /// Wakes one worker that rests.
+    pub(crate) fn wake_one(&self) {
+        self.0.notify_one();
+    }
+
+    /// Wakes all workers that rest, so that they hear of the run's end.
+    pub(crate) fn wake_all(&self, end: Unheard) {
+        let Unheard(()) = end;
+        self.0.notify_all();
+    }
+}
+
+/// A value under a desk's lock.
+#[derive(Drop)]
+pub(crate) struct DeskLock<J: WorkersIdentity, T> {
+    lock: Mutex<T>,
+    run: PhantomData<J>,
+}
+
+/// A desk's lock, while a thread holds it, with the thread's rank for desks.
+#[derive(Drop)]
+pub(crate) struct DeskGuard<'a, J: WorkersIdentity, T> {
+    guard: MutexGuard<'a, T>,
+    rank: DeskRank<J>,
+}
+
+impl<J: WorkersIdentity, T> DeskLock<J, T> {
+    /// A lock that no thread holds.
+    pub(crate) fn new(value: T) -> DeskLock<J, T> {
+        DeskLock {
+            lock: Mutex::new(value),
+            run: PhantomData,
+        }
+    }
+
+    /// Waits for the desk's lock. The thread holds neither another desk's lock nor the ledger's or the schedule's.
+    #[inline(always)]
+    pub(crate) fn lock<R: Wait>(
+        &self,
+        rt: &R,
+        rank: DeskRank<J>,
+        inner: &InnerRank<J>,
+    ) -> DeskGuard<'_, J, T>
+        requires { inner.now.own.parts ≡ 1 }
+    {
+        DeskGuard {
+            guard: self.lock.lock(rt),
+            rank,
+        }
+    }
+
+    /// Takes the value out of its lock.
+    pub(crate) fn into_inner(self) -> T {
+        let DeskLock { lock, run: _ } = self;
+        lock.into_inner()
+    }
+}
+
+impl<'a, J: WorkersIdentity, T> DeskGuard<'a, J, T> {
+    /// The value under the lock.
+    #[inline(always)]
+    pub(crate) fn value(&mut self) -> &mut T {
+        &mut self.guard
+    }
+
     /// Releases the desk's lock.
     #[inline(always)]
-    pub(crate) fn give_back(self) -> DeskRank {
-        let DeskGuard { value } = self;
-        drop(value);
-        DeskRank(())
+    pub(crate) fn give_back(self) -> DeskRank<J> {
+        let DeskGuard { guard, rank } = self;
+        drop(guard);
+        rank
     }
 }
 
@@ -126,14 +286,10 @@ fn try_soon<T>(lock: &Mutex<T>) -> Option<MutexGuard<'_, T>> {
     None
 }
 
-/// The value under a lock that each worker needs for each event. If another worker holds the lock, this worker naps, so
-/// that the other worker goes on alone. A lock that changes hands with each event makes two workers slower than one.
+// The value under a lock that each worker needs for each event. If another worker holds the lock, this worker naps, so
+// that the other worker goes on alone. A lock that changes hands with each event makes two workers slower than one.
 #[inline(always)]
-pub(crate) fn lock_soon<'a, T, R: Wait>(
-    rt: &R,
-    lock: &'a Mutex<T>,
-    room: &NapRoom,
-) -> MutexGuard<'a, T> {
+fn lock_soon<'a, T, R: Wait>(rt: &R, lock: &'a Mutex<T>, room: &NapRoom) -> MutexGuard<'a, T> {
     match try_soon(lock) {
         Some(guard) => guard,
         None => lock_later(rt, lock, room),

@@ -25,7 +25,7 @@ use std::sync::ledger::Blank;
 
 /// The desks of one side: the sending ends of the desks' mailboxes, and the locks with the desks' agents, both by the
 /// desk's number.
-type Side<P, D> = (Vec<P>, Vec<DeskLock<D>>);
+type Side<P, J, D> = (Vec<P>, Vec<DeskLock<J, D>>);
 
 /// What a run needs to open its exchange. The type names the instance and the capacity.
 #[derive(Drop)]
@@ -64,7 +64,7 @@ impl<'a, J: ExchangeIdentity + WorkersIdentity, M: Mailboxes> RunStart<'a, J, M>
     }
 
     // For each resident a mailbox: its sending end, and a lock with the resident's agent, which has the receiving end.
-    fn residents(&self) -> Result<Side<M::OfferPut, ResidentSeat<J, M>>, RunFault>
+    fn residents(&self) -> Result<Side<M::OfferPut, J, ResidentSeat<J, M>>, RunFault>
         ensures puts { IfOk result (λ side. Each side.0.items (length J.inst.resident_lists)
             (IsNew M.OfferPut.puts M.offer_room (offer_room_of J.inst J.cap))) }
         ensures fault { IfErr result (λ fault. fault ≡ Memory) }
@@ -81,7 +81,7 @@ impl<'a, J: ExchangeIdentity + WorkersIdentity, M: Mailboxes> RunStart<'a, J, M>
     }
 
     // For each programme a mailbox: its sending end, and a lock with the agent, which has the receiving end.
-    fn programmes(&self) -> Result<Side<M::AnswerPut, ProgrammeSeat<J, M>>, RunFault>
+    fn programmes(&self) -> Result<Side<M::AnswerPut, J, ProgrammeSeat<J, M>>, RunFault>
         ensures puts { IfOk result (λ side. Each side.0.items (length J.inst.quotas)
             (IsNew M.AnswerPut.puts M.answer_room (answer_room_of J.inst J.cap))) }
         ensures fault { IfErr result (λ fault. fault ≡ Memory) }

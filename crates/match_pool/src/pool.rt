@@ -108,6 +108,7 @@ fn run_named<
     requires holding { blanks.workers.holding.name ≡ J.holding }
     requires looking { blanks.workers.looking.name ≡ J.looking }
     requires resting { blanks.workers.resting.name ≡ J.resting }
+    requires ranks { blanks.workers.ranks.name ≡ J.ranks }
     requires admitted { is_capacity cap ≡ true }
     ensures run { IfOk result (λ done. IsRunOf done M.OfferPut.puts M.OfferTake.taken
         M.AnswerPut.puts M.AnswerTake.taken inst.now cap workers G.MAY_STOP) }
@@ -125,7 +126,8 @@ fn run_named<
         cap,
         exchange: PhantomData,
     };
-    let (shared, tallies) = start.shared::<G>(entries, counts.open(), workers as u32)?;
-    let tallies = drive(rt, alloc, inst, &shared, gate, tallies)?;
+    let (counts, crew, ranks) = counts.open();
+    let (shared, tallies) = start.shared::<G>(entries, counts, workers as u32)?;
+    let tallies = drive(rt, alloc, inst, &shared, gate, tallies, crew, ranks)?;
     reserve.finish(inst, shared, tallies)
 }

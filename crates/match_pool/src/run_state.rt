@@ -4,6 +4,7 @@ ghost use Rattle.match_pool.specs.RunState.{is_told};
 
 use crate::fault::Trouble;
 use crate::gate::Gate;
+use crate::locks::Unheard;
 use desk_scheduler::{Shift, WorkersIdentity};
 use offer_ledger::{CloseToken, ExchangeIdentity};
 use std::marker::PhantomData;
@@ -35,35 +36,36 @@ impl<'a, J: ExchangeIdentity + WorkersIdentity, G: Gate> RunState<'a, J, G> {
     }
 
     /// Notes that the close is entered, so that the run ends.
-    pub(crate) fn close(&mut self, _close: CloseToken<J>) {
+    pub(crate) fn close(&mut self, _close: CloseToken<J>) -> Unheard {
         self.closed = true;
-        self.end();
+        self.end()
     }
 
     /// Notes that the gate stopped the run, so that the run ends.
-    pub(crate) fn stop(&mut self)
+    pub(crate) fn stop(&mut self) -> Unheard
         requires { G.MAY_STOP ≡ true }
     {
         self.stopped = true;
-        self.end();
+        self.end()
     }
 
     /// Notes a fault that ends the run. If there are several faults, the first fault stays.
-    pub(crate) fn fail(&mut self, trouble: Trouble)
+    pub(crate) fn fail(&mut self, trouble: Trouble) -> Unheard
         ensures { MatchOption self.old.trouble (self.new.trouble ≡ Some trouble)
             (λ first. self.new.trouble ≡ Some first) }
     {
         let first = self.trouble.unwrap_or(trouble);
         self.trouble = Some(first);
-        self.end();
+        self.end()
     }
 
     // Ends the schedule: no worker gets a desk any more. The worker that closed, stopped or failed the run calls this.
-    fn end(&mut self)
+    fn end(&mut self) -> Unheard
         requires { is_told self.old.closed self.old.stopped self.old.trouble ≡ true }
         ensures { self.new.trouble ≡ self.old.trouble }
     {
         self.shift.end();
+        Unheard::end()
     }
 
     /// The fault that ended the run, if there is one.

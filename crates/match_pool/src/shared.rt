@@ -1,23 +1,23 @@
 //! What all workers of a run share.
-ghost use Rattle.std.specs.Prelude.{◌≡◌, true, false};
+ghost use Rattle.std.specs.Prelude.{◌≡◌, true};
 
 use crate::exchange::Exchange;
 use crate::fault::Trouble;
 use crate::gate::Gate;
-use crate::locks::{DeskLock, InnerRank, lock_soon};
+use crate::locks::{DeskLock, InnerGuard, InnerLock, InnerRank, News};
 use crate::mailboxes::Mailboxes;
 use crate::naps::{NapRoom, Naps};
 use crate::run_state::RunState;
 use crate::seats::{ProgrammeSeat, ResidentSeat};
-use desk_scheduler::WorkersIdentity;
+use desk_scheduler::{Crew, Looking, Resting, WorkersIdentity};
 use offer_ledger::{CloseToken, ExchangeIdentity};
-use std::sync::{Condvar, Mutex, MutexGuard, Wait};
+use std::sync::Wait;
 
 /// The parts of the shared state: the seats of the residents and of the programmes, the exchange, and the state of the
 /// run.
 pub(crate) type SharedParts<'a, J, M, G> = (
-    Vec<DeskLock<ResidentSeat<J, M>>>,
-    Vec<DeskLock<ProgrammeSeat<J, M>>>,
+    Vec<DeskLock<J, ResidentSeat<J, M>>>,
+    Vec<DeskLock<J, ProgrammeSeat<J, M>>>,
     Exchange<J, M>,
     RunState<'a, J, G>,
 );
@@ -25,11 +25,11 @@ pub(crate) type SharedParts<'a, J, M, G> = (
 /// The locks of a run, in the order in which a worker takes them: a desk's lock first, and then either the ledger's
 /// lock or the schedule's lock.
 pub(crate) struct SharedState<'a, J: ExchangeIdentity + WorkersIdentity, M: Mailboxes, G: Gate> {
-    pub(crate) residents: Vec<DeskLock<ResidentSeat<J, M>>>,
-    pub(crate) programmes: Vec<DeskLock<ProgrammeSeat<J, M>>>,
-    exchange: Mutex<Exchange<J, M>>,
-    state: Mutex<RunState<'a, J, G>>,
-    pub(crate) news: Condvar,
+    pub(crate) residents: Vec<DeskLock<J, ResidentSeat<J, M>>>,
+    pub(crate) programmes: Vec<DeskLock<J, ProgrammeSeat<J, M>>>,
+    exchange: InnerLock<J, Exchange<J, M>>,
+    state: InnerLock<J, RunState<'a, J, G>>,
+    news: News,
     for_lock: NapRoom,
     for_work: NapRoom,
 }
@@ -69,17 +69,17 @@ impl<'a, J: ExchangeIdentity + WorkersIdentity, M: Mailboxes, G: Gate> SharedSta
 
     /// The seats, the exchange and the state of the run, each put under its lock.
     pub(crate) fn new(
-        residents: Vec<DeskLock<ResidentSeat<J, M>>>,
-        programmes: Vec<DeskLock<ProgrammeSeat<J, M>>>,
+        residents: Vec<DeskLock<J, ResidentSeat<J, M>>>,
+        programmes: Vec<DeskLock<J, ProgrammeSeat<J, M>>>,
         exchange: Exchange<J, M>,
         state: RunState<'a, J, G>,
     ) -> SharedState<'a, J, M, G> {
         SharedState {
             residents,
             programmes,
-            exchange: Mutex::new(exchange),
-            state: Mutex::new(state),
-            news: Condvar::new(),
+            exchange: InnerLock::new(exchange),
+            state: InnerLock::new(state),
+            news: News::new(),
             for_lock: NapRoom::new(),
             for_work: NapRoom::new(),
         }
@@ -90,13 +90,12 @@ impl<'a, J: ExchangeIdentity + WorkersIdentity, M: Mailboxes, G: Gate> SharedSta
     pub(crate) fn lock_exchange<R: Wait>(
         &self,
         rt: &R,
-        inner: &mut InnerRank,
-    ) -> MutexGuard<'_, Exchange<J, M>>
-        requires { inner.old.free.value ≡ true }
-        ensures { inner.new.free.value ≡ false }
+        inner: &mut InnerRank<J>,
+    ) -> InnerGuard<'_, J, Exchange<J, M>>
+        requires { inner.old.own.parts ≡ 1 }
+        ensures { inner.new.own.parts ≡ 0 }
     {
-        inner.taken();
-        lock_soon(rt, &self.exchange, &self.for_lock)
+        self.exchange.lock(rt, inner, &self.for_lock)
     }
 
     /// The schedule and the state of the run, once this thread has their lock.
@@ -104,13 +103,12 @@ impl<'a, J: ExchangeIdentity + WorkersIdentity, M: Mailboxes, G: Gate> SharedSta
     pub(crate) fn lock_state<R: Wait>(
         &self,
         rt: &R,
-        inner: &mut InnerRank,
-    ) -> MutexGuard<'_, RunState<'a, J, G>>
-        requires { inner.old.free.value ≡ true }
-        ensures { inner.new.free.value ≡ false }
+        inner: &mut InnerRank<J>,
+    ) -> InnerGuard<'_, J, RunState<'a, J, G>>
+        requires { inner.old.own.parts ≡ 1 }
+        ensures { inner.new.own.parts ≡ 0 }
     {
-        inner.taken();
-        lock_soon(rt, &self.state, &self.for_lock)
+        self.state.lock(rt, inner, &self.for_lock)
     }
 
     /// Naps once, because the worker found no desk with work. A worker that naps for a lock is woken as well, since it
@@ -127,40 +125,40 @@ impl<'a, J: ExchangeIdentity + WorkersIdentity, M: Mailboxes, G: Gate> SharedSta
     }
 
     /// Ends the run, because the close is entered.
-    pub(crate) fn close<R: Wait>(&self, rt: &R, inner: &mut InnerRank, close: CloseToken<J>)
-        requires { inner.old.free.value ≡ true }
-        ensures { inner.new.free.value ≡ true }
+    pub(crate) fn close<R: Wait>(&self, rt: &R, inner: &mut InnerRank<J>, close: CloseToken<J>)
+        requires { inner.old.own.parts ≡ 1 }
+        ensures { inner.new.own.parts ≡ 1 }
     {
         self.end_naps();
         let mut state = self.lock_state(rt, inner);
-        state.close(close);
+        let end = state.value().close(close);
         inner.give_back(state);
-        self.wake_all();
+        self.news.wake_all(end);
     }
 
     /// Ends the run, because the gate said so. Each worker still enters the event that it has begun, and then leaves.
-    pub(crate) fn stop<R: Wait>(&self, rt: &R, inner: &mut InnerRank)
+    pub(crate) fn stop<R: Wait>(&self, rt: &R, inner: &mut InnerRank<J>)
         requires may_stop { G.MAY_STOP ≡ true }
-        requires free { inner.old.free.value ≡ true }
-        ensures { inner.new.free.value ≡ true }
+        requires free { inner.old.own.parts ≡ 1 }
+        ensures { inner.new.own.parts ≡ 1 }
     {
         let mut state = self.lock_state(rt, inner);
-        state.stop();
+        let end = state.value().stop();
         inner.give_back(state);
         self.end_naps();
-        self.wake_all();
+        self.news.wake_all(end);
     }
 
     /// Ends the run with a fault. If there are several faults, the first fault stays.
-    pub(crate) fn fail<R: Wait>(&self, rt: &R, inner: &mut InnerRank, trouble: Trouble)
-        requires { inner.old.free.value ≡ true }
-        ensures { inner.new.free.value ≡ true }
+    pub(crate) fn fail<R: Wait>(&self, rt: &R, inner: &mut InnerRank<J>, trouble: Trouble)
+        requires { inner.old.own.parts ≡ 1 }
+        ensures { inner.new.own.parts ≡ 1 }
     {
         self.end_naps();
         let mut state = self.lock_state(rt, inner);
-        state.fail(trouble);
+        let end = state.value().fail(trouble);
         inner.give_back(state);
-        self.wake_all();
+        self.news.wake_all(end);
     }
 
     // Notes that no worker may begin a further event, and wakes all workers that nap.
@@ -169,8 +167,34 @@ impl<'a, J: ExchangeIdentity + WorkersIdentity, M: Mailboxes, G: Gate> SharedSta
         self.for_work.end();
     }
 
-    // Wakes all workers that rest until a desk is listed.
-    fn wake_all(&self) {
-        self.news.notify_all();
+    /// One more worker of the crew begins, before its thread starts. The result is none if too many have begun.
+    pub(crate) fn begin_one<R: Wait>(
+        &self,
+        rt: &R,
+        inner: &mut InnerRank<J>,
+        crew: &mut Crew<J>,
+    ) -> Option<Looking<J>>
+        requires { inner.old.own.parts ≡ 1 }
+        ensures { inner.new.own.parts ≡ 1 }
+    {
+        let mut state = self.state.lock_at_once(rt, inner);
+        let begun = state.value().shift.begins(crew);
+        inner.give_back(state);
+        begun
+    }
+
+    /// Waits for news until a desk is listed or the run ends. The worker is counted as resting.
+    pub(crate) fn rest<'s, R: Wait>(
+        &self,
+        rt: &R,
+        state: InnerGuard<'s, J, RunState<'a, J, G>>,
+        resting: &Resting<J>,
+    ) -> InnerGuard<'s, J, RunState<'a, J, G>> {
+        state.rest(rt, &self.news, resting)
+    }
+
+    /// Wakes one worker that rests until a desk is listed.
+    pub(crate) fn wake_one(&self) {
+        self.news.wake_one();
     }
 }

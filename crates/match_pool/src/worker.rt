@@ -35,11 +35,11 @@ pub(crate) struct Worker<
     shared: &'a SharedState<'f, J, M, G>,
     number: usize,
     tally: Tally<J>,
-    inner: InnerRank,
+    inner: InnerRank<J>,
     woken: Woken,
     missed: u32,
     ghost named: { inst.now ≡ J.inst },
-    ghost idle: { inner.free.value ≡ true },
+    ghost idle: { inner.own.parts ≡ 1 },
 }
 
 /// What a worker does after a step at a desk.
@@ -85,8 +85,10 @@ impl<'a, 'f, J: ExchangeIdentity + WorkersIdentity, M: Mailboxes, G: Gate, R: Wa
         shared: &'a SharedState<'f, J, M, G>,
         number: usize,
         tally: Tally<J>,
+        inner: InnerRank<J>,
     ) -> Worker<'a, 'f, J, M, G, R>
-        requires { inst.now ≡ J.inst }
+        requires named { inst.now ≡ J.inst }
+        requires idle { inner.own.parts ≡ 1 }
     {
         Worker {
             rt,
@@ -95,48 +97,48 @@ impl<'a, 'f, J: ExchangeIdentity + WorkersIdentity, M: Mailboxes, G: Gate, R: Wa
             shared,
             number,
             tally,
-            inner: InnerRank::of_thread(),
+            inner,
             woken: Woken::new(),
             missed: 0,
         }
     }
 
-    /// Works at desks until the run ends, and returns the worker's tally.
-    pub(crate) fn work(mut self) -> Tally<J> {
-        let mut rank = DeskRank::of_thread();
-        let mut in_hand = self.begin();
+    /// Works at desks until the run ends, and returns the worker's tally. The worker begins with the token of a worker
+    /// that looks for a desk, and gives this token back: so it has let go of each desk that it took.
+    pub(crate) fn work(mut self, desk: DeskRank<J>, own: Looking<J>) -> (Tally<J>, Looking<J>) {
+        let mut rank = desk;
+        let mut in_hand = self.begin(own);
         for _ in self.rt.forever() {
-            let Some(hand) = in_hand else {
-                break;
-            };
-            let (again, back) = self.visit(rank, hand.desk());
-            rank = back;
-            in_hand = self.turn(hand, again);
+            match in_hand {
+                Ok(hand) => {
+                    let (again, back) = self.visit(rank, hand.desk());
+                    rank = back;
+                    in_hand = self.turn(hand, again);
+                }
+                Err(own) => {
+                    let Worker { tally, .. } = self;
+                    return (tally, own);
+                }
+            }
         }
-        let Worker { tally, .. } = self;
-        tally
+        unreachable!()
     }
 
-    // Begins to look for a desk, and gets the first desk. The result is none if too many workers have begun.
-    fn begin(&mut self) -> Option<Hand<J>> {
-        let mut state = self.shared.lock_state(self.rt, &mut self.inner);
-        let first = match state.shift.begins() {
-            Some(own) => Some(state.shift.next(own)),
-            None => None,
-        };
-        self.inner.give_back(state);
-        self.or_search(first?)
+    // Gets the first desk.
+    fn begin(&mut self, own: Looking<J>) -> Result<Hand<J>, Looking<J>> {
+        let first = self.next(own);
+        self.or_search(first)
     }
 
     // Works at a desk while the desk has work. Answers whether the desk has to be visited again at once.
-    fn visit(&mut self, rank: DeskRank, desk: u32) -> (bool, DeskRank) {
+    fn visit(&mut self, rank: DeskRank<J>, desk: u32) -> (bool, DeskRank<J>) {
         let residents = self.inst.residents();
         if desk < residents {
             let Some(seat) = self.shared.residents.get(desk as usize) else {
                 return (false, rank);
             };
             let mut seat = seat.lock(self.rt, rank, &self.inner);
-            let again = self.visit_resident(&mut seat.value, ResidentNo(desk));
+            let again = self.visit_resident(seat.value(), ResidentNo(desk));
             (again, seat.give_back())
         } else {
             let programme = desk - residents;
@@ -144,7 +146,7 @@ impl<'a, 'f, J: ExchangeIdentity + WorkersIdentity, M: Mailboxes, G: Gate, R: Wa
                 return (false, rank);
             };
             let mut seat = seat.lock(self.rt, rank, &self.inner);
-            let again = self.visit_programme(&mut seat.value, ProgrammeNo(programme));
+            let again = self.visit_programme(seat.value(), ProgrammeNo(programme));
             (again, seat.give_back())
         }
     }
@@ -176,7 +178,7 @@ impl<'a, 'f, J: ExchangeIdentity + WorkersIdentity, M: Mailboxes, G: Gate, R: Wa
         let mut more = true;
         if seat.asks_first_once() {
             let mut exchange = self.shared.lock_exchange(self.rt, &mut self.inner);
-            let (has_more, is_called) = exchange.programme_comes(self.inst, programme);
+            let (has_more, is_called) = exchange.value().programme_comes(self.inst, programme);
             self.inner.give_back(exchange);
             more = has_more;
             if more && is_called {
@@ -214,7 +216,9 @@ impl<'a, 'f, J: ExchangeIdentity + WorkersIdentity, M: Mailboxes, G: Gate, R: Wa
         requires { slice_get seat.old.agent.due 0 ≢ None }
     {
         let mut exchange = self.shared.lock_exchange(self.rt, &mut self.inner);
-        let entry = exchange.answer(self.inst, &mut self.tally, resident, programme, kind);
+        let entry = exchange
+            .value()
+            .answer(self.inst, &mut self.tally, resident, programme, kind);
         self.inner.give_back(exchange);
         if let Entry::Made { .. } = entry {
             seat.answered();
@@ -241,7 +245,9 @@ impl<'a, 'f, J: ExchangeIdentity + WorkersIdentity, M: Mailboxes, G: Gate, R: Wa
         requires { wish_of J.inst seat.old.agent ≢ None }
     {
         let mut exchange = self.shared.lock_exchange(self.rt, &mut self.inner);
-        let entry = exchange.offer(self.inst, &mut self.tally, programme, resident);
+        let entry = exchange
+            .value()
+            .offer(self.inst, &mut self.tally, programme, resident);
         self.inner.give_back(exchange);
         match entry {
             Entry::Made { .. } => seat.offered(self.inst),
@@ -263,7 +269,9 @@ impl<'a, 'f, J: ExchangeIdentity + WorkersIdentity, M: Mailboxes, G: Gate, R: Wa
         };
         self.pass(again);
         let mut exchange = self.shared.lock_exchange(self.rt, &mut self.inner);
-        let entry = exchange.take(self.inst, &mut self.tally, resident, programme);
+        let entry = exchange
+            .value()
+            .take(self.inst, &mut self.tally, resident, programme);
         self.inner.give_back(exchange);
         seat.decide(self.inst);
         self.after_receipt(entry)
@@ -281,7 +289,9 @@ impl<'a, 'f, J: ExchangeIdentity + WorkersIdentity, M: Mailboxes, G: Gate, R: Wa
         self.pass(again);
         let AnswerNote { resident, kind } = note;
         let mut exchange = self.shared.lock_exchange(self.rt, &mut self.inner);
-        let entry = exchange.hear(self.inst, &mut self.tally, programme, resident, kind);
+        let entry = exchange
+            .value()
+            .hear(self.inst, &mut self.tally, programme, resident, kind);
         self.inner.give_back(exchange);
         self.after_receipt(entry)
     }
@@ -337,8 +347,8 @@ impl<'a, 'f, J: ExchangeIdentity + WorkersIdentity, M: Mailboxes, G: Gate, R: Wa
             return LEAVE;
         }
         let again = desk;
-        let exchange = self.shared.lock_exchange(self.rt, &mut self.inner);
-        let waits = exchange.has_mail(self.inst, again);
+        let mut exchange = self.shared.lock_exchange(self.rt, &mut self.inner);
+        let waits = exchange.value().has_mail(self.inst, again);
         self.inner.give_back(exchange);
         if !waits {
             return Step::Stay { more: false };
@@ -402,63 +412,66 @@ impl<'a, 'f, J: ExchangeIdentity + WorkersIdentity, M: Mailboxes, G: Gate, R: Wa
         }
         let mut state = self.shared.lock_state(self.rt, &mut self.inner);
         let wakes = {
-            state.shift.list_all(&mut self.woken);
-            state.shift.wakes_one()
+            state.value().shift.list_all(&mut self.woken);
+            state.value().shift.wakes_one()
         };
         self.inner.give_back(state);
         if wakes {
-            self.shared.news.notify_one();
+            self.shared.wake_one();
         }
     }
 
     // Leaves a desk, lists the noted desks, and takes the next desk.
-    fn turn(&mut self, hand: Hand<J>, again: bool) -> Option<Hand<J>> {
+    fn turn(&mut self, hand: Hand<J>, again: bool) -> Result<Hand<J>, Looking<J>> {
         let mut state = self.shared.lock_state(self.rt, &mut self.inner);
         let (next, wakes) = {
-            state.shift.list_all(&mut self.woken);
-            let own = state.shift.let_go(hand, again);
-            (state.shift.next(own), state.shift.wakes_one())
+            state.value().shift.list_all(&mut self.woken);
+            let own = state.value().shift.let_go(hand, again);
+            (
+                state.value().shift.next(own),
+                state.value().shift.wakes_one(),
+            )
         };
         self.inner.give_back(state);
         if wakes {
-            self.shared.news.notify_one();
+            self.shared.wake_one();
         }
         self.or_search(next)
     }
 
-    // The desk that was found, or the desk that a search finds. The result is none once the run ends.
-    fn or_search(&mut self, found: TurnOf<J>) -> Option<Hand<J>> {
+    // The desk that was found, or the desk that a search finds. Once the run ends, the worker's token comes back.
+    fn or_search(&mut self, found: TurnOf<J>) -> Result<Hand<J>, Looking<J>> {
         match found {
-            Turn::Desk(hand) => Some(hand),
+            Turn::Desk(hand) => Ok(hand),
             Turn::Nothing(own) => self.search(own),
-            Turn::Ended(_) => None,
+            Turn::Ended(own) => Err(own),
         }
     }
 
-    // If no desk is listed: asks the core once for an event, closes an exchange at rest, or rests. The result is none
-    // once the run ends or the ledger accepts no events; then the worker that closed or failed ends the run.
-    fn search(&mut self, own: Looking<J>) -> Option<Hand<J>> {
+    // If no desk is listed: asks the core once for an event, closes an exchange at rest, or rests. The worker's token
+    // comes back once the run ends or the ledger accepts no events; then the worker that closed or failed ends the run.
+    fn search(&mut self, own: Looking<J>) -> Result<Hand<J>, Looking<J>> {
         let mut own = own;
         for _ in self.rt.forever() {
             if self.shared.is_ending() {
-                return None;
+                return Err(own);
             }
             let mut exchange = self.shared.lock_exchange(self.rt, &mut self.inner);
-            let found = exchange.close_or_find(self.inst, &mut self.tally);
+            let found = exchange.value().close_or_find(self.inst, &mut self.tally);
             self.inner.give_back(exchange);
             let desk = match found {
                 Found::Desk(desk) => desk,
                 Found::Closed(close) => {
                     self.gate.entered(self.number);
                     self.shared.close(self.rt, &mut self.inner, close);
-                    return None;
+                    return Err(own);
                 }
-                Found::Ended => return None,
+                Found::Ended => return Err(own),
             };
             match self.claim_or_look(own, desk) {
-                Turn::Desk(hand) => return Some(hand),
+                Turn::Desk(hand) => return Ok(hand),
                 Turn::Nothing(still) => own = still,
-                Turn::Ended(_) => return None,
+                Turn::Ended(own) => return Err(own),
             }
         }
         unreachable!()
@@ -468,7 +481,7 @@ impl<'a, 'f, J: ExchangeIdentity + WorkersIdentity, M: Mailboxes, G: Gate, R: Wa
     // desk is listed, and then rests. A worker that naps need not be woken.
     fn claim_or_look(&mut self, own: Looking<J>, desk: u32) -> TurnOf<J> {
         let mut state = self.shared.lock_state(self.rt, &mut self.inner);
-        let mut found = state.shift.claim_or_next(own, desk);
+        let mut found = state.value().shift.claim_or_next(own, desk);
         self.inner.give_back(state);
         let mut naps = Naps::FOR_WORK;
         for _ in 0..LOOKS {
@@ -488,7 +501,7 @@ impl<'a, 'f, J: ExchangeIdentity + WorkersIdentity, M: Mailboxes, G: Gate, R: Wa
     // Takes the next desk that is listed.
     fn next(&mut self, own: Looking<J>) -> TurnOf<J> {
         let mut state = self.shared.lock_state(self.rt, &mut self.inner);
-        let next = state.shift.next(own);
+        let next = state.value().shift.next(own);
         self.inner.give_back(state);
         next
     }
@@ -497,23 +510,20 @@ impl<'a, 'f, J: ExchangeIdentity + WorkersIdentity, M: Mailboxes, G: Gate, R: Wa
     // worker that lists desks wakes one resting worker, which wakes the next if it leaves a desk listed.
     fn rest(&mut self, own: Looking<J>) -> TurnOf<J> {
         let mut state = self.shared.lock_state(self.rt, &mut self.inner);
-        let resting = match state.shift.rests(own) {
+        let resting = match state.value().shift.rests(own) {
             Ok(resting) => resting,
             Err(own) => {
                 self.inner.give_back(state);
                 return Turn::Nothing(own);
             }
         };
-        let mut state = self
-            .shared
-            .news
-            .wait_while(self.rt, state, |state| !state.shift.has_news());
-        let own = state.shift.wakes(resting);
-        let next = state.shift.next(own);
-        let wakes = state.shift.wakes_one();
+        let mut state = self.shared.rest(self.rt, state, &resting);
+        let own = state.value().shift.wakes(resting);
+        let next = state.value().shift.next(own);
+        let wakes = state.value().shift.wakes_one();
         self.inner.give_back(state);
         if wakes {
-            self.shared.news.notify_one();
+            self.shared.wake_one();
         }
         next
     }

@@ -60,7 +60,7 @@ pub never_blocking : (inst : Instance) (mine theirs : List ℕ) (m : List (Optio
 never_blocking inst mine theirs m r p a h stable e = stable.nothing_blocks r p (subst (Holds inst mine theirs m r p) e h.holds)
 
 -- a withdrawn member is in no acceptable pair
-not_withdrawn : (inst : Instance) → IsInstance inst → (r p : ℕ) → Acceptable inst r p → HasWithdrawn inst r p → ⊥
+pub not_withdrawn : (inst : Instance) → IsInstance inst → (r p : ℕ) → Acceptable inst r p → HasWithdrawn inst r p → ⊥
 not_withdrawn inst is r p a (inl c) =
     IsListed-nil p (subst (λ (xs : List ℕ). IsListed xs p) (is.withdrawn_residents_rank_nobody r c) ((is.both_rank p r).0 a))
 not_withdrawn inst is r p a (inr c) =

@@ -2,3 +2,6 @@ mod Ranks
 mod Kept
 mod Tallies
 mod Firsts
+mod PairsProof
+mod HonestProof
+mod RoomProof

@@ -3,11 +3,13 @@
 #![tactic(auto)]
 
 mod asking;
+mod laws;
 mod listed;
 mod reason;
 mod taken;
 
 pub use asking::why;
+pub use laws::{law_honest, law_pairs, law_room};
 pub use listed::Listed;
 pub use reason::Why;
 pub use taken::{Taken, places_taken};

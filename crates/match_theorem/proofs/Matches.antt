@@ -56,6 +56,7 @@ fault_told (Docket (docket.BadEvent place)) e = cc e
 fault_told (Docket (docket.BadSheet place)) e = cc e
 fault_told (Docket (docket.BadVersion place)) e = cc e
 fault_told (Docket (docket.BadWithdrawal place)) e = cc e
+fault_told (Docket (docket.AnotherPart place)) e = cc e
 fault_told NoSheet e = cc e
 fault_told NoJournal e = cc e
 fault_told (Run fault) e = cc e

@@ -1,1 +1,2 @@
 pub mod OfTexts
+pub mod OfAnswers

@@ -1,4 +1,4 @@
--- How a program ends if its words give no order.
+-- How a program ends.
 use Rattle.std.specs.Prelude.{◌≡◌, ◌⊎◌, ℕ, Option, Result, Ok, Err, IsOkAnd, List, map, string_bytes}
 use Rattle.std.specs.Prelude.{String}
 use Rattle.std.specs.Global.{Vec}
@@ -36,3 +36,19 @@ pub record EndsRefused {A E : Type 0} (Refuses : List Text → LineFault → Typ
   pub refused : IsUsageFaultOf Refuses words fault
   pub nothing : new ≡ old
   pub tells : IsRefusedStatus fault status
+
+-- a file of the order was not read, nothing was written, and the status is 1
+pub record EndsUnread (old new : Option (List ℕ)) (status : ℕ) : Type 0 where
+  pub nothing : new ≡ old
+  pub tells : status ≡ 1
+
+-- an order was answered: what was appended is the answer's, and the status is the answer's
+pub record EndsAnswered {Answer : Type 0} (Appends : Answer → Type 0) (status_of : Answer → ℕ) (status : ℕ) : Type 0 where
+  pub answer : Answer
+  pub appends : Appends answer
+  pub tells : status ≡ status_of answer
+
+-- the words give no order, or the program served the order that they give
+abbrev pub EndsAs : {A E O : Type 0} → (List Text → LineFault → Type 0) → (List Text → O → Type 0) → (O → Type 0) → Result (Vec (String A)) E
+    → Option (List ℕ) → Option (List ℕ) → ℕ → Type 0
+EndsAs Refuses Orders Serves words old new status = EndsRefused Refuses words old new status ⊎ ((order : _) × (IsOrderOf Orders words order × Serves order))

@@ -28,6 +28,7 @@ docket_status_of (docket.BadEvent place) = 3
 docket_status_of (docket.BadSheet place) = 3
 docket_status_of (docket.BadVersion place) = 3
 docket_status_of (docket.BadWithdrawal place) = 3
+docket_status_of (docket.AnotherPart place) = 3
 
 -- 0 if help or the version was asked for; 2 for any other fault in the words
 abbrev pub words_status_of : ErrorKind → ℕ
@@ -38,8 +39,9 @@ words_status_of _ = 2
 -- the status after a command line without an order
 abbrev pub line_status_of : LineFault → ℕ
 line_status_of line.Memory = 1
-line_status_of line.BadCapacity = 2
 line_status_of (line.Line error) = words_status_of (kind_of error)
+line_status_of line.BadCapacity = 2
+line_status_of line.SecondInput = 2
 
 -- the status after words without an order; 2 if one of them is not a text
 abbrev pub usage_status_of : UsageFault → ℕ

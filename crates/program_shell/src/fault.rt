@@ -20,6 +20,9 @@ pub enum LineFault {
     /// The capacity is neither `full` nor a number from 1 to 1,024.
     #[error("bad capacity")]
     BadCapacity,
+    /// More than one file would come from standard input.
+    #[error("only one of the files can be standard input")]
+    SecondInput,
 }
 
 impl From<AllocError> for LineFault {

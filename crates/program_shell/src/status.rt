@@ -23,11 +23,11 @@ pub fn line_status(fault: &LineFault) -> u8
 {
     match fault {
         LineFault::Memory => 1,
-        LineFault::BadCapacity => 2,
         LineFault::Line(error) => match error.kind() {
             ErrorKind::DisplayHelp | ErrorKind::DisplayVersion => 0,
             _ => 2,
         },
+        _ => 2,
     }
 }
 

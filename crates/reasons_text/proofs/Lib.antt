@@ -12,5 +12,4 @@ mod NumberFacts
 mod LabelFacts
 mod KeyInvariant
 mod KeyLoopFacts
-mod FileFacts
 mod TextFacts

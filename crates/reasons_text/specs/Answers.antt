@@ -27,6 +27,11 @@ case_of docket sheet written takens = record { docket = docket; sheet = sheet; w
 abbrev pub AreTaken : Written → List (Option ℕ) → List Taken → Type 0
 AreTaken written m takens = (p : ℕ) (t : Taken) → slice_get takens p ≡ Some t → IsTaken (list_at written.programme_lists p) m p t
 
+-- the docket was read with these lists, within some limits
+pub record WasRead (d : Contents) (written : Written) : Type 0 where
+  pub limits : Limits
+  pub read : IsReadWithin limits None d written
+
 -- the docket was read with these lists within some limits, and the sheet is the docket's
 pub record IsCase (c : CaseParts) : Type 0 where
   pub limits : Limits

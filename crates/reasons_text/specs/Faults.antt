@@ -32,19 +32,17 @@ pub record HasNoSheetWithin (limits : Limits) (bytes : Option (List ℕ)) : Type
   pub read : IsReadWithin limits bytes docket written
   pub none : docket.sheet ≡ None
 
--- the bytes are a docket without a sheet within the standard limits
-abbrev pub HasNoSheet : Option (List ℕ) → Type 0
-HasNoSheet bytes = HasNoSheetWithin Standard bytes
+-- why a docket that was read gives no case: it has no sheet, or memory ran out
+abbrev pub IsOfNoCase : Contents → WhyFault → Type 0
+IsOfNoCase d NoSheet = d.sheet ≡ None
+IsOfNoCase d (Docket e) = e ≡ docket.Memory
+IsOfNoCase d fault = ⊥
 
 -- why no docket with a sheet was read within these limits
 abbrev pub IsCaseFaultWithin : Limits → Option (List ℕ) → WhyFault → Type 0
 IsCaseFaultWithin limits bytes (Docket e) = IsDocketFault limits bytes e
 IsCaseFaultWithin limits bytes NoSheet = HasNoSheetWithin limits bytes
 IsCaseFaultWithin limits bytes fault = ⊥
-
--- why no docket with a sheet was read within the standard limits
-abbrev pub IsCaseFault : Option (List ℕ) → WhyFault → Type 0
-IsCaseFault bytes fault = IsCaseFaultWithin Standard bytes fault
 
 -- the error is this fault, or out of memory
 abbrev pub IsFaultOrMemory : Option WhyFault → WhyFault → Type 0

@@ -1,19 +1,11 @@
 -- The exit status of the program.
 use Rattle.std.specs.Prelude.{ℕ, Result, Ok, Err}
-use Rattle.docket_parts.specs.declared.fault.PartFault.{PartFault}
-use Rattle.docket_parts.specs.declared.fault.PartFault.TheVariants as part
 use Rattle.program_shell.specs.Status.{docket_status_of}
 use Rattle.reasons_text.specs.declared.fault.WhyFault.{WhyFault}
-use Rattle.reasons_text.specs.declared.fault.WhyFault.TheVariants.{Docket, NoSheet, KeyUnread, BadKey, DoubledKey, NoResident, NoProgramme, ManyResidents, ManyProgrammes, Part, Records, EmptySheet, SheetUnread, InputUnread}
-
--- the status for a fault of a part: 3 if a record belongs to another file, 1 if memory ran out
-abbrev pub part_status_of : PartFault → ℕ
-part_status_of (part.AnotherPart file place) = 3
-part_status_of (part.UnknownKind file place) = 3
-part_status_of part.Memory = 1
+use Rattle.reasons_text.specs.declared.fault.WhyFault.TheVariants.{Docket, NoSheet, KeyUnread, BadKey, DoubledKey, NoResident, NoProgramme, ManyResidents, ManyProgrammes, Records, EmptySheet, SheetUnread, InputUnread}
 
 -- The status for a fault. A docket's fault has its own status. It is 1 if a file or the input can't be read. It is 3
--- for a bad row of the key, a record that belongs to another file, a missing sheet, or a name that does not mean
+-- for a bad row of the key, a missing sheet, or a name that does not mean
 -- exactly one member.
 abbrev pub fault_status_of : WhyFault → ℕ
 fault_status_of (Docket fault) = docket_status_of fault
@@ -25,7 +17,6 @@ fault_status_of (NoResident told) = 3
 fault_status_of (NoProgramme told) = 3
 fault_status_of (ManyResidents told) = 3
 fault_status_of (ManyProgrammes told) = 3
-fault_status_of (Part fault) = part_status_of fault
 fault_status_of (Records file fault) = docket_status_of fault
 fault_status_of EmptySheet = 3
 fault_status_of SheetUnread = 1

@@ -305,8 +305,8 @@ fn key_of(
     }
 }
 
-// The text of the whole answer.
-fn text_of(
+/// The text of the whole answer.
+pub(crate) fn text_of(
     alloc: Global,
     keys: RandomState,
     case: &Case,

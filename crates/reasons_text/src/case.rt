@@ -1,15 +1,20 @@
 //! What every answer is made from: a docket with a sheet, and the members' lists as they were written.
-ghost use Rattle.std.specs.Prelude.{◌≡◌, IfErr, IfOk, Some};
-ghost use Rattle.docket.specs.WithLists.{IsReadWithLists, IsReadWithin};
+ghost use Rattle.std.specs.Prelude.{◌≡◌, [], IfErr, IfOk, Some};
+ghost use Rattle.docket.specs.Parts.{IsInFilesWithLists};
+ghost use Rattle.docket.specs.WithLists.{IsReadWithin};
 ghost use Rattle.match_model.specs.Instance.{IsProgramme, IsResident, list_at};
 ghost use Rattle.match_model.specs.Placement.{programme_of};
 ghost use Rattle.match_reasons.specs.Reason.{IsTaken};
-ghost use Rattle.reasons_text.specs.Faults.{IsCaseFault, IsCaseFaultWithin};
-ghost use Rattle.reasons_text.specs.Answers.{AreAnswers, AreOfRecord, AreTaken, IsAnswer, IsCase, case_of};
+ghost use Rattle.reasons_text.specs.Faults.{IsCaseFaultWithin, IsOfNoCase};
+ghost use Rattle.reasons_text.specs.Files as spec;
+ghost use Rattle.reasons_text.specs.Files.{IsFilesCaseFault};
+ghost use Rattle.reasons_text.specs.Answers.{AreAnswers, AreOfRecord, AreTaken, IsAnswer, IsCase, WasRead, case_of};
 
 use crate::answers::Answers;
 use crate::fault::WhyFault;
-use docket::{Docket, DocketFault, read_docket_with_lists_within};
+use docket::{
+    Docket, DocketFault, FileFault, read_docket_with_lists_within, read_parts_with_lists,
+};
 use match_model::{Assignment, Limits, ProgrammeNo, ResidentNo, WrittenLists};
 use match_reasons::{Listed, Taken, Why, places_taken, why};
 use std::alloc::{AllocError, Global};
@@ -129,24 +134,22 @@ fn answers_from(
     })
 }
 
-impl Case {
-    /// Reads a docket that has a sheet, with its lists, within the standard limits. If all residents get answers, the
-    /// call counts at once how each programme's places are taken.
-    pub fn read<R: Read + Drop, H: RandomSource>(
-        rt: &H,
-        alloc: Global,
-        reader: R,
-        are_all_told: bool,
-    ) -> Result<Case, WhyFault>
-        ensures read { IfOk result (λ case.
-            IsReadWithLists (R.remaining reader) case.docket case.written) }
-        ensures sheet { IfOk result (λ case. case.docket.sheet ≡ Some case.sheet) }
-        ensures fault { IfErr result (IsCaseFault (R.remaining reader)) }
-    {
-        Case::read_within(rt, alloc, Limits::Standard, reader, are_all_told)
+// A fault of the files, with its file. Memory that ran out has no file.
+fn in_its_file(there: FileFault) -> WhyFault
+    ensures { result ≡ spec.in_its_file there }
+{
+    match there.fault {
+        DocketFault::Memory => WhyFault::Docket(DocketFault::Memory),
+        fault => WhyFault::Records {
+            file: there.file,
+            fault,
+        },
     }
+}
 
-    /// Does what `read` does, but within these limits.
+impl Case {
+    /// Reads a docket that has a sheet, with its lists, within these limits. If all residents get answers, the call counts
+    /// at once how each programme's places are taken.
     pub fn read_within<R: Read + Drop, H: RandomSource>(
         rt: &H,
         alloc: Global,
@@ -159,10 +162,49 @@ impl Case {
         ensures sheet { IfOk result (λ case. case.docket.sheet ≡ Some case.sheet) }
         ensures fault { IfErr result (IsCaseFaultWithin limits (R.remaining reader)) }
     {
-        let (docket, lists) = match read_docket_with_lists_within(rt, alloc, limits, reader) {
-            Ok(read) => read,
-            Err(fault) => return Err(WhyFault::Docket(fault)),
-        };
+        match read_docket_with_lists_within(rt, alloc, limits, reader) {
+            Ok((docket, lists)) => Case::of_docket(alloc, docket, lists, are_all_told),
+            Err(fault) => Err(WhyFault::Docket(fault)),
+        }
+    }
+
+    /// Does what `read_within` does, but over a docket's file and a sheet's file, each read as its own part. A fault
+    /// of the files is told with its file.
+    pub(crate) fn read_files<H: RandomSource>(
+        rt: &H,
+        alloc: Global,
+        limits: Limits,
+        docket: &[u8],
+        sheet: &[u8],
+        are_all_told: bool,
+    ) -> Result<Case, WhyFault>
+        ensures read { IfOk result (λ case. IsInFilesWithLists
+            limits docket.now sheet.now [] case.docket case.written) }
+        ensures sheet { IfOk result (λ case. case.docket.sheet ≡ Some case.sheet) }
+        ensures fault { IfErr result (IsFilesCaseFault limits docket.now sheet.now) }
+    {
+        match read_parts_with_lists(rt, alloc, limits, docket, sheet, &[]) {
+            Ok((docket, lists)) => match Case::of_docket(alloc, docket, lists, are_all_told) {
+                Ok(case) => Ok(case),
+                Err(WhyFault::NoSheet) => Err(WhyFault::EmptySheet),
+                Err(_) => Err(WhyFault::Docket(DocketFault::Memory)),
+            },
+            Err(there) => Err(in_its_file(there)),
+        }
+    }
+
+    /// The case of a docket that was read with these lists, if the docket has a sheet.
+    pub fn of_docket(
+        alloc: Global,
+        docket: Docket,
+        lists: WrittenLists,
+        are_all_told: bool,
+    ) -> Result<Case, WhyFault>
+        requires { WasRead docket lists }
+        ensures parts { IfOk result (λ case. (case.docket ≡ docket) × (case.written ≡ lists)) }
+        ensures sheet { IfOk result (λ case. case.docket.sheet ≡ Some case.sheet) }
+        ensures fault { IfErr result (IsOfNoCase docket) }
+    {
         let Some(sheet) = docket.sheet() else {
             return Err(WhyFault::NoSheet);
         };

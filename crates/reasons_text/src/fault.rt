@@ -3,8 +3,7 @@ ghost use Rattle.std.specs.Prelude.{◌≡◌};
 ghost use Rattle.docket.specs.declared.fault.DocketFault.TheVariants as docket_fault;
 ghost use Rattle.reasons_text.specs.declared.fault.WhyFault.TheVariants.{Docket};
 
-use docket::DocketFault;
-use docket_parts::{Part, PartFault};
+use docket::{DocketFault, Part};
 use match_model::Limits;
 use std::alloc::AllocError;
 use std::fmt;
@@ -46,9 +45,6 @@ pub enum WhyFault {
     /// More than one programme has the name of the question. The text has the labels of these members.
     #[error("{0}")]
     ManyProgrammes(String),
-    /// A record in the docket's file or in the sheet's file belongs to the other file, or to none of them.
-    #[error(transparent)]
-    Part(PartFault),
     /// A record has this fault. The fault says the record's number in this file.
     #[error("{fault}")]
     Records {
@@ -80,9 +76,7 @@ impl WhyFault {
     // The file with the fault: the docket's, the sheet's, or none.
     pub(crate) fn file(&self) -> Option<Part> {
         match self {
-            WhyFault::Part(PartFault::AnotherPart { file, .. })
-            | WhyFault::Part(PartFault::UnknownKind { file, .. })
-            | WhyFault::Records { file, .. } => Some(*file),
+            WhyFault::Records { file, .. } => Some(*file),
             WhyFault::EmptySheet => Some(Part::Sheet),
             _ => None,
         }

@@ -1,34 +1,43 @@
 //! From the bytes of a docket's file and a sheet's file to sentences and rows.
-ghost use Rattle.std.specs.Prelude.{◌≡◌, ◌≢◌, IfErr, OnOk, option_copied};
-ghost use Rattle.reasons_text.specs.Files as spec;
-ghost use Rattle.reasons_text.specs.Files.{AnswersFiles, AnswersFilesWithin, IsFilesFault, IsFilesFaultWithin};
+ghost use Rattle.std.specs.Prelude.{◌≡◌, ◌≢◌, IfErr, IfOk, OnOk, option_copied};
+ghost use Rattle.reasons_text.specs.Files.{AnswersFiles, AnswersFilesWithin, IsFilesFault, IsFilesFaultWithin, IsFilesTellFault};
 ghost use Rattle.reasons_text.specs.Texts.{AppendsText};
 
-use crate::answering::serve_why_within;
+use crate::answering::text_of;
+use crate::case::Case;
 use crate::fault::WhyFault;
 use crate::question::Asked;
-use docket::DocketFault;
-use docket_parts::{FileFault, Joined, PartFault, file_fault, join};
+use docket::{DocketFault, Part};
 use match_model::Limits;
 use std::alloc::Global;
+use std::hash::RandomState;
 use std::io::Write;
 use std::random::RandomSource;
 
-// A fault of the joined records, with the file in which the record stands.
-fn in_its_file(joined: &Joined, fault: WhyFault) -> WhyFault
-    ensures { result ≡ spec.in_its_file joined.now.docket joined.now.sheet fault }
+// Reads a docket and its sheet from their files within these limits, and makes the text of the whole answer.
+fn read_files_and_tell<H: RandomSource>(
+    rt: &H,
+    alloc: Global,
+    limits: Limits,
+    docket: &[u8],
+    sheet: &[u8],
+    asked: Asked,
+    without_ranks: bool,
+    key_bytes: Option<&[u8]>,
+) -> Result<Vec<u8>, WhyFault>
+    ensures text { IfOk result (λ text. AnswersFilesWithin limits docket.now sheet.now
+        (option_copied key_bytes.entry) asked.entry without_ranks text.items) }
+    ensures fault { IfErr result (IsFilesTellFault limits docket.now sheet.now
+        (option_copied key_bytes.entry) asked.entry) }
 {
-    match fault {
-        WhyFault::Docket(fault) => {
-            let again = fault;
-            match file_fault(joined, fault) {
-                Some(FileFault { file, fault }) => WhyFault::Records { file, fault },
-                None => WhyFault::Docket(again),
-            }
-        }
-        WhyFault::NoSheet => WhyFault::EmptySheet,
-        other => other,
-    }
+    let Ok(keys) = RandomState::new(rt) else {
+        return Err(WhyFault::Records {
+            file: Part::Docket,
+            fault: DocketFault::Read { place: 1 },
+        });
+    };
+    let case = Case::read_files(rt, alloc, limits, docket, sheet, asked == Asked::All)?;
+    text_of(alloc, keys, &case, key_bytes, asked, without_ranks)
 }
 
 /// Reads a docket and a sheet, each from its own file, within the standard limits. Writes the answer as `serve_why`
@@ -85,23 +94,21 @@ pub fn serve_why_files_within<W: Write, H: RandomSource>(
     ensures before { IfErr result (λ fault. fault ≢ WhyFault.Docket DocketFault.Write
         → writer.new ≡ writer.old) }
 {
-    let joined = match join(alloc, docket, sheet, &[]) {
-        Ok(joined) => joined,
-        Err(PartFault::Memory) => return Err(WhyFault::Docket(DocketFault::Memory)),
-        Err(fault) => return Err(WhyFault::Part(fault)),
-    };
-    let text = joined.text.as_slice();
-    match serve_why_within(
+    let text = match read_files_and_tell(
         rt,
         alloc,
         limits,
-        text,
-        writer,
+        docket,
+        sheet,
         asked,
         without_ranks,
         key_bytes,
     ) {
+        Ok(text) => text,
+        Err(fault) => return Err(fault),
+    };
+    match writer.write_all(text.as_slice()) {
         Ok(()) => Ok(()),
-        Err(fault) => Err(in_its_file(&joined, fault)),
+        Err(_) => Err(WhyFault::Docket(DocketFault::Write)),
     }
 }

@@ -231,19 +231,23 @@ impl SideKey {
     }
 }
 
-// A reader of the rows of a key.
-fn rows_of(alloc: Global, bytes: &[u8]) -> Reader<&[u8]>
-    ensures config { reader_config result ≡ key_config bytes.entry.now }
-    ensures trim { reader_trim result ≡ trim.None }
-    ensures ready { Ready result }
-    ensures state { reader_state result ≡ st.StartRecord }
-    ensures source { source_of (λ s. Some s.now) result ≡ Some (strip_bom bytes.entry.now) }
+// A reader of the rows of a key. Its header row is empty, so that the first row is read like any other, and not copied.
+fn rows_of(alloc: Global, bytes: &[u8]) -> Result<Reader<&[u8]>, AllocError>
+    ensures config { IfOk result (λ reader. reader_config reader ≡ key_config bytes.entry.now) }
+    ensures trim { IfOk result (λ reader. reader_trim reader ≡ trim.None) }
+    ensures ready { IfOk result Ready }
+    ensures state { IfOk result (λ reader. reader_state reader ≡ st.StartRecord) }
+    ensures source { IfOk result (λ reader.
+        source_of (λ s. Some s.now) reader ≡ Some (strip_bom bytes.entry.now)) }
 {
-    ReaderBuilder::new()
+    let mut reader = ReaderBuilder::new()
         .delimiter(delimiter_of(bytes))
         .flexible(true)
-        .has_headers(false)
-        .from_reader(alloc, bytes)
+        .from_reader(alloc, bytes);
+    let Ok(()) = reader.set_byte_headers(ByteRecord::new(alloc)) else {
+        return Err(AllocError);
+    };
+    Ok(reader)
 }
 
 // Reads the next row, and says whether there was a row. A reader of bytes in memory can only fail if memory runs out.
@@ -318,7 +322,7 @@ impl Key {
         ensures fault { IfErr result (λ fault. (fault ≡ WhyFault.Docket DocketFault.Memory)
             ⊎ HasBadRow numbers.now.docket.now (both_of self.old) bytes.now fault) }
     {
-        let mut reader = rows_of(alloc, bytes);
+        let mut reader = rows_of(alloc, bytes)?;
         let mut row = ByteRecord::new(alloc);
         for before in 0..u64::MAX {
             if !next_row(&mut reader, &mut row)? {

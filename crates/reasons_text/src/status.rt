@@ -3,7 +3,6 @@ ghost use Rattle.std.specs.Prelude.{◌≡◌};
 ghost use Rattle.reasons_text.specs.Status.{exit_status_of};
 
 use crate::fault::WhyFault;
-use docket_parts::PartFault;
 use program_shell::docket_status;
 
 /// The exit status of the program after a question. The status is 0 for an answer, and 1 if memory, reading or writing
@@ -16,8 +15,7 @@ pub fn exit_status(answer: &Result<(), WhyFault>) -> u8
         Ok(()) => 0,
         Err(WhyFault::Docket(fault)) => docket_status(fault),
         Err(WhyFault::KeyUnread | WhyFault::SheetUnread | WhyFault::InputUnread) => 1,
-        Err(WhyFault::Part(PartFault::Memory)) => 1,
-        Err(WhyFault::Part(_) | WhyFault::EmptySheet) => 3,
+        Err(WhyFault::EmptySheet) => 3,
         Err(WhyFault::Records { fault, .. }) => docket_status(fault),
         Err(WhyFault::NoSheet | WhyFault::BadKey { .. } | WhyFault::DoubledKey { .. }) => 3,
         Err(WhyFault::NoResident(_) | WhyFault::NoProgramme(_)) => 3,

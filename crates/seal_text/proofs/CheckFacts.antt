@@ -3,8 +3,8 @@ use Rattle.std.proofs.Common.{◌≡◌, ℕ, zero, suc, ◌+◌, ◌-◌, ◌<�
 use Rattle.std.specs.Prelude.{bytes_eq, codes}
 use Rattle.std.proofs.lemmas.List.{take-append-drop, map-append}
 use Rattle.csv.specs.Records.{Row, fields_of}
-use Rattle.docket_parts.specs.Lines.{line, lines}
-use Rattle.docket_parts.specs.Parts.{Fields}
+use Rattle.records.specs.Lines.{line, lines}
+use Rattle.records.specs.Reading.{Fields}
 use Rattle.seal_text.specs.Receipt.{AreGoodRows, AreLists, IsGoodResultIf, Opens, first_fields}
 use Rattle.seal_text.specs.Records.{rows_in}
 use Rattle.seal_text.specs.declared.points.Kind.{Kind}

@@ -7,9 +7,9 @@ use Rattle.std.proofs.lemmas.List.Elements.{All-cons, All-nil, All-append}
 use Rattle.std.proofs.Math.Seq.{take-append_seam}
 use Rattle.csv.specs.Records.{Row, field_at, fields_of}
 use Rattle.docket.specs.Fields.{field}
-use Rattle.docket_parts.specs.Lines.{line, lines}
-use Rattle.docket_parts.specs.Parts.{Fields}
-use Rattle.docket_parts.proofs.RoundFacts.{lines-append}
+use Rattle.records.specs.Lines.{line, lines}
+use Rattle.records.specs.Reading.{Fields}
+use Rattle.records.proofs.RoundFacts.{lines-append}
 use Rattle.seal_text.specs.Cut.{StartsAt}
 use Rattle.seal_text.specs.Receipt.{AreGoodRows, AreLists, IsGoodResultIf, IsListIf, IsWithdrawalIf, first_fields, letter_of}
 use Rattle.seal_text.specs.Records.{rows_in}

@@ -6,7 +6,7 @@ use Rattle.std.proofs.lemmas.List.{take_all}
 use Rattle.std.proofs.lemmas.Slice.Eq.{bytes_eq-Decides}
 use Rattle.csv.specs.Records.{Row, field_at}
 use Rattle.docket.specs.Fields.{field}
-use Rattle.docket_parts.specs.Parts.{Fields}
+use Rattle.records.specs.Reading.{Fields}
 
 -- what a test of two texts tells
 pub text_is : (a b : List ℕ) → bytes_eq a b ≡ true → a ≡ b

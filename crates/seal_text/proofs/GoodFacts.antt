@@ -5,7 +5,7 @@ use Rattle.std.proofs.lemmas.List.{length-map, take-map}
 use Rattle.std.proofs.Math.Seq.{take-append_seam, drop-append_seam}
 use Rattle.csv.specs.Records.{Row, fields_of}
 use Rattle.docket.specs.Fields.{field}
-use Rattle.docket_parts.specs.Parts.{Fields}
+use Rattle.records.specs.Reading.{Fields}
 use Rattle.seal_text.specs.Cut.{StartsAt}
 use Rattle.seal_text.specs.Receipt.{AreGoodRows, AreLists, IfWrong, IsGoodResult, IsGoodResultIf, Opens, TellsPlace, TellsRoot, first_fields, letter_of}
 use Rattle.seal_text.specs.Records.{rows_in}

@@ -7,8 +7,8 @@ use Rattle.std.proofs.lemmas.Fmt.{decimal_nonempty}
 use Rattle.csv.specs.Records.{Row, field_at, fields_of}
 use Rattle.hex.specs.Hex.{encode_lower}
 use Rattle.docket.specs.Fields.{field}
-use Rattle.docket_parts.specs.Parts.{Fields}
-use Rattle.docket_parts.specs.Lines.{lines}
+use Rattle.records.specs.Reading.{Fields}
+use Rattle.records.specs.Lines.{lines}
 use Rattle.seal.specs.Hashes.{leaf_hash}
 use Rattle.seal.specs.Tree.{climb}
 use Rattle.seal_text.specs.Receipt.{IfWrong, IsDigest, IsPlain, Opens, TellsPlace, TellsRoot}

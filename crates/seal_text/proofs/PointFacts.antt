@@ -7,7 +7,7 @@ use Rattle.std.proofs.lemmas.List.Elements.{All-cons, All-tail, All-from_get_or}
 use Rattle.csv.specs.Records.{Row, field_at, fields_of}
 use Rattle.docket.specs.Fields.{field}
 use Rattle.docket_names.specs.Words.{number_of}
-use Rattle.docket_parts.specs.Parts.{Fields}
+use Rattle.records.specs.Reading.{Fields}
 use Rattle.seal_text.proofs.FieldFacts.{four_are}
 use Rattle.seal_text.specs.Receipt.{AreAnswers, AreChoices, AreMembers, AreProgrammeRows, AreUpTo, IsBare, IsLater, IsMember, IsPassedOver, IsReason, IsRowOf}
 use Rattle.seal_text.specs.Reasons.{AreLeft, CanStand, is_past_after, stand_of}

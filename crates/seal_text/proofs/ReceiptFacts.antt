@@ -3,8 +3,8 @@ use Rattle.std.proofs.Common.{◌≡◌, ℕ, ◌<◌, List, [], ◌∷◌, ◌+
 use Rattle.std.specs.Prelude.{codes}
 use Rattle.std.specs.Global.{Vec}
 use Rattle.std.proofs.lemmas.List.{length-map, get_or-map}
-use Rattle.docket_parts.specs.Lines.{Grows}
-use Rattle.docket_parts.proofs.LineFacts.{grows_both}
+use Rattle.records.specs.Lines.{Grows}
+use Rattle.records.proofs.LineFacts.{grows_both}
 use Rattle.row_writer.specs.RowText.{row}
 use Rattle.seal.specs.Tree.{root, path_of}
 use Rattle.seal_text.specs.Sealed.{hashes_of, opening_row, part_text, receipt_text, result_text_if, root_row, root_row_of, salt_of}

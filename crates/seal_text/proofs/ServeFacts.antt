@@ -6,7 +6,7 @@ use Rattle.std.specs.List.{range_with_len}
 use Rattle.std.proofs.lemmas.List.{length-map, length-append}
 use Rattle.std.proofs.lemmas.List.FromFn.{length-map-range_with_len}
 use Rattle.docket.specs.Contents.{Contents}
-use Rattle.docket_parts.specs.Parts.{Fields}
+use Rattle.records.specs.Reading.{Fields}
 use Rattle.reasons_text.specs.Answers.{CaseParts}
 use Rattle.docket.specs.Whole.{IsWhole}
 use Rattle.seal_text.specs.Texts.{lists_texts, programme_lists, resident_lists, programme_result, AreResultTexts, HasSheet}

@@ -5,8 +5,8 @@ use Rattle.std.specs.List.{flat_map, range_with_len}
 use Rattle.std.proofs.lemmas.Grind.{flat_map-append}
 use Rattle.std.proofs.lemmas.List.{take_more}
 use Rattle.std.proofs.lemmas.List.FromFn.{map-range_with_len_more}
-use Rattle.docket_parts.specs.Lines.{Grows}
-use Rattle.docket_parts.proofs.LineFacts.{grows_both}
+use Rattle.records.specs.Lines.{Grows}
+use Rattle.records.proofs.LineFacts.{grows_both}
 
 range_next : (a n : ℕ) → range_with_len a (n + 1) ≡ range_with_len a n ++ (a + n) ∷ []
 range_next a zero = let e : a + 0 ≡ a = omega arith in rw e

@@ -12,13 +12,13 @@ use Rattle.match_model.specs.Placement.{holds, member_count, programme_of}
 use Rattle.docket.specs.Contents.{Contents}
 use Rattle.docket.specs.Fields.{field}
 use Rattle.docket.specs.Texts.{mark_row, programme_name, programme_row, resident_name}
-use Rattle.docket_parts.specs.Lines.{Grows}
-use Rattle.docket_parts.specs.Parts.{Fields}
-use Rattle.docket_parts.proofs.LineFacts.{grows_both}
+use Rattle.records.specs.Lines.{Grows}
+use Rattle.records.specs.Reading.{Fields}
+use Rattle.records.proofs.LineFacts.{grows_both}
 use Rattle.match_model.specs.Instance.{is_withdrawn, quota}
 use Rattle.reasons_text.specs.Texts.{AppendsText}
 use Rattle.seal_text.specs.Records.{AreListsOf, rows_in}
-use Rattle.seal_text.specs.declared.records.ListRecords.{ListRecords}
+use Rattle.seal_text.specs.declared.rows.ListRecords.{ListRecords}
 use Rattle.seal_text.proofs.Steps.{grows_three}
 use Rattle.docket.proofs.WriteFacts.{rows_next}
 use Rattle.reasons_text.specs.Answers.{CaseParts}

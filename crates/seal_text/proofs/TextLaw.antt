@@ -1,5 +1,5 @@
 -- From one text to one member: the lines of a leaf's text read back as the rows that were written.
-use Rattle.std.proofs.Common.{zero, suc, ◌≡◌, ℕ, ◌<◌, ◌≤◌, ◌^◌, List, [], ◌∷◌, ◌++◌, Bool, true, false, Option, Some, None, length, map, filter, find, get_or, slice_get, refl, sym, ap, ◌∙◌, append-nil, arith, zero-add}
+use Rattle.std.proofs.Common.{zero, suc, ◌≡◌, ◌==◌, ℕ, ◌<◌, ◌≤◌, ◌^◌, List, [], ◌∷◌, ◌++◌, Bool, true, false, Option, Some, None, length, map, filter, find, get_or, slice_get, refl, sym, ap, ◌∙◌, append-nil, arith, zero-add}
 use Rattle.std.specs.List.{range_with_len}
 use Rattle.std.specs.Str.Parse.{digits_value}
 use Rattle.std.proofs.lemmas.Fmt.{decimal_is_IsNumeral}
@@ -13,10 +13,9 @@ use Rattle.docket.specs.Contents.{Contents}
 use Rattle.docket.specs.Fields.{field}
 use Rattle.docket.specs.Texts.{programme_name, resident_name}
 use Rattle.match_model.specs.Instance.{is_withdrawn, quota}
-use Rattle.docket_parts.specs.Parts.{Fields, lone_byte, rows_of, letter_of, part_of}
-use Rattle.docket_parts.specs.Lines.{line, lines}
-use Rattle.docket_parts.specs.declared.part.Part.TheVariants.{Docket}
-use Rattle.docket_parts.proofs.RoundFacts.{HasPart, AllHaveParts, both_have_parts, lines_round, lines-append}
+use Rattle.records.specs.Reading.{Fields, rows_of}
+use Rattle.records.specs.Lines.{line, lines}
+use Rattle.records.proofs.RoundFacts.{AreLettered, IsLettered, both_lettered, lines_round, lines-append}
 use Rattle.seal_text.specs.Laws.{SameTextsLaw, IsOneProgramme, IsOneResident}
 use Rattle.seal_text.specs.Texts.{line_if, list_of_programme, programme_lists, resident_lists, records_of, withdrawal_if}
 
@@ -71,27 +70,6 @@ lines_first : (a b : List ℕ) (rest : Fields) (more : List Fields) → row (a �
 unfolding lines
 lines_first a b rest more = ap (λ (t : List ℕ). t ++ lines more) (row_is_line a b rest)
 
--- a record of a docket's kind has a part
-lettered_part : (letter : ℕ) (rest : Fields) → part_of letter ≡ Some Docket → HasPart ((letter ∷ []) ∷ rest)
-unfolding letter_of field_at
-lettered_part letter rest h = (Docket, h)
-
-is_docket_q : part_of 81 ≡ Some Docket
-unfolding part_of
-is_docket_q = refl
-
-is_docket_w : part_of 87 ≡ Some Docket
-unfolding part_of
-is_docket_w = refl
-
-is_docket_p : part_of 80 ≡ Some Docket
-unfolding part_of
-is_docket_p = refl
-
-is_docket_r : part_of 82 ≡ Some Docket
-unfolding part_of
-is_docket_r = refl
-
 -- what is found passed the filter
 found_passes : (p q : Fields → Bool) (rows : List Fields) (r : Fields) → find q (filter p rows) ≡ Some r → p r ≡ true
 found_passes p q [] r e = absurd (cc e)
@@ -116,13 +94,11 @@ there_passes p (x ∷ rest) i r e = by_filter (p x) refl (λ k h. there_passes p
     by_filter true is_so more (suc k) h = more k h
     by_filter false is_not more k h = more k h
 
-letter_is : (r : Fields) (c : ℕ) → field r 0 ≡ c ∷ [] → letter_of r ≡ c
-unfolding letter_of field
-letter_is r c h = ap lone_byte h
-
--- a record that begins with a letter of a docket's kind has a part
-has_part : (r : Fields) (c : ℕ) → field r 0 ≡ c ∷ [] → part_of c ≡ Some Docket → HasPart r
-has_part r c h k = (Docket, ap part_of (letter_is r c h) ∙ k)
+-- a record that begins with a letter
+lettered : (r : Fields) (c : ℕ) → field r 0 ≡ c ∷ [] → (c == 239) ≡ false → IsLettered r
+unfolding field field_at
+lettered [] c h k = absurd (cc h)
+lettered (first ∷ rest) c h k = record { letter = c; rest = rest; is = ap (λ (t : List ℕ). t ∷ rest) h; no_mark = k }
 
 -- the record, if there is one, begins with this letter
 Leads : ℕ → Option Fields → Type 0
@@ -159,21 +135,21 @@ tails_same c (Some r) (Some s) g g' side side' name name' other l l' e =
     let rest : gone_rows g side name ≡ gone_rows g' side' name' = cc e in
     (rw first refl, gone_same g g' side side' name name' rest)
 
-option_parts : (c : ℕ) (o : Option Fields) → Leads c o → part_of c ≡ Some Docket → AllHaveParts (option_rows o)
-unfolding option_rows AllHaveParts Leads
+option_parts : (c : ℕ) (o : Option Fields) → Leads c o → (c == 239) ≡ false → AreLettered (option_rows o)
+unfolding option_rows AreLettered Leads
 option_parts c None l h = tt
-option_parts c (Some r) l h = (has_part r c (l r refl) h, tt)
+option_parts c (Some r) l h = (lettered r c (l r refl) h, tt)
 
-gone_parts : (g : Bool) (side name : List ℕ) → AllHaveParts (gone_rows g side name)
-unfolding gone_rows AllHaveParts
-gone_parts true side name = (lettered_part 87 (side ∷ name ∷ []) is_docket_w, tt)
+gone_parts : (g : Bool) (side name : List ℕ) → AreLettered (gone_rows g side name)
+unfolding gone_rows AreLettered
+gone_parts true side name = (record { letter = 87; rest = side ∷ name ∷ []; is = refl; no_mark = refl }, tt)
 gone_parts false side name = tt
 
-tail_parts : (c : ℕ) (o : Option Fields) (g : Bool) (side name : List ℕ) → Leads c o → part_of c ≡ Some Docket → AllHaveParts (option_rows o ++ gone_rows g side name)
-tail_parts c o g side name l h = both_have_parts (option_rows o) (gone_rows g side name) (option_parts c o l h) (gone_parts g side name)
+tail_parts : (c : ℕ) (o : Option Fields) (g : Bool) (side name : List ℕ) → Leads c o → (c == 239) ≡ false → AreLettered (option_rows o ++ gone_rows g side name)
+tail_parts c o g side name l h = both_lettered (option_rows o) (gone_rows g side name) (option_parts c o l h) (gone_parts g side name)
 
 -- lines tell their rows
-lines_tell : (a b : List Fields) → AllHaveParts a → AllHaveParts b → lines a ≡ lines b → a ≡ b
+lines_tell : (a b : List Fields) → AreLettered a → AreLettered b → lines a ≡ lines b → a ≡ b
 lines_tell a b h k e = sym (lines_round a h) ∙ ap rows_of e ∙ lines_round b k
 
 list_leads : (d : Contents) (rows : List Fields) (p : ℕ) → Leads 80 (list_of_programme d rows p)
@@ -209,11 +185,11 @@ r_not_w : ◌≡◌ {A = ℕ} 82 87 → ⊥
 r_not_w z = absurd (omega (arith, z))
 
 -- the first row and the others
-rows_of_programme : (a b : Fields) (more more' : List Fields) → field a 0 ≡ codes "Q" → field b 0 ≡ codes "Q" → AllHaveParts more → AllHaveParts more'
+rows_of_programme : (a b : Fields) (more more' : List Fields) → field a 0 ≡ codes "Q" → field b 0 ≡ codes "Q" → AreLettered more → AreLettered more'
     → lines (a ∷ more) ≡ lines (b ∷ more') → (a ≡ b) × (more ≡ more')
-unfolding AllHaveParts
+unfolding AreLettered
 rows_of_programme a b more more' q q' m m' s =
-    let all : a ∷ more ≡ b ∷ more' = lines_tell (a ∷ more) (b ∷ more') (has_part a 81 q is_docket_q, m) (has_part b 81 q' is_docket_q, m') s in
+    let all : a ∷ more ≡ b ∷ more' = lines_tell (a ∷ more) (b ∷ more') (lettered a 81 q refl, m) (lettered b 81 q' refl, m') s in
     (cc all, cc all)
 
 first_is : (a b : List ℕ) → field (codes "Q" ∷ a ∷ b ∷ []) 0 ≡ codes "Q"
@@ -232,8 +208,8 @@ one_programme d d' rows rows' p h k e =
     let first' : Fields = codes "Q" ∷ programme_name d' p ∷ decimal (quota d'.instance p) ∷ [] in
     let rest : List Fields = option_rows o ++ gone_rows g (codes "P") (programme_name d p) in
     let rest' : List Fields = option_rows o' ++ gone_rows g' (codes "P") (programme_name d' p) in
-    let same = rows_of_programme first first' rest rest' (first_is (programme_name d p) (decimal (quota d.instance p))) (first_is (programme_name d' p) (decimal (quota d'.instance p))) (tail_parts 80 o g (codes "P") (programme_name d p) (list_leads d rows p) is_docket_p)
-    (tail_parts 80 o' g' (codes "P") (programme_name d' p) (list_leads d' rows' p) is_docket_p)
+    let same = rows_of_programme first first' rest rest' (first_is (programme_name d p) (decimal (quota d.instance p))) (first_is (programme_name d' p) (decimal (quota d'.instance p))) (tail_parts 80 o g (codes "P") (programme_name d p) (list_leads d rows p) refl)
+    (tail_parts 80 o' g' (codes "P") (programme_name d' p) (list_leads d' rows' p) refl)
     (sym (programme_text d rows p) ∙ e ∙ programme_text d' rows' p) in
     let name : programme_name d p ≡ programme_name d' p = cc same.0 in
     let digits : decimal (quota d.instance p) ≡ decimal (quota d'.instance p) = cc same.0 in
@@ -256,8 +232,8 @@ one_resident d d' rows rows' r e =
     let g = is_withdrawn d.instance.residents_withdrawn r in
     let g' = is_withdrawn d'.instance.residents_withdrawn r in
     let all = lines_tell (option_rows o ++ gone_rows g (codes "R") (resident_name d r)) (option_rows o' ++ gone_rows g' (codes "R") (resident_name d' r))
-    (tail_parts 82 o g (codes "R") (resident_name d r) (resident_leads rows r) is_docket_r)
-    (tail_parts 82 o' g' (codes "R") (resident_name d' r) (resident_leads rows' r) is_docket_r)
+    (tail_parts 82 o g (codes "R") (resident_name d r) (resident_leads rows r) refl)
+    (tail_parts 82 o' g' (codes "R") (resident_name d' r) (resident_leads rows' r) refl)
     (sym (resident_text d rows r) ∙ e ∙ resident_text d' rows' r) in
     let tails = tails_same 82 o o' g g' (codes "R") (codes "R") (resident_name d r) (resident_name d' r) r_not_w (resident_leads rows r) (resident_leads rows' r) all in
     record { list = tails.0; withdrawn = tails.1 }

@@ -3,7 +3,7 @@ use Rattle.std.specs.Prelude.{◌≡◌, ℕ, ◌<◌, ◌≤◌, List, Some, co
 use Rattle.match_model.specs.Instance.{is_withdrawn, quota}
 use Rattle.docket.specs.Contents.{Contents}
 use Rattle.docket.specs.Texts.{programme_name}
-use Rattle.docket_parts.specs.Parts.{Fields}
+use Rattle.records.specs.Reading.{Fields}
 use Rattle.seal_text.specs.Texts.{list_of_programme, lists_texts, records_of}
 use Rattle.seal.specs.Hashes.{leaf_hash}
 use Rattle.seal.specs.Tree.{root, climb, path_of}

@@ -1,6 +1,6 @@
 -- Where a reason stands among the reasons of a resident.
 use Rattle.std.specs.Prelude.{Bool, true, false, if◌then◌else◌, ℕ, List, Option, Some, None, All, codes, bytes_eq}
-use Rattle.docket_parts.specs.Parts.{Fields}
+use Rattle.records.specs.Reading.{Fields}
 use Rattle.seal_text.specs.Receipt.{AreUpTo, IsBare, IsLater, IsPassedOver}
 use Rattle.seal_text.specs.declared.reasons.Stand.{Stand}
 use Rattle.seal_text.specs.declared.reasons.Stand.TheVariants.{Unmatched, Before, At, After}

@@ -1,13 +1,14 @@
 -- What a good receipt is, by four points: each opening gives the published root, the rows are of this member, a resident's
 -- reasons can stand where they stand, and a programme's residents fit its quota and its list.
-use Rattle.std.specs.Prelude.{◌≡◌, ◌≢◌, ◌⊎◌, ⊤, ℕ, ◌+◌, ◌<◌, ◌≤◌, MatchBool, Option, Some, None, IsSome, List, [], ◌∷◌, ◌++◌, length, drop, map, codes, decimal, bytes_eq, slice_index_or, All, AllPairs, Contains}
+use Rattle.std.specs.Prelude.{◌≡◌, ◌≢◌, ◌⊎◌, ⊤, ℕ, ◌+◌, ◌<◌, ◌≤◌, Bool, true, ◌||◌, ◌==◌, MatchBool, Option, Some, None, IsSome, List, [], ◌∷◌, ◌++◌, length, drop, map, codes, decimal, bytes_eq, slice_index_or, All, AllPairs, Contains}
+use Rattle.std.specs.List.{list_all}
 use Rattle.hex.specs.Hex.{encode_lower, IsBytes}
 use Rattle.seal.specs.Hashes.{leaf_hash}
 use Rattle.seal.specs.Tree.{climb}
 use Rattle.docket.specs.Fields.{field}
-use Rattle.docket_names.specs.Words.{number_of}
-use Rattle.docket_parts.specs.Parts.{Fields, rows_of}
-use Rattle.docket_parts.specs.Lines.{lines}
+use Rattle.docket_names.specs.Words.{is_name_byte, number_of}
+use Rattle.records.specs.Reading.{Fields, rows_of}
+use Rattle.records.specs.Lines.{lines}
 use Rattle.seal_text.specs.declared.points.Kind.{Kind}
 use Rattle.seal_text.specs.declared.points.Kind.TheVariants.{Programme, Resident}
 use Rattle.seal_text.specs.declared.wrong.ReceiptFault.{ReceiptFault}
@@ -250,9 +251,18 @@ pub record AreGoodRows (lists_root : List ℕ) (result_root : Option (List ℕ))
   pub lists : AreLists kind name quota list (drop 2 lists_rows)
   pub result : IsGoodResultIf result_root kind name quota list count index result_rows
 
--- a good receipt under the published roots: its bytes are its rows as csv writes them, and the rows are good
+-- whether the byte may stand in a receipt: it may stand in a name, or it is a comma or a line feed
+abbrev pub is_receipt_byte : ℕ → Bool
+is_receipt_byte b = is_name_byte b || (b == 44) || (b == 10)
+
+-- the bytes are the rows as csv writes them, and no field has a byte that no name has
+pub record AreWritten (bytes : List ℕ) (rows : List Fields) : Type 0 where
+  pub as_written : bytes ≡ lines rows
+  pub plain : list_all is_receipt_byte bytes ≡ true
+
+-- a good receipt under the published roots: its bytes are its rows as they are written, and the rows are good
 pub record IsGoodReceipt (lists_root : List ℕ) (result_root : Option (List ℕ)) (bytes : List ℕ) : Type 0 where
-  pub written : bytes ≡ lines (rows_of bytes)
+  pub written : AreWritten bytes (rows_of bytes)
   pub rows : AreGoodRows lists_root result_root (rows_of bytes)
 
 -- if the receipt is wrong, this fact holds; nothing is said if memory or the writer failed

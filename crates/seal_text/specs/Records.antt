@@ -1,9 +1,9 @@
 -- The records of a docket that are lists.
 use Rattle.std.specs.Prelude.{◌≡◌, ⊤, Option, Some, None, List, ◌∷◌, [], ◌++◌, codes, map}
 use Rattle.csv.specs.Records.{Row, fields_of}
-use Rattle.docket_parts.specs.Parts.{Fields}
+use Rattle.records.specs.Reading.{Fields}
 use Rattle.seal_text.specs.Texts.{records_of}
-use Rattle.seal_text.specs.declared.records.ListRecords.{ListRecords}
+use Rattle.seal_text.specs.declared.rows.ListRecords.{ListRecords}
 
 -- the fields of records
 abbrev pub rows_in : List Row → List Fields

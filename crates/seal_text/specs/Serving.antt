@@ -2,7 +2,8 @@
 use Rattle.std.specs.Prelude.{◌≡◌, ◌⊎◌, ℕ, Option, Some, None, Ok, Err, List, []}
 use Rattle.match_model.specs.Written.{written_of}
 use Rattle.docket.specs.Contents.{draft_of}
-use Rattle.docket_parts.specs.Parts.{rows_of, rows_of_all}
+use Rattle.docket.specs.Parts.{rows_of_all}
+use Rattle.records.specs.Reading.{rows_of}
 use Rattle.reasons_text.specs.Answers.{CaseParts}
 use Rattle.audit_files.specs.Answer.{IsDocketIn, IsReadingFault}
 use Rattle.audit_files.specs.declared.fault.FilesFault.{FilesFault}

@@ -9,8 +9,8 @@ use Rattle.docket.specs.Contents.{Contents}
 use Rattle.docket.specs.Fields.{field}
 use Rattle.docket.specs.Whole.{IsSheetOf, IsWhole}
 use Rattle.docket.specs.Texts.{programme_name, resident_name, filled_row, mark_row, resident_row}
-use Rattle.docket_parts.specs.Parts.{Fields}
-use Rattle.docket_parts.specs.Lines.{line}
+use Rattle.records.specs.Reading.{Fields}
+use Rattle.records.specs.Lines.{line}
 use Rattle.reasons_text.specs.Answers.{CaseParts}
 use Rattle.reasons_text.specs.Naming.{own_names}
 use Rattle.reasons_text.specs.Texts.{AreRowsOn}

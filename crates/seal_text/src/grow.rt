@@ -1,7 +1,7 @@
 //! Texts that grow.
 ghost use Rattle.std.specs.Prelude.{◌≡◌, OnOk, decimal, map};
 ghost use Rattle.std.specs.Io.KnownBytes.{Appends};
-ghost use Rattle.docket_parts.specs.Lines.{Grows};
+ghost use Rattle.records.specs.Lines.{Grows};
 ghost use Rattle.row_writer.specs.RowText.{row};
 ghost use Rattle.seal_text.specs.Sealed.{digest_field};
 

@@ -1,6 +1,6 @@
 //! A tree with the texts of its leaves.
 ghost use Rattle.std.specs.Prelude.{◌≡◌, ◌<◌, IfOk, OnOk, length};
-ghost use Rattle.docket_parts.specs.Lines.{Grows};
+ghost use Rattle.records.specs.Lines.{Grows};
 ghost use Rattle.seal.specs.Tree as tree;
 ghost use Rattle.seal_text.specs.Sealed.{root_row, opening_row, path_fields, part_text, word_of};
 ghost use Rattle.seal_text.specs.Grown.{IsGrown, texts_in};

@@ -19,7 +19,7 @@ mod reading;
 mod reasons;
 mod receipt;
 mod receipts;
-mod records;
+mod rows;
 mod secret;
 mod serve;
 mod status;

@@ -2,18 +2,18 @@
 ghost use Rattle.std.specs.Prelude.{◌≡◌, ◌≢◌, ◌≤◌, ℕ, List, ◌∷◌, [], All, IfOk, MatchOption, MatchResult, OnOk, codes, decimal, drop, length, map};
 ghost use Rattle.csv.specs.Records.{fields_of};
 ghost use Rattle.hex.specs.Hex.{encode_lower};
-ghost use Rattle.docket_parts.specs.Lines.{lines};
-ghost use Rattle.docket_parts.specs.Parts.{Fields};
+ghost use Rattle.records.specs.Lines.{lines};
+ghost use Rattle.records.specs.Reading.{Fields};
 ghost use Rattle.seal_text.specs.Receipt.{IfWrong, IsDigest, Opens, TellsRoot, TellsPlace};
 ghost use Rattle.seal_text.specs.Records.{rows_in};
 ghost use Rattle.seal_text.specs.Sealed.{word_of};
 
 use crate::digits::{digest_of, plain_number};
 use crate::leaves::Section;
-use crate::records::{field, has};
+use crate::rows::{field, has};
 use crate::wrong::{ReceiptFault, Wrong, at};
 use csv::ByteRecord;
-use docket_parts::put_line;
+use records::put_line;
 use seal::{leaf_hash, opens};
 use std::alloc::{AllocError, Global};
 

@@ -3,12 +3,12 @@ ghost use Rattle.std.specs.Prelude.{◌≡◌, ◌≢◌, ◌<◌, ◌≤◌, �
 ghost use Rattle.csv.specs.Records.{fields_of};
 ghost use Rattle.docket.specs.Fields.{field as field_in};
 ghost use Rattle.docket_names.specs.Words as words;
-ghost use Rattle.docket_parts.specs.Parts.{Fields};
+ghost use Rattle.records.specs.Reading.{Fields};
 ghost use Rattle.seal_text.specs.Receipt.{AreLists, AreMembers, AreProgrammeLists, AreProgrammeRows, AreResidentLists, AreResultRows, IsListed, IsQuotaRow, IsRowOf, IsWithdrawalIf, letter_of};
 ghost use Rattle.seal_text.specs.Records.{rows_in};
 
 use crate::reasons::resident_fault;
-use crate::records::{field, has, is_triple};
+use crate::rows::{field, has, is_triple};
 use crate::wrong::{ReceiptFault, Wrong, at};
 use csv::ByteRecord;
 use docket_names::number_of;

@@ -7,7 +7,7 @@ use crate::load::{Loaded, Unread, load, load_input};
 use crate::receipt::serve_receipt;
 use crate::serve::{serve_receipts, serve_seal};
 use crate::status::{receipt_status, seal_status};
-use docket_parts::Part;
+use docket::Part;
 use program_shell::{UsageFault, refuse, texts_of};
 use std::alloc::Global;
 use std::io::{Read, Write};

@@ -3,7 +3,8 @@ ghost use Rattle.std.specs.Prelude.{IfErr, IfOk};
 ghost use Rattle.seal_text.specs.Serving.{IsCaseIn, IsCaseFault};
 
 use audit_files::{FilesFault, told};
-use docket_parts::{PartFault, join};
+use docket::read_parts_with_lists;
+use match_model::Limits;
 use reasons_text::{Case, WhyFault};
 use std::alloc::Global;
 use std::random::RandomSource;
@@ -18,14 +19,19 @@ pub(crate) fn read_case<H: RandomSource>(
     ensures case { IfOk result (IsCaseIn docket.now sheet.now) }
     ensures fault { IfErr result (IsCaseFault docket.now sheet.now) }
 {
-    let joined = match join(alloc, docket, sheet, &[]) {
-        Ok(joined) => joined,
-        Err(PartFault::Memory) => return Err(FilesFault::Memory),
-        Err(fault) => return Err(FilesFault::Part(fault)),
+    let (docket, lists) = match read_parts_with_lists(
+        rt,
+        alloc,
+        Limits::Standard,
+        docket,
+        sheet,
+        &[],
+    ) {
+        Ok(read) => read,
+        Err(there) => return Err(told(there)),
     };
-    match Case::read(rt, alloc, joined.text.as_slice(), true) {
+    match Case::of_docket(alloc, docket, lists, true) {
         Ok(case) => Ok(case),
-        Err(WhyFault::Docket(fault)) => Err(told(&joined, fault)),
         Err(WhyFault::NoSheet) => Err(FilesFault::NoSheet),
         Err(_) => Err(FilesFault::Memory),
     }

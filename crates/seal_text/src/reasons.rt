@@ -8,7 +8,7 @@ ghost use Rattle.seal_text.specs.Reasons.{AreLeft, CanStand, is_past_after};
 ghost use Rattle.seal_text.specs.Reasons as reasons;
 ghost use Rattle.seal_text.specs.Records.{rows_in};
 
-use crate::records::{field, has, is_triple};
+use crate::rows::{field, has, is_triple};
 use crate::wrong::{ReceiptFault, Wrong, at};
 use csv::ByteRecord;
 use docket_names::number_of;

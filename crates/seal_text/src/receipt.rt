@@ -1,19 +1,21 @@
 //! Checking a receipt.
 ghost use Rattle.std.specs.Prelude.{◌≡◌, ◌≢◌, ◌≤◌, ℕ, IfErr, IfOk, List, MatchOption, MatchResult, OnOk, length, option_map};
 ghost use Rattle.csv.specs.Records.{fields_of};
-ghost use Rattle.docket_parts.specs.Lines.{lines};
+ghost use Rattle.std.specs.List.{list_all};
+ghost use Rattle.records.specs.Lines.{lines};
 ghost use Rattle.seal_text.specs.Cut.{StartsAt};
-ghost use Rattle.seal_text.specs.Receipt.{AreGoodRows, IfWrong, IsGoodReceipt, IsGoodResult, IsGoodResultIf, first_fields};
+ghost use Rattle.seal_text.specs.Receipt.{AreGoodRows, AreWritten, IfWrong, IsGoodReceipt, IsGoodResult, IsGoodResultIf, first_fields, is_receipt_byte};
 ghost use Rattle.seal_text.specs.Records.{rows_in};
 
 use crate::leaves::Section;
 use crate::opening::{Opened, read_opening};
 use crate::points::{Kind, Lists, Member, lists_in, result_fault};
-use crate::records::{field, has, read_rows};
+use crate::rows::{field, has, read_rows};
 use crate::told::{put_lists, put_result};
 use crate::wrong::{ReceiptFault, Wrong, at};
 use csv::ByteRecord;
-use docket_parts::put_line;
+use docket_names::is_name;
+use records::put_line;
 use std::alloc::{AllocError, Global};
 use std::io::Write;
 
@@ -40,6 +42,56 @@ fn unlike_written(
         return Ok(None);
     }
     Ok(Some(rows.len()))
+}
+
+// Whether the byte may stand in a receipt: it may stand in a name, or it is a comma or a line feed.
+#[tactic(auto, unfolding(docket_names::specs::Words::is_name))]
+fn may_stand(byte: u8) -> bool
+    ensures { result ≡ is_receipt_byte byte }
+{
+    is_name(&[byte]) || byte == b',' || byte == b'\n'
+}
+
+// Whether each byte may stand in a receipt.
+fn is_plain(bytes: &[u8]) -> bool
+    ensures { result ≡ list_all is_receipt_byte bytes.now }
+{
+    bytes.iter().all(|b| may_stand(*b))
+}
+
+// The row, from 0, of the first byte that may not stand in a receipt.
+fn strange_row(bytes: &[u8]) -> usize {
+    let mut row: usize = 0;
+    for i in 0..bytes.len() {
+        if !may_stand(bytes[i]) {
+            return row;
+        }
+        if bytes[i] == b'\n' {
+            row = row.saturating_add(1);
+        }
+    }
+    row
+}
+
+// The first row, from 0, that isn't written as a receipt's rows are, if there is one.
+fn badly_written(
+    alloc: Global,
+    bytes: &[u8],
+    rows: &[ByteRecord],
+) -> Result<Option<usize>, AllocError>
+    ensures { IfOk result (λ place. MatchOption place
+        (AreWritten bytes.now (rows_in rows.now))
+        (λ _. ¬ AreWritten bytes.now (rows_in rows.now))) }
+{
+    let unlike = unlike_written(alloc, bytes, rows)?;
+    if is_plain(bytes) {
+        return Ok(unlike);
+    }
+    let strange = strange_row(bytes);
+    match unlike {
+        Some(place) if place < strange => Ok(Some(place)),
+        _ => Ok(Some(strange)),
+    }
 }
 
 // The member of a receipt's first row.
@@ -206,7 +258,7 @@ fn words_of(
         (option_map (λ root. root.now) result_root.entry) bytes.now)) }
 {
     let rows = read_rows(alloc, bytes)?;
-    if let Some(place) = unlike_written(alloc, bytes, rows.as_slice())? {
+    if let Some(place) = badly_written(alloc, bytes, rows.as_slice())? {
         return Err(at(place, 0, Wrong::Written));
     }
     let good = good_receipt(alloc, rows.as_slice(), lists_root, result_root)?;

@@ -1,7 +1,7 @@
 //! The receipts of all members.
 ghost use Rattle.std.specs.Prelude.{◌≡◌, ◌<◌, ℕ, List, IfSome, OnOk, length};
 ghost use Rattle.std.specs.List.{flat_map, range_with_len};
-ghost use Rattle.docket_parts.specs.Lines.{Grows};
+ghost use Rattle.records.specs.Lines.{Grows};
 ghost use Rattle.seal_text.specs.Sealed.{programme_receipt, receipt_text, receipts_text, resident_receipt, result_text_if, roots_text};
 ghost use Rattle.seal_text.specs.declared.leaves.Section.TheVariants.{Outcome};
 ghost use Rattle.seal_text.specs.Grown.{AreTrees, IsGrownAs, lists_in, member_count, results_in};

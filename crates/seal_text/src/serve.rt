@@ -1,8 +1,8 @@
 //! From the bytes of a docket, a sheet and a secret to roots and receipts.
 ghost use Rattle.std.specs.Prelude.{◌≡◌, ◌≢◌, ℕ, [], None, Some, Ok, List, IfErr, IfOk, IfSome, OnOk, OnErr, length, option_copied, option_map};
 ghost use Rattle.std.specs.Io.KnownBytes.{Appends};
-ghost use Rattle.docket_parts.specs.Parts.{rows_of};
-ghost use Rattle.docket_parts.specs.Lines.{Grows};
+ghost use Rattle.records.specs.Reading.{rows_of};
+ghost use Rattle.records.specs.Lines.{Grows};
 ghost use Rattle.seal_text.specs.declared.leaves.Section.TheVariants.{Outcome};
 ghost use Rattle.seal_text.specs.Grown.{AreTrees, IsGrownAs, lists_in, member_count, results_in, texts_in, texts_of};
 ghost use Rattle.seal_text.specs.Secret.{secret_of};
@@ -17,7 +17,7 @@ use crate::grown::Grown;
 use crate::leaves::Section;
 use crate::reading::read_case;
 use crate::receipts::Trees;
-use crate::records::ListRecords;
+use crate::rows::ListRecords;
 use crate::secret::read_secret;
 use crate::texts::{lists_texts, result_texts};
 use audit_files::{FilesFault, read_files};

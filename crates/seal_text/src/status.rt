@@ -3,15 +3,14 @@
 use crate::fault::SealFault;
 use crate::wrong::ReceiptFault;
 use audit_files::FilesFault;
-use docket_parts::PartFault;
 use program_shell::docket_status;
 
 // The exit status after files at fault.
 fn files_status(fault: &FilesFault) -> u8 {
     match fault {
         FilesFault::Docket { fault, .. } => docket_status(fault),
-        FilesFault::Part(PartFault::Memory) | FilesFault::Memory | FilesFault::Write => 1,
-        FilesFault::Part(_) | FilesFault::NoSheet | FilesFault::NoJournal => 3,
+        FilesFault::Memory | FilesFault::Write => 1,
+        FilesFault::NoSheet | FilesFault::NoJournal => 3,
     }
 }
 

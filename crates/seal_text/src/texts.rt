@@ -4,8 +4,8 @@ ghost use Rattle.std.specs.List.{range_with_len};
 ghost use Rattle.docket.specs.Texts.{mark_row};
 ghost use Rattle.docket.specs.Whole.{IsSheetOf};
 ghost use Rattle.csv.specs.Records.{fields_of};
-ghost use Rattle.docket_parts.specs.Lines.{Grows};
-ghost use Rattle.docket_parts.specs.Parts.{Fields};
+ghost use Rattle.records.specs.Lines.{Grows};
+ghost use Rattle.records.specs.Reading.{Fields};
 ghost use Rattle.match_model.specs.Instance.{IsProgramme, IsResident};
 ghost use Rattle.match_model.specs.Placement.{holds, member_count, programme_of};
 ghost use Rattle.row_writer.specs.RowText.{Adds};
@@ -17,12 +17,12 @@ ghost use Rattle.seal_text.specs.Texts.{AddsResidentResult, AreResidentResults, 
 ghost use Rattle.seal_text.specs.Texts as spec;
 
 use crate::grow::put_row;
-use crate::records::ListRecords;
+use crate::rows::ListRecords;
 use csv::ByteRecord;
 use docket::{Docket, DocketFault, RowWriter, WriteFailed, push_programme, room_for_rows};
-use docket_parts::put_line;
 use match_model::{Assignment, ProgrammeNo, ResidentNo};
 use reasons_text::{Case, push_rows_on};
+use records::put_line;
 use std::alloc::{AllocError, Global};
 use std::io::Write;
 

@@ -2,7 +2,7 @@
 ghost use Rattle.std.specs.Prelude.{◌<◌, length};
 
 use crate::points::{Kind, Lists, Member};
-use crate::records::field;
+use crate::rows::field;
 use csv::ByteRecord;
 use docket_names::number_of;
 use std::alloc::{AllocError, Global};

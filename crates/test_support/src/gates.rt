@@ -9,7 +9,7 @@ pub use holding::{AllButOne, Firm, Held, Loose, Order};
 pub use resting::{AfterAnother, Hold, HoldsEntered, HoldsVisit, Rested, Stalls};
 use std::sync::atomic::{AtomicU64, Ordering};
 use std::thread;
-pub use stopping::{StopsAtOnce, StopsFrom};
+pub use stopping::{StopsAtOnce, StopsBy, StopsFrom};
 
 /// How often a gate tests whether another worker has entered an event.
 const TURNS: u32 = 10_000_000;

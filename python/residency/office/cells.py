@@ -2,10 +2,10 @@
 import re
 import unicodedata
 from dataclasses import dataclass
-from typing import Callable, Dict, Iterable, Iterator, List, Optional, Tuple
+from typing import Callable, Dict, Iterable, Iterator, List, Optional, Sequence, Tuple
 
 from ..text import BadQuotes, rows, tidy
-from .faults import Faults, OfficeError, shown
+from .faults import Faults, OfficeError, Values, shown
 from .text import LINE_END
 
 DELIMITERS = {",": "commas", ";": "semicolons", "\t": "tabs", "|": "bars"}
@@ -22,18 +22,13 @@ IsHeading = Callable[[List[str]], bool]
 @dataclass
 class Rows:
     """Rows that aren't blank, of tidy cells, each with its number in a spreadsheet, which counts from 1 and leaves out a
-    line `sep=`; `declared` where there is such a line, and `sheet` the name of a workbook's sheet."""
+    line `sep=`; `declared` where there is such a line, `sheet` the name of a workbook's sheet, and `sheets` those of all."""
 
     rows: Iterator[Tuple[int, List[str]]]
     delimiter: str
     declared: bool
     sheet: Optional[str] = None
-
-    def title(self) -> str:
-        if self.sheet is not None:
-            return f"sheet {shown(self.sheet, 40)}"
-        title = DELIMITERS.get(self.delimiter, f"parted by {shown(self.delimiter)}")
-        return title + (" by its line sep=" if self.declared else "")
+    sheets: Sequence[str] = ()
 
 
 def known_delimiter(word: str) -> str:
@@ -89,7 +84,7 @@ def rows_of(text: str, table: str, delimiter: Optional[str], is_heading: IsHeadi
     try:
         found = numbered(rest, chosen)
     except BadQuotes as fault:
-        faults.tell("file", table, fault.row, fault.cell, f"{fault.text}: it may swallow the rows below")
+        faults.tell("file.quotes", table, fault.row, fault.cell, {"what": fault.text})
         found = ()
     return Rows(tidied(found, Cells(table, chosen, faults)), chosen, declared is not None)
 
@@ -111,7 +106,7 @@ def other_mark(row: List[str], delimiter: str) -> Optional[str]:
     if len(row) != 1 or len(row[0]) < 2:
         return None
     marks = [mark for mark in DELIMITERS if mark != delimiter and row[0].count(mark) > (mark == ",")]
-    return DELIMITERS[max(marks, key=row[0].count)] if marks else None
+    return max(marks, key=row[0].count) if marks else None
 
 
 class Cells:
@@ -127,26 +122,25 @@ class Cells:
             return known
         name = name_of(text)
         is_plain = len(text) <= MOST_LETTERS_OF_A_CELL and text.isprintable() and "\ufffd" not in text
-        cause = None if is_plain else self.cause(number, text)
-        if cause is None:
+        found = None if is_plain else self.fault(number, text)
+        if found is None:
             self.good[text] = name
         else:
-            self.faults.tell("row", self.table, number, cell, cause)
+            self.faults.tell(found[0], self.table, number, cell, found[1])
         return name
 
-    def cause(self, number: int, text: str) -> Optional[str]:
+    def fault(self, number: int, text: str) -> Optional[Tuple[str, Values]]:
         """Why a text is no name, or none. A heading may have line ends, as `Rank` over `1`."""
         inside = text.strip()
-        begin = shown(LINE_END.split(inside)[0], 40)
-        quote = "; is a quote left open?" if self.delimiter else ""
+        begin = {"text": LINE_END.split(inside)[0], "quote": bool(self.delimiter)}
         if len(text) > MOST_LETTERS_OF_A_CELL and not inside.isdecimal():
-            return f"{begin} is too long for a name{quote}"
+            return "row.too-long", begin
         if LINE_END.search(inside) and (number > 1 or (self.delimiter or "\0") in inside):
-            return f"the cell goes on over a line's end after {begin}{quote}"
+            return "row.line-end", begin
         if "\t" in inside:
-            return f"{shown(text)} has a tab in it"
+            return "row.tab", {"text": text}
         if "\ufffd" in text:
-            return f"{shown(text)}: a letter was lost when the table was saved"
+            return "row.lost-letter", {"text": text}
         if any(unicodedata.category(c) in ("Cc", "Cs", "Co", "Cn") and c not in "\r\n" for c in inside):
-            return f"{shown(text)} has a character that is no letter"
+            return "row.no-letter", {"text": text}
         return None

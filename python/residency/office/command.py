@@ -1,5 +1,6 @@
 """The office's command: checks two tables or a docket, runs a match into a folder, withdraws members, compares runs."""
 import argparse
+import json
 import os
 import sys
 from datetime import date
@@ -7,25 +8,26 @@ from typing import Callable, Dict, List, Optional, Sequence, Tuple
 
 from ..errors import DocketFault, MarketFault, ResidencyError
 from ..market import Market
-from ..passes import Passes
-from ..records import records
 from ..text import decode
-from . import compare, folder, national, running, sealing, seal, sheets, stopping, writing
+from . import auditor, compare, folder, national, running, sealing, settings, sheets, steps, stopping, writing
 from .cells import DELIMITERS, known_delimiter
-from .faults import MOST_SHOWN, Faults, OfficeError, TablesError, counted, shown
+from .faults import MOST_SHOWN, Faults, OfficeError, column_letters, counted, shown
 from .headings import Words
-from .letters import Letters, checked_template
+from .letters import checked_template
 from .line import parser
-from .lists import market_of
-from .outcome import UNMATCHED, Details, Standing
-from .page import About
+from .outcome import UNMATCHED, Standing
 from .running import Run, Wishes
-from .tables import Options, Table, read_table
+from .sentences import as_dict, how, line_of, note, report
+from .settings import TABLES, Settings
+from .steps import Given, Look, Read, TablesError
+from .tables import Table
 from .telling import complain, failed, say, silence
-from .text import bytes_of, decoded, known_encoding
-from .verify import verify
+from .text import bytes_of, decoded, known_encoding, title_of
+from .verify import FromTables, read_by
 
 
+# The commands that may tell all as JSON, and then nothing else on standard output.
+QUIET = ("check", "lint")
 # So many bytes of a file are looked at for a heading.
 MOST_HEADING = 1 << 16
 
@@ -56,6 +58,8 @@ def ended(words: Optional[Sequence[str]]) -> int:
         # Whoever reads has had enough; what is left in the buffer goes nowhere.
         silence()
         return 1
+    except settings.SettingsError as error:
+        return failed("\n".join(report(error.faults, True)), error.status)
     except OfficeError as error:
         return failed(str(error), error.status)
     except (DocketFault, MarketFault) as fault:
@@ -88,42 +92,68 @@ def as_text(word: str) -> str:
         raise OfficeError(f"{shown(word)} is no text", 2) from None
 
 
-def options_of(given: argparse.Namespace) -> Options:
-    words = Words(*([as_text(one) for one in said] for said in (given.heading, given.ignore, given.keep)))
-    expected = {"programmes": given.expect_programmes, "residents": given.expect_residents}
-    return Options(words, by_table(given.encoding, known_encoding), by_table(given.delimiter, known_delimiter), given.allow_gaps,
-                   by_table(given.sheet, as_text), given.allow_short, given.allow_alone,
-                   {table: count for table, count in expected.items() if count is not None})
+def said_of(given: argparse.Namespace) -> Dict[str, object]:
+    """The settings that the command line says, by their names."""
+    expected = {"programmes": getattr(given, "expect_programmes", None), "residents": getattr(given, "expect_residents", None)}
+    said = {name: [as_text(one) for one in getattr(given, name, [])] for name in settings.SEVERAL}
+    by_tables: Dict[str, Callable[[str], object]] = {
+        "encoding": known_encoding, "delimiter": known_delimiter, "sheet": as_text, "heading_row": row_number}
+    tables = {name: by_table(getattr(given, name, []), known) for name, known in by_tables.items()}
+    tables["expect"] = {table: count for table, count in expected.items() if count is not None}
+    plain = {name: getattr(given, name, None) for name in ("allow_gaps", "allow_short", "allow_alone", "order", "cut_offs")}
+    found: Dict[str, object] = {**said, **tables, **plain, "title": title_of_line(given)}
+    return {name: value for name, value in found.items() if value}
 
 
-def by_table(given: Sequence[str], known: Callable[[str], str]) -> Dict[str, str]:
+def settings_of(given: argparse.Namespace, beside: Optional[str] = None, start: Optional[Settings] = None) -> Settings:
+    """The settings of the file that is named, or that stands beside a table, and of the command line, which comes first. The
+    run says which file it was, and what the command line says otherwise."""
+    path, found, said = given.settings, start or Settings(), said_of(given)
+    if path is None and beside is not None:
+        there = os.path.join(os.path.dirname(beside), settings.NAME)
+        path = there if os.path.isfile(there) else None
+    if path is not None:
+        found = settings.read_settings(text_of(path), shown(path))
+        others = ", ".join(f"--{name.replace('_', '-')}" for name in said)
+        (complain if given.command in QUIET and given.json else say)(f"settings: {shown(path)}" + (f"; of the command line: {others}" if others else ""))
+    for name, value in said.items():
+        setattr(found, name, {**getattr(found, name), **value} if isinstance(value, dict) else value)
+    Words(found.heading)
+    return found
+
+
+def row_number(word: str) -> int:
+    try:
+        return settings.from_one(word)
+    except ValueError:
+        raise OfficeError(f"{shown(word)} is no row; rows count from 1", 2) from None
+
+
+def by_table(given: Sequence[str], known: Callable[[str], object]) -> Dict[str, object]:
     """What is said for each table; a word without a table's name is for both."""
-    said: Dict[str, str] = {}
+    said: Dict[str, object] = {}
     for one in given:
         table, mark, word = one.partition("=")
-        named = bool(mark) and table in ("programmes", "residents")
-        for name in (table,) if named else ("programmes", "residents"):
+        named = bool(mark) and table in TABLES
+        for name in (table,) if named else TABLES:
             said[name] = known(word if named else one)
     return said
 
 
-def read_tables(programmes: str, residents: str, options: Options) -> Tuple[Tuple[Table, Table], Market]:
+def read_tables(programmes: str, residents: str, chosen: Settings) -> Read:
     """Both tables and their market; TablesError with all faults."""
-    faults = Faults()
-    if programmes == residents and not options.sheets or os.path.exists(programmes) and os.path.exists(residents) \
-            and not options.sheets and os.path.samefile(programmes, residents):
+    if programmes == residents and not chosen.sheet or os.path.exists(programmes) and os.path.exists(residents) \
+            and not chosen.sheet and os.path.samefile(programmes, residents):
         raise OfficeError(f"only one table was given, {shown(programmes)}, twice: PROGRAMMES and RESIDENTS are two", 2)
-    tables = (read_table(programmes, "programmes", "programme", options, faults),
-              read_table(residents, "residents", "resident", options, faults))
-    market = market_of(tables[0], tables[1], faults, options)
-    if market is None:
-        raise TablesError(faults, [table.how() for table in tables])
-    return tables, market
+    read = steps.check(Given(programmes, bytes_of(programmes)), Given(residents, bytes_of(residents)), chosen)
+    if read.market is None:
+        raise TablesError(read)
+    return read
 
 
 def tables_at_fault(error: TablesError, all_of_them: bool, tell: Callable[[str], None]) -> int:
     """Tells the faults of tables, and answers the status."""
-    for line in error.how + error.faults.report(all_of_them):
+    for line in [how(table) for table in error.read.tables] + report(error.faults, all_of_them):
         tell(line)
     count = len(error.faults)
     tell(f"{counted(count, 'fault')} in the tables")
@@ -132,44 +162,104 @@ def tables_at_fault(error: TablesError, all_of_them: bool, tell: Callable[[str],
 
 def describe(tables: Sequence[Table], market: Market) -> List[str]:
     programmes, residents = tables
-    lines = [f"{programmes.how()}; {counted(len(market.quotas), 'programme')}, {counted(sum(market.quotas.values()), 'place')}",
-             f"{residents.how()}; {counted(len(market.resident_lists), 'resident')}"]
-    return lines + [f"note: {note}" for table in tables for note in table.notes]
+    lines = [f"{how(programmes)}; {counted(len(market.quotas), 'programme')}, {counted(sum(market.quotas.values()), 'place')}",
+             f"{how(residents)}; {counted(len(market.resident_lists), 'resident')}"]
+    return lines + [note(one) for table in tables for one in table.notes]
+
+
+def read_as_json(read: Read) -> str:
+    """All that a check finds, as one line of JSON."""
+    places, places_of = read.sheets(), read.market.quotas if read.market is not None else {}
+    tables = [{"table": one.name, "file": one.path, "sha256": one.sha256, "encoding": one.text.encoding, "delimiter": one.rows.delimiter,
+               "sheet": one.rows.sheet, "heading_row": one.heading, "is_long": one.is_long, "members": len(one.entries)}
+              for one in read.tables]
+    found = {"tables": tables, "places": sum(places_of.values()), "counts": {kind: count for kind, count in read.faults.counts.items() if count},
+             "faults": [as_dict(one, places) for one in read.faults.every()], "notes": [as_dict(one, places) for one in read.notes()]}
+    return json.dumps(found, ensure_ascii=False)
 
 
 def check(given: argparse.Namespace) -> int:
     if len(given.files) == 1:
         data = bytes_of(given.files[0])
         refuse_one_table(given.files[0], data)
-        return tell_docket(data, shown(given.files[0]), given.all)
+        return tell_docket(data, shown(given.files[0]), given)
     if len(given.files) != 2:
         raise OfficeError("check takes two tables, PROGRAMMES and RESIDENTS, or one docket", 2)
     try:
-        tables, market = read_tables(given.files[0], given.files[1], options_of(given))
+        read = read_tables(given.files[0], given.files[1], settings_of(given, given.files[0]))
     except TablesError as error:
+        if given.json:
+            say(read_as_json(error.read))
+            return error.status
         return tables_at_fault(error, given.all, say)
-    for line in describe(tables, market) + ["no fault"]:
+    assert read.market is not None
+    for line in [read_as_json(read)] if given.json else describe(read.tables, read.market) + ["no fault"]:
         say(line)
     return 0
+
+
+def settings_command(given: argparse.Namespace) -> int:
+    out = given.out or os.path.join(os.path.dirname(given.programmes), settings.NAME)
+    if given.residents is None and not os.path.isdir(given.programmes):
+        raise OfficeError("only one table was given: PROGRAMMES and RESIDENTS are two, and one word alone is a folder that seal or run made", 2)
+    if given.residents is None:
+        out = given.out or settings.NAME
+        writing.refuse(out)
+        found, remarks = settings.from_values(folder.Results(given.programmes).manifest.get("reading", {})), {}
+    else:
+        writing.refuse(out)
+        found = settings_of(given)
+        looks = [steps.look(Given(path, bytes_of(path)), name, found) for name, path in zip(TABLES, (given.programmes, given.residents))]
+        faults = [fault for look in looks for fault in look.faults.every()]
+        if faults:
+            return failed("\n".join([*(line_of(fault) for fault in faults), "nothing was written"]), 3)
+        remarks = {look.table: remarks_of(look, path) for look, path in zip(looks, (given.programmes, given.residents))}
+        for look in looks:
+            take_found(found, look)
+    writing.new_file(out, settings.file_text(found, remarks).encode("utf-8"))
+    say(f"settings written to {shown(out)}")
+    return 0
+
+
+def take_found(found: Settings, look: Look) -> None:
+    """Takes over what was found of a table: its sheet, or its character set and what parts its cells, and its heading row."""
+    found.heading_row[look.table] = look.heading_row
+    if look.sheet is not None:
+        found.sheet[look.table] = look.sheet
+    else:
+        found.encoding[look.table], found.delimiter[look.table] = look.encoding, look.delimiter
+
+
+def remarks_of(look: Look, path: str) -> List[str]:
+    """What a settings file says of a table besides: its file, its sheets, and what each column is."""
+    first = f"{shown(os.path.basename(path))}: {title_of(look.encoding)}"
+    sheets_there = [f"its sheets: {', '.join(shown(one, 40) for one in look.sheets)}"] if len(look.sheets) > 1 else []
+    columns = [f"column {column_letters(number)}, {shown(heading, 40)}: {meaning or 'left out'}"
+               for number, (heading, meaning) in enumerate(zip(look.headings, look.meanings), 1) if heading]
+    return [first, *sheets_there, *columns]
 
 
 def lint_command(given: argparse.Namespace) -> int:
     if given.docket == "-":
         if sys.stdin is None:
             raise OfficeError("standard input is closed")
-        return tell_docket(sys.stdin.buffer.read(), "standard input", given.all)
-    return tell_docket(bytes_of(given.docket), shown(given.docket), given.all)
+        return tell_docket(sys.stdin.buffer.read(), "standard input", given)
+    return tell_docket(bytes_of(given.docket), shown(given.docket), given)
 
 
-def tell_docket(data: bytes, label: str, all_of_them: bool) -> int:
+def tell_docket(data: bytes, label: str, given: argparse.Namespace) -> int:
     """Tells a docket's faults, one at a time as they are found. A docket without a member has none for the program, and is
     told here, since it is a file that a failed command left empty."""
     more: Dict[str, int] = {}
     count, is_over = 0, False
-    for fault in Passes().faults(records(data)):
+    if given.json:
+        found = [fault.to_dict() for fault in steps.lint(data)]
+        say(json.dumps({"faults": found, "is_empty": not is_docket(data)}, ensure_ascii=False))
+        return 3 if found or not is_docket(data) else 0
+    for fault in steps.lint(data):
         count += 1
         is_over = is_over or fault.text.startswith(national.OVER)
-        if all_of_them or count <= MOST_SHOWN:
+        if given.all or count <= MOST_SHOWN:
             say(str(fault))
         else:
             more[fault.text] = more.get(fault.text, 0) + 1
@@ -178,12 +268,17 @@ def tell_docket(data: bytes, label: str, all_of_them: bool) -> int:
         say(f"and {sum(more.values()):,} more faults: {kinds} (--all tells each)")
     if is_over:
         say(national.line())
-    if not count and not any(line[:1] in (b"Q", b"R", b'"') for line in data.removeprefix(b"\xef\xbb\xbf").splitlines()):
+    if not count and not is_docket(data):
         say(f"{label} has no programme and no resident: it is empty, or no docket")
         return 3
     if not count:
         say("no fault")
     return 3 if count else 0
+
+
+def is_docket(data: bytes) -> bool:
+    """Whether a docket has a member."""
+    return any(line[:1] in (b"Q", b"R", b'"') for line in data.removeprefix(b"\xef\xbb\xbf").splitlines())
 
 
 def refuse_one_table(path: str, data: bytes) -> None:
@@ -201,60 +296,65 @@ def refuse_one_table(path: str, data: bytes) -> None:
         raise OfficeError(f"only one table was given, {shown(path)}: check takes two, PROGRAMMES and RESIDENTS, or one docket", 2)
 
 
-def details_of(residents: Table, market: Market) -> Details:
-    """What the table of residents has besides, in the market's names, which are in its order."""
-    named = list(zip(market.resident_lists, residents.entries))
-    return Details({name: entry.family for name, entry in named if entry.family}, tuple(residents.kept),
-                   {name: tuple(entry.kept) for name, entry in named if entry.kept})
+def wishes_of(given: argparse.Namespace, chosen: Settings, title: str, columns: Sequence[str]) -> Wishes:
+    return Wishes(title, given.date or date.today(), chosen.order, template_of(given.template, columns), given.timeout, chosen.cut_offs,
+                  given.readable)
 
 
-def wishes_of(given: argparse.Namespace, title: str, columns: Sequence[str]) -> Wishes:
-    return Wishes(title, given.date or date.today(), given.order, template_of(given.template, columns), given.timeout, given.cut_offs)
-
-
-def title_of(given: argparse.Namespace, otherwise: str = running.TITLE) -> str:
-    """The title that is given, else another one. OfficeError for one that can't be shown."""
-    title = " ".join(as_text(given.title or "").split()) or otherwise
-    if not title.isprintable():
+def title_of_line(given: argparse.Namespace) -> str:
+    """The title that the command line gives, if any. OfficeError for one that can't be shown."""
+    title = " ".join(as_text(getattr(given, "title", None) or "").split())
+    if title and not title.isprintable():
         raise OfficeError(f"the title {shown(title)} has a character that is no letter", 2)
     return title
+
+
+def text_of(path: str) -> str:
+    """The text of a file. OfficeError where it is none."""
+    faults = Faults()
+    text = decoded(bytes_of(path), shown(path), None, faults).text
+    if len(faults):
+        raise OfficeError(report(faults)[0], 3)
+    return text
 
 
 def template_of(path: Optional[str], columns: Sequence[str]) -> Optional[str]:
     """The text of a template's file, tried before anything else is done; `columns` are those that are kept."""
     if path is None:
         return None
-    faults = Faults()
-    text = decoded(bytes_of(path), shown(path), None, faults).text
-    if len(faults):
-        raise OfficeError(faults.report()[0], 3)
+    text = text_of(path)
     checked_template(text, columns)
     return text
 
 
-def tables_of(given: argparse.Namespace) -> Optional[Tuple[Tuple[Table, Table], Market]]:
+def tables_of(given: argparse.Namespace, chosen: Settings) -> Optional[Tuple[Sequence[Table], Market]]:
     """Both tables and their market; none where they are at fault, which is told."""
     try:
-        return read_tables(given.programmes, given.residents, options_of(given))
+        read = read_tables(given.programmes, given.residents, chosen)
+        assert read.market is not None
+        return read.tables, read.market
     except TablesError as error:
         tables_at_fault(error, given.all, complain)
         complain("nothing was written")
         return None
 
 
-def how_read(tables: Sequence[Table]) -> Dict[str, object]:
-    """What a manifest says of the tables."""
-    return {"tables": [{"file": shown(os.path.basename(table.path)), "sha256": table.sha256, "read": table.how()} for table in tables]}
+def how_read(tables: Sequence[Table], chosen: Settings) -> Dict[str, object]:
+    """What a manifest says of the tables, and the settings by which they were read."""
+    read = [{"file": shown(os.path.basename(table.path)), "sha256": table.sha256, "read": how(table)} for table in tables]
+    said = settings.values_of(chosen)
+    return {"tables": read, **({"reading": said} if said else {})}
 
 
 def seal_command(given: argparse.Namespace) -> int:
-    wishes = Wishes(title_of(given), given.date or date.today(), timeout=given.timeout)
     writing.refuse(given.out)
-    found = tables_of(given)
+    chosen = settings_of(given, given.programmes)
+    wishes = Wishes(chosen.title or running.TITLE, given.date or date.today(), timeout=given.timeout)
+    found = tables_of(given, chosen)
     if found is None:
         return 3
     tables, market = found
-    roots = sealing.seal(given.out, market, details_of(tables[1], market), wishes, how_read(tables))
+    roots = steps.seal(given.out, market, steps.details_of(tables[1], market), wishes, how_read(tables, chosen))
     for line in [*describe(tables, market), sealing.written(given.out, roots), *sealing.told(roots)]:
         say(line)
     return 0
@@ -268,15 +368,15 @@ def run(given: argparse.Namespace) -> int:
     path = given.seal if given.residents is not None else given.programmes
     writing.refuse(given.out)
     if path is not None:
-        return run_sealed(given, sealing.sealed_folder(path))
-    wishes = wishes_of(given, title_of(given), [as_text(one) for one in given.keep])
-    found = tables_of(given)
+        return run_sealed(given, steps.sealed(path))
+    chosen = settings_of(given, given.programmes)
+    wishes = wishes_of(given, chosen, chosen.title or running.TITLE, chosen.keep)
+    found = tables_of(given, chosen)
     if found is None:
         return 3
     tables, market = found
-    result = running.matched(market, wishes.timeout, details_of(tables[1], market))
-    with folder.new_folder(given.out) as draft:
-        running.fill(draft, result, wishes, how_read(tables))
+    result = steps.match(market, steps.details_of(tables[1], market), wishes.timeout)
+    steps.write(given.out, result, wishes, how_read(tables, chosen))
     for line in describe(tables, market) + told(given.out, result):
         say(line)
     return 0
@@ -284,22 +384,31 @@ def run(given: argparse.Namespace) -> int:
 
 def run_sealed(given: argparse.Namespace, sealed: running.Kept) -> int:
     """Matches the very docket that was sealed; tables, where they are given, have to say the same."""
+    sealing.refuse_readable(given.readable)
     lines: List[str] = []
-    details, manifest = sealed.details, {"from": sealed.digests()}
+    details, manifest = sealed.details, from_of(sealed)
+    chosen = settings_of(given, None if given.residents is None else given.programmes)
     if given.residents is not None:
-        found = tables_of(given)
+        found = tables_of(given, chosen)
         if found is None:
             return 3
         tables, market = found
         sealing.refuse_others(sealed, market, given.all)
-        lines, details = describe(tables, market), details_of(tables[1], market)
-    wishes = wishes_of(given, title_of(given, sealed.title()), details.columns)
-    result = running.matched(sealed.market, wishes.timeout, details)
-    with folder.new_folder(given.out, private=True) as draft:
-        roots = sealing.same_lists(sealed, running.fill(draft, result, wishes, manifest, sealed.secret()))
+        lines, details = describe(tables, market), steps.details_of(tables[1], market)
+        manifest = from_of(sealed, settings.values_of(chosen))
+    wishes = wishes_of(given, chosen, chosen.title or sealed.title(), details.columns)
+    result = steps.match(sealed.market, details, wishes.timeout)
+    roots = steps.write(given.out, result, wishes, manifest, sealed.secret(), sealed)
+    assert roots is not None
     for line in lines + told(given.out, result) + sealing.told(roots):
         say(line)
     return 0
+
+
+def from_of(kept: running.Kept, said: Optional[Dict[str, Dict[str, object]]] = None) -> Dict[str, object]:
+    """What a manifest says of the folder that another one is made from, whose settings are carried on where no others are said."""
+    reading = said or kept.results.manifest.get("reading")
+    return {**({"reading": reading} if isinstance(reading, dict) else {}), "from": kept.digests()}
 
 
 def told(out: str, result: running.Matched) -> List[str]:
@@ -317,30 +426,27 @@ def withdraw(given: argparse.Namespace) -> int:
     if not given.names and not given.programme and not given.resident:
         raise OfficeError("who withdraws? give a name", 2)
     before = running.opened(given.folder)
+    sealing.refuse_readable(given.readable and before.is_sealed())
     out = folder.free_name(given.folder) if given.out is None else given.out
     writing.refuse(out)
-    market = running.withdrawn(before, *([as_text(name) for name in names] for names in (given.programme, given.resident, given.names)))
-    if not isinstance(before, Run):
-        return withdraw_sealed(given, before, market, out)
-    result = running.matched(market, given.timeout, before.details)
-    found = compare.changes(before.outcome, result.outcome)
-    with folder.new_folder(out, private=before.is_sealed()) as draft:
-        draft.write(folder.CHANGES, compare.changes_table(found))
-        wishes = wishes_of(given, before.title(), before.details.columns)
-        roots = running.fill(draft, result, wishes, {"from": before.digests()}, seal.new_secret() if before.is_sealed() else b"")
-    for line in [one.line() for one in found] + told(out, result) + ([] if roots is None else sealing.told_anew(roots)):
+    programmes, residents, either = ([as_text(name) for name in those] for those in (given.programme, given.resident, given.names))
+    done = steps.withdraw(before, programmes, residents, either, given.timeout)
+    if done.matched is None:
+        return withdraw_sealed(given, done, out)
+    chosen = settings_of(given)
+    wishes = wishes_of(given, chosen, chosen.title or before.title(), before.details.columns)
+    roots = steps.write(out, done.matched, wishes, from_of(before), done.secret(), changes=done.changes)
+    for line in [one.line() for one in done.changes] + told(out, done.matched) + ([] if roots is None else sealing.told_anew(roots)):
         say(line)
     return 0
 
 
-def withdraw_sealed(given: argparse.Namespace, kept: running.Kept, market: Market, out: str) -> int:
+def withdraw_sealed(given: argparse.Namespace, done: steps.Withdrawn, out: str) -> int:
     """Seals a folder's market anew, with members withdrawn before the match."""
+    kept = done.before
     wishes = Wishes(kept.title(), given.date or date.today(), timeout=given.timeout)
-    roots = sealing.seal(out, market, kept.details, wishes, {"from": kept.digests()})
-    lines = [sealing.written(out, roots), *sealing.told_anew(roots)]
-    gone = [name for name in (*market.withdrawn_programmes, *market.withdrawn_residents)
-            if name not in (*kept.market.withdrawn_programmes, *kept.market.withdrawn_residents)]
-    for line in [f"{shown(name)}: withdrawn" for name in gone] + lines:
+    roots = steps.seal(out, done.market, kept.details, wishes, from_of(kept))
+    for line in [f"{shown(name)}: withdrawn" for name in done.gone] + [sealing.written(out, roots), *sealing.told_anew(roots)]:
         say(line)
     return 0
 
@@ -348,12 +454,12 @@ def withdraw_sealed(given: argparse.Namespace, kept: running.Kept, market: Marke
 def compare_command(given: argparse.Namespace) -> int:
     if given.out is not None:
         writing.refuse(given.out)
-    before, now = Run(given.before), Run(given.now)
-    found = compare.changes(before.outcome, now.outcome)
+    found = steps.compare(Run(given.before), Run(given.now))
     if given.out is not None:
-        writing.new_file(given.out, compare.changes_table(found))
-    lines = [*compare.figures(before.outcome, now.outcome), compare.summary(before.outcome, now.outcome, found, given.names)]
-    for line in lines + [one.line() for one in found if given.names]:
+        writing.new_file(given.out, compare.changes_table(found.changes))
+    lines = [f"{what}: {was} before, {is_now} now" for what, was, is_now in found.figures]
+    lines += [compare.summary(found.before.outcome, found.now.outcome, found.changes, given.names)]
+    for line in lines + [one.line() for one in found.changes if given.names]:
         say(line)
     return 0
 
@@ -362,18 +468,35 @@ def letters(given: argparse.Namespace) -> int:
     writing.refuse(given.out)
     run_before = Run(given.folder)
     template = template_of(given.template, run_before.details.columns)
-    about = About(run_before.title(), given.date or run_before.day(), run_before.digests(), run_before.roots())
+    written = steps.letters(run_before, template, given.date, settings_of(given).title)
     with folder.new_folder(given.out, private=True) as draft:
-        count = running.write_letters(draft, Letters(run_before.market, run_before.outcome, about, template), "")
+        count = running.write_letters(draft, written, "")
     say(f"{counted(count, 'letter')} written to {shown(given.out)}")
     return 0
 
 
 def verify_command(given: argparse.Namespace) -> int:
-    return verify(given.folder, given.timeout, given.lists or "", given.result or "")
+    published = {word: said for word, said in (("lists", given.lists), ("result", given.result)) if said is not None}
+    made = None
+    if given.tables is not None:
+        given.programmes, given.residents = given.tables
+        found = tables_of(given, settings_of(given, start=read_by(given.folder)))
+        if found is None:
+            return 3
+        tables, market = found
+        made = FromTables(market, steps.details_of(tables[1], market), [table.sha256 for table in tables])
+    done = steps.verify(given.folder, given.timeout, published, made, lambda one: say(one.line()))
+    say(done.verdict())
+    return 4 if done.wrong else 0
+
+
+def auditor_command(given: argparse.Namespace) -> int:
+    writing.refuse(given.out)
+    say(auditor.copy(given.folder, given.out, given.key))
+    return 0
 
 
 DOES: Dict[str, Callable[[argparse.Namespace], int]] = {
-    "check": check, "lint": lint_command, "seal": seal_command, "run": run, "withdraw": withdraw, "compare": compare_command, "letters": letters,
-    "verify": verify_command,
+    "check": check, "settings": settings_command, "lint": lint_command, "seal": seal_command, "run": run, "withdraw": withdraw, "compare": compare_command, "letters": letters,
+    "verify": verify_command, "auditor": auditor_command,
 }

@@ -50,12 +50,6 @@ def figures_of(one: Outcome) -> List[Tuple[str, str]]:
             ("programmes that take part", f"{programmes:,}"), ("places unfilled", f"{left:,} of {one.places():,}")]
 
 
-def figures(before: Outcome, now: Outcome) -> List[str]:
-    """Ten lines of figures, each of both matches."""
-    return [f"{what}: {was} before, {is_now} now"
-            for (what, was), (_, is_now) in zip(figures_of(before), figures_of(now))]
-
-
 def keyed(members: Mapping[str, One], others: Mapping[str, One]) -> Dict[str, One]:
     """Members by what they are known by in both matches: their IDs where all have one, else their names."""
     by_id = all(one.id for one in (*members.values(), *others.values()))

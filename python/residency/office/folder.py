@@ -6,7 +6,7 @@ from contextlib import contextmanager
 from pathlib import Path
 from typing import Any, Dict, Iterable, Iterator, List, Set
 
-from . import stopping
+from . import leftover, stopping
 from .faults import OfficeError, shown
 from .writing import PRIVATE, SHARED, cause_of, draft_of, refuse, umask, write_new
 
@@ -17,11 +17,35 @@ MANIFEST, SUMS, LETTERS, ROSTERS = "manifest.json", "SHA256SUMS", "letters", "ro
 SECRET, ROOTS, RECEIPTS, PUBLIC, DETAILS = "secret.txt", "root.txt", "receipts", "public", "details.csv"
 # What is readable by its owner alone: who is who, and what is for one member alone.
 OWNERS = {KEY, MATCHES, LETTERS, "letters.html", SECRET, RECEIPTS, DETAILS}
+# What tells somebody's list, or a hash from which lists can be guessed: it is for its owner, too, unless others may read the folder.
+LISTS = {DOCKET, JOURNAL, PAGE, ROSTERS, CHANGES, MANIFEST, SUMS}
+# What only the key, which has the real names, can make, and what only the secret can.
+NEEDS_KEY = {KEY, MATCHES, PAGE, UNFILLED, CHANGES, ROSTERS, LETTERS, "letters.html", DETAILS,
+             *(f"{PUBLIC}/{name}" for name in (PAGE, UNFILLED, "cut-offs.csv"))}
+NEEDS_SECRET = {SECRET, RECEIPTS}
+# The entries of a manifest in their order; the digests follow.
+ENTRIES = ("title", "date", "program", "order", "cut_offs", "template", "tables", "reading", "from", "withdrawn", "details", "sealed", "auditor")
 RESERVED = {"con", "prn", "aux", "nul"} | {f"{port}{number}" for port in ("com", "lpt") for number in range(1, 10)}
 
 
 def digest(data: bytes) -> str:
     return hashlib.sha256(data).hexdigest()
+
+
+def needs(name: str, parts: Set[str]) -> bool:
+    """Whether a file is one of these, or in a folder that is."""
+    return name in parts or name.split("/")[0] in parts
+
+
+def sums_of(data: bytes) -> Dict[str, str]:
+    """The digest that SHA256SUMS has of each file."""
+    lines = [line.split("  ", 1) for line in data.decode("utf-8", "replace").split("\n") if "  " in line]
+    return {name: one for one, name in lines}
+
+
+def files_below(path: Path) -> Dict[str, Path]:
+    """Every file below a folder, links too, by its name there."""
+    return {one.relative_to(path).as_posix(): one for one in sorted(path.rglob("*")) if one.is_symlink() or not one.is_dir()}
 
 
 def file_names(docket_names: Iterable[str], ending: str) -> Dict[str, str]:
@@ -45,18 +69,19 @@ def file_names(docket_names: Iterable[str], ending: str) -> Dict[str, str]:
 
 
 class Draft:
-    """A folder that is being filled beside the place where it will stand. Key and letters are for their owner alone; where
-    the folder is `private`, all of it is but what may be published."""
+    """A folder that is being filled beside the place where it will stand. Key and letters are for their owner alone, and lists
+    unless it is `readable`; where the folder is `private`, all of it is but what may be published."""
 
-    def __init__(self, path: Path, private: bool = False) -> None:
+    def __init__(self, path: Path, private: bool = False, readable: bool = False) -> None:
         self.path = path
         self.private = private
+        self.owners = OWNERS if readable else OWNERS | LISTS
         self.sums: Dict[str, str] = {}
 
     def write(self, name: str, data: bytes) -> str:
         """Writes a file and answers its digest."""
         part = name.split("/")[0]
-        private = self.private and part != PUBLIC or part in OWNERS
+        private = self.private and part != PUBLIC or part in self.owners
         target = self.path / name
         if "/" in name:
             target.parent.mkdir(mode=0o700 if private else 0o777, exist_ok=True)
@@ -73,9 +98,9 @@ class Draft:
 
 
 @contextmanager
-def new_folder(out: str, private: bool = False) -> Iterator[Draft]:
+def new_folder(out: str, private: bool = False, readable: bool = False) -> Iterator[Draft]:
     """A draft of the folder `out`, which appears under its name when all has been written, and else not at all; for its owner
-    alone where it is `private`.
+    alone where it is `private`, and its lists unless it is `readable`.
 
     OfficeError where it is there already or can't be written; no half of it is left behind, whatever ends the command.
     """
@@ -84,12 +109,12 @@ def new_folder(out: str, private: bool = False) -> Iterator[Draft]:
     # Its name stands before the folder does, so that no signal comes between the two.
     with stopping.unfinished(draft_of(out)) as part:
         try:
-            part.mkdir(mode=0o700)
-            yield Draft(part, private)
-            if not private:
-                part.chmod(0o777 & ~umask())
-            refuse(out)
-            os.rename(part, target)
+            with leftover.made(part):
+                yield Draft(part, private, readable)
+                if not private:
+                    part.chmod(0o777 & ~umask())
+                refuse(out)
+                os.rename(part, target)
         except OSError as error:
             raise OfficeError(f"{shown(out)} can't be written: {cause_of(error)}; nothing was left there") from None
 

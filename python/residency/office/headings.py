@@ -6,7 +6,7 @@ from typing import Dict, FrozenSet, List, Optional, Sequence, Tuple, TypeVar
 
 from ..docket import MOST_RESIDENTS
 from ..near import edits
-from .faults import Faults, OfficeError, shown
+from .faults import Faults, OfficeError, Remedy, Values, shown
 
 # What a heading is known by: its role, or a rank.
 Key = TypeVar("Key", str, int)
@@ -30,6 +30,7 @@ TITLES = {"programme": "Programme", "resident": "Applicant", "places": "Places",
 # The longest list has as many columns as there are residents at most, and a few stand before it.
 MOST_COLUMNS = MOST_RESIDENTS + 100
 ROLES = ("programme", "resident", "places", "rank", "id", "given", "family")
+HEADING = f"ROLE=WORD, where ROLE is one of {', '.join(ROLES)}"
 ORDINALS = {word: number for number, word in enumerate(
     ("first", "second", "third", "fourth", "fifth", "sixth", "seventh", "eighth", "ninth", "tenth"), 1)}
 NUMBERED = re.compile(r"(?P<before>.*?)\s*(?:no|#)?\s*0*(?P<number>[0-9]{1,5})(?:st|nd|rd|th)?\s*(?P<after>.*)")
@@ -54,7 +55,7 @@ class Words:
         for one in added:
             role, _, word = one.partition("=")
             if role not in ROLES or not plain(word):
-                raise OfficeError(f"--heading {shown(one)}: it is ROLE=WORD, where ROLE is one of {', '.join(ROLES)}", 2)
+                raise OfficeError(f"--heading {shown(one)}: it is {HEADING}", 2)
             self.roles[plain(word)] = role
 
     def role(self, heading: str) -> Optional[str]:
@@ -113,6 +114,13 @@ class Columns:
     def is_long(self) -> bool:
         return self.item is not None
 
+    def meanings(self, owners: str) -> List[str]:
+        """What each column is: the owners' names, `places`, `id`, `rank` or `rank 3`, the names that are ranked, `kept`, or nothing."""
+        named = {self.owner: owners, self.owner_family: "family", self.item_family: "family", self.item: OTHER[owners], self.family: "family",
+                 self.places: "places", self.ident: "id", self.rank: "rank", **dict.fromkeys((cell for cell, _ in self.kept), "kept")}
+        named.update({cell: f"rank {number}" for number, cell in self.ranks})
+        return [named.get(cell, "") for cell in range(self.width)]
+
 
 class Reader:
     """Reads one heading row; `owners` says whose table it is, `programme` or `resident`."""
@@ -128,29 +136,32 @@ class Reader:
         self.told = False
         self.is_parted = False
 
-    def tell(self, cell: int, cause: str) -> None:
+    def tell(self, cell: int, what: str, values: Optional[Values] = None, remedies: Sequence[Remedy] = ()) -> None:
         self.told = True
-        self.faults.tell("heading", self.table, self.row, cell, cause)
+        self.faults.tell(f"heading.{what}", self.table, self.row, cell, values, remedies=remedies)
 
-    def absent(self, cause: str) -> None:
+    def absent(self, what: str, values: Optional[Values] = None) -> None:
         """Tells a column that isn't there, at the first cell where it could be."""
         free = next((cell for cell, heading in enumerate(self.heading) if not heading), len(self.heading))
-        self.tell(free + 1, cause)
+        self.tell(free + 1, what, values)
+
+    def beside(self, title: str, cell: int) -> None:
+        """Tells a column that isn't there, where another one says that it has to be."""
+        self.absent("beside", {"title": title, "column": cell + 1, "heading": self.heading[cell]})
 
     def columns(self) -> Optional[Columns]:
         """The columns, or None where the heading is at fault, which is told."""
         if len(self.heading) > MOST_COLUMNS:
-            self.tell(MOST_COLUMNS + 1, f"the heading has {len(self.heading):,} cells, more than {MOST_COLUMNS:,}")
+            self.tell(MOST_COLUMNS + 1, "cells", {"cells": len(self.heading), "most": MOST_COLUMNS})
             return None
         for cell, heading in enumerate(self.heading):
             if heading:
                 self.sort(cell, heading)
         if not self.at and all(heading.isdecimal() for heading in map(self.heading.__getitem__, self.ranks.values())):
-            begin = ", ".join(shown(cell, 30) for cell in self.heading[:4])
-            self.tell(1, f"a heading row is wanted, with {self.wanted()}; the first row is {begin}")
+            self.tell(1, "none", {"owners": self.owners, "cells": tuple(self.heading[:4])})
             return None
         if self.looks_exchanged():
-            self.tell(1, f"this is headed as a table of {self.items}s; are the two tables exchanged?")
+            self.tell(1, "exchanged", {"items": self.items})
             return None
         self.two_names()
         self.missing()
@@ -162,7 +173,7 @@ class Reader:
         there = {plain(heading) for heading in self.heading}
         for folded, word in self.words.kept.items() if self.owners == "resident" else ():
             if folded not in there:
-                self.absent(f"no column is headed {shown(word)}, which --keep names")
+                self.absent("keep", {"heading": word})
 
     def two_names(self) -> None:
         """Takes a first and a last name in two columns for the column of residents; `Name` beside a first name is the last."""
@@ -174,14 +185,9 @@ class Reader:
             at[whose] = at["given"]
             self.is_parted = True
         elif "given" in at and "family" not in at and whose not in at:
-            self.absent(f"no column is headed Last name, where cell {at['given'] + 1} is headed {shown(self.heading[at['given']])}")
+            self.beside(TITLES["family"], at["given"])
         elif "family" in at and "given" not in at and whose not in at:
-            self.absent(f"no column is headed First name, where cell {at['family'] + 1} is headed "
-                        f"{shown(self.heading[at['family']])}")
-
-    def wanted(self) -> str:
-        begin = TITLES[self.owners] + (", Places" if self.owners == "programme" else "")
-        return f"{begin}, Rank 1, Rank 2, .. or {begin}, Rank, {TITLES[self.items]}"
+            self.beside(TITLES["given"], at["family"])
 
     def sort(self, cell: int, heading: str) -> None:
         """Notes what one column is."""
@@ -190,7 +196,7 @@ class Reader:
             role = self.owners
         if plain(heading) in self.words.kept and self.owners == "resident":
             if role is not None:
-                return self.tell(cell + 1, f"{shown(heading)} is read already: there is nothing to keep (--keep)")
+                return self.tell(cell + 1, "kept-twice", {"heading": heading})
             return self.kept.append((cell, heading))
         if role in (None, "rank", self.items):
             number = self.words.rank(heading, self.items)
@@ -203,8 +209,7 @@ class Reader:
 
     def once(self, at: Dict[Key, int], what: Key, cell: int) -> None:
         if what in at:
-            heading = shown(self.heading[cell])
-            self.tell(cell + 1, f"two columns are headed {heading}: cells {at[what] + 1} and {cell + 1}")
+            self.tell(cell + 1, "twice", {"heading": self.heading[cell], "first": at[what] + 1, "second": cell + 1})
         at.setdefault(what, cell)
 
     def looks_exchanged(self) -> bool:
@@ -215,35 +220,31 @@ class Reader:
         """Tells each column that is wanted and isn't there, then each heading that is none."""
         for role in (self.owners,) + (("places",) if self.owners == "programme" else ()):
             if role not in self.at:
-                others = ", ".join(WORDS[role][1:4])
-                self.absent(f"no column is headed {TITLES[role]} (or {others}, or as --heading says)")
+                self.absent("missing", {"title": TITLES[role], "role": role, "others": WORDS[role][1:4]})
         if self.owners == "resident" and "places" in self.at:
-            self.tell(self.at["places"] + 1, "a table of residents has no column of places")
+            self.tell(self.at["places"] + 1, "places")
         self.missing_ranks()
         wanted = (self.owners,) + (("places",) if self.owners == "programme" else ()) + ("rank",)
         absent = [role for role in wanted if role not in self.at and not (role == "rank" and self.ranks)]
         for cell in self.unknown:
             if self.told or self.words.near(self.heading[cell]):
-                heading = shown(self.heading[cell])
-                self.tell(cell + 1, f"{heading} is no heading of this table; mend it, say what it is (--heading "
-                          f"'{absent[0] if absent else 'rank'}={heading}'), or leave the column out (--ignore '{heading}')")
+                heading, role = self.heading[cell], absent[0] if absent else "rank"
+                self.tell(cell + 1, "unknown", {"heading": heading, "role": role}, meanings(role, heading))
 
     def missing_ranks(self) -> None:
         rank, item = self.at.get("rank"), self.at.get(self.items)
         last = max(self.ranks, default=0)
         gap = next((number for number in range(1, last) if number not in self.ranks), None)
         if rank is not None and self.ranks:
-            self.tell(rank + 1, "a column headed Rank beside numbered ones: a table is long or wide, not both")
+            self.tell(rank + 1, "long-and-wide")
         elif rank is not None and item is None:
-            heading = shown(self.heading[rank])
-            self.absent(f"no column is headed {TITLES[self.items]}, where cell {rank + 1} is headed {heading}")
+            self.beside(TITLES[self.items], rank)
         elif item is not None and rank is None:
-            self.absent(f"no column is headed Rank, where cell {item + 1} is headed {shown(self.heading[item])}")
+            self.beside(TITLES["rank"], item)
         elif rank is None and not self.ranks:
-            self.absent("no column is headed Rank 1 (or Choice 1, 1st choice, First, 1)")
+            self.absent("no-rank")
         elif gap is not None:
-            self.absent(f"no column is headed Rank {gap}, where cell {self.ranks[last] + 1} is headed "
-                      f"{shown(self.heading[self.ranks[last]])}")
+            self.beside(f"Rank {gap}", self.ranks[last])
 
     def made(self) -> Columns:
         at = self.at
@@ -253,6 +254,11 @@ class Reader:
                        at.get(self.items) if "rank" in at else None, known, max(known) + 1, family,
                        family if self.is_parted and owns else None, family if self.is_parted and not owns else None,
                        self.kept, [(cell, self.heading[cell]) for cell in self.unknown])
+
+
+def meanings(role: str, heading: str) -> Tuple[Remedy, Remedy]:
+    """What may be said of a column whose heading is unknown: what it is, or that it is left out."""
+    return Remedy("heading", f"{role}={heading}"), Remedy("ignore", heading)
 
 
 def columns_of(table: str, owners: str, row: int, heading: List[str], words: Words, faults: Faults) -> Optional[Columns]:

@@ -23,8 +23,7 @@ $outcome
 
 $list
 
-In the docket that was matched you are $docket_name. Its SHA-256 is
-$docket_sha256.
+In the docket that was matched you are $docket_name.
 """
 # What a letter of a sealed match says besides.
 SEALED_TEMPLATE = TEMPLATE + """
@@ -32,6 +31,8 @@ $sealed
 """
 FIELDS = ("day", "date", "title", "name", "id", "programme", "choice", "listed", "outcome", "list", "docket_name",
           "docket_sha256", "lists_root", "result_root", "sealed")
+# A hash without a salt, from which lists can be guessed: no letter of a sealed match has it.
+UNSALTED = "docket_sha256"
 # The file of all letters.
 LETTERS_PAGE = "letters.html"
 # How many letters a line of a letter has.
@@ -69,6 +70,14 @@ def fields_of(columns: Sequence[str]) -> Tuple[str, ...]:
             free = f"{stem}_{count}"
         made.append(free)
     return tuple(made)
+
+
+def refuse_unsalted(text: str) -> None:
+    """OfficeError for a template of sealed letters that names the docket's hash."""
+    for number, line in enumerate(LINE_END.split(text), 1):
+        if any(UNSALTED in found for found in re.findall(r"\$(?:\$|(\w+)|\{(\w+)\})", line)):
+            raise OfficeError(f"the template, line {number}: ${UNSALTED} is a hash from which others' lists can be guessed, and this "
+                              "match is sealed; $lists_root and $result_root are the published roots", 3)
 
 
 def checked_template(text: str, columns: Sequence[str] = ()) -> str:
@@ -115,6 +124,8 @@ class Letters:
         self.is_own = template is None
         own = TEMPLATE if about.roots is None else SEALED_TEMPLATE
         self.template = checked_template(own if template is None else template, outcome.columns)
+        if about.roots is not None:
+            refuse_unsalted(self.template)
         self.text = string.Template(self.template)
         self.kept = fields_of(outcome.columns)
         self.lists = Lists(market)
@@ -126,7 +137,7 @@ class Letters:
             "day": long_day(self.about.day), "date": self.about.day.isoformat(), "title": self.about.title,
             "name": resident.name, "id": resident.id, "programme": resident.programme or "",
             "choice": ordinal(resident.choice) if resident.choice else "", "listed": str(resident.ranked),
-            "docket_name": resident.docket_name, "docket_sha256": self.about.digests.get("docket.csv", ""),
+            "docket_name": resident.docket_name, UNSALTED: self.about.digests.get("docket.csv", ""),
             "lists_root": roots.lists if roots else "", "result_root": roots.result if roots else "", "sealed": how_to_check(roots),
             **dict(zip(self.kept, resident.kept)),
         }

@@ -10,12 +10,15 @@ from ..version import is_release
 from .faults import OfficeError, shown
 from .letters import FIELDS
 from .running import TITLE
+from .settings import NAME
 from .telling import say
+from .verify import Published
 
 # A release has the command by a name that says whose it is.
 CALLED = "residency-office" if is_release() else "office"
 EXAMPLES = {
     "check": "office check programmes.csv residents.csv",
+    "settings": "office settings programmes.csv residents.csv",
     "lint": "office lint docket.csv",
     "seal": "office seal programmes.csv residents.csv --out sealed-2026",
     "run": "office run programmes.csv residents.csv --out match-2026",
@@ -23,6 +26,7 @@ EXAMPLES = {
     "compare": "office compare match-2025 match-2026",
     "letters": "office letters match-2026 --template letter.txt --out letters-2026",
     "verify": "office verify match-2026",
+    "auditor": "office auditor match-2026 --out for-auditor",
 }
 EXAMPLES = {name: CALLED + line[len("office"):] for name, line in EXAMPLES.items()}
 # What argparse adds commands to; its type has no public name.
@@ -60,7 +64,7 @@ def parser() -> argparse.ArgumentParser:
     top = Parser(prog=CALLED, description=wrapped(ABOUT), epilog=f"examples:\n{examples}\n\n{wrapped(STATUSES)}",
                  formatter_class=argparse.RawDescriptionHelpFormatter)
     commands = top.add_subparsers(dest="command", metavar="COMMAND", required=True)
-    for add in (add_check, add_lint, add_seal, add_run, add_withdraw, add_compare, add_letters, add_verify):
+    for add in (add_check, add_settings, add_lint, add_seal, add_run, add_withdraw, add_compare, add_letters, add_verify, add_auditor):
         add(commands)
     return top
 
@@ -85,6 +89,8 @@ def add_tables(one: argparse.ArgumentParser) -> None:
     one.add_argument("--ignore", action="append", default=[], metavar="HEADING", help="a column to leave out, without a word")
     one.add_argument("--keep", action="append", default=[], metavar="HEADING",
                      help="a column to keep for matches.csv and the letters' template (--keep Email)")
+    one.add_argument("--heading-row", action="append", default=[], metavar="[TABLE=]NUMBER",
+                     help="the row of the headings, where rows stand above it (residents=3)")
     one.add_argument("--sheet", action="append", default=[], metavar="[TABLE=]NAME",
                      help="the sheet of a workbook that has several (residents=Sheet2)")
     one.add_argument("--expect-programmes", type=count, metavar="NUMBER", help="how many programmes there are; another is a fault")
@@ -94,13 +100,20 @@ def add_tables(one: argparse.ArgumentParser) -> None:
     one.add_argument("--allow-alone", action="store_true",
                      help="take a row that looks like a remark, without a list and in no list, for a resident")
     one.add_argument("--all", action="store_true", help="tell every fault on a line of its own, however many there are")
+    add_settings_file(one)
+
+
+def add_settings_file(one: argparse.ArgumentParser) -> None:
+    one.add_argument("--settings", metavar="FILE", help=f"the file of settings ({NAME} beside PROGRAMMES, where there is one); what "
+                     "the command line says stands in place of what it says")
 
 
 def add_wishes(one: argparse.ArgumentParser) -> None:
     one.add_argument("--date", type=day, default=None, metavar="YYYY-MM-DD", help="the day that page and letters name (today)")
-    one.add_argument("--order", choices=("name", "table"), default="name", help="the order of names in the page (name)")
+    one.add_argument("--order", choices=("name", "table"), default=None, help="the order of names in the page (name)")
     one.add_argument("--template", metavar="FILE", help="the text of the letters, with $name, $outcome, $list and others")
     one.add_argument("--cut-offs", action="store_true", help="of a sealed match, publish the last rank that each programme took, too")
+    one.add_argument("--readable", action="store_true", help="let others read the docket, page and rosters of a match that isn't sealed")
     add_timeout(one)
 
 
@@ -116,10 +129,12 @@ def day(text: str) -> date:
         raise argparse.ArgumentTypeError(f"{shown(text)} is no day; it is written as 2026-03-20") from None
 
 
-def root(text: str) -> str:
-    if re.fullmatch("[0-9a-f]{64}", text) is None:
-        raise argparse.ArgumentTypeError(f"{shown(text)} is no root, which has 64 small hexadecimal digits")
-    return text
+def root(text: str) -> Published:
+    found = re.fullmatch("(?:([0-9]{1,9}),)?([0-9a-f]{64})", text)
+    if found is None:
+        raise argparse.ArgumentTypeError(f"{shown(text)} is no root: it has 64 small hexadecimal digits, after the number of members "
+                                         "and a comma")
+    return Published(found[2], int(found[1]) if found[1] else None)
 
 
 def count(text: str) -> int:
@@ -141,6 +156,17 @@ def seconds(text: str) -> float:
 def add_check(commands: Commands) -> None:
     one = add_command(commands, "check", "Tells every fault of two tables, or of a docket, at once.", "It writes nothing.", TABLES)
     one.add_argument("files", nargs="+", metavar="FILE", help="PROGRAMMES and RESIDENTS, or one docket")
+    one.add_argument("--json", action="store_true", help="tell all as one line of JSON: the tables, faults, notes and remedies")
+    add_tables(one)
+
+
+def add_settings(commands: Commands) -> None:
+    one = add_command(commands, "settings", "Writes a file of settings: how two tables are read, and what each column of them is.",
+                      "All commands that read tables read it, where it stands beside them. Of a folder of results it writes the settings "
+                      "that the folder was made with, for the next year.")
+    one.add_argument("programmes", metavar="PROGRAMMES", help="the table of programmes, or a folder that run or seal made")
+    one.add_argument("residents", nargs="?", metavar="RESIDENTS", help="the table of residents")
+    one.add_argument("--out", metavar="FILE", help=f"the file to write, which isn't there yet ({NAME} beside PROGRAMMES)")
     add_tables(one)
 
 
@@ -149,6 +175,7 @@ def add_lint(commands: Commands) -> None:
                       "The first line begins with what the program says of the same docket.")
     one.add_argument("docket", metavar="DOCKET", help="the docket's file, or - for standard input")
     one.add_argument("--all", action="store_true", help="tell every fault, however many there are")
+    one.add_argument("--json", action="store_true", help="tell all faults as one line of JSON")
 
 
 def add_seal(commands: Commands) -> None:
@@ -194,6 +221,7 @@ def add_withdraw(commands: Commands) -> None:
     one.add_argument("--resident", action="append", default=[], metavar="NAME", help="a resident who withdraws")
     one.add_argument("--out", metavar="FOLDER", help="the folder to make (FOLDER-2, or the next number that is free)")
     add_wishes(one)
+    add_settings_file(one)
 
 
 def add_compare(commands: Commands) -> None:
@@ -216,19 +244,32 @@ def add_letters(commands: Commands) -> None:
     one.add_argument("--out", required=True, metavar="FOLDER", help="the folder to make, which isn't there yet")
     one.add_argument("--template", metavar="FILE", help="the text of the letters (the one of run)")
     one.add_argument("--date", type=day, default=None, metavar="YYYY-MM-DD", help="the day that the letters name (that of the run)")
+    add_settings_file(one)
 
 
 def add_verify(commands: Commands) -> None:
     one = add_command(
         commands, "verify",
         "Checks a folder of results, whoever made it.",
-        "Each part is read from a file of its own, and no key is needed. It tells the digests against SHA256SUMS, who is withdrawn, "
-        "how many members there are, the audit, whether the sheet is the result, the replay, the second opinion, and the reasons "
-        "against matches.csv and the letters. With the secret of a sealed match it makes both roots and all receipts again, by the "
-        "program and by code of its own, and compares the roots with those that were published. It ends with 'everything holds', or "
-        "with what does not hold and status 4.")
-    one.add_argument("folder", metavar="FOLDER", help="a folder that run or withdraw made, here or elsewhere")
-    one.add_argument("--lists", type=root, metavar="ROOT", help="the root of the lists that was published")
-    one.add_argument("--result", type=root, metavar="ROOT", help="the root of the result that was published")
+        "Each part is read from a file of its own. It tells who is withdrawn, how many members there are, the audit, whether the sheet "
+        "is the result, the replay, and the second opinion. Then it makes every file of the folder again, from docket, sheet, journal, "
+        "secret, key and the settings in the manifest, and tells each that is missing, differs or is more; with --tables it makes the "
+        "docket and the key again, too. Roots are compared with those that were published. It ends with what held, in numbers, and "
+        "what isn't checked for want of a part; or with what does not hold and status 4.")
+    one.add_argument("folder", metavar="FOLDER", help="a folder that run, withdraw, seal or auditor made, here or elsewhere")
+    one.add_argument("--lists", type=root, metavar="N,ROOT", help="the number of members and the root of the lists, as published")
+    one.add_argument("--result", type=root, metavar="N,ROOT", help="the number of members and the root of the result, as published")
+    one.add_argument("--tables", nargs=2, metavar=("PROGRAMMES", "RESIDENTS"), help="the two tables that the office had")
+    add_tables(one)
     one.add_argument("--timeout", type=seconds, default=DEFAULT_TIMEOUT, metavar="SECONDS",
                      help=f"how long each check may take ({DEFAULT_TIMEOUT:.0f})")
+
+
+def add_auditor(commands: Commands) -> None:
+    one = add_command(
+        commands, "auditor", "Copies what an auditor gets of a folder, into a new folder.",
+        "Without --key that is all but the key and what has names: `verify` then says that these aren't checked. A page of a few lines "
+        "in it says what to run.")
+    one.add_argument("folder", metavar="FOLDER", help="a folder that run, withdraw or seal made")
+    one.add_argument("--out", required=True, metavar="DIR", help="the folder to make, which isn't there yet")
+    one.add_argument("--key", action="store_true", help="copy the key, and all that has names, too")

@@ -8,14 +8,14 @@ from ..names import PROGRAMME, RESIDENT, Member, Names, docket_names
 from ..near import NearNames, edits, folded
 from ..records import is_name
 from . import national
-from .faults import Faults, counted, place_of, shown
+from .faults import Cell, Fault, Faults, Remedy, Values
+from .headings import meanings
 from .remarks import is_remark
-from .tables import SCIENTIFIC, Entry, Item, Options, Table
+from .settings import Settings
+from .tables import SCIENTIFIC, Entry, Item, Table
 
 # For how many names that no row has the near ones are looked up.
 MOST_SEARCHED = 200
-# How many shared names a note tells, with how many IDs of each.
-MOST_NOTED = 5
 # How many names that no row has may mean that the two tables aren't of one match.
 FEW_NAMES = 10
 SEVERAL = re.compile(r"[;,|/\n]|\s-\s")
@@ -36,21 +36,21 @@ class Directory:
     def find(self, text: str) -> List[int]:
         return self.meant.get(text, [])
 
-    def hint(self, text: str) -> str:
-        """Who or what is likely to be meant by a name that no row has."""
+    def hint(self, text: str) -> Tuple[str, Values]:
+        """Who or what is likely to be meant by a name that no row has; `name` where that isn't known."""
         try:
             mended = text.encode("cp1252").decode("utf-8")
         except UnicodeError:
             mended = ""
         if mended in self.meant:
-            return f"; {shown(mended)} has one: one table is read in another character set than it is in (--encoding)"
+            return "set", {"meant": mended}
         parts = [part.strip() for part in SEVERAL.split(text)]
         if len(parts) > 1 and all(part in self.meant for part in parts):
-            return f"; these are {len(parts)} names in one cell"
+            return "several", {"count": len(parts)}
         if self.near is None:
             self.near = NearNames(entry.name for entry in self.table.entries)
         near = self.near.near(text)
-        return f"; is it {shown(near)}?" if near and is_likely(text, near) else ""
+        return ("near", {"meant": near}) if near and is_likely(text, near) else ("name", {})
 
 
 def is_likely(text: str, near: str) -> bool:
@@ -90,10 +90,8 @@ class Joiner:
             for what, text, meant in (("name", entry.name, programmes.meant), ("ID", entry.id, named)):
                 if text and text in meant and not (what == "name" and entry.id and text not in named and text.isdecimal()):
                     other = self.programmes.entries[programmes.find(text)[0]]
-                    called = "the name" if text == other.name else "the ID"
-                    cause = (f"{shown(text)} is {called} of a programme, too "
-                             f"({place_of(self.programmes.name, other.row, None)}); is the row shifted, or split in two?")
-                    self.faults.tell("name", self.residents.name, entry.row, entry.cell, cause, ("both sides", what))
+                    values = {"name": text, "what": "name" if text == other.name else "ID", "table": self.programmes.name, "row": other.row}
+                    self.faults.tell("name.both-sides", self.residents.name, entry.row, entry.cell, values, ("both sides", what))
 
     def side(self, table: Table, directory: Directory) -> List[List[int]]:
         return [self.found(table, entry, directory) for entry in table.entries]
@@ -106,13 +104,13 @@ class Joiner:
             if len(meant) == 1:
                 before = numbers.setdefault(meant[0], item)
                 if before is not item:
-                    where = f"cell {before.cell}" if before.row == item.row else f"row {before.row}"
-                    self.faults.tell("twice", table.name, item.row, item.cell,
-                                     f"{shown(item.text)} is listed twice by {shown(entry.name)}, as in {where}")
+                    what, number = ("cell", before.cell) if before.row == item.row else ("row", before.row)
+                    self.faults.tell("twice.listed", table.name, item.row, item.cell,
+                                     {"name": item.text, "owner": entry.name, "what": what, "number": number})
             elif meant:
-                ids = ", ".join(shown(directory.table.entries[one].id, 20) for one in meant[:4])
-                cause = f"{len(meant)} {directory.table.owners}s may be meant by {shown(item.text)}; write the ID, one of {ids}"
-                self.faults.tell("twice", table.name, item.row, item.cell, cause, (table.name, "several", item.text))
+                values = {"count": len(meant), "owners": directory.table.owners, "name": item.text,
+                          "ids": tuple(directory.table.entries[one].id for one in meant[:4])}
+                self.faults.tell("twice.meant", table.name, item.row, item.cell, values, (table.name, "several", item.text))
             else:
                 self.unknown.setdefault((table.name, item.text), []).append(item)
         return list(numbers)
@@ -127,32 +125,31 @@ class Joiner:
                 unknown = {text: items for text, items in unknown.items() if text not in told}
             often = sorted(unknown, key=lambda text: -len(unknown[text]))
             for count, text in enumerate(often):
-                hint = directory.hint(text) if count < MOST_SEARCHED else ""
-                cause_told = f"no {directory.table.owners} is named {shown(text)}{hint}"
+                hint, values = directory.hint(text) if count < MOST_SEARCHED else ("name", {})
+                values = {"owners": directory.table.owners, "name": text, **values}
                 for item in unknown[text]:
-                    self.faults.tell("unknown", table, item.row, item.cell, cause_told, (table, text))
+                    self.faults.tell(f"unknown.{hint}", table, item.row, item.cell, values, (table, text))
 
-    def tell_together(self, table: str, items: Sequence[Item], cause: str) -> None:
+    def tell_together(self, table: str, items: Sequence[Item], code: str, values: Values) -> None:
         """Tells one cause of many names that no row has."""
         for item in sorted(items, key=lambda one: (one.row, one.cell)):
-            self.faults.tell("file", table, item.row, item.cell, cause, (table, cause))
+            self.faults.tell(code, table, item.row, item.cell, values, (table, code))
 
     def told_where(self, table: str, directory: Directory, unknown: Dict[str, List[Item]], meant: Callable[[str], str],
-                   how: str) -> List[str]:
+                   code: str) -> List[str]:
         """The names that mean a member once they are written otherwise, which are told as one cause."""
         found = [text for text in unknown if meant(text) != text and directory.find(meant(text))]
         if found:
             ids = "IDs" if any(entry.id == meant(found[0]) for entry in directory.table.entries) else "names"
             first = min((unknown[text][0] for text in found), key=lambda one: (one.row, one.cell))
-            self.tell_together(table, [item for text in found for item in unknown[text]],
-                               f"{ids} match {how}: {shown(first.text, 30)} is {shown(meant(first.text), 30)} in the table of "
-                               f"{directory.table.owners}s; format the column as text")
+            self.tell_together(table, [item for text in found for item in unknown[text]], code, {
+                "things": ids, "text": first.text, "meant": meant(first.text), "owners": directory.table.owners})
         return found
 
     def with_point(self, table: str, directory: Directory, unknown: Dict[str, List[Item]]) -> List[str]:
         """IDs that were made numbers with a point in one table."""
-        found = self.told_where(table, directory, unknown, lambda text: text[:-2] if text.endswith(".0") else text, "without `.0`")
-        return found + self.told_where(table, directory, unknown, lambda text: text + ".0" if text.isdecimal() else text, "with `.0`")
+        found = self.told_where(table, directory, unknown, lambda text: text[:-2] if text.endswith(".0") else text, "file.without-point")
+        return found + self.told_where(table, directory, unknown, lambda text: text + ".0" if text.isdecimal() else text, "file.with-point")
 
     def with_zeros(self, table: str, directory: Directory, unknown: Dict[str, List[Item]]) -> List[str]:
         """IDs that lost the zeros before them in one table."""
@@ -166,14 +163,13 @@ class Joiner:
         def meant(text: str) -> str:
             return alone.get(text.lstrip("0"), text) if text.isdecimal() else text
 
-        return self.told_where(table, directory, unknown, meant, "but for zeros before them")
+        return self.told_where(table, directory, unknown, meant, "file.zeros")
 
     def scientific(self, table: str, directory: Directory, unknown: Dict[str, List[Item]]) -> List[str]:
         """IDs of which the spreadsheet kept the first digits alone."""
         found = [text for text in unknown if SCIENTIFIC.fullmatch(text)]
         if found:
-            self.tell_together(table, [item for text in found for item in unknown[text]],
-                               f"IDs look like {shown(found[0], 20)}: format the column as text, and write them anew")
+            self.tell_together(table, [item for text in found for item in unknown[text]], "file.scientific", {"id": found[0]})
         return found
 
     def another_year(self, table: str, directory: Directory, unknown: Dict[str, List[Item]]) -> List[str]:
@@ -184,12 +180,11 @@ class Joiner:
         if len(unknown) < FEW_NAMES or 2 * len(unknown) <= len(named) or 2 * sum(map(len, unknown.values())) <= len(cells):
             return []
         tried = sorted(unknown, key=lambda text: -len(unknown[text]))[:MOST_SEARCHED]
-        if 5 * sum(bool(directory.hint(text)) for text in tried) > len(tried):
+        if 5 * sum(directory.hint(text)[0] != "name" for text in tried) > len(tried):
             return []
         are_ids = all(any(c.isdecimal() for c in text) and " " not in text for text in tried)
-        self.tell_together(table, [item for items in unknown.values() for item in items],
-                           f"{len(unknown):,} of {len(named):,} {'IDs' if are_ids else 'names'} in these lists are unknown in the "
-                           f"table of {directory.table.owners}s: is this another year's table?")
+        self.tell_together(table, [item for items in unknown.values() for item in items], "file.another-year", {
+            "unknown": len(unknown), "named": len(named), "things": "IDs" if are_ids else "names", "owners": directory.table.owners})
         return list(unknown)
 
     def tell_unread(self, table: Table, directory: Directory) -> None:
@@ -197,9 +192,8 @@ class Joiner:
         for cell, (heading, texts) in table.unread.items():
             known = [text for text in sorted(texts) if any(c.isalpha() for c in text) and directory.find(text)]
             if known and 2 * len(known) >= len(texts):
-                self.faults.tell("heading", table.name, table.heading, cell + 1, f"{shown(heading)} is no heading of this table, and "
-                                 f"{directory.table.owners}s stand below it, as {shown(known[0])}; say what it is (--heading "
-                                 f"'rank={shown(heading)}'), or leave it out (--ignore '{shown(heading)}')")
+                values = {"heading": heading, "owners": directory.table.owners, "name": known[0]}
+                self.faults.tell("heading.members", table.name, table.heading, cell + 1, values, remedies=meanings("rank", heading))
 
 
 def docket_names_of(table: Table, letter: str) -> List[str]:
@@ -211,7 +205,7 @@ def docket_names_of(table: Table, letter: str) -> List[str]:
     return [made[label] for label in labels]
 
 
-def market_of(programmes: Table, residents: Table, faults: Faults, options: Options) -> Optional[Market]:
+def market_of(programmes: Table, residents: Table, faults: Faults, options: Settings) -> Optional[Market]:
     """The market of two tables, or None where there is a fault, which is told."""
     if not programmes.whole or not residents.whole:
         return None
@@ -222,8 +216,8 @@ def market_of(programmes: Table, residents: Table, faults: Faults, options: Opti
         note_shared(table)
     pairs = mutual_pairs(programme_lists, resident_lists)
     if pairs > MOST_PAIRS:
-        hint = national.hint(national.MOST_PAIRS, "pairs")
-        faults.tell("limit", programmes.name, None, None, f"{pairs:,} pairs rank one another, more than {MOST_PAIRS:,}{hint}")
+        faults.tell("limit.pairs", programmes.name, None, None, {
+            "pairs": pairs, "most": MOST_PAIRS, "things": "pairs", "national": national.MOST_PAIRS, "program": national.PROGRAM})
     if len(faults):
         return None
     names = Names([Member(PROGRAMME, made, entry.name, entry.id)
@@ -238,32 +232,29 @@ def market_of(programmes: Table, residents: Table, faults: Faults, options: Opti
                   names=names)
 
 
-def note_alone(table: Table, lists: List[List[int]], others: List[List[int]], faults: Faults, options: Options) -> None:
+def note_alone(table: Table, lists: List[List[int]], others: List[List[int]], faults: Faults, options: Settings) -> None:
     """Notes members who rank nobody and whom nobody ranks; one that looks like a remark that stands in the table is a fault."""
     ranked = {member for listed in others for member in listed}
     alone = [entry for index, (entry, listed) in enumerate(zip(table.entries, lists)) if not listed and index not in ranked]
     for entry in alone if table.owners == "resident" and not options.allow_alone else ():
         if not entry.items and is_remark(entry, table):
-            faults.tell("row", table.name, entry.row, entry.cell, f"{shown(entry.name)} has no list, and nobody ranks it: is it a "
-                        "remark? Take it out (--allow-alone takes such rows)")
+            faults.tell("row.remark", table.name, entry.row, entry.cell, {"name": entry.name}, remedies=(Remedy("allow_alone", True),))
     if alone:
-        table.notes.append(f"{table.name}: {counted(len(alone), table.owners)} without a list whom nobody ranks; the first is "
-                           f"{shown(alone[0].name)}, row {alone[0].row}")
+        values = {"count": len(alone), "owners": table.owners, "name": alone[0].name, "row": alone[0].row}
+        table.notes.append(Fault("note.alone", table.name, alone[0].row, alone[0].cell,
+                                 [Cell(table.name, one.row, one.cell) for one in alone], values))
 
 
 def note_shared(table: Table) -> None:
     """Notes the names that several members have, with their IDs."""
-    ids: Dict[str, List[str]] = {}
+    named: Dict[str, List[Entry]] = {}
     for entry in table.entries:
-        ids.setdefault(entry.name, []).append(entry.id)
-    shared = [(name, those) for name, those in ids.items() if len(those) > 1]
-    if not shared:
-        return
-    named = "; ".join(f"{shown(name, 40)} ({', '.join(shown(one, 20) for one in those[:MOST_NOTED])}"
-                      + (f" and {len(those) - MOST_NOTED} more" if len(those) > MOST_NOTED else "") + ")"
-                      for name, those in shared[:MOST_NOTED])
-    more = f"; and {len(shared) - MOST_NOTED:,} more" if len(shared) > MOST_NOTED else ""
-    table.notes.append(f"{table.name}: {counted(len(shared), 'name is', 'names are')} shared: {named}{more}")
+        named.setdefault(entry.name, []).append(entry)
+    shared = [those for those in named.values() if len(those) > 1]
+    if shared:
+        cells = [Cell(table.name, one.row, one.cell) for those in shared for one in those]
+        values = {"names": [(those[0].name, [one.id for one in those]) for those in shared]}
+        table.notes.append(Fault("note.shared", table.name, cells[0].row, cells[0].column, cells, values))
 
 
 def mutual_pairs(programme_lists: List[List[int]], resident_lists: List[List[int]]) -> int:

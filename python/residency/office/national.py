@@ -6,11 +6,6 @@ MOST_PAIRS, MOST_RECORDS = 2_000_000, 20_000_000
 OVER = "more than "
 
 
-def hint(most: int, what: str) -> str:
-    """What is told after a table's fault over a limit, of which the other program takes so many."""
-    return f"; a docket of up to {most:,} {what} is for {PROGRAM}"
-
-
 def line() -> str:
     """What is told after a docket's faults, where one is over a limit."""
     return (f"{PROGRAM} takes {MOST['programme']:,} programmes, {MOST['resident']:,} residents, {MOST_PAIRS:,} acceptable pairs and "

@@ -22,8 +22,8 @@ TITLE = "The match"
 
 @dataclass(frozen=True)
 class Wishes:
-    """What the command line says of a run: the page's title and day, the order of names, the letters' template, and whether each
-    programme's last rank may be published."""
+    """What the command line says of a run: the page's title and day, the order of names, the letters' template, whether each
+    programme's last rank may be published, and whether others may read a folder that isn't sealed."""
 
     title: str = TITLE
     day: date = field(default_factory=date.today)
@@ -31,6 +31,11 @@ class Wishes:
     template: Optional[str] = None
     timeout: float = DEFAULT_TIMEOUT
     cut_offs: bool = False
+    readable: bool = False
+
+    def settings(self) -> Dict[str, Any]:
+        """What a manifest keeps of these, so that the folder can be made again."""
+        return {"order": self.order, "cut_offs": self.cut_offs, "template": self.template}
 
 
 @dataclass(frozen=True)
@@ -61,13 +66,15 @@ def matched(market: Market, timeout: float, details: Details) -> Matched:
                    outcome_of(market, match.places, details))
 
 
-def fill(draft: Draft, result: Matched, wishes: Wishes, manifest: Dict[str, Any], secret: bytes = b"") -> Optional[Roots]:
-    """Writes every file of a run; with a secret those of a sealed match too, whose roots it answers."""
+def fill(draft: Draft, result: Matched, wishes: Wishes, manifest: Dict[str, Any], secret: bytes = b"",
+         roots: Optional[Roots] = None) -> Optional[Roots]:
+    """Writes every file of a run; with a secret those of a sealed match too, whose roots it answers. `roots` are those of a sealed
+    match whose secret isn't known."""
     outcome = result.outcome
     digests = {}
     for name, data in ((folder.DOCKET, result.docket), (folder.KEY, write_key(result.market.names)), (folder.SHEET, result.sheet)):
         digests[name] = draft.write(name, data)
-    roots = seal.write(draft, result.docket, secret, True, wishes.timeout) if secret else None
+    roots = seal.write(draft, result.docket, secret, True, wishes.timeout, roots)
     about = About(wishes.title, wishes.day, digests, roots)
     if roots is not None:
         public.write(draft, outcome, roots, about, wishes.order, wishes.cut_offs)
@@ -83,7 +90,7 @@ def fill(draft: Draft, result: Matched, wishes: Wishes, manifest: Dict[str, Any]
         draft.write(f"{folder.ROSTERS}/{names[programme.docket_name]}", rosters.roster(outcome, programme, ranks))
     write_letters(draft, Letters(result.market, outcome, about, wishes.template, wishes.order))
     details = ["family_name"] * any(one.family for one in outcome.residents.values()) + list(outcome.columns)
-    draft.finish({**begun(wishes, result.program), **manifest, **ended(result.market, details, roots)})
+    draft.finish({**begun(wishes, result.program), **wishes.settings(), **manifest, **ended(result.market, details, roots)})
     return roots
 
 
@@ -99,11 +106,13 @@ def ended(market: Market, details: List[str], roots: Optional[Roots]) -> Dict[st
     return {"withdrawn": gone, **({"details": details} if details else {}), **sealed}
 
 
-def fill_sealed(draft: Draft, market: Market, details: Details, wishes: Wishes, manifest: Dict[str, Any]) -> Roots:
-    """Writes every file of a market that is sealed before its match, with a new secret."""
+def fill_sealed(draft: Draft, market: Market, details: Details, wishes: Wishes, manifest: Dict[str, Any], secret: bytes,
+                known: Optional[Roots] = None) -> Roots:
+    """Writes every file of a market that is sealed before its match; `known` are its roots where the secret isn't."""
     docket = market.docket()
     digests = {folder.DOCKET: draft.write(folder.DOCKET, docket), folder.KEY: draft.write(folder.KEY, write_key(market.names))}
-    roots = seal.write(draft, docket, seal.new_secret(), False, wishes.timeout)
+    roots = seal.write(draft, docket, secret, False, wishes.timeout, known)
+    assert roots is not None
     public.write_check(draft, roots, About(wishes.title, wishes.day, digests, roots))
     has = ["family_name"] * bool(details.families) + list(details.columns)
     if has:

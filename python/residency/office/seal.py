@@ -60,12 +60,15 @@ def made(docket: bytes, secret: Path, sheet: Optional[Path] = None, timeout: flo
     return own.roots(), receipts
 
 
-def write(draft: Draft, docket: bytes, secret: bytes, sheet: bool, timeout: float) -> Roots:
-    """Writes the secret, the roots and each member's receipt into a draft, which has the sheet's file where it is wanted."""
-    draft.write(folder.SECRET, secret)
-    roots, receipts = made(docket, draft.path / folder.SECRET, draft.path / folder.SHEET if sheet else None, timeout)
-    names = receipt_files(list(receipts))
-    for member, receipt in receipts.items():
-        draft.write(names[member], receipt)
-    draft.write(folder.ROOTS, roots.rows())
+def write(draft: Draft, docket: bytes, secret: bytes, sheet: bool, timeout: float, roots: Optional[Roots] = None) -> Optional[Roots]:
+    """Writes the secret, the roots and each member's receipt into a draft, which has the sheet's file where it is wanted. Without
+    a secret the roots are those that are known, if any."""
+    if secret:
+        draft.write(folder.SECRET, secret)
+        roots, receipts = made(docket, draft.path / folder.SECRET, draft.path / folder.SHEET if sheet else None, timeout)
+        names = receipt_files(list(receipts))
+        for member, receipt in receipts.items():
+            draft.write(names[member], receipt)
+    if roots is not None:
+        draft.write(folder.ROOTS, roots.rows())
     return roots

@@ -3,6 +3,7 @@ from typing import Dict, List, Mapping, Optional, Sequence, Tuple
 
 from ..market import Market
 from . import folder, running
+from . import seal as seals
 from .faults import MOST_SHOWN, OfficeError, counted, shown
 from .outcome import Details
 from .running import Kept, Wishes
@@ -17,10 +18,16 @@ def sealed_folder(path: str) -> Kept:
     return kept
 
 
+def refuse_readable(is_readable: bool) -> None:
+    """OfficeError where others are to read a sealed folder."""
+    if is_readable:
+        raise OfficeError("--readable is for a match that isn't sealed: of a sealed one others may read public/ alone", 2)
+
+
 def seal(out: str, market: Market, details: Details, wishes: Wishes, manifest: Dict[str, object]) -> Roots:
     """Seals a market into a new folder."""
     with folder.new_folder(out, private=True) as draft:
-        return running.fill_sealed(draft, market, details, wishes, manifest)
+        return running.fill_sealed(draft, market, details, wishes, manifest, seals.new_secret())
 
 
 def written(out: str, roots: Roots) -> str:

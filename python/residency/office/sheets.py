@@ -16,28 +16,34 @@ from datetime import datetime, timedelta
 from typing import Callable, Dict, Iterator, List, Optional, Tuple
 from xml.parsers import expat
 
-from .faults import counted, shown
+from .faults import Values
 
 MOST_BYTES, MOST_CELLS = 256 << 20, 16_000_000
 MOST_ROWS, MOST_COLUMNS = 1 << 20, 1 << 14
-SAVE = "save it as .xlsx or CSV"
+# No spreadsheet packs so many files, pictures and all.
+MOST_FILES = 10_000
 # What a formula leaves in a cell where it fails; the last is where a program wrote a formula and no result.
 NO_RESULT = "#NO RESULT"
 ERRORS = ("#N/A", "#REF!", "#NAME?", "#VALUE!", "#DIV/0!", "#NULL!", "#NUM!", "#SPILL!", "#CALC!", NO_RESULT)
 IS_ERROR = re.compile("|".join(map(re.escape, ERRORS)) + r"|Err:5[0-9][0-9]")
 ESCAPED = re.compile(r"_x([0-9A-Fa-f]{4})_")
+NO_MEMORY = expat.errors.codes[expat.errors.XML_ERROR_NO_MEMORY]
 REFERENCE = re.compile(r"([A-Z]{1,3})([1-9][0-9]{0,6})")
 # Formats of dates that every workbook knows by number, and what stands in the others'.
 DATES = frozenset((*range(14, 23), *range(27, 37), *range(45, 48), *range(50, 59)))
 QUOTED = re.compile(r'"[^"]*"|\\.|\[[^\]]*\]')
 # What the bytes of files begin with that aren't tables.
-BEGINS = ((b"\xd0\xcf\x11\xe0\xa1\xb1\x1a\xe1", "an old .xls file, or a file with a password"), (b"%PDF", "a PDF"),
-          (b"{\\rtf", "an RTF"), (b"\x1f\x8b", "a packed file"), (b"\x89PNG", "a picture"), (b"\xff\xd8\xff", "a picture"))
+BEGINS = ((b"\xd0\xcf\x11\xe0\xa1\xb1\x1a\xe1", "xls"), (b"%PDF", "pdf"), (b"{\\rtf", "rtf"), (b"\x1f\x8b", "packed"),
+          (b"\x89PNG", "picture"), (b"\xff\xd8\xff", "picture"))
 MARKUP = re.compile(rb"(?:\xef\xbb\xbf)?\s*<(?:\?xml|!doctype|html|table|head|meta|style|body)", re.IGNORECASE)
 
 
 class BadBook(ValueError):
-    """What can't be read as a workbook; the text says why."""
+    """What can't be read as a workbook: the code of its fault, and the values that its sentence names."""
+
+    def __init__(self, code: str, values: Optional[Values] = None) -> None:
+        super().__init__(code, values)
+        self.code, self.values = f"file.{code}", dict(values or {})
 
 
 @dataclass
@@ -47,28 +53,31 @@ class Sheet:
     name: str
     rows: List[Tuple[int, List[str]]] = field(default_factory=list)
     hidden: List[int] = field(default_factory=list)
+    names: List[str] = field(default_factory=list)
 
 
 def is_book(data: bytes) -> bool:
     """Whether these bytes are a workbook. BadBook for another kind of file that is no table of text."""
     for begin, what in BEGINS:
         if data.startswith(begin):
-            raise BadBook(f"this is {what}: {SAVE}")
+            raise BadBook("kind", {"what": what})
     if MARKUP.match(data[:200]):
-        raise BadBook(f"this is a page of HTML or XML: {SAVE}")
+        raise BadBook("kind", {"what": "page"})
     return data.startswith(b"PK\x03\x04") or data.startswith(b"PK\x05\x06")
 
 
-def sheet_of(data: bytes, table: str, wanted: Optional[str] = None) -> Sheet:
+def sheet_of(data: bytes, wanted: Optional[str] = None) -> Sheet:
     """The sheet that is wanted by its name, or the only one that has cells. BadBook."""
     try:
         with zipfile.ZipFile(io.BytesIO(data)) as archive:
-            return Book(archive).sheet(table, wanted)
+            return Book(archive).sheet(wanted)
     except BadBook:
         raise
     except (zipfile.BadZipFile, expat.ExpatError, zlib.error, lzma.LZMAError, struct.error, EOFError, OSError, NotImplementedError,
             RuntimeError, KeyError, IndexError, OverflowError, ValueError) as error:
-        raise BadBook(f"the workbook is broken: {shown(str(error))}") from None
+        if isinstance(error, expat.ExpatError) and error.code == NO_MEMORY:
+            raise MemoryError from None
+        raise BadBook("broken", {"error": str(error)}) from None
 
 
 class Book:
@@ -77,6 +86,8 @@ class Book:
     def __init__(self, archive: zipfile.ZipFile) -> None:
         self.archive = archive
         self.names = set(archive.namelist())
+        if len(archive.infolist()) > MOST_FILES:
+            raise BadBook("packed-files", {"files": len(archive.infolist()), "most": MOST_FILES})
         self.left = MOST_BYTES
         self.main = self.main_part()
         self.strings: List[str] = []
@@ -87,14 +98,14 @@ class Book:
     def main_part(self) -> str:
         """The name of the workbook's part; BadBook where this is another kind of file."""
         if "mimetype" in self.names and self.archive.read("mimetype")[:40].startswith(b"application/vnd.oasis"):
-            raise BadBook(f"this is an .ods file: {SAVE}")
+            raise BadBook("kind", {"what": "ods"})
         if "xl/workbook.bin" in self.names:
-            raise BadBook(f"this is an .xlsb file: {SAVE}")
+            raise BadBook("kind", {"what": "xlsb"})
         if "_rels/.rels" in self.names:
             for kind, target in self.relations("_rels/.rels", "").values():
                 if kind == "officeDocument" and target.startswith("xl/"):
                     return target
-        raise BadBook(f"this is a packed file, and no .xlsx: {SAVE}")
+        raise BadBook("kind", {"what": "no-xlsx"})
 
     def chunks(self, name: str) -> Iterator[bytes]:
         """The bytes of a part. BadBook where all parts that are read have more than any table."""
@@ -105,7 +116,7 @@ class Book:
                     return
                 self.left -= len(chunk)
                 if self.left < 0:
-                    raise BadBook(f"the workbook has more than {MOST_BYTES >> 20} MB, which is no table")
+                    raise BadBook("large", {"megabytes": MOST_BYTES >> 20})
                 yield chunk
 
     def parse(self, name: str, start: Callable[[str, Dict[str, str]], None], end: Callable[[str], None] = lambda name: None,
@@ -119,7 +130,7 @@ class Book:
             parser.CharacterDataHandler = text
 
         def declared(*words: object) -> None:
-            raise BadBook("the workbook declares entities, which no spreadsheet writes")
+            raise BadBook("entities")
 
         parser.StartDoctypeDeclHandler = declared
         for chunk in self.chunks(name):
@@ -139,7 +150,7 @@ class Book:
         self.parse(name, start)
         return found
 
-    def sheet(self, table: str, wanted: Optional[str]) -> Sheet:
+    def sheet(self, wanted: Optional[str]) -> Sheet:
         """The sheet that is wanted, or the only visible one that has cells."""
         folder, _, file = self.main.rpartition("/")
         self.targets = self.relations(f"{folder}/_rels/{file}.rels", folder)
@@ -163,17 +174,12 @@ class Book:
         if wanted is not None:
             chosen = [one for one in names if one[0].casefold() == wanted.casefold()]
             if not chosen:
-                raise BadBook(f"no sheet is named {shown(wanted)}; there is {self.listed([one[0] for one in names])}")
-            return self.read(*chosen[0][:2])
-        sheets = [one for one in (self.read(name, target) for name, target, visible in names if visible) if one.rows]
+                raise BadBook("no-sheet", {"sheet": wanted, "sheets": [one[0] for one in names]})
+            return self.read(*chosen[0][:2], [one[0] for one in names])
+        sheets = [one for one in (self.read(name, target, [one[0] for one in names]) for name, target, visible in names if visible) if one.rows]
         if len(sheets) > 1:
-            raise BadBook(f"{counted(len(sheets), 'sheet')} have cells: {self.listed([one.name for one in sheets])}; name one "
-                          f"(--sheet '{table}={shown(sheets[0].name, 40)}')")
+            raise BadBook("sheets", {"sheets": [one.name for one in sheets]})
         return sheets[0] if sheets else Sheet(names[0][0] if names else "")
-
-    @staticmethod
-    def listed(names: List[str]) -> str:
-        return ", ".join(shown(name, 40) for name in names[:6]) + (f" and {len(names) - 6} more" if len(names) > 6 else "")
 
     def texts(self, name: str) -> List[str]:
         """The shared texts, without what says how they are spoken."""
@@ -223,8 +229,8 @@ class Book:
             return number_text(value)
         return day.date().isoformat() if value == int(value) else day.isoformat(" ", "minutes")
 
-    def read(self, name: str, target: str) -> Sheet:
-        sheet = Sheet(name)
+    def read(self, name: str, target: str, names: List[str]) -> Sheet:
+        sheet = Sheet(name, names=names)
         reader = Cells(sheet, self.strings, self.formats)
         self.parse(target, reader.start, reader.end, reader.words.text)
         return sheet
@@ -287,7 +293,7 @@ class Cells:
             self.number = int(more["r"]) if more.get("r", "").isdecimal() else self.number + 1
             self.column, self.row = 0, []
             if self.number > MOST_ROWS:
-                raise BadBook(f"the sheet has a row {self.number:,}, more than {MOST_ROWS:,}")
+                raise BadBook("rows", {"row": self.number, "most": MOST_ROWS})
             if more.get("hidden") in ("1", "true"):
                 self.sheet.hidden.append(self.number)
         elif element == "f":
@@ -308,11 +314,11 @@ class Cells:
         if not text:
             return
         if self.column > MOST_COLUMNS:
-            raise BadBook(f"the sheet has a column {self.column:,}, more than {MOST_COLUMNS:,}")
+            raise BadBook("columns", {"column": self.column, "most": MOST_COLUMNS})
         missing = self.column - len(self.row)
         self.count += max(missing, 1)
         if self.count > MOST_CELLS:
-            raise BadBook(f"the sheet has more than {MOST_CELLS:,} cells, which is no table")
+            raise BadBook("cells", {"most": MOST_CELLS})
         self.row += [""] * missing
         self.row[self.column - 1] = text
 
@@ -320,7 +326,7 @@ class Cells:
         """What a cell shows, by its kind."""
         if self.kind == "s":
             if not text.isdecimal() or int(text) >= len(self.strings):
-                raise BadBook(f"the workbook is broken: row {self.number} names a text that it doesn't have")
+                raise BadBook("broken-text", {"row": self.number})
             return self.strings[int(text)]
         if self.is_formula and not text and self.kind != "str":
             return NO_RESULT

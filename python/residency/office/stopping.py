@@ -5,11 +5,16 @@ A signal that is ignored at the start stays ignored, as `nohup` has it.
 import os
 import shutil
 import signal
+import subprocess
 import sys
 from contextlib import contextmanager
 from pathlib import Path
-from typing import Any, Iterator, List, Set
+from types import FrameType
+from typing import Any, Iterator, List, Optional, Set
 
+# What starts a program, and so many seconds later it has done so.
+STARTS = (subprocess.Popen.__init__.__code__,)
+LATER = 0.01
 SIGNALS = (signal.SIGINT, signal.SIGTERM, signal.SIGHUP)
 # Files and folders under way, by the names that they have until they are whole.
 UNFINISHED: Set[Path] = set()
@@ -24,9 +29,16 @@ def ignore() -> None:
         signal.signal(number, signal.SIG_IGN)
 
 
-def stop(number: int, frame: object) -> None:
-    """Asks the command to end; what comes after the first signal changes nothing, so that nothing breaks off the cleaning."""
+def stop(number: int, frame: Optional[FrameType]) -> None:
+    """Asks the command to end; what comes after the first signal changes nothing, so that nothing breaks off the cleaning. While a
+    program is being started it comes again a moment later, when the program can be ended too."""
     ignore()
+    while frame is not None:
+        if frame.f_code in STARTS:
+            signal.signal(signal.SIGALRM, stop)
+            signal.setitimer(signal.ITIMER_REAL, LATER)
+            return
+        frame = frame.f_back
     raise Stopped(number)
 
 
@@ -41,6 +53,9 @@ def lost(trouble: Any) -> None:
 
 def give_back(hook: Any, before: List[Any]) -> None:
     """Makes signals and what nobody can raise what they were before."""
+    if signal.getsignal(signal.SIGALRM) is stop:
+        signal.setitimer(signal.ITIMER_REAL, 0)
+        signal.signal(signal.SIGALRM, signal.SIG_DFL)
     sys.unraisablehook = hook
     for number, handler in before:
         signal.signal(number, handler)

@@ -2,14 +2,15 @@
 import hashlib
 import re
 from dataclasses import dataclass, field
-from typing import Dict, List, NamedTuple, Optional, Set, Tuple
+from typing import Dict, List, NamedTuple, Optional, Sequence, Set, Tuple
 
 from ..docket import MOST_PLACES, MOST_PROGRAMMES, MOST_RESIDENTS
 from . import national, sheets
 from .cells import Cells, Rows, other_mark, rows_of, tidied
-from .faults import Faults, column_letters, counted, shown
+from .faults import Cell, Fault, Faults, Remedy, Values
 from .headings import Columns, Words, columns_of, plain
-from .text import Text, bytes_of, table_text
+from .settings import Settings
+from .text import Text, table_text
 
 NUMBER = re.compile(r"0*([0-9]{1,9})(?:\.0+)?")
 RANK = re.compile(r"0*([0-9]{1,7})(?:\.0+|\.|st|nd|rd|th)?", re.IGNORECASE)
@@ -50,18 +51,12 @@ class Entry:
     after_blank: bool = False
 
 
-@dataclass
-class Options:
-    """How tables are to be read, where that isn't found from themselves."""
+@dataclass(frozen=True)
+class Given:
+    """A table as it is given: its file's name, or its path, and its bytes."""
 
-    words: Words
-    encodings: Dict[str, str] = field(default_factory=dict)
-    delimiters: Dict[str, str] = field(default_factory=dict)
-    allow_gaps: bool = False
-    sheets: Dict[str, str] = field(default_factory=dict)
-    allow_short: bool = False
-    allow_alone: bool = False
-    expected: Dict[str, int] = field(default_factory=dict)
+    name: str
+    data: bytes
 
 
 @dataclass
@@ -76,17 +71,12 @@ class Table:
     rows: Rows
     is_long: bool = False
     entries: List[Entry] = field(default_factory=list)
-    notes: List[str] = field(default_factory=list)
+    notes: List[Fault] = field(default_factory=list)
     whole: bool = False
     # The headings of the columns that are kept; and by its cell each column that isn't read, with some of what stands there.
     kept: List[str] = field(default_factory=list)
     unread: Dict[int, Tuple[str, Set[str]]] = field(default_factory=dict)
     heading: int = 1
-
-    def how(self) -> str:
-        """How it was read, as a line says it."""
-        form = "a row for each rank" if self.is_long else f"a row for each {self.owners}"
-        return f"{self.name}: {shown(self.path)}, {self.text.title()}, {self.rows.title()}, {form}"
 
 
 def number_of(text: str) -> Optional[int]:
@@ -102,7 +92,7 @@ def number_of(text: str) -> Optional[int]:
 class Members:
     """Takes in the rows of one table."""
 
-    def __init__(self, table: Table, heading: List[str], columns: Columns, options: Options, faults: Faults) -> None:
+    def __init__(self, table: Table, heading: List[str], columns: Columns, options: Settings, faults: Faults) -> None:
         self.table, self.columns, self.options, self.faults = table, columns, options, faults
         self.head = heading
         self.by_name: Dict[str, Entry] = {}
@@ -122,8 +112,9 @@ class Members:
         table.kept = [heading for _, heading in columns.kept]
         table.unread = {cell: (heading, set()) for cell, heading in columns.unread}
 
-    def tell(self, kind: str, row: int, cell: int, cause: str, key: Tuple[str, ...] = ()) -> None:
-        self.faults.tell(kind, self.table.name, row, cell + 1, cause, (self.table.name,) + key if key else ())
+    def tell(self, code: str, row: int, cell: int, values: Optional[Values] = None, key: Tuple[str, ...] = (),
+             remedies: Sequence[Remedy] = ()) -> None:
+        self.faults.tell(code, self.table.name, row, cell + 1, values, (self.table.name,) + key if key else (), remedies)
 
     def take(self, number: int, row: List[str]) -> None:
         """One row below the heading."""
@@ -134,8 +125,9 @@ class Members:
         if cells == 1 and columns.width > 1 and len(row[0]) > 1:
             other = other_mark(row, self.table.rows.delimiter)
             if other is not None:
-                cause = f"the row is parted by {other}, where the table is by {self.table.rows.title()}"
-                return self.tell("row", number, 0, cause, (other,))
+                rows = self.table.rows
+                values = {"other": other, "delimiter": rows.delimiter, "declared": rows.declared, "sheet": rows.sheet}
+                return self.tell("row.other-mark", number, 0, values, (other,))
         self.count += 1
         if cells < columns.width:
             self.measure(number, row)
@@ -145,7 +137,7 @@ class Members:
             self.other_cells(number, row)
         name = self.name_in(row, columns.owner, columns.owner_family)
         if not name:
-            return self.tell("row", number, self.columns.owner, f"the row has no {self.table.owners}'s name", ("no name",))
+            return self.tell("row.no-name", number, self.columns.owner, {"owners": self.table.owners}, ("no name",))
         if name not in self.by_name and not self.is_member(number, row, name):
             return
         entry = self.entry(number, row, name)
@@ -176,11 +168,11 @@ class Members:
         """Whether a new name can be a member's; a total, a formula's error or a second heading can't, and is told."""
         cell = self.columns.owner
         if len(name) < 20 and plain(name) in TOTALS:
-            self.tell("row", number, cell, f"{shown(name)} is no {self.table.owners}; leave the row out")
+            self.tell("row.total", number, cell, {"name": name, "owners": self.table.owners})
         elif sheets.IS_ERROR.fullmatch(name):
-            self.tell("row", number, cell, f"{shown(name)} is what a formula leaves that fails; mend it, or save its result")
+            self.tell("row.formula", number, cell, {"name": name})
         elif row[:self.columns.width] == self.head[:self.columns.width]:
-            self.tell("row", number, cell, "the heading stands here again; leave the row out", ("heading again",))
+            self.tell("row.heading", number, cell, key=("heading again",))
         else:
             return True
         return False
@@ -189,8 +181,7 @@ class Members:
         """Tells cells in columns without a heading, and notes what stands in columns that aren't read."""
         for cell, text in enumerate(row):
             if text and cell not in self.columns.known:
-                cause = f"{shown(text)} stands in a column without a heading"
-                self.tell("heading", number, cell, cause, (f"no heading {min(cell, self.columns.width)}",))
+                self.tell("heading.nothing", number, cell, {"text": text}, (f"no heading {min(cell, self.columns.width)}",))
             elif text and cell in self.table.unread and len(self.table.unread[cell][1]) < MOST_COMPARED:
                 self.table.unread[cell][1].add(text)
 
@@ -200,7 +191,7 @@ class Members:
         if self.columns.ident is not None:
             ident = cell_of(row, self.columns.ident)
             if not ident or sheets.IS_ERROR.fullmatch(ident):
-                self.tell("name", number, self.columns.ident, f"{shown(name)} has no ID", ("no id",))
+                self.tell("name.no-id", number, self.columns.ident, {"name": name}, ("no id",))
                 return None
         known = self.by_id.get(ident) if ident else self.by_name.get(name)
         if known is None:
@@ -211,19 +202,16 @@ class Members:
             self.faults.counts["name"] += 1
             return None
         if known.name != name:
-            cause = f"the ID {shown(ident)} is that of {shown(known.name)} in row {known.row}"
-            self.tell("name", number, self.columns.ident or 0, cause)
+            self.tell("name.same-id", number, self.columns.ident or 0, {"id": ident, "name": known.name, "row": known.row})
         elif ident:
-            self.tell("name", number, self.columns.ident or 0, f"the ID {shown(ident)} has a row before, row {known.row}")
+            self.tell("name.id-again", number, self.columns.ident or 0, {"id": ident, "row": known.row})
         else:
-            self.tell("name", number, self.columns.owner, f"{shown(name)} has a row before, row {known.row}; "
-                      "if these are two, a column headed ID tells them apart")
+            self.tell("name.again", number, self.columns.owner, {"name": name, "row": known.row})
         return None
 
     def added(self, number: int, row: List[str], name: str, ident: str) -> Entry:
         if SCIENTIFIC.fullmatch(ident):
-            cause = f"IDs look like {shown(ident, 20)}: format the column as text, and write them anew"
-            self.tell("name", number, self.columns.ident or 0, cause, ("scientific",))
+            self.tell("name.scientific", number, self.columns.ident or 0, {"id": ident}, ("scientific",))
         entry = Entry(name, ident, number, self.columns.owner + 1, after_blank=self.gaps_before > 0)
         if self.columns.family is not None and self.table.owners == "resident":
             entry.family = cell_of(row, self.columns.family)
@@ -233,8 +221,9 @@ class Members:
             self.by_id[ident] = entry
         self.table.entries.append(entry)
         if len(self.table.entries) == MOST[self.table.owners] + 1:
-            hint = national.hint(national.MOST[self.table.owners], f"{self.table.owners}s")
-            self.tell("limit", number, self.columns.owner, f"more than {MOST[self.table.owners]:,} {self.table.owners}s{hint}")
+            self.tell("limit.members", number, self.columns.owner, {
+                "most": MOST[self.table.owners], "things": f"{self.table.owners}s", "national": national.MOST[self.table.owners],
+                "program": national.PROGRAM})
         return entry
 
     def keep(self, number: int, entry: Entry, row: List[str]) -> None:
@@ -243,22 +232,22 @@ class Members:
         for index, (cell, heading) in enumerate(self.columns.kept):
             text, before = cell_of(row, cell), entry.kept[index]
             if text and before and text != before:
-                self.tell("row", number, cell, f"{shown(entry.name)} has {shown(text, 40)} here and {shown(before, 40)} before")
+                self.tell("row.kept", number, cell, {"name": entry.name, "text": text, "before": before})
             entry.kept[index] = before or text
 
     def places(self, number: int, entry: Entry, text: str) -> None:
         cell = self.columns.places or 0
         if not text:
             if not self.columns.is_long:
-                self.tell("places", number, cell, f"{shown(entry.name)} has no number of places")
+                self.tell("places.none", number, cell, {"name": entry.name})
             return
         places = number_of(text)
         if places is None:
-            self.tell("places", number, cell, f"{shown(text, 40)} is no number of places")
+            self.tell("places.no-number", number, cell, {"text": text})
         elif places > MOST_PLACES:
-            self.tell("places", number, cell, f"{shown(text, 40)} places are more than {MOST_PLACES:,}")
+            self.tell("places.many", number, cell, {"text": text, "most": MOST_PLACES})
         elif entry.places is not None and entry.places != places:
-            self.tell("places", number, cell, f"{shown(entry.name)} has {places} places here and {entry.places} before")
+            self.tell("places.differ", number, cell, {"name": entry.name, "places": places, "before": entry.places})
         # A number at fault counts as one, so that it is told once.
         entry.places = places if entry.places is None and places is not None else entry.places or 0
 
@@ -287,15 +276,15 @@ class Members:
             return
         self.broken.add(id(entry))
         if not item:
-            self.tell("rank", number, item_cell, f"nobody stands at rank {shown(rank, 20)} of {shown(entry.name)}")
+            self.tell("rank.nobody", number, item_cell, {"rank": rank, "name": entry.name})
         elif place:
             before = ranks[place]
-            self.tell("rank", number, rank_cell, f"{shown(entry.name)} ranks two at {place}: {shown(before.text)} in row "
-                      f"{before.row} and {shown(item)}")
+            self.tell("rank.two", number, rank_cell, {
+                "name": entry.name, "rank": place, "before": before.text, "row": before.row, "item": item})
         elif rank:
-            self.tell("rank", number, rank_cell, f"{shown(rank, 20)} is no rank; ranks count from 1", ("rank", rank))
+            self.tell("rank.no-number", number, rank_cell, {"rank": rank}, ("rank", rank))
         else:
-            self.tell("rank", number, rank_cell, f"{shown(item)} has no rank")
+            self.tell("rank.none", number, rank_cell, {"item": item})
 
     def finish(self) -> None:
         """What is known once all rows are read."""
@@ -309,16 +298,20 @@ class Members:
                 self.gap(entry, ranks)
             if self.columns.places is not None and entry.places is None:
                 if self.columns.is_long:
-                    cause = f"{shown(entry.name)} has no number of places in any row"
-                    self.tell("places", entry.row, self.columns.places, cause)
+                    self.tell("places.in-no-row", entry.row, self.columns.places, {"name": entry.name})
                 entry.places = 0
         if self.gaps:
-            first = self.gaps[0]
-            self.table.notes.append(f"{self.table.name}: {counted(len(self.gaps), 'rank is', 'ranks are')} left out, and what follows "
-                                    f"moves up; the first is in the list of {shown(first.text)}, row {first.row}")
+            values = {"count": len(self.gaps), "name": self.gaps[0].text, "row": self.gaps[0].row}
+            self.note("note.gaps", [Cell(self.table.name, one.row, one.cell) for one in self.gaps], values)
         if not self.table.entries and not len(self.faults):
-            self.tell("file", self.table.heading + 1, self.columns.owner, f"no {self.table.owners} stands below the heading")
-        self.note_unread()
+            self.tell("file.no-rows", self.table.heading + 1, self.columns.owner, {"owners": self.table.owners})
+        if self.table.unread:
+            columns = [(heading, cell + 1) for cell, (heading, _) in self.table.unread.items()]
+            self.note("note.unread", [Cell(self.table.name, self.table.heading, column) for _, column in columns],
+                      {"columns": columns, "keeps": self.table.owners == "resident"})
+
+    def note(self, code: str, cells: List[Cell], values: Values) -> None:
+        self.table.notes.append(Fault(code, self.table.name, cells[0].row, cells[0].column, cells, values))
 
     def tell_short(self) -> None:
         """Tells rows with fewer cells than the heading, where other rows have all of them: they may be parts of one row. A
@@ -327,17 +320,7 @@ class Members:
         if self.options.allow_short or self.table.rows.sheet is not None or not self.short or not (self.padded or few):
             return
         for number, cells in self.short:
-            self.tell("row", number, 0, f"the row has {counted(cells, 'cell')}, where the heading has {self.columns.width}; is it "
-                      "split in two? (--allow-short takes such rows)", ("short",))
-
-    def note_unread(self) -> None:
-        """Notes the columns that nothing is read of, once."""
-        named = [f"{shown(heading, 40)} ({column_letters(cell + 1)})" for cell, (heading, _) in self.table.unread.items()]
-        if named:
-            more = f" and {len(named) - 6} more" if len(named) > 6 else ""
-            keeps = "; --keep keeps one for matches.csv and letters" if self.table.owners == "resident" else ""
-            self.table.notes.append(f"{self.table.name}: {counted(len(named), 'column is', 'columns are')} left out: "
-                                    f"{', '.join(named[:6])}{more}{keeps}")
+            self.tell("row.short", number, 0, {"cells": cells, "width": self.columns.width}, ("short",), (Remedy("allow_short", True),))
 
     def gap(self, entry: Entry, ranks: Dict[int, Item]) -> None:
         """Ranks that don't count on may mean a row that is lost, or a name that is misspelt in one of the rows."""
@@ -346,46 +329,51 @@ class Members:
         if self.options.allow_gaps:
             self.gaps.append(Item(entry.name, after.row, after.cell))
         else:
-            self.tell("rank", after.row, self.columns.rank or 0, f"{shown(entry.name)} has no rank {wanted}; is a row lost, or "
-                      "the name misspelt there? (--allow-gaps takes the ranks in their order)")
+            self.tell("rank.gap", after.row, self.columns.rank or 0, {"name": entry.name, "rank": wanted},
+                      remedies=(Remedy("allow_gaps", True),))
 
 
 def cell_of(row: List[str], cell: int) -> str:
     return row[cell] if cell < len(row) else ""
 
 
-def opened(data: bytes, name: str, options: Options, faults: Faults) -> Tuple[Text, Rows, List[str]]:
+def opened(data: bytes, name: str, words: Words, options: Settings, faults: Faults) -> Tuple[Text, Rows, List[Fault]]:
     """A table's text and rows, of a workbook or of text, with what is worth a note."""
     told = len(faults)
     try:
         if sheets.is_book(data):
-            sheet = sheets.sheet_of(data, name, options.sheets.get(name))
-            rows = Rows(tidied(sheet.rows, Cells(name, "", faults)), "", False, sheet.name)
-            hidden = [f"{name}: {counted(len(sheet.hidden), 'hidden row is', 'hidden rows are')} read too; the first is row "
-                      f"{sheet.hidden[0]}"] if sheet.hidden else []
+            sheet = sheets.sheet_of(data, options.sheet.get(name))
+            rows = Rows(tidied(sheet.rows, Cells(name, "", faults)), "", False, sheet.name, sheet.names)
+            hidden = [Fault("note.hidden", name, sheet.hidden[0], None, [], {"count": len(sheet.hidden), "row": sheet.hidden[0]})
+                      ] if sheet.hidden else []
             return Text("", "xlsx"), rows, hidden
     except sheets.BadBook as fault:
-        faults.tell("file", name, None, None, str(fault))
+        remedies = [Remedy("sheet", one, name) for one in fault.values.get("sheets", ())]
+        faults.tell(fault.code, name, None, None, {**fault.values, "table": name}, remedies=remedies)
         return Text("", "utf-8"), Rows(iter(()), ",", False), []
-    text = table_text(data, name, options.encodings.get(name), faults)
+    text = table_text(data, name, options.encoding.get(name), faults)
     if len(faults) > told:
         return text, Rows(iter(()), ",", False), []
-    return text, rows_of(text.text, name, options.delimiters.get(name), options.words.is_heading, faults), text.notes
+    return text, rows_of(text.text, name, options.delimiter.get(name), words.is_heading, faults), text.notes
 
 
-def read_table(path: str, name: str, owners: str, options: Options, faults: Faults) -> Table:
-    """Reads a table; what is at fault is told, and then it isn't `whole`."""
-    data = bytes_of(path)
-    told = len(faults)
-    text, rows, notes = opened(data, name, options, faults)
-    table = Table(name, owners, path, hashlib.sha256(data).hexdigest(), text, rows, notes=list(notes))
+def heading_of(rows: Rows, first: int) -> Tuple[int, List[str]]:
+    """The heading row and its number: the first row, or the first from this one on; 0 where there is none."""
     nothing: Tuple[int, List[str]] = (0, [])
-    number, heading = next(rows.rows, nothing)
+    return next((one for one in rows.rows if one[0] >= first), nothing)
+
+
+def read_table(given: Given, name: str, owners: str, words: Words, options: Settings, faults: Faults) -> Table:
+    """Reads a table; what is at fault is told, and then it isn't `whole`."""
+    told = len(faults)
+    text, rows, notes = opened(given.data, name, words, options, faults)
+    table = Table(name, owners, given.name, hashlib.sha256(given.data).hexdigest(), text, rows, notes=list(notes))
+    number, heading = heading_of(rows, options.heading_row.get(name, 1))
     if not number:
         if len(faults) == told:
-            faults.tell("file", name, 1, 1, "the table is empty")
+            faults.tell("file.empty", name, 1, 1)
         return table
-    columns = columns_of(name, owners, number, heading, options.words, faults)
+    columns = columns_of(name, owners, number, heading, words, faults)
     if columns is None:
         return table
     table.is_long, table.heading = columns.is_long, number
@@ -395,7 +383,8 @@ def read_table(path: str, name: str, owners: str, options: Options, faults: Faul
     members.finish()
     text.text = ""
     table.whole = bool(table.entries)
-    expected = options.expected.get(name)
+    expected = options.expect.get(name)
     if expected is not None and len(table.entries) != expected:
-        faults.tell("file", name, None, None, f"{counted(len(table.entries), owners)}, where --expect-{name} says {expected:,}")
+        values = {"count": len(table.entries), "owners": owners, "table": name, "expected": expected}
+        faults.tell("file.expected", name, None, None, values, remedies=(Remedy("expect", len(table.entries), name),))
     return table

@@ -5,7 +5,7 @@ from dataclasses import dataclass, field
 from typing import List, Optional
 
 from ..text import decode
-from .faults import Faults, OfficeError, shown
+from .faults import Fault, Faults, OfficeError, Remedy, shown
 from .spelling import names_beyond_ascii, odd_words
 
 MOST_BYTES = 256 << 20
@@ -14,6 +14,8 @@ TITLES = {"utf-8": "UTF-8", "utf-8-sig": "UTF-8", "utf-16": "UTF-16", "utf-16-le
           "utf-32": "UTF-32", "cp1252": "Windows-1252", "iso8859-1": "ISO-8859-1", "latin-1": "ISO-8859-1", "ascii": "ASCII",
           "xlsx": ".xlsx"}
 OF_UTF8 = re.compile(rb"[\xc2-\xdf][\x80-\xbf]|[\xe0-\xef][\x80-\xbf]{2}|[\xf0-\xf4][\x80-\xbf]{3}")
+# The sets of one byte that tables are most often in, where they aren't found.
+OTHER_SETS = ("windows-1250", "windows-1252", "windows-1254", "windows-1251")
 LINE_END = re.compile(r"\r\n|\r|\n")
 
 
@@ -23,7 +25,7 @@ class Text:
 
     text: str
     encoding: str
-    notes: List[str] = field(default_factory=list)
+    notes: List[Fault] = field(default_factory=list)
 
     def title(self) -> str:
         return title_of(self.encoding)
@@ -68,14 +70,12 @@ def table_text(data: bytes, table: str, encoding: Optional[str], faults: Faults)
     is_sure = text.title().startswith("UTF") and not text.text.isascii()
     odd = odd_words(text.text) if encoding is None and not is_sure else []
     if odd:
-        cause = (f"its character set isn't known: in {text.title()} it has {', '.join(shown(word, 30) for word in odd)}; save the "
-                 f"table as UTF-8, or name its set, as --encoding {table}=windows-1250")
-        faults.tell("file", table, None, None, cause)
+        values = {"title": text.title(), "words": odd, "table": table}
+        faults.tell("file.set", table, None, None, values, remedies=[Remedy("encoding", one, table) for one in OTHER_SETS])
         return Text("", text.encoding)
     names = names_beyond_ascii(text.text)
     if names and not text.title().startswith("UTF"):
-        named = ", ".join(shown(name, 40) for name in names)
-        text.notes.append(f"{table}: names in {text.title()}, as {named}; if these are wrong, --encoding {table}=SET names another")
+        text.notes.append(Fault("note.set", table, None, None, [], {"title": text.title(), "names": names, "table": table}))
     return text
 
 
@@ -91,7 +91,7 @@ def decoded(data: bytes, table: str, encoding: Optional[str], faults: Faults) ->
         tell_broken(data, error, table, faults)
         return Text("", error.encoding)
     except UnicodeError as error:
-        faults.tell("file", table, 1, 1, f"this is no text in {title_of(encoding or 'utf-8')}: {shown(str(error))}")
+        faults.tell("file.no-text", table, 1, 1, {"title": title_of(encoding or "utf-8"), "error": str(error)})
         return Text("", encoding or "utf-8")
     return Text(text[1:] if text.startswith("\ufeff") else text, found)
 
@@ -108,8 +108,7 @@ def tell_broken(data: bytes, error: UnicodeDecodeError, table: str, faults: Faul
     lines = LINE_END.split(before)
     cell = 1 + max(lines[-1].count(mark) for mark in ",;\t")
     if error.end >= len(error.object) and title.startswith("UTF"):
-        cause = f"the file ends in the middle of a letter of {title}: it was cut short"
+        faults.tell("file.cut", table, len(lines), cell, {"title": title})
     else:
-        cause = (f"the byte {error.object[error.start:error.start + 1].hex()} is no letter in {title}; "
-                 "save the table as UTF-8, or name its character set by --encoding")
-    faults.tell("file", table, len(lines), cell, cause)
+        values = {"byte": error.object[error.start:error.start + 1].hex(), "title": title}
+        faults.tell("file.byte", table, len(lines), cell, values, remedies=[Remedy("encoding", one, table) for one in OTHER_SETS])

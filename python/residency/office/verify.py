@@ -1,94 +1,132 @@
-"""What an auditor wants of a folder of results, in one run: each check is one line, and the last says whether everything holds.
+"""What an auditor wants of a folder of results, in one run: each check is one line, and the last says in numbers what held.
 
-Nothing here trusts who made the folder. Each part is read from a file of its own, and no key is needed. What the programs are
-given is written anew from the records that were told apart, so no file changes what another says."""
+Nothing here trusts who made the folder. Each part is read from a file of its own, what the programs are given is written anew from
+the records that were told apart, and every file that follows from the parts is made again and compared byte by byte."""
 import csv
 import hashlib
 import io
-import re
+import json
 import subprocess
 import sys
 import tempfile
 from collections import Counter, defaultdict
+from dataclasses import dataclass, field
 from pathlib import Path
-from typing import Dict, List, NamedTuple, Optional, Tuple
+from typing import Any, Callable, Dict, List, NamedTuple, Optional
 
 from ..errors import ResidencyError
-from ..program import DEFAULT_TIMEOUT, run_program
-from . import folder, seal, stopping, tree
-from .faults import OfficeError, counted, shown
-from .telling import say
+from ..key import read_key, write_key
+from ..market import Market
+from ..names import RESIDENT
+from ..program import run_program
+from . import folder, leftover, remade, rosters, seal, stopping, tree
+from .faults import MOST_SHOWN, OfficeError, counted, shown
+from .outcome import Became, Details, Lists, outcome_of
+from .remade import Source
+from .settings import Settings, from_values
 from .tree import Roots
-from .writing import PRIVATE, write_new
-
-# A line of a letter that says what became of a choice: its number, the programme, and what is said.
-CHOICE = re.compile(r"^ +([0-9]+)\. .*: (.*)$", re.M)
-# How many names a line has at most.
-MOST_NAMES = 3
-
-
-class Reason(NamedTuple):
-    """What the program says of one choice of a resident."""
-
-    programme: str
-    answer: str
-
+from .writing import cause_of, draft_of
 
 # By the part that a file is read as: the letters of its records.
 PARTS = {folder.DOCKET: "VQPRW", folder.SHEET: "MUF", folder.JOURNAL: "CE"}
+OPINION = "second-opinion.py"
+# What the program says of a choice up to the match, by what became of it.
+ANSWERS = {Became.YOU_WITHDREW: "withdrawn", Became.IT_WITHDREW: "withdrawn", Became.MATCHED: "matched", Became.NOT_RANKED: "unranked",
+           Became.NO_PLACES: "full", Became.FULL: "full"}
 
 
-def some(names: List[str]) -> str:
-    """Some names, and how many more there are."""
-    more = f" and {len(names) - MOST_NAMES:,} more" if len(names) > MOST_NAMES else ""
-    return ", ".join(names[:MOST_NAMES]) + more
+class Published(NamedTuple):
+    """A root as it was published, and the number of members with it, where that was given, too."""
+
+    root: str
+    members: Optional[int]
+
+
+class FromTables(NamedTuple):
+    """What the office's two tables have: their market, what they have besides, and the digest of each file."""
+
+    market: Market
+    details: Details
+    digests: List[str]
+
+
+class Checked(NamedTuple):
+    """One line of what is told of a folder: what it is about, if it is about one thing, what is said of that, and whether it
+    holds, where that is what was checked."""
+
+    what: str
+    said: str
+    holds: Optional[bool] = None
+
+    def line(self) -> str:
+        return f"{self.what}: {self.said}" if self.what else self.said
+
+
+@dataclass
+class Verified:
+    """All that is told of a folder, what of it doesn't hold, what held in numbers, and what wasn't checked for want of a part."""
+
+    lines: List[Checked] = field(default_factory=list)
+    wrong: List[str] = field(default_factory=list)
+    held: List[str] = field(default_factory=list)
+    unchecked: List[str] = field(default_factory=list)
+
+    def verdict(self) -> str:
+        left = f"not checked: {'; '.join(self.unchecked)}" if self.unchecked else ""
+        told = f"this does not hold: {', '.join(self.wrong)}" if self.wrong else ", ".join(self.held)
+        return "; ".join(part for part in (told, left) if part)
 
 
 class Verifier:
-    """The checks of one folder, and what of them doesn't hold."""
+    """The checks of one folder. `progress` is given each line as soon as it is known."""
 
-    def __init__(self, path: str, timeout: float = DEFAULT_TIMEOUT, published: Tuple[str, str] = ("", "")) -> None:
-        self.path, self.label, self.timeout, self.published = Path(path), shown(path), timeout, published
-        self.wrong: List[str] = []
+    def __init__(self, path: str, timeout: float, published: Dict[str, Published], tables: Optional[FromTables],
+                 progress: Callable[[Checked], object]) -> None:
+        self.path, self.label, self.timeout = Path(path), shown(path), timeout
+        self.published, self.tables, self.progress = published, tables, progress
+        self.done = Verified()
         if not self.path.is_dir():
             raise OfficeError(f"{self.label} is no folder")
-        for name in (folder.DOCKET, folder.SHEET):
-            if not (self.path / name).is_file():
-                raise OfficeError(f"{self.label}: {name} is missing", 3)
-        self.files = [name for name in PARTS if (self.path / name).is_file()]
+        self.there = folder.files_below(self.path)
+        if folder.DOCKET not in self.there:
+            raise OfficeError(f"{self.label}: {folder.DOCKET} is missing", 3)
+        self.data: Dict[str, bytes] = {}
+        self.files = [name for name in PARTS if name in self.there]
         self.rows: Dict[str, List[List[str]]] = {}
 
-    def tell(self, what: str, said: str, holds: bool) -> None:
-        say(f"{what}: {said}")
+    def add(self, what: str, said: str, holds: Optional[bool] = None) -> None:
+        self.done.lines.append(Checked(what, said, holds))
+        self.progress(self.done.lines[-1])
+
+    def tell(self, what: str, said: str, holds: bool) -> bool:
+        self.add(what, said, holds)
         if not holds:
-            self.wrong.append(what)
+            self.done.wrong.append(what)
+        return holds
 
-    def text(self, name: str) -> str:
-        return (self.path / name).read_bytes().decode("utf-8-sig", "replace")
+    def leave(self, what: str, part: str) -> None:
+        """Says what isn't checked for want of a part."""
+        self.add(what, f"not checked: needs {part}")
+        self.done.unchecked.append(f"{what}, for want of {part}")
 
-    def digests(self) -> None:
-        """The digests of all files against SHA256SUMS."""
-        if not (self.path / folder.SUMS).is_file():
-            self.tell("digests", f"{folder.SUMS} is missing", False)
-            return
-        lines = [line.split("  ", 1) for line in self.text(folder.SUMS).splitlines() if "  " in line]
-        wanted = {name: digest for digest, name in lines}
-        there = {it.relative_to(self.path).as_posix(): it for it in sorted(self.path.rglob("*")) if it.is_file()}
-        there.pop(folder.SUMS)
-        changed = [name for name, digest in wanted.items()
-                   if name in there and hashlib.sha256(there[name].read_bytes()).hexdigest() != digest]
-        missing, new = [name for name in wanted if name not in there], [name for name in there if name not in wanted]
-        told = [f"{some(names)} {what}" for names, what in ((changed, "changed"), (missing, "missing"), (new, f"not in {folder.SUMS}"))
-                if names]
-        self.tell("digests", "; ".join(told) or f"{len(wanted):,} files are as {folder.SUMS} says", not told)
+    def bytes_of(self, name: str) -> bytes:
+        """A file's bytes, read once. A link is none of a folder's files."""
+        if name not in self.data:
+            path = self.there[name]
+            if path.is_symlink() or not path.is_file():
+                raise OfficeError(f"{self.label}: {shown(name)} is no file", 3)
+            try:
+                self.data[name] = path.read_bytes()
+            except OSError as error:
+                raise OfficeError(f"{self.label}: {shown(name)} can't be read: {cause_of(error)}") from None
+        return self.data[name]
 
     def parts(self) -> bool:
         """Whether each file has only records of its own part, each file read by itself."""
         wrong = []
         for name in self.files:
-            data = (self.path / name).read_bytes()
             try:
-                rows = rows_of(data.decode("utf-8-sig"))
+                rows = rows_of(self.bytes_of(name).decode("utf-8-sig"))
             except (UnicodeDecodeError, csv.Error) as error:
                 wrong.append(f"{name}: {error}")
                 continue
@@ -96,23 +134,22 @@ class Verifier:
             if at is not None:
                 wrong.append(f"{name}: record {at}: belongs to another part")
             self.rows[name] = rows
-        self.tell("parts", "; ".join(wrong) or "each file has its own records alone", not wrong)
-        return not wrong
+        return self.tell("parts", "; ".join(wrong) or "each file has its own records alone", not wrong)
 
     def joined(self, *names: str) -> bytes:
         """These parts as one docket, written anew from the records that were told apart: what is read is what was checked."""
         text = io.StringIO()
-        csv.writer(text, lineterminator="\n").writerows(row for name in names for row in self.rows[name])
+        csv.writer(text, lineterminator="\n").writerows(row for name in names for row in self.rows.get(name, []))
         return text.getvalue().encode("utf-8")
 
     def facts(self) -> None:
         for name in self.files:
-            say(f"{name}: SHA-256 {hashlib.sha256((self.path / name).read_bytes()).hexdigest()}")
+            self.add(name, f"SHA-256 {hashlib.sha256(self.bytes_of(name)).hexdigest()}")
         rows = self.rows[folder.DOCKET]
-        gone = [f"{'programme' if row[1:2] == ['P'] else 'resident'} {','.join(row[2:])}" for row in rows if row[0] == "W"]
+        gone = [f"{'programme' if row[1:2] == ['P'] else 'resident'} {shown(','.join(row[2:]))}" for row in rows if row[0] == "W"]
         counts = Counter(row[0] for row in rows)
-        say(f"members: {counts['Q']:,} programmes and {counts['R']:,} residents")
-        say(f"withdrawn: {', '.join(gone) or 'nobody'}")
+        self.add("members", f"{counts['Q']:,} programmes and {counts['R']:,} residents")
+        self.add("withdrawn", ", ".join(gone) or "nobody")
 
     def asked(self, what: str, word: str, *names: str) -> Optional[List[str]]:
         """The lines that the program answers of these parts, or none where it refuses them, which is told."""
@@ -134,11 +171,12 @@ class Verifier:
             wanted.append(lines[0])
         self.result()
         if folder.JOURNAL not in self.files:
-            say("replay: there is no journal")
+            self.leave("replay", "the journal")
             return wanted
         lines = self.asked("replay", "replay", folder.DOCKET, folder.SHEET, folder.JOURNAL)
         if lines is not None:
-            self.tell("replay", lines[0], lines[0].startswith("G,"))
+            if self.tell("replay", lines[0], lines[0].startswith("G,")):
+                self.done.held.append(f"the journal of {counted(int(lines[0][2:]), 'event')}")
             wanted += lines
         return wanted
 
@@ -149,157 +187,224 @@ class Verifier:
             return
         given = {row[1]: tuple(row) for row in self.rows[folder.SHEET] if row[0] in "MU"}
         other = [row[1] for row in (line.split(",") for line in lines) if row[0] in "MU" and given.get(row[1]) != tuple(row)]
-        self.tell("result", f"D,{other[0]}" if other else "Y,result", not other)
+        if self.tell("result", f"D,{other[0]}" if other else "Y,result", not other):
+            self.done.held.append("the result")
 
     def opinion(self, wanted: List[str]) -> None:
-        """The second opinion, in the same run: it must say what the program says."""
+        """The second opinion, from the package's own place and in the same run: it must say what the program says."""
         script = second_opinion()
         if script is None:
-            self.tell("second opinion", "examples/second-opinion.py isn't there", False)
+            self.tell("second opinion", f"{OPINION} isn't in this package; install it again", False)
             return
-        done = subprocess.run([sys.executable, str(script), *(str(self.path / name) for name in self.files)],
-                              capture_output=True, text=True, timeout=self.timeout, check=False)
+        done = subprocess.run([sys.executable, "-I", "-S", str(script), *(str(self.there[name].absolute()) for name in self.files)],
+                              capture_output=True, text=True, encoding="utf-8", errors="replace", timeout=self.timeout, check=False)
         said = done.stdout.splitlines()
         is_same = done.returncode == 0 and said == wanted
         told = " ".join(said) if done.returncode == 0 else (done.stderr.strip().splitlines() or ["it failed"])[-1]
-        self.tell("second opinion", f"{told}{', the same' if is_same else '; the program says something else'}", is_same)
+        self.tell("second opinion", f"{shown(told, 300)}{', the same' if is_same else '; the program says something else'}", is_same)
 
-    def reasons(self) -> None:
-        """What became of each resident, against matches.csv and the letters."""
+    def manifest(self) -> Optional[Dict[str, Any]]:
+        """The manifest, from which what the folder has to have is taken; none where office wrote no such one, which is told."""
         try:
-            _, answer = run_program("why", ["--all"], self.joined(folder.DOCKET, folder.SHEET), self.timeout)
+            found = json.loads(self.bytes_of(folder.MANIFEST).decode("utf-8")) if folder.MANIFEST in self.there else None
+            cause = "it is missing" if folder.MANIFEST not in self.there else remade.fault_of(found)
+        except (ValueError, RecursionError):
+            found, cause = None, "it is none that office wrote"
+        if cause:
+            self.tell(folder.MANIFEST, f"{cause}; without it nothing is made again", False)
+        return None if cause else found
+
+    def names_and_market(self) -> Optional[Market]:
+        """The folder's market, in real names where the key is there; none where they are at fault, which is told."""
+        data = self.joined(folder.DOCKET)
+        try:
+            if folder.KEY not in self.there:
+                return Market.from_docket(data)
+            market = Market.from_docket(data, read_key(self.bytes_of(folder.KEY)))
+            return Market.from_docket(data, remade.own_names(market))
+        except ResidencyError as fault:
+            self.tell("docket and key", shown(str(fault), 300), False)
+            return None
+
+    def details(self, manifest: Dict[str, Any], market: Market) -> Details:
+        """The family names and kept columns, as the folder has them; none where its file isn't one that office wrote."""
+        name, before = (folder.MATCHES, len(rosters.MATCH_COLUMNS)) if remade.is_matched(manifest) else \
+            (folder.DETAILS, len(rosters.DETAIL_COLUMNS))
+        if not manifest.get("details") or name not in self.there or folder.KEY not in self.there:
+            return Details()
+        names = {one.docket_name: market.names.name(RESIDENT, one.docket_name) for one in market.names.members(RESIDENT)}
+        try:
+            return rosters.details_of(self.bytes_of(name), names, before)
+        except (ValueError, LookupError, csv.Error):
+            return Details()
+
+    def source(self, manifest: Dict[str, Any]) -> Optional[Source]:
+        """What the folder is made again from: the tables, where they are given, and else its own docket and key."""
+        market = self.names_and_market()
+        if market is None:
+            return None
+        details, has_key = self.details(manifest, market), folder.KEY in self.there
+        if self.tables is None:
+            self.done.unchecked.append("lists and names, for want of the tables (--tables)")
+        else:
+            market, details = self.from_tables(market, manifest), self.tables.details
+        gone = manifest["withdrawn"]
+        parts = (self.joined(folder.JOURNAL) if folder.JOURNAL in self.there else None,
+                 self.bytes_of(folder.SECRET) if folder.SECRET in self.there else None)
+        return Source(remade.in_order(market, gone), details, manifest, *parts, has_key, self.timeout)
+
+    def from_tables(self, market: Market, manifest: Dict[str, Any]) -> Market:
+        """The market of the tables, with those withdrawn who are in the folder; whether it gives the folder's docket and key."""
+        assert self.tables is not None
+        made, docket = self.tables.market, market.in_docket_names()
+        try:
+            gone = [[made.names.name(side, name) for name in names] for side, names in
+                    (("P", docket.withdrawn_programmes), ("R", docket.withdrawn_residents))]
+            made = made.withdraw(programmes=gone[0], residents=gone[1])
+        except (KeyError, ResidencyError):
+            pass
+        wanted = [(folder.DOCKET, made.docket()), (folder.KEY, write_key(made.names))]
+        other = [difference(name, self.bytes_of(name), data).line() for name, data in wanted if name in self.there and self.bytes_of(name) != data]
+        digests = [one.get("sha256") for one in manifest.get("tables", []) if isinstance(one, dict)]
+        same = "the files that the manifest names" if digests == self.tables.digests else "other files than the manifest names"
+        self.tell("tables", "; ".join(other) or f"{same}, and the docket and key that they give", not other)
+        return made
+
+    def again(self, source: Source) -> None:
+        """Every file that follows from the source, made again and compared."""
+        sums = folder.sums_of(self.bytes_of(folder.SUMS)) if folder.SUMS in self.there else {}
+        without = source.without()
+        claimed = {name: folder.digest(self.bytes_of(name)) if name in self.there else one for name, one in sums.items()
+                   if folder.needs(name, without)}
+        try:
+            # Under a name by which the next command knows what a killed one left.
+            with stopping.unfinished(draft_of(str(Path(tempfile.gettempdir()) / "verify"))) as room:
+                with leftover.made(room):
+                    made = remade.remade(room, source, claimed)
+        except OSError as error:
+            raise OfficeError(f"{shown(tempfile.gettempdir())} can't be written: {cause_of(error)}") from None
+        except (ResidencyError, OfficeError, ValueError) as fault:
+            self.tell("made again", shown(str(fault), 300), False)
+            return
+        if remade.is_matched(source.manifest):
+            self.reasons(source)
+        self.roots(source, made)
+        self.compare(made, without)
+
+    def compare(self, made: Dict[str, bytes], without: "set[str]") -> None:
+        """Each file that the folder has to have against the one that was made again, and what there is more."""
+        told = [Checked(shown(name), "missing", False) for name in made if name not in self.there]
+        told += [difference(name, self.bytes_of(name), data) for name, data in made.items() if name in self.there
+                 and name != folder.JOURNAL and self.bytes_of(name) != data]
+        left = [name for name in self.there if name not in made and folder.needs(name, without)]
+        told += [Checked(shown(name), "more than the folder has", False) for name in self.there if name not in made and name not in left]
+        for one in sorted(told, key=Checked.line)[:MOST_SHOWN]:
+            self.add(*one)
+        if len(told) > MOST_SHOWN:
+            self.add("", f"and {len(told) - MOST_SHOWN:,} more files", False)
+        for names, part in ((folder.NEEDS_SECRET, "the secret"), (folder.NEEDS_KEY, "the key")):
+            if names <= without:
+                count = len([name for name in left if folder.needs(name, names)])
+                more = f" and {counted(count, 'file')} made of them" * bool(count)
+                self.leave(f"{'names' if part == 'the key' else 'roots and receipts'}{more}", part)
+        same = len(made) - len([name for name in made if name not in self.there or self.bytes_of(name) != made[name]])
+        receipts = len([name for name in made if name.startswith(f"{folder.RECEIPTS}/")])
+        if not told:
+            self.done.held[:0] = [f"{counted(same - receipts, 'file')} made again"] + [counted(receipts, "receipt")] * bool(receipts)
+        self.tell("files", f"{counted(len(told), 'file')} of {len(made):,} differ, are missing or are more" if told
+                  else f"{len(made):,} as made again", not told)
+
+    def reasons(self, source: Source) -> None:
+        """Whether the program says of each choice of each resident what the letters say."""
+        market = source.market
+        try:
+            match = market.match(timeout=self.timeout)
+            _, answer = run_program("why", ["--all"], market.docket() + match.sheet, self.timeout)
         except ResidencyError as fault:
             self.tell("reasons", str(fault), False)
             return
-        reasons: Dict[str, List[Reason]] = defaultdict(list)
+        said: Dict[str, List[str]] = defaultdict(list)
         for row in list(csv.reader(io.StringIO(answer.decode("ascii", "replace"))))[1:]:
-            reasons[row[0]].append(Reason(row[1], row[3]))
-        self.matches(reasons)
-        self.letters(reasons)
-
-    def matches(self, reasons: Dict[str, List[Reason]]) -> None:
-        if not (self.path / folder.MATCHES).is_file():
-            say("reasons: there is no matches.csv")
-            return
-        residents = [row[1] for row in self.rows[folder.DOCKET] if row[0] == "R"]
-        rows = {row["resident_docket_name"]: row for row in csv.DictReader(io.StringIO(self.text(folder.MATCHES), newline=""))
-                if row.get("resident_docket_name")}
-        other = [name for name in residents if name not in rows or not is_as_told(rows[name], reasons.get(name, []))]
-        other += [name for name in rows if name not in set(residents)]
-        told = f"{folder.MATCHES} says something else of {some(other)}" if other else f"{folder.MATCHES} says the same of {len(residents):,} residents"
+            said[row[0]].append(row[3])
+        lists, other = Lists(market), []
+        for one in outcome_of(market, match.places).residents.values():
+            became = [what for _, what in lists.became(one)]
+            upto = became.index(Became.NOT_NEEDED) if Became.NOT_NEEDED in became else len(became)
+            answers = said.get(one.docket_name, [])
+            is_rest_free = all(word in ("better", "unranked", "withdrawn") for word in answers[upto:])
+            if len(answers) != len(became) or answers[:upto] != [ANSWERS[what] for what in became[:upto]] or not is_rest_free:
+                other.append(one.docket_name)
+        told = f"the program says something else of {', '.join(other[:3])}" if other else "the program says what the letters say"
         self.tell("reasons", told, not other)
 
-    def letters(self, reasons: Dict[str, List[Reason]]) -> None:
-        """What each letter says of each choice. Whatever the words are, they say one thing alone."""
-        inside = self.path / folder.LETTERS
-        if not inside.is_dir():
-            say("letters: there are none")
+    def roots(self, source: Source, made: Dict[str, bytes]) -> None:
+        """The roots of a sealed match against those that were published, which are the ones that are given, whatever the folder says."""
+        if not remade.is_sealed(source.manifest):
+            if self.published:
+                self.tell("published", "this match isn't sealed, and has no roots", False)
             return
-        residents = [row[1] for row in self.rows[folder.DOCKET] if row[0] == "R"]
-        names = folder.file_names(residents, ".txt")
-        said: Dict[str, List[Tuple[str, str]]] = {}
-        later: Dict[str, List[str]] = {}
-        other = [name for name in residents if not (inside / names[name]).is_file()]
-        for name in residents:
-            if name in other:
-                continue
-            lines = CHOICE.findall((inside / names[name]).read_bytes().decode("utf-8", "replace"))
-            answers = [reason.answer for reason in reasons.get(name, [])]
-            if [int(number) for number, _ in lines] != list(range(1, len(answers) + 1)):
-                other.append(name)
-                continue
-            # Of what stands after the match a letter may say that it isn't needed, whatever else holds.
-            after = answers.index("matched") + 1 if "matched" in answers else len(answers)
-            said[name] = [(words, answer) for (_, words), answer in zip(lines[:after], answers)]
-            later[name] = [words for _, words in lines[after:]]
-        meant: Dict[str, "Counter[str]"] = defaultdict(Counter)
-        for pairs in said.values():
-            for words, answer in pairs:
-                meant[words][answer] += 1
-        means = {words: answers.most_common(1)[0][0] for words, answers in meant.items()}
-        other += [name for name, pairs in said.items() if any(means[words] != answer for words, answer in pairs)
-                  or any(means.get(words) == "matched" for words in later[name])]
-        told = f"those of {some(other)} say something else" if other else f"{len(said):,} say the same"
-        self.tell("letters", told, not other)
+        roots = Roots.read(made[folder.ROOTS])
+        if source.secret is not None:
+            by = "by the program seal and by the office's own trees" if seal.is_built() else "by the office's own trees; the program seal isn't here"
+            self.tell("roots", f"{' and '.join(made[folder.ROOTS].decode('ascii').split())}, {by}", True)
+        other = []
+        for word, own in ((tree.LISTS, roots.lists), (tree.RESULT, roots.result)):
+            given = self.published.get(word)
+            if given is not None and given.root != own:
+                other.append(f"for the {word} {given.root} was published")
+            if given is not None and given.members not in (None, roots.count):
+                other.append(f"{given.members:,} members were published for the {word}, and there are {roots.count:,}")
+        missing = [f"--{word}" for word, own in ((tree.LISTS, roots.lists), (tree.RESULT, roots.result)) if own and word not in self.published]
+        if other or not missing:
+            self.tell("published", "; ".join(other) or f"the same roots, of {counted(roots.count, 'member')}", not other)
+        if missing:
+            self.done.unchecked.append(f"what was published, for want of {' and '.join(missing)}")
+        elif any(given.members is None for given in self.published.values()):
+            self.done.unchecked.append("how many members were published, for want of N,ROOT")
 
-    def sealed(self) -> None:
-        """Roots and receipts of a sealed match, made again from docket, sheet and secret: by the program, and by the office's own
-        trees. The published roots are those that are given, whatever the folder says."""
-        if not (self.path / folder.SECRET).is_file():
-            if any(self.published):
-                self.tell("roots", f"{folder.SECRET} is missing", False)
-            return
-        try:
-            roots, receipts = self.made_again()
-        except (ResidencyError, OfficeError, ValueError) as fault:
-            self.tell("roots", str(fault), False)
-            return
-        rows = roots.rows().decode("ascii").split()
-        by = "by the program seal and by the office's own trees" if seal.is_built() else "by the office's own trees; the program seal isn't here"
-        self.tell("roots", f"{' and '.join(rows)}, {by}", True)
-        there = list(zip((tree.LISTS, tree.RESULT), self.published, (roots.lists, roots.result)))
-        other = [f"for the {word} {given} was published" for word, given, own in there if given not in ("", own)]
-        missing = [f"--{word}" for word, given, _ in there if not given]
-        said = f"not given ({', '.join(missing)}); compare these roots with what was published" if missing else "the same roots"
-        self.tell("published", "; ".join(other) or said, not other)
-        if (self.path / folder.ROOTS).is_file():
-            is_same = (self.path / folder.ROOTS).read_bytes() == roots.rows()
-            self.tell(folder.ROOTS, "it has these roots" if is_same else "it has other roots", is_same)
-        self.receipts(receipts)
-
-    def made_again(self) -> Tuple[Roots, Dict[seal.Member, bytes]]:
-        """The roots and receipts of the rows that were told apart. OfficeError where the program and the own trees differ."""
-        with stopping.unfinished(Path(tempfile.mkdtemp())) as room:
-            secret, sheet = room / folder.SECRET, room / folder.SHEET
-            write_new(secret, (self.path / folder.SECRET).read_bytes(), PRIVATE)
-            write_new(sheet, self.joined(folder.SHEET), PRIVATE)
-            return seal.made(self.joined(folder.DOCKET), secret, sheet, self.timeout)
-
-    def receipts(self, receipts: Dict[seal.Member, bytes]) -> None:
-        """Each member's receipt, byte by byte."""
-        if not (self.path / folder.RECEIPTS).is_dir():
-            say("receipts: there are none")
-            return
-        names = seal.receipt_files(list(receipts))
-        other = [member[1] for member, receipt in receipts.items()
-                 if not (self.path / names[member]).is_file() or (self.path / names[member]).read_bytes() != receipt]
-        there = {f"{folder.RECEIPTS}/{path.name}" for path in (self.path / folder.RECEIPTS).iterdir()}
-        other += sorted(there - set(names.values()))
-        self.tell("receipts", f"those of {some(other)} are others" if other else f"{counted(len(receipts), 'receipt')} as made again", not other)
-
-    def verify(self) -> int:
-        """All checks; 0 where everything holds, and else 4."""
-        self.digests()
+    def verify(self) -> Verified:
+        """All checks."""
+        manifest = self.manifest()
+        if folder.SHEET not in self.there and (manifest is None or remade.is_matched(manifest)):
+            raise OfficeError(f"{self.label}: {folder.SHEET} is missing", 3)
         if self.parts():
             self.facts()
-            self.opinion(self.checks())
-            self.reasons()
-            self.sealed()
-        say("everything holds" if not self.wrong else f"this does not hold: {', '.join(self.wrong)}")
-        return 4 if self.wrong else 0
+            if folder.SHEET in self.there:
+                self.opinion(self.checks())
+            if manifest is not None:
+                source = self.source(manifest)
+                if source is not None:
+                    self.again(source)
+        return self.done
 
 
 def rows_of(text: str) -> List[List[str]]:
     return [row for row in csv.reader(io.StringIO(text, newline="")) if row]
 
 
-def is_as_told(row: Dict[str, str], reasons: List[Reason]) -> bool:
-    """Whether a row of matches.csv says what the program says of its resident."""
-    place, reason = next(((place, reason) for place, reason in enumerate(reasons, 1) if reason.answer == "matched"), (None, None))
-    if reason is None:
-        return row["standing"] != "matched" and not row["programme_docket_name"] and not row["choice"]
-    return (row["standing"], row["programme_docket_name"], row["choice"]) == ("matched", reason.programme, str(place))
+def difference(name: str, there: bytes, wanted: bytes) -> Checked:
+    """Where a file begins to differ from the one that was made again."""
+    lines = list(zip(there.split(b"\n"), wanted.split(b"\n")))
+    at = next((at for at, (one, other) in enumerate(lines, 1) if one != other), len(lines) + 1)
+    return Checked(shown(name), f"differs, first at line {at:,}", False)
 
 
 def second_opinion() -> Optional[Path]:
-    """Where the second opinion is: in the clone, or in a release's examples."""
-    for above in Path(__file__).resolve().parents[:7]:
-        for place in (above / "examples", above / "share" / "doc" / "residency" / "examples"):
-            if (place / "second-opinion.py").is_file():
-                return place / "second-opinion.py"
-    return None
+    """Where the second opinion is: in this package or, in a clone, among the clone's examples, and nowhere else."""
+    script = Path(__file__).resolve().with_name(OPINION)
+    clone = script.parents[3]
+    if (clone / "crates").is_dir() and script.parent == clone / "python" / "residency" / "office":
+        script = clone / "examples" / OPINION
+    return script if script.is_file() else None
 
 
-def verify(path: str, timeout: float = DEFAULT_TIMEOUT, lists: str = "", result: str = "") -> int:
-    """Checks a folder of results, against the roots that were published where it was sealed, and tells each check in a line."""
-    return Verifier(path, timeout, (lists, result)).verify()
+def read_by(path: str) -> Settings:
+    """How the tables of a folder were read, by its manifest, with the columns of residents that were kept; nothing of it where
+    the manifest says nothing."""
+    try:
+        manifest = json.loads((Path(path) / folder.MANIFEST).read_bytes().decode("utf-8"))
+        found = from_values(manifest.get("reading", {}))
+        found.keep = found.keep or [str(one) for one in manifest.get("details", []) if one != "family_name"]
+        return found
+    except (OSError, ValueError, AttributeError, TypeError, KeyError, RecursionError, ResidencyError):
+        return Settings()

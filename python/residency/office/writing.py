@@ -2,6 +2,8 @@
 link. All that the command writes goes through here."""
 import os
 import secrets
+import stat
+import tempfile
 from pathlib import Path
 
 from . import stopping
@@ -12,9 +14,10 @@ PRIVATE, SHARED = 0o600, 0o666
 
 
 def umask() -> int:
-    now = os.umask(0o022)
-    os.umask(now)
-    return now
+    """The mask of this process, as a new folder shows it: to ask for it would change it for a moment, in all threads."""
+    with tempfile.TemporaryDirectory() as room:
+        os.mkdir(f"{room}/made", 0o777)
+        return 0o777 & ~stat.S_IMODE(os.stat(f"{room}/made").st_mode)
 
 
 def cause_of(error: Exception) -> str:

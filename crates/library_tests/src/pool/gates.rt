@@ -11,7 +11,7 @@ use std::sync::Wait;
 use std::test::Fail;
 use std::thread::Threads;
 use test_support::events::desk_of;
-use test_support::gates::{Hold, HoldsEntered, HoldsVisit, Rested, Stalls, StopsFrom};
+use test_support::gates::{Hold, HoldsEntered, HoldsVisit, Rested, Stalls, StopsBy, StopsFrom};
 
 const CAPACITIES: [Capacity; 3] = [Capacity::Full, Capacity::Each(1), Capacity::Each(2)];
 
@@ -138,6 +138,45 @@ fn every_worker_heeds_a_stop(rt: HostRuntime) -> Result<(), Fail> {
                 }
             }
         }
+    }
+    Ok(())
+}
+
+// Whether a run over pairs ends by the stop of this worker, or of any worker if none is given.
+fn is_stopped_by<R: Threads + Wait + Sync + Send + Copy>(
+    rt: R,
+    alloc: Global,
+    inst: &Instance,
+    workers: usize,
+    worker: Option<usize>,
+) -> bool {
+    let gate = StopsBy::new(rt, worker);
+    let told = ran_on(rt, alloc, inst, Capacity::Full, workers, &gate);
+    told.is_ok_and(|told| told.ending == Ending::Stopped)
+}
+
+#[test]
+fn the_stop_of_each_worker_is_heeded(rt: HostRuntime) -> Result<(), Fail> {
+    // all other workers are kept waiting, each at a desk of its own, so the worker finds a pair
+    let inst = made_pairs(rt.alloc(), 16)?;
+    for worker in 0..8 {
+        assert!(rt;
+            is_stopped_by(rt, rt.alloc(), &inst, 8, Some(worker)),
+            "worker {worker}"
+        );
+    }
+    Ok(())
+}
+
+#[test]
+fn a_stop_wakes_who_rests(rt: HostRuntime) -> Result<(), Fail> {
+    // one worker has the only desk with work, and all others rest
+    let inst = made_pairs(rt.alloc(), 1)?;
+    for workers in [2, 8] {
+        assert!(rt;
+            is_stopped_by(rt, rt.alloc(), &inst, workers, None),
+            "{workers} workers"
+        );
     }
     Ok(())
 }

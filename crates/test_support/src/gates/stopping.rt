@@ -4,8 +4,10 @@ ghost use Rattle.std.specs.Prelude.{true, false};
 use super::{Counts, LINGER};
 use exchange_core::Desk;
 use match_pool::{Gate, Go};
+use std::sync::Wait;
 use std::sync::atomic::{AtomicBool, AtomicU64, Ordering};
 use std::thread;
+use std::time::Duration;
 
 /// A gate that stops the run at the first call of `pass`.
 #[derive(Drop)]
@@ -111,4 +113,60 @@ impl Gate for StopsFrom {
             }
         }
     }
+}
+
+/// For how long, in microseconds, a gate lets the other workers come to rest before it stops the run.
+const WHILE: u64 = 200_000;
+
+/// How often a gate tests whether the run is stopped, with a pause of a millisecond between two tests.
+const LOOKS: u32 = 10_000;
+
+/// A gate that stops the run at the first call of `pass` by one worker, a while after the call was made. By then each
+/// worker without a desk rests. Calls by other workers are kept waiting until the run is stopped.
+#[derive(Drop)]
+pub struct StopsBy<R: Wait + Copy> {
+    rt: R,
+    clock: AtomicU64,
+    worker: Option<usize>,
+    stopped: AtomicBool,
+}
+
+impl<R: Wait + Copy> StopsBy<R> {
+    /// A gate at which this worker stops the run, or any worker if none is given.
+    pub fn new(rt: R, worker: Option<usize>) -> StopsBy<R> {
+        StopsBy {
+            rt,
+            clock: AtomicU64::new(0),
+            worker,
+            stopped: AtomicBool::new(false),
+        }
+    }
+
+    fn sleep(&self, micros: u64) {
+        self.clock
+            .park_timeout(&self.rt, 0, Duration::from_micros(micros));
+    }
+}
+
+impl<R: Wait + Copy + Sync> Gate for StopsBy<R> {
+    ghost MAY_STOP = { true };
+
+    const MAY_STOP: bool = true;
+
+    fn pass(&self, worker: usize, _desk: Desk) -> Go {
+        if self.worker.unwrap_or(worker) == worker {
+            self.sleep(WHILE);
+            self.stopped.store(true, Ordering::SeqCst);
+            return Go::Stop;
+        }
+        for _ in 0..LOOKS {
+            if self.stopped.load(Ordering::SeqCst) {
+                break;
+            }
+            self.sleep(1_000);
+        }
+        Go::On
+    }
+
+    fn entered(&self, _worker: usize) {}
 }

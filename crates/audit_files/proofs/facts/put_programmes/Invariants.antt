@@ -1,6 +1,6 @@
 use Rattle.std.specs.Prelude.{codes}
 use Rattle.docket.specs.Texts.{programme_name}
-use Rattle.docket_parts.specs.Lines.{Grows}
+use Rattle.records.specs.Lines.{Grows}
 use Rattle.audit_files.specs.Rows.{withdrawn_rows}
 use Rattle.audit_files.proofs.facts.put_programmes.Given as goal
 

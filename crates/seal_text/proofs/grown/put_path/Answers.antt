@@ -1,7 +1,7 @@
 use Rattle.std.proofs.Common.{◌≤◌, length, arith, take_all}
 use Rattle.std.proofs.lemmas.List.{get_or_default}
 use Rattle.std.proofs.lemmas.Result.{on_ok_weaker}
-use Rattle.docket_parts.proofs.LineFacts.{grows_none, grows_both}
+use Rattle.records.proofs.LineFacts.{grows_none, grows_both}
 use Rattle.seal_text.specs.Sealed.{digest_field}
 use Rattle.seal_text.proofs.Steps.{grows_item}
 use Rattle.seal_text.proofs.grown.put_path.Goals as goal

@@ -1,6 +1,6 @@
 use Rattle.std.proofs.Common.{take}
 use Rattle.std.specs.List.{flat_map}
-use Rattle.docket_parts.specs.Lines.{Grows}
+use Rattle.records.specs.Lines.{Grows}
 use Rattle.seal_text.specs.Sealed.{digest_field}
 use Rattle.seal_text.proofs.grown.put_path.Given as goal
 

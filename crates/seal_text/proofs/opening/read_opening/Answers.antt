@@ -6,7 +6,7 @@ use Rattle.seal.specs.Hashes.{leaf_hash}
 use Rattle.seal.specs.Tree.{climb}
 use Rattle.seal_text.specs.Receipt.{IsDigest}
 use Rattle.csv.specs.Records.{Row, fields_of}
-use Rattle.docket_parts.specs.Lines.{lines}
+use Rattle.records.specs.Lines.{lines}
 use Rattle.seal_text.specs.Records.{rows_in}
 use Rattle.seal_text.specs.Sealed.{word_of}
 use Rattle.seal_text.proofs.FieldFacts.{rest_is}

@@ -1,7 +1,7 @@
 use Rattle.std.proofs.Common.{sym, ◌∙◌, arith, [], ap}
 use Rattle.std.proofs.lemmas.List.{length-map, take_all}
 use Rattle.csv.specs.Records.{fields_of}
-use Rattle.docket_parts.specs.Lines.{lines}
+use Rattle.records.specs.Lines.{lines}
 use Rattle.seal_text.specs.Records.{rows_in}
 use Rattle.seal_text.proofs.RecordFacts.{no_lines, lines_more_of}
 use Rattle.seal_text.proofs.opening.text_of.Goals as goal

@@ -1,5 +1,5 @@
 use Rattle.std.proofs.Common.{◌≡◌, take}
-use Rattle.docket_parts.specs.Lines.{lines}
+use Rattle.records.specs.Lines.{lines}
 use Rattle.seal_text.specs.Records.{rows_in}
 use Rattle.seal_text.proofs.opening.text_of.Given as goal
 

@@ -1,21 +1,22 @@
-use Rattle.std.proofs.Common.{refl, inr}
-use Rattle.seal_text.proofs.ReadingFacts.{case_read, no_sheet, case_fault}
+use Rattle.std.proofs.Common.{inl, inr, refl}
+use Rattle.seal_text.proofs.ReadingFacts.{case_read, no_memory}
 use Rattle.seal_text.proofs.reading.read_case.Goals as goal
 
-pub returns-in-Ok-read-clause-case : goal.returns-in-Ok-read-clause-case
-returns-in-Ok-read-clause-case g c =
-    let j = c.in-Ok.ensures in
-    let read = rw c.as_slice.ensures.value at c.in-Ok-read.ensures.read in
-    case_read _ _ c.in-Ok.joined.text.items _ j.own j.joined.rows read c.in-Ok-read.ensures.sheet
+pub of_docket-requires : goal.of_docket-requires
+of_docket-requires g c = record { limits = _; read = c.in-Ok.ensures.read.read }
 
-pub returns-in-Err-Docket-clause-fault : goal.returns-in-Err-Docket-clause-fault
-returns-in-Err-Docket-clause-fault g c =
-    let j = c.in-Ok.ensures in
-    let fault = rw (c.as_slice.ensures.value, c.in-Err-Docket.field-0-is) at c.in-Err-Docket.ensures.fault in
-    rw c.told.ensures (case_fault _ _ c.in-Ok.joined.text.items _ _ c.in-Err-Docket.fault j.own j.joined.rows j.joined.docket_count j.joined.sheet_count fault)
+pub returns-in-Ok-of_docket-clause-case : goal.returns-in-Ok-of_docket-clause-case
+returns-in-Ok-of_docket-clause-case g c =
+    let parts = c.in-Ok-of_docket.ensures.parts in
+    case_read _ _ _ _ _ c.in-Ok.ensures.read parts.0 parts.1 c.in-Ok-of_docket.ensures.sheet
+
+pub returns-in-Err-clause-fault : goal.returns-in-Err-clause-fault
+returns-in-Err-clause-fault g c = inl (record { first = c.in-Err.there; is_first = c.in-Err.ensures.fault; is_told = c.told.ensures })
 
 pub returns-in-Err-NoSheet-clause-fault : goal.returns-in-Err-NoSheet-clause-fault
 returns-in-Err-NoSheet-clause-fault g c =
-    let j = c.in-Ok.ensures in
-    let fault = rw (c.as_slice.ensures.value, c.in-Err-NoSheet.field-0-is) at c.in-Err-NoSheet.ensures.fault in
-    inr (refl, no_sheet _ _ c.in-Ok.joined.text.items j.own j.joined.rows fault)
+    let none = rw c.in-Err-NoSheet.field-0-is at c.in-Err-NoSheet.ensures.fault in
+    inr (refl, record { d = _; read = c.in-Ok.ensures.read.docket_is; none = none })
+
+pub returns-clause-fault : goal.returns-clause-fault
+returns-clause-fault g c = no_memory c.args.docket.now c.args.sheet.now

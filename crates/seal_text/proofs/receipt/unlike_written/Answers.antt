@@ -1,5 +1,5 @@
 use Rattle.std.proofs.Common.{sym, ap, ◌∙◌, ◌++◌, List, ℕ}
-use Rattle.docket_parts.specs.Lines.{line}
+use Rattle.records.specs.Lines.{line}
 use Rattle.csv.specs.Records.{fields_of}
 use Rattle.seal_text.proofs.CheckFacts.{written_more}
 use Rattle.seal_text.proofs.CutFacts.{written_denied}

@@ -1,4 +1,4 @@
-use Rattle.docket_parts.specs.Parts.{rows_of}
+use Rattle.records.specs.Reading.{rows_of}
 use Rattle.seal_text.proofs.ServeFacts.{lists_counted, results_counted}
 use Rattle.seal_text.proofs.serve.text_of_case.Goals as goal
 

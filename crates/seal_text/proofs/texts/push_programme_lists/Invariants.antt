@@ -1,6 +1,6 @@
 use Rattle.std.proofs.Common.{◌≡◌, List, ◌++◌, map}
 use Rattle.std.specs.List.{range_with_len}
-use Rattle.docket_parts.specs.Parts.{Fields}
+use Rattle.records.specs.Reading.{Fields}
 use Rattle.seal_text.specs.Grown.{texts_of}
 use Rattle.seal_text.specs.Records.{AreListsOf}
 use Rattle.seal_text.specs.Texts.{programme_lists}

@@ -1,23 +1,14 @@
-use Rattle.std.proofs.Common.{◌≡◌, ℕ, List, [], Option, Some, ap, sym, ◌∙◌, subst}
-use Rattle.std.specs.Prelude.{unwrap_or}
-use Rattle.match_model.specs.Instance.{Instance}
-use Rattle.match_model.specs.Written.{AreWritten, Written}
-use Rattle.reasons_text.specs.Answers.{AreTaken}
-use Rattle.reasons_text.proofs.AnswerFacts.{made_of_lists, read_of}
+use Rattle.std.proofs.lemmas.Result.{IfErr-weaker, IfOk-weaker}
+use Rattle.reasons_text.proofs.AnswerFacts.{no_case, read_of}
 use Rattle.reasons_text.proofs.case.Case.read_within.Goals as goal
 
-pub new-listed-requires : goal.new-listed-requires
-new-listed-requires g c =
-    subst (λ (i : Instance). AreWritten i c.in-Ok.read.1) (sym c.instance-2.ensures.instance) (made_of_lists _ _ _ _ c.in-Ok.ensures.read)
+pub of_docket-requires : goal.of_docket-requires
+of_docket-requires g c = record { limits = c.args.limits; read = read_of _ _ _ _ c.in-Ok.ensures.read }
 
-pub invariant_of-result : goal.invariant_of-result
-invariant_of-result g c =
-    let has : Some c.in-Some.sheet.now ≡ c.in-Ok.read.0.sheet = c.in-Some.ensures.sheet in
-    let sheet : unwrap_or c.in-Ok.read.0.sheet [] ≡ c.in-Some.sheet.now = ap (λ (o : Option (List (Option ℕ))). unwrap_or o []) (sym has) in
-    record {
-      has_sheet = sym has ∙ ap Some (sym sheet);
-      limits = c.args.limits;
-      read = read_of _ _ _ _ c.in-Ok.ensures.read;
-      taken = subst (λ (m : List (Option ℕ)). AreTaken c.in-Ok.read.1 m c.in_ok-takens.takens.items) (sym sheet)
-          (subst (λ (w : Written). AreTaken w c.in-Some.sheet.now c.in_ok-takens.takens.items) c.new-listed.ensures.written c.in_ok-takens.ensures);
-    }
+pub returns-in-Ok-clause-read : goal.returns-in-Ok-clause-read
+returns-in-Ok-clause-read g c =
+    IfOk-weaker c.of_docket.result _ _ (λ case h. rw (h.0, h.1) c.in-Ok.ensures.read) c.of_docket.ensures.parts
+
+pub returns-in-Ok-clause-fault : goal.returns-in-Ok-clause-fault
+returns-in-Ok-clause-fault g c =
+    IfErr-weaker c.of_docket.result _ _ (λ fault h. no_case _ _ _ _ fault c.in-Ok.ensures.read h) c.of_docket.ensures.fault

@@ -7,8 +7,8 @@ use Rattle.reasons_text.proofs.key.Key.add_all.Goals as goal
 
 pub loop-before-init : goal.loop-before-init
 loop-before-init c =
-    let r = c.rows_of-reader.ensures in
-    rows_start c.args.numbers.now.docket.now c.args.bytes.now (both_of c.args.self.now) c.rows_of-reader.result r.config r.trim r.ready r.state r.source
+    let r = c.in_ok-reader.ensures in
+    rows_start c.args.numbers.now.docket.now c.args.bytes.now (both_of c.args.self.now) c.in_ok-reader.reader r.config r.trim r.ready r.state r.source
 
 pub returns-then-not-branch-clause-all : goal.returns-then-not-branch-clause-all
 returns-then-not-branch-clause-all c =

@@ -1,5 +1,5 @@
 use Rattle.std.proofs.Common.{◌∙◌}
-use Rattle.docket_parts.proofs.LineFacts.{grows_none}
+use Rattle.records.proofs.LineFacts.{grows_none}
 use Rattle.seal_text.specs.Grown.{lists_in, results_in}
 use Rattle.seal_text.specs.Sealed.{programme_receipt}
 use Rattle.seal_text.proofs.Steps.{grows_next}

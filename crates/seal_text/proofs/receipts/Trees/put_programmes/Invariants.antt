@@ -1,5 +1,5 @@
 use Rattle.std.specs.List.{flat_map, range_with_len}
-use Rattle.docket_parts.specs.Lines.{Grows}
+use Rattle.records.specs.Lines.{Grows}
 use Rattle.seal_text.specs.Grown.{lists_in, results_in}
 use Rattle.seal_text.specs.Sealed.{programme_receipt}
 use Rattle.seal_text.proofs.receipts.Trees.put_programmes.Given as goal

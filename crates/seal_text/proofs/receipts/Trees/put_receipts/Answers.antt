@@ -1,5 +1,5 @@
 use Rattle.std.proofs.lemmas.Result.{on_ok_weaker}
-use Rattle.docket_parts.proofs.LineFacts.{grows_both}
+use Rattle.records.proofs.LineFacts.{grows_both}
 use Rattle.seal_text.proofs.receipts.Trees.put_receipts.Goals as goal
 
 pub returns : goal.returns

@@ -1,0 +1,128 @@
+//! In which file a fault is, and at which of the file's records.
+ghost use Rattle.std.specs.Prelude.{◌≡◌};
+ghost use Rattle.docket.specs.FileFault as spec;
+
+use crate::fault::DocketFault;
+use crate::part::Part;
+
+/// A fault of files that are read as parts, with the file in which it is.
+#[derive(Clone, Copy, Debug, PartialEq, Eq)]
+pub struct FileFault {
+    /// The file in which the fault is.
+    pub file: Part,
+    /// The fault. The number in the fault is the record's number in the file.
+    pub fault: DocketFault,
+}
+
+/// Where files end: how many records there are up to the end of the docket's file, and up to the end of the sheet's.
+#[derive(Clone, Copy)]
+pub(crate) struct Ends {
+    pub(crate) docket: u32,
+    pub(crate) sheet: u32,
+}
+
+// The number of the record at fault, or 0 if the fault names no record.
+fn number_of(fault: DocketFault) -> u32
+    ensures { result ≡ spec.number_of fault }
+{
+    match fault {
+        DocketFault::Read { place }
+        | DocketFault::TooManyRecords { place }
+        | DocketFault::TooManyListed { place }
+        | DocketFault::UnknownKind { place }
+        | DocketFault::FieldCount { place }
+        | DocketFault::BadName { place }
+        | DocketFault::BadQuota { place }
+        | DocketFault::DeclaredTwice { place }
+        | DocketFault::UnknownName { place }
+        | DocketFault::Model { place, fault: _ }
+        | DocketFault::BadEvent { place }
+        | DocketFault::BadSheet { place }
+        | DocketFault::BadVersion { place }
+        | DocketFault::BadWithdrawal { place }
+        | DocketFault::AnotherPart { place } => place,
+        DocketFault::Memory | DocketFault::Write => 0,
+    }
+}
+
+// The same fault, at the record with this number. A fault of a reader keeps its number, which the reader counts from the
+// start of its file.
+fn at_place(place: u32, fault: DocketFault) -> DocketFault
+    ensures { result ≡ spec.at_place place fault }
+{
+    match fault {
+        DocketFault::TooManyRecords { .. } => DocketFault::TooManyRecords { place },
+        DocketFault::TooManyListed { .. } => DocketFault::TooManyListed { place },
+        DocketFault::UnknownKind { .. } => DocketFault::UnknownKind { place },
+        DocketFault::FieldCount { .. } => DocketFault::FieldCount { place },
+        DocketFault::BadName { .. } => DocketFault::BadName { place },
+        DocketFault::BadQuota { .. } => DocketFault::BadQuota { place },
+        DocketFault::DeclaredTwice { .. } => DocketFault::DeclaredTwice { place },
+        DocketFault::UnknownName { .. } => DocketFault::UnknownName { place },
+        DocketFault::Model { fault, .. } => DocketFault::Model { place, fault },
+        DocketFault::BadEvent { .. } => DocketFault::BadEvent { place },
+        DocketFault::BadSheet { .. } => DocketFault::BadSheet { place },
+        DocketFault::BadVersion { .. } => DocketFault::BadVersion { place },
+        DocketFault::BadWithdrawal { .. } => DocketFault::BadWithdrawal { place },
+        DocketFault::AnotherPart { .. } => DocketFault::AnotherPart { place },
+        DocketFault::Read { place } => DocketFault::Read { place },
+        DocketFault::Memory => DocketFault::Memory,
+        DocketFault::Write => DocketFault::Write,
+    }
+}
+
+/// A fault of a file's record. So many records of other files come before the file.
+pub(crate) fn there(file: Part, before: u32, fault: DocketFault) -> FileFault
+    ensures { result ≡ spec.there file before fault }
+{
+    let again = fault;
+    let place = number_of(fault).saturating_sub(before);
+    FileFault {
+        file,
+        fault: at_place(place, again),
+    }
+}
+
+// The last file in which such a fault can be. If a list or a sheet lacks something, the fault names the last of all
+// records.
+fn last_file(fault: DocketFault) -> Part
+    ensures { result ≡ spec.last_file fault }
+{
+    match fault {
+        DocketFault::Model { .. } => Part::Docket,
+        DocketFault::BadSheet { .. } => Part::Sheet,
+        _ => Part::Journal,
+    }
+}
+
+// The file of a record, and the record's number in this file. `place` is the record's number among the records of all
+// files.
+fn in_file(ends: &Ends, last: Part, place: u32) -> (Part, u32)
+    ensures { result ≡ spec.in_file ends.now.docket ends.now.sheet last place }
+{
+    if place <= ends.docket {
+        return (Part::Docket, place);
+    }
+    if last == Part::Docket {
+        return (Part::Docket, ends.docket);
+    }
+    if place <= ends.sheet {
+        return (Part::Sheet, place.saturating_sub(ends.docket));
+    }
+    if last == Part::Sheet {
+        return (Part::Sheet, ends.sheet.saturating_sub(ends.docket));
+    }
+    (Part::Journal, place.saturating_sub(ends.sheet))
+}
+
+/// A fault that a later pass finds in the records of all files, with its file.
+pub(crate) fn located(ends: &Ends, fault: DocketFault) -> FileFault
+    ensures { result ≡ spec.located ends.now.docket ends.now.sheet fault }
+{
+    let (last, again) = (last_file(fault), fault);
+    let (file, place) = in_file(ends, last, number_of(fault));
+    FileFault {
+        file,
+        fault: at_place(place, again),
+    }
+}

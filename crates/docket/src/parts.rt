@@ -1,0 +1,149 @@
+//! How a docket is read from the files of a market, each read as its own part.
+ghost use Rattle.std.specs.Prelude.{List, [], ◌≡◌, ◌≤◌, None, Some, IfErr, IfOk, IfSome, OnOk};
+ghost use Rattle.docket.specs.Fields.{Fields};
+ghost use Rattle.docket.specs.Limits.{most_records as most_in};
+ghost use Rattle.docket.specs.Parts.{AreEnds, GoesOn, IsInFiles, IsInFilesWithLists, Tells, fault_of_files, file_fault, files_fault, rows_of_all};
+ghost use Rattle.docket.specs.Passed.{HasPassed, IsPassed};
+ghost use Rattle.docket.specs.Passes.{rows_in};
+ghost use Rattle.docket.specs.Reading.{IsReading};
+ghost use Rattle.docket.specs.WithLists.{lists_if};
+
+use crate::docket::Docket;
+use crate::fault::DocketFault;
+use crate::file_fault::{Ends, FileFault, located, there};
+use crate::part::Part;
+use crate::read::{docket_from, read_part};
+use crate::reading::Reading;
+use match_model::{Limits, WrittenLists};
+use std::alloc::Global;
+use std::hash::RandomState;
+use std::random::RandomSource;
+
+// Reads all records of one more file, with what they declare. The fault has its file.
+fn read_file(
+    alloc: Global,
+    file: Part,
+    bytes: &[u8],
+    reading: &mut Reading,
+) -> Result<(), FileFault>
+    requires within { reading.old.records ≤ most_in reading.old.declared.builder.limits }
+    requires workers { IfSome reading.old.declared.workers (λ n. n ≤ 8) }
+    ensures workers { OnOk result (IfSome reading.new.declared.workers (λ n. n ≤ 8)) }
+    ensures passed { OnOk result ((kept : List Fields) → IsPassed reading.old kept
+        → GoesOn (Some file) kept (Some (rows_in bytes.now)) reading.new) }
+    ensures limits { OnOk result
+        (reading.new.declared.builder.limits ≡ reading.old.declared.builder.limits) }
+    ensures fault { IfErr result (λ e. (kept : List Fields) → IsPassed reading.old kept → Tells
+        (file_fault file reading.old.declared.builder.limits kept (rows_in bytes.now)) e) }
+{
+    let before = reading.records;
+    match read_part(alloc, Some(file), bytes, reading) {
+        Ok(()) => Ok(()),
+        Err(fault) => Err(there(file, before, fault)),
+    }
+}
+
+// Reads all records of three files, each of its own part, with what they declare, and returns where the files end.
+fn read_three(
+    alloc: Global,
+    docket: &[u8],
+    sheet: &[u8],
+    journal: &[u8],
+    reading: &mut Reading,
+) -> Result<Ends, FileFault>
+    requires empty { IsReading reading.old [] }
+    requires workers { IfSome reading.old.declared.workers (λ n. n ≤ 8) }
+    ensures own { OnOk result (files_fault
+        reading.old.declared.builder.limits docket.now sheet.now journal.now ≡ None) }
+    ensures passed { OnOk result
+        (HasPassed (Some (rows_of_all docket.now sheet.now journal.now)) reading.new) }
+    ensures limits { OnOk result
+        (reading.new.declared.builder.limits ≡ reading.old.declared.builder.limits) }
+    ensures ends { IfOk result (AreEnds docket.now sheet.now) }
+    ensures fault { IfErr result (Tells (files_fault
+        reading.old.declared.builder.limits docket.now sheet.now journal.now)) }
+{
+    read_file(alloc, Part::Docket, docket, reading)?;
+    let first = reading.records;
+    read_file(alloc, Part::Sheet, sheet, reading)?;
+    let second = reading.records;
+    read_file(alloc, Part::Journal, journal, reading)?;
+    Ok(Ends {
+        docket: first,
+        sheet: second,
+    })
+}
+
+// Reads a docket from three files. The docket's lists are returned if `keeps_lists` is set.
+fn parts_as<H: RandomSource>(
+    rt: &H,
+    alloc: Global,
+    limits: Limits,
+    docket: &[u8],
+    sheet: &[u8],
+    journal: &[u8],
+    keeps_lists: bool,
+) -> Result<(Docket, Option<WrittenLists>), FileFault>
+    ensures docket { IfOk result (λ read.
+        IsInFiles limits docket.now sheet.now journal.now read.0) }
+    ensures lists { IfOk result (λ read.
+        read.1 ≡ lists_if keeps_lists (rows_of_all docket.now sheet.now journal.now)) }
+    ensures fault { IfErr result
+        (Tells (fault_of_files limits docket.now sheet.now journal.now)) }
+{
+    let Ok(keys) = RandomState::new(rt) else {
+        return Err(FileFault {
+            file: Part::Docket,
+            fault: DocketFault::Read { place: 1 },
+        });
+    };
+    let mut reading = Reading::new(alloc, keys, limits);
+    let ends = read_three(alloc, docket, sheet, journal, &mut reading)?;
+    match docket_from(alloc, reading, keeps_lists) {
+        Ok(read) => Ok(read),
+        Err(fault) => Err(located(&ends, fault)),
+    }
+}
+
+/// Reads a docket from the files of a market within these limits. A missing file counts as empty. The docket is that of
+/// the records of the files, one file after another. An open quote, a byte order mark or an unfinished last line in one
+/// file changes no record of another file.
+///
+/// The reported fault is the first fault that these records have by the four passes. A record of another part has a
+/// fault of the first pass.
+pub fn read_parts<H: RandomSource>(
+    rt: &H,
+    alloc: Global,
+    limits: Limits,
+    docket: &[u8],
+    sheet: &[u8],
+    journal: &[u8],
+) -> Result<Docket, FileFault>
+    ensures docket { IfOk result (IsInFiles limits docket.now sheet.now journal.now) }
+    ensures fault { IfErr result
+        (Tells (fault_of_files limits docket.now sheet.now journal.now)) }
+{
+    let (docket, _) = parts_as(rt, alloc, limits, docket, sheet, journal, false)?;
+    Ok(docket)
+}
+
+/// Reads a docket as `read_parts` does, and also returns its lists as they were written.
+pub fn read_parts_with_lists<H: RandomSource>(
+    rt: &H,
+    alloc: Global,
+    limits: Limits,
+    docket: &[u8],
+    sheet: &[u8],
+    journal: &[u8],
+) -> Result<(Docket, WrittenLists), FileFault>
+    ensures read { IfOk result (λ read.
+        IsInFilesWithLists limits docket.now sheet.now journal.now read.0 read.1) }
+    ensures fault { IfErr result
+        (Tells (fault_of_files limits docket.now sheet.now journal.now)) }
+{
+    let (docket, lists) = parts_as(rt, alloc, limits, docket, sheet, journal, true)?;
+    let Some(lists) = lists else {
+        unreachable!("the lists are kept");
+    };
+    Ok((docket, lists))
+}

@@ -1,5 +1,0 @@
-pub mod Parts
-pub mod Lines
-pub mod Reading
-pub mod Joined
-pub mod Place

@@ -1,0 +1,18 @@
+//! The laws of receipts that agree: what all members' receipts together show of a placement.
+
+ghost use Rattle.match_reasons.specs.Pairs.{HonestLaw, PairsLaw, RoomLaw};
+
+/// If each member's receipt is good and each pair's receipts agree, the placement that they tell is stable.
+pub fn law_pairs()
+    ensures { PairsLaw }
+{}
+
+/// If a placement is stable and each reason is the first true answer, all receipts are good and agree.
+pub fn law_honest()
+    ensures { HonestLaw }
+{}
+
+/// If `full` agrees with a programme's receipt, the last rank told is at least the number of places.
+pub fn law_room()
+    ensures { RoomLaw }
+{}

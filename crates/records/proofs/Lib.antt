@@ -1,0 +1,4 @@
+pub mod ReadFacts
+pub mod LineFacts
+pub mod RoundFacts
+pub mod SplitFacts

@@ -1,0 +1,17 @@
+-- How the known records are those that were read and those that are left.
+use Rattle.std.proofs.Common.{◌≡◌, ◌∷◌, [], ℕ, List, ◌++◌, true, refl, sym, ap, ◌∙◌, append_assoc, Option, Some, None}
+use Rattle.records.specs.Reading.{Fields, GivesRow, IsSplit}
+
+-- before the first record is read, all records remain
+pub split_start : (all : Option (List Fields)) → IsSplit all [] all
+split_start None = tt
+split_start (Some rows) = (rows, refl, refl)
+
+-- the records read so far, after one more record is read
+pub split_more : (all : Option (List Fields)) (done : List Fields) (left after : Option (List Fields)) (row : Fields)
+    → IsSplit all done left → GivesRow left after true row → IsSplit all (done ++ row ∷ []) after
+split_more None done left after row s g = tt
+split_more (Some rows) done None after row s g = cc s.1
+split_more (Some rows) done (Some l) after row s g =
+    let same : l ≡ s.0 = cc s.1 in
+    (g.0, g.1, s.2 ∙ ap (λ (r : List Fields). done ++ r) (sym same ∙ g.2) ∙ sym (append_assoc done (row ∷ []) g.0))

@@ -1,0 +1,81 @@
+"""What a killed command left behind: a folder under way, which no command holds any more. The next command says so, and removes it.
+
+Who makes such a folder holds a lock on it for as long as it lives, however it ends. Where a file system has no locks, nothing is
+removed."""
+import fcntl
+import os
+import re
+import stat
+import time
+from contextlib import contextmanager
+from pathlib import Path
+from typing import Iterator, List
+
+from . import stopping
+from .telling import complain
+
+PART = re.compile(r"\.part-[0-9a-f]{32}")
+# How often another command's hold on the folder around is waited for, a hundredth of a second each time.
+MOST_TRIES = 100
+
+
+def is_held(number: int, tries: int = 1) -> bool:
+    """Whether this process has the lock of an open folder now."""
+    for _ in range(tries):
+        try:
+            fcntl.flock(number, fcntl.LOCK_EX | fcntl.LOCK_NB)
+            return True
+        except BlockingIOError:
+            time.sleep(0.01 if tries > 1 else 0)
+        except OSError:
+            return False
+    return False
+
+
+def opened(path: Path) -> int:
+    return os.open(path, os.O_RDONLY | os.O_DIRECTORY | os.O_NOFOLLOW | os.O_CLOEXEC)
+
+
+def is_left(path: Path) -> bool:
+    """Whether a folder is this user's own, and nobody holds it."""
+    if not stat.S_ISDIR(path.lstat().st_mode) or path.lstat().st_uid != os.getuid():
+        return False
+    number = opened(path)
+    try:
+        return is_held(number)
+    finally:
+        os.close(number)
+
+
+def clear(around: Path) -> List[str]:
+    """Removes what killed commands left in a folder, and answers its names."""
+    gone: List[str] = []
+    for path in sorted(around.iterdir()):
+        try:
+            if PART.fullmatch(path.name) and is_left(path):
+                stopping.remove(path)
+                gone.append(path.name)
+        except OSError:
+            continue
+    return gone
+
+
+@contextmanager
+def made(part: Path) -> Iterator[None]:
+    """Makes a folder under way, for its owner alone, and holds it; first removes what killed commands left beside it, and says so.
+    OSError where it can't be made."""
+    around = os.open(part.parent, os.O_RDONLY | os.O_DIRECTORY | os.O_CLOEXEC)
+    try:
+        # No other command looks for what was left between the making of a folder and the hold on it.
+        gone = clear(part.parent) if is_held(around, MOST_TRIES) else []
+        part.mkdir(mode=0o700)
+        number = opened(part)
+        is_held(number)
+    finally:
+        os.close(around)
+    for name in gone:
+        complain(f"a run that was killed left {name}, which was removed")
+    try:
+        yield
+    finally:
+        os.close(number)

@@ -1,0 +1,240 @@
+"""The office's steps as a library: bytes and settings in, values out.
+
+Nothing here prints, ends a process, or reads a path that isn't given. What strangers send, the two tables, is read in a process of
+its own, whose limits grow with the bytes. A step that may take long tells its progress by a call.
+"""
+from dataclasses import dataclass, field
+from datetime import date
+from typing import TYPE_CHECKING, Callable, Dict, Iterator, List, Optional, Sequence, Tuple
+
+from ..errors import DocketFault
+from ..market import Market
+from ..passes import Passes
+from ..program import DEFAULT_TIMEOUT
+from ..records import records
+from . import compare as changes_of
+from . import folder, letters as written, running, sealing, seal as seals
+from .apart import Costly, Limits, Progress, apart
+from .compare import Change
+from .faults import Fault, Faults, OfficeError
+from .headings import Words, columns_of
+from .lists import market_of
+from .outcome import Details
+from .page import About
+from .running import Kept, Matched, Run, Wishes
+from .settings import TABLES, Settings
+from .tables import Given, Table, heading_of, opened, read_table
+from .tree import Roots
+
+if TYPE_CHECKING:
+    from .verify import Checked, FromTables, Published, Verified
+
+__all__ = ["Compared", "Given", "Kept", "Limits", "Look", "Matched", "Read", "Run", "Settings", "Wishes", "Withdrawn", "check", "compare",
+           "details_of", "letters", "lint", "look", "match", "seal", "sealed", "verify", "withdraw", "write"]
+OWNERS = dict(zip(TABLES, ("programme", "resident")))
+# So many rows below the heading are shown of a table.
+MOST_PREVIEW = 10
+
+
+def quietly(_: object) -> None:
+    """Says nothing of the progress."""
+
+
+@dataclass
+class Read:
+    """Both tables as they were read: their market, where there is no fault."""
+
+    tables: Tuple[Table, ...]
+    faults: Faults
+    market: Optional[Market] = None
+
+    def notes(self) -> List[Fault]:
+        return [note for table in self.tables for note in table.notes]
+
+    def sheets(self) -> Dict[str, str]:
+        """The sheet of each table that is a workbook."""
+        return {table.name: table.rows.sheet for table in self.tables if table.rows.sheet is not None}
+
+
+class TablesError(OfficeError):
+    """The tables are at fault: what was read of them has every fault. Exit status 3."""
+
+    def __init__(self, read: Read) -> None:
+        super().__init__("the tables are at fault", 3)
+        self.read, self.faults = read, read.faults
+
+
+@dataclass
+class Look:
+    """What one table is, before it is read as a whole: its character set and what parts its cells, the sheets of a workbook, the
+    heading row with what each column means, and the first rows below it."""
+
+    table: str
+    encoding: str = ""
+    delimiter: str = ""
+    sheet: Optional[str] = None
+    sheets: Sequence[str] = ()
+    heading_row: int = 0
+    headings: Sequence[str] = ()
+    meanings: Sequence[str] = ()
+    preview: Sequence[Tuple[int, List[str]]] = ()
+    faults: Faults = field(default_factory=Faults)
+
+
+def read(programmes: Given, residents: Given, settings: Settings, progress: Progress = quietly) -> Read:
+    """Reads both tables in this process."""
+    faults, words, tables = Faults(), Words(settings.heading, settings.ignore, settings.keep), []
+    for name, given in zip(TABLES, (programmes, residents)):
+        progress(name)
+        tables.append(read_table(given, name, OWNERS[name], words, settings, faults))
+    progress("lists")
+    done = Read(tuple(tables), faults, market_of(tables[0], tables[1], faults, settings))
+    for table in tables:
+        # The lists are in the market now, or nobody asks for them.
+        table.rows.rows = iter(())
+        table.unread = {}
+        for entry in table.entries:
+            entry.items = []
+    return done
+
+
+def check(programmes: Given, residents: Given, settings: Settings, progress: Progress = quietly, limits: Optional[Limits] = None) -> Read:
+    """Reads both tables in a process of its own. What needs more than the limits is a fault of the table that was being read."""
+    most = limits or Limits.of(len(programmes.data) + len(residents.data))
+    try:
+        done = apart(most, "read", (programmes, residents, settings), progress)
+    except Costly as costly:
+        return Read((), costly_at(costly))
+    assert isinstance(done, Read)
+    return done
+
+
+def costly_at(costly: Costly) -> Faults:
+    faults = Faults()
+    values = {"seconds": costly.limits.seconds, "megabytes": costly.limits.megabytes}
+    faults.tell(costly.what, costly.at if costly.at in TABLES else TABLES[0], None, None, values)
+    return faults
+
+
+def looked_at(given: Given, name: str, settings: Settings, progress: Progress = quietly) -> Look:
+    """Looks at one table in this process."""
+    progress(name)
+    look, words = Look(name), Words(settings.heading, settings.ignore, settings.keep)
+    text, rows, _ = opened(given.data, name, words, settings, look.faults)
+    look.encoding, look.delimiter, look.sheet = text.encoding, rows.delimiter, rows.sheet
+    look.sheets = rows.sheets or [name for fault in look.faults.every() for name in fault.values.get("sheets", ())]
+    look.heading_row, look.headings = heading_of(rows, settings.heading_row.get(name, 1))
+    look.preview = [row for row, _ in zip(rows.rows, range(MOST_PREVIEW))]
+    if look.heading_row:
+        columns = columns_of(name, OWNERS[name], look.heading_row, list(look.headings), words, look.faults)
+        look.meanings = columns.meanings(OWNERS[name]) if columns is not None else ()
+    return look
+
+
+def look(given: Given, name: str, settings: Settings, progress: Progress = quietly, limits: Optional[Limits] = None) -> Look:
+    """Looks at one table, `programmes` or `residents`, in a process of its own."""
+    try:
+        done = apart(limits or Limits.of(len(given.data)), "looked_at", (given, name, settings), progress)
+    except Costly as costly:
+        return Look(name, faults=costly_at(costly))
+    assert isinstance(done, Look)
+    return done
+
+
+def lint(docket: bytes) -> Iterator[DocketFault]:
+    """Every fault of a docket, one at a time as they are found."""
+    return Passes().faults(records(docket))
+
+
+def details_of(residents: Table, market: Market) -> Details:
+    """What the table of residents has besides, in the market's names, which are in its order."""
+    named = list(zip(market.resident_lists, residents.entries))
+    return Details({name: entry.family for name, entry in named if entry.family}, tuple(residents.kept),
+                   {name: tuple(entry.kept) for name, entry in named if entry.kept})
+
+
+def match(market: Market, details: Details, timeout: float = DEFAULT_TIMEOUT, progress: Progress = quietly) -> Matched:
+    """Matches a market, audits its sheet and replays its journal by the built program."""
+    progress("match")
+    return running.matched(market, timeout, details)
+
+
+def write(out: str, matched: Matched, wishes: Wishes, manifest: Dict[str, object], secret: bytes = b"", before: Optional[Kept] = None,
+          changes: Optional[Sequence[Change]] = None, progress: Progress = quietly) -> Optional[Roots]:
+    """Writes all that comes of a match into a new folder. With a secret it is a sealed one, whose roots are answered, and where
+    another was sealed `before`, the lists have to be those."""
+    progress("folder")
+    with folder.new_folder(out, private=bool(secret), readable=wishes.readable) as draft:
+        if changes is not None:
+            draft.write(folder.CHANGES, changes_of.changes_table(changes))
+        roots = running.fill(draft, matched, wishes, manifest, secret)
+        return roots if before is None else sealing.same_lists(before, roots)
+
+
+def seal(out: str, market: Market, details: Details, wishes: Wishes, manifest: Dict[str, object], progress: Progress = quietly) -> Roots:
+    """Seals a market into a new folder."""
+    progress("folder")
+    return sealing.seal(out, market, details, wishes, manifest)
+
+
+def sealed(path: str) -> Kept:
+    """A folder that was sealed, read again."""
+    return sealing.sealed_folder(path)
+
+
+@dataclass(frozen=True)
+class Withdrawn:
+    """A folder's market with members withdrawn besides: who they are, and where it was matched, its match and what changed."""
+
+    before: Kept
+    market: Market
+    gone: Sequence[str]
+    matched: Optional[Matched] = None
+    changes: Sequence[Change] = ()
+
+    def secret(self) -> bytes:
+        """A new secret, where the folder was sealed."""
+        return seals.new_secret() if self.before.is_sealed() else b""
+
+
+def withdraw(before: Kept, programmes: Sequence[str] = (), residents: Sequence[str] = (), either: Sequence[str] = (),
+             timeout: float = DEFAULT_TIMEOUT, progress: Progress = quietly) -> Withdrawn:
+    """Matches a folder's market again with these members withdrawn; one without a match stays without."""
+    market = running.withdrawn(before, programmes, residents, either)
+    out_before = {*before.market.withdrawn_programmes, *before.market.withdrawn_residents}
+    gone = [name for name in (*market.withdrawn_programmes, *market.withdrawn_residents) if name not in out_before]
+    if not isinstance(before, Run):
+        return Withdrawn(before, market, gone)
+    result = match(market, before.details, timeout, progress)
+    return Withdrawn(before, market, gone, result, changes_of.changes(before.outcome, result.outcome))
+
+
+@dataclass(frozen=True)
+class Compared:
+    """Two matches side by side: each figure of both, and every member who stands otherwise."""
+
+    before: Run
+    now: Run
+    figures: Sequence[Tuple[str, str, str]]
+    changes: Sequence[Change]
+
+
+def compare(before: Run, now: Run) -> Compared:
+    pairs = zip(changes_of.figures_of(before.outcome), changes_of.figures_of(now.outcome))
+    return Compared(before, now, [(what, was, is_now) for (what, was), (_, is_now) in pairs],
+                    changes_of.changes(before.outcome, now.outcome))
+
+
+def letters(run: Run, template: Optional[str] = None, day: Optional[date] = None, title: str = "") -> written.Letters:
+    """The letters of a match: `all()` has each resident's, and `page()` all of them on one page."""
+    about = About(title or run.title(), day or run.day(), run.digests(), run.roots())
+    return written.Letters(run.market, run.outcome, about, template)
+
+
+def verify(path: str, timeout: float = DEFAULT_TIMEOUT, published: "Optional[Dict[str, Published]]" = None,
+           tables: "Optional[FromTables]" = None, progress: "Callable[[Checked], object]" = quietly) -> "Verified":
+    """Checks a folder of results, against the roots that were published where it was sealed and the tables where they are given;
+    `progress` is given each line as soon as it is known."""
+    from .verify import Verifier
+
+    return Verifier(path, timeout, published or {}, tables, progress).verify()
