@@ -11,7 +11,7 @@ from pathlib import Path
 from typing import List, Sequence
 from unittest import mock
 
-from residency.office import stopping, writing
+from residency.office import leftover, stopping, writing
 from residency.office.faults import OfficeError
 from residency.program import find_program
 from support import OFFICE, PROGRAMMES, RESIDENTS, TOP, OfficeTest, office
@@ -224,6 +224,22 @@ class Stops(OfficeTest):
             self.assertEqual((said.status, said.err, len(gone)), (0, f"office: a run that was killed left {gone[0]}, which was removed\n", 1))
             _, err = running.communicate(timeout=100)
         self.assertEqual((running.returncode, err, self.left()), (0, b"", ["next", "out"]))
+
+    def test_what_is_removed_is_not_left(self) -> None:
+        """A folder is held until it is removed, and what was removed before it could be held was not left."""
+        part, remove, left = self.folder / f".part-{'3' * 32}", stopping.remove, []
+
+        def look(path: Path) -> None:
+            if path.exists():
+                left.append(leftover.is_left(path))
+            remove(path)
+
+        with mock.patch.object(stopping, "remove", look), stopping.unfinished(part), leftover.made(part):
+            pass
+        self.assertEqual((left, part.exists()), ([False], False))
+        part.mkdir()
+        with mock.patch.object(leftover, "is_held", lambda number: part.rmdir() is None):
+            self.assertFalse(leftover.is_left(part))
 
     def test_what_only_looks_left(self) -> None:
         """Another name, a file, a link and, where no lock is had, a folder stay."""

@@ -37,12 +37,12 @@ def opened(path: Path) -> int:
 
 
 def is_left(path: Path) -> bool:
-    """Whether a folder is this user's own, and nobody holds it."""
+    """Whether a folder is this user's own, and nobody holds it. What its maker has removed meanwhile was not left."""
     if not stat.S_ISDIR(path.lstat().st_mode) or path.lstat().st_uid != os.getuid():
         return False
     number = opened(path)
     try:
-        return is_held(number)
+        return is_held(number) and path.exists()
     finally:
         os.close(number)
 
@@ -62,8 +62,8 @@ def clear(around: Path) -> List[str]:
 
 @contextmanager
 def made(part: Path) -> Iterator[None]:
-    """Makes a folder under way, for its owner alone, and holds it; first removes what killed commands left beside it, and says so.
-    OSError where it can't be made."""
+    """Makes a folder under way, for its owner alone, and holds it until it has another name or is removed; first removes what killed
+    commands left beside it, and says so. OSError where it can't be made."""
     around = os.open(part.parent, os.O_RDONLY | os.O_DIRECTORY | os.O_CLOEXEC)
     try:
         # No other command looks for what was left between the making of a folder and the hold on it.
@@ -78,4 +78,5 @@ def made(part: Path) -> Iterator[None]:
     try:
         yield
     finally:
+        stopping.remove(part)
         os.close(number)
