@@ -31,7 +31,7 @@ class Block(NamedTuple):
 
 
 def blocks(page: str) -> "List[Block]":
-    found = re.findall(r"^`(crates/\S+)`:\n\n```(rust)?\n(.*?)^```$", page, re.M | re.S)
+    found = re.findall(r"^`(crates/\S+)`:\n```(rust)?\n(.*?)^```$", page, re.M | re.S)
     dense = [it for text in re.findall(r"^```\n(-- crates/.*?)^```$", page, re.M | re.S) for it in dense_blocks(text)]
     return [*dense, *(Block(path, bool(rust), text) for path, rust, text in found)]
 
@@ -144,9 +144,10 @@ def members(code: str) -> "List[str]":
 
 
 def flat(lines: "Iterable[str]") -> str:
-    """Lines as one, with a single blank between words, and of comments the words alone."""
+    """Lines as one, with a single blank between words and none inside a bracket's ends, and of comments the words alone."""
     stripped = (it.strip() for it in lines)
-    return f" {' '.join(' '.join(re.sub(r'^(?:///?|--)(?= )', '', it) for it in stripped).split())} "
+    text = " ".join(" ".join(re.sub(r"^(?:///?|--)(?= )", "", it) for it in stripped).split())
+    return f" {text.replace('( ', '(').replace(' )', ')')} "
 
 
 def restored(text: str, source: str, path: str) -> str:
@@ -207,7 +208,7 @@ def rust_faults(block: Block, source: str) -> "Iterator[str]":
                 yield f"{block.path}: {trait} of {owner} has no {item}"
         code = re.sub(r"^impl \w+ for .*\n?", "", code, flags=re.M)
         if kind == "fn":
-            if flat(code.split("\n")) != flat(contract(source, name)):
+            if words(code) != words("\n".join(contract(source, name))):
                 yield f"{block.path}: the contract of {name} isn't the source's"
         elif kind == "trait":
             own = declaration(words(source), kind, name)
@@ -314,8 +315,10 @@ def nowhere(page: str) -> "List[str]":
     """The names that a definition or a contract of the page uses, and that the page neither defines, binds nor explains."""
     found = blocks(page)
     everything = "\n".join(it.text for it in found)
-    known = defined(everything) | WORDS | set(re.findall(r"^\| `(?:[\w.]*\.)?(\w+)`", page, re.M)) | set(re.findall(r"`([A-Za-z]\w+)", page.split("## The theorem")[0]))
-    known |= set(re.findall(r"^`crates/\S+`:\n\n```rust\n(?:.*\n)*?pub fn (\w+)", page, re.M))
+    known = defined(everything) | WORDS
+    known |= {it for row in re.findall(r"^\| (`[^|]*`) \|", page, re.M) for it in re.findall(r"`(?:[\w.]*\.)?(\w+)`", row)}
+    known |= set(re.findall(r"`([A-Za-z]\w+)", page.split("## The theorem")[0]))
+    known |= set(re.findall(r"^`crates/\S+`:\n```rust\n(?:.*\n)*?pub fn (\w+)", page, re.M))
     variants = re.findall(r"^(?:pub(?:\(crate\))? )?enum [\w:]+(?:<[^{]*>)? \{(.*?)\}$", everything, re.M | re.S) + re.findall(r"^  (\w+) : ", everything, re.M)
     known |= {name for it in variants for name in re.findall(r"\b[A-Z]\w*", it)}
     missing: "Set[str]" = set()

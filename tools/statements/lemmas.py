@@ -42,7 +42,7 @@ def crates_with_lemmas(top: str) -> List[str]:
 
 
 def of_crate(top: str, crate: str) -> str:
-    """The table for the crate's README."""
+    """A line for each file of lemmas of a crate, as a table."""
     folder = f"{top}/crates/{crate}/proofs"
     rows: List[str] = ["| File of lemmas | What it has |", "|---|---|"]
     for name in modules_of(folder):

@@ -94,7 +94,36 @@ class Names:
 
     def text(self, item: Item) -> List[str]:
         """A definition's lines as the page has them."""
-        return [part for line in item.text for part in broken(self.line(item, line))]
+        return packed([part for line in item.text for part in broken(self.line(item, line))])
+
+
+def wrapped(comment: List[str]) -> List[str]:
+    """A comment's lines, each as long as the page is wide."""
+    marks = [re.match(r"\s*(?:///?|--) ?", it) for it in comment]
+    text = " ".join(line[len(mark[0]):].strip() for line, mark in zip(comment, marks) if mark)
+    return broken(f"{marks[0][0]}{text}") if marks and marks[0] else []
+
+
+def goes_on(line: str, margin: int) -> bool:
+    """Whether a line belongs to the one above: no equation, field, branch or clause begins there."""
+    begins = r"(?:pub |requires |ensures |ghost |fn |const |type |impl |else |[\w:]+ : |// )"
+    deeper = len(line) - len(line.lstrip()) > margin
+    return (deeper or line.lstrip()[:1] in ("}", ")")) and not re.match(rf"\s*{begins}", line)
+
+
+def packed(lines: List[str]) -> List[str]:
+    """The lines of a definition or a contract, where what goes on stands on the line above as far as that has room."""
+    margin = len(lines[0]) - len(lines[0].lstrip())
+    out: List[str] = []
+    for line in lines:
+        above = out[-1] if out else ""
+        is_inside = above.endswith("(") or line.lstrip().startswith(")")
+        more = (above.rstrip(",") if line.startswith(")") else above) + line.strip() if is_inside else f"{above} {line.strip()}"
+        if out and goes_on(line, margin) and len(more) <= WIDTH and not above.startswith("impl ") and not above.endswith("};"):
+            out[-1] = more
+        else:
+            out.append(line)
+    return out
 
 
 def break_of(line: str, floor: int) -> int:

@@ -34,7 +34,7 @@ RECIPES: Dict[str, Recipe] = {
     ]),
     "lemma": Recipe("the file of lemmas `exchange_core/proofs/Dues`", r"\bexchange_core\.proofs\.Dues\b|^pub mod Dues$|\bproofs/Dues\b", [
         "A lemma for two functions goes into the file of `proofs/` with its subject. A new file begins with a comment that says what it has.",
-        "The folder's `Lib` has to list the file. `tools/pages --write` adds the file to the map of the crate's README.",
+        "The folder's `Lib` has to list the file. `tools/pages lemmas CRATE` then prints a line for it.",
     ]),
     "command": Recipe("the command `replay`", r"\bserve_replay\b|\breplay-help\b|\bOrder(?:::|\.)Replay\b|\bresidency replay\b", [
         "First define what the words of the command order, and what the command writes. Then write the call that serves it, with its statuses.",
@@ -104,7 +104,7 @@ def shown(path: str) -> str:
 
 
 def recipe(top: str, kind: str) -> str:
-    """The recipe as a page has it."""
+    """The recipe as it is told."""
     alike, _, steps = RECIPES[kind]
     paths = found(top, kind)
     groups: Dict[str, List[str]] = {}

@@ -121,7 +121,8 @@ def read_source(path: str, lines: List[str]) -> Tuple[Dict[str, Item], Dict[str,
             if kind == "const":
                 part.types = ""
             fits = len(text) <= 116 or kind not in ("struct", "enum") or part.value
-            item.text = [text] if fits else [f"{text.partition(' {')[0]} {{", *[f"    {it}," for it in pieces(body)], "}"]
+            *upper, last = pieces(body) or [""]
+            item.text = [text] if fits else [f"{text.partition(' {')[0]} {{", *[f"    {it}," for it in upper], f"    {last} }}"]
     return items, parts
 
 
