@@ -13,7 +13,7 @@ from typing import Dict, Iterable, Mapping, Optional, Tuple
 TOP = Path(__file__).resolve().parent
 PURE = "py3-none-any"
 # The file of the package that is put on the path as residency-office.
-START = "residency/office/start.py"
+START = "residency/office/start.sh"
 # A clone has this among its examples.
 OPINION = "residency/office/second-opinion.py"
 # By its path the bytes of a file, and whether it is a program.
@@ -72,9 +72,9 @@ def packed(files: Files, version: str, tag: str = PURE, scripts: str = "") -> by
 
 
 def office_script(files: Files, version: str) -> Dict[str, Tuple[bytes, bool]]:
-    """What a wheel of these files puts on the path for the office, where they have its command: pip writes its own Python's name."""
+    """What a wheel of these files puts on the path for the office, where they have its command."""
     made = f"{_field('name')}-{version}.data/scripts/residency-office"
-    return {made: (b"#!python\n" + files[START][0], True)} if START in files else {}
+    return {made: (files[START][0].replace(b"@VERSION@", version.encode("ascii")), True)} if START in files else {}
 
 
 def _package() -> Iterable[Path]:

@@ -1,16 +1,20 @@
 """What the command never does: run code of the folder where it is started, write over what stands or through a link, leave half
 of anything behind, or end by a traceback, whenever it is stopped."""
 import os
+import resource
 import shutil
 import signal
 import stat
 import subprocess
 import sys
 import time
+import venv
+import zipfile
 from pathlib import Path
-from typing import List, Sequence
+from typing import List, Sequence, Tuple
 from unittest import mock
 
+import build_wheel
 from residency.office import leftover, stopping, writing
 from residency.office.faults import OfficeError
 from residency.program import find_program
@@ -19,13 +23,14 @@ from support import OFFICE, PROGRAMMES, RESIDENTS, TOP, OfficeTest, office
 # Modules that the command, or Python's own start, imports or could import; a file of each stands in the current folder.
 SHADOWS = ("csv", "json", "argparse", "re", "signal", "enum", "secrets", "zipfile", "sitecustomize", "usercustomize", "hashlib",
            "unicodedata", "subprocess", "encodings", "residency", "command")
-# Starts the command as the launchers do, with files that take a while to write, so that a signal finds it there.
+# Starts the command as the launchers do, with files that take a while to write and to get their names, so that a signal finds it there.
 SLOW = """
 import runpy, sys, time
 sys.path.insert(0, sys.argv.pop(1))
-from residency.office import folder
-write = folder.Draft.write
+from residency.office import folder, writing
+write, settle = folder.Draft.write, writing.settle
 folder.Draft.write = lambda *words: (time.sleep(0.05), write(*words))[1]
+writing.settle = lambda *words: (time.sleep(9), settle(*words))[1]
 runpy.run_path(sys.path[0] + "/residency/office/__main__.py", run_name="__main__")
 """
 
@@ -39,7 +44,19 @@ def installed(at: Path) -> List[str]:
     shutil.copy(TOP / "office", clone)
     shutil.copytree(TOP / "tools", clone / "tools", ignore=shutil.ignore_patterns("__pycache__"))
     shutil.copy(TOP / "packaging" / "office", release / "bin" / "residency-office")
+    shutil.copy(TOP / "examples" / "second-opinion.py", release / "lib" / "residency" / "python" / "residency" / "office")
     return [str(clone / "office"), str(release / "bin" / "residency-office")]
+
+
+def in_a_wheel(at: Path) -> str:
+    """Puts the package's wheel into an environment of its own, as pip does, and answers its command."""
+    venv.create(at, symlinks=True)
+    (site,) = at.glob("lib/python3*/site-packages")
+    with zipfile.ZipFile(at / build_wheel.build_wheel(str(at))) as wheel:
+        wheel.extractall(site)
+    (script,) = site.glob("*.data/scripts/residency-office")
+    script.chmod(0o755)
+    return str(script.rename(at / "bin" / script.name))
 
 
 def mode_of(path: Path) -> int:
@@ -130,8 +147,8 @@ class Places(OfficeTest):
 
 
 class Stops(OfficeTest):
-    def slow(self, ignored: Sequence[int] = ()) -> subprocess.Popen:
-        words = [sys.executable, "-c", SLOW, str(TOP / "python"), "run", *self.tables(), "--out", str(self.folder / "out")]
+    def slow(self, ignored: Sequence[int] = (), does: Sequence[str] = ()) -> subprocess.Popen:
+        words = [sys.executable, "-c", SLOW, str(TOP / "python"), *(does or ["run", *self.tables(), "--out", str(self.folder / "out")])]
 
         def ignore() -> None:
             for number in ignored:
@@ -176,37 +193,56 @@ class Stops(OfficeTest):
                 mock.patch.object(stopping, "remove", remove):
             said = office("run", *self.tables(), "--out", self.folder / "out")
         self.assertEqual((said.status, said.out, said.err, self.left()), (1, "", "office: interrupted\n", []))
-        self.assertEqual(came, list(stopping.SIGNALS))
+        # Once while the folder is held, and again at the end, where it is gone.
+        self.assertEqual(came, list(stopping.SIGNALS) * 2)
         # Whoever calls the command from Python has their own handlers again.
         self.assertEqual([signal.getsignal(number) for number in stopping.SIGNALS], before)
 
     def test_ctrl_c_at_any_moment(self) -> None:
-        """It goes to all processes of the terminal, as here to a group of them. What came too early for the command is the
-        shell's own end, without a line; what came too late is a run that is done."""
-        files = self.tables()
-        env = {**os.environ, "RESIDENCY_BIN": str(find_program())}
-        words = [OFFICE, "run", *files, "--out", str(self.folder / "out")]
-        started = time.monotonic()
-        subprocess.run(words, env=env, capture_output=True, check=True)
-        whole, ends = time.monotonic() - started, set()
-        for step in range(14):
-            shutil.rmtree(self.folder / "out", ignore_errors=True)
-            running = subprocess.Popen(words, env=env, stdout=subprocess.PIPE, stderr=subprocess.PIPE, start_new_session=True)
-            with running:
-                time.sleep(whole * step / 12)
-                try:
-                    os.killpg(running.pid, signal.SIGINT)
-                except ProcessLookupError:
-                    pass
-                out, err = running.communicate(timeout=100)
-            ends.add(running.returncode)
-            self.assertIn(running.returncode, (0, 1, -signal.SIGINT, 128 + signal.SIGINT), err)
-            line = b"office: interrupted\n"
-            self.assertIn(err, {0: (b"",), 1: (line,)}.get(running.returncode, (b"", line)))
-            self.assertIn(self.left(), ([], ["out"]))
-            if self.left() == ["out"]:
-                self.assertTrue((self.folder / "out" / "SHA256SUMS").exists())
-        self.assertIn(1, ends)
+        """In each form of installation. It goes to all processes of the terminal, as here to a group of them. What came too early
+        for the command is the shell's own end, without a line; what came too late is a run that is done."""
+        at = self.folder / "installed"
+        out, env = self.folder / "out", {**os.environ, "RESIDENCY_BIN": str(find_program())}
+        for launcher in (OFFICE, installed(at)[1], in_a_wheel(at / "wheel")):
+            words, ends = [launcher, "run", *self.tables(), "--out", str(out)], set()
+            shutil.rmtree(out, ignore_errors=True)
+            started = time.monotonic()
+            subprocess.run(words, env=env, capture_output=True, check=True)
+            whole = time.monotonic() - started
+            done = subprocess.run([launcher, "verify", str(out)], env=env, capture_output=True)
+            self.assertEqual((done.returncode, done.stderr, b"second opinion: S,stable" in done.stdout), (0, b"", True), launcher)
+            for wait in [whole * step / 12 for step in range(14)]:
+                shutil.rmtree(out, ignore_errors=True)
+                with subprocess.Popen(words, env=env, stdout=subprocess.PIPE, stderr=subprocess.PIPE, start_new_session=True) as running:
+                    time.sleep(wait)
+                    try:
+                        os.killpg(running.pid, signal.SIGINT)
+                    except ProcessLookupError:
+                        pass
+                    _, err = running.communicate(timeout=100)
+                ends.add(running.returncode)
+                self.assertIn(running.returncode, (0, 1, -signal.SIGINT, 128 + signal.SIGINT), err)
+                line = b"office: interrupted\n"
+                self.assertIn(err, {0: (b"",), 1: (line,)}.get(running.returncode, (b"", line)), launcher)
+                self.assertIn(self.left(), (["installed"], ["installed", "out"]))
+                self.assertEqual(out.exists(), (out / "SHA256SUMS").exists())
+            self.assertIn(1, ends)
+
+    def test_ctrl_c_is_held_back_while_python_starts(self) -> None:
+        """Python's own start ends by a traceback: in each form it begins with SIGINT blocked, as a stand-in for it tells."""
+        at = self.folder / "installed"
+        wheel, stand_in = in_a_wheel(at / "wheel"), self.folder / "path" / "python3"
+        stand_in.parent.mkdir()
+        stand_in.write_text("#!/bin/sh\nexec grep SigBlk /proc/self/status\n")
+        stand_in.chmod(0o755)
+        for path in (at / "wheel" / "bin").glob("python*"):
+            path.unlink()
+            path.symlink_to(stand_in)
+        for launcher in (*installed(at), wheel):
+            env = {**os.environ, "PATH": f"{stand_in.parent}:{os.environ['PATH']}"}
+            done = subprocess.run([launcher, "check", *self.tables()], env=env, capture_output=True, text=True)
+            blocked = int(done.stdout.split()[-1], 16)
+            self.assertEqual((done.returncode, done.stderr, blocked >> (signal.SIGINT - 1) & 1), (0, "", 1), launcher)
 
     def test_a_killed_run(self) -> None:
         """What it left is for its owner alone; the next run says so and removes it, and leaves alone what another run is making."""
@@ -241,20 +277,55 @@ class Stops(OfficeTest):
         with mock.patch.object(leftover, "is_held", lambda number: part.rmdir() is None):
             self.assertFalse(leftover.is_left(part))
 
+    def half_made(self, name: str, words: Sequence[str], number: int) -> Tuple[Tuple[int, bytes, bytes], List[Path]]:
+        """How a command ends and what it says that gets this signal when its draft has this file, or is one; and its drafts then."""
+        with self.slow(does=words) as running:
+            parts: List[Path] = []
+            while running.poll() is None and not (parts and (parts[0] / name).exists() and (name or parts[0].stat().st_size)):
+                parts = list(self.folder.glob(".part-*"))
+                time.sleep(0.001)
+            running.send_signal(number)
+            out, err = running.communicate(timeout=100)
+        return (running.returncode, out, err), parts
+
+    def test_each_command_half_way(self) -> None:
+        """A signal ends it with its line and leaves nothing. Of one that is killed what is left is for its owner alone, the secret
+        too, and nothing has the name that was wanted; the next run of it says so and removes it."""
+        old = os.umask(0)
+        self.addCleanup(os.umask, old)
+        tables, (before, now) = self.tables(), (str(self.run_tables(out=name)) for name in ("before", "now"))
+        for name, *words in (("docket.csv", "run", *tables), ("secret.txt", "seal", *tables), ("key.csv", "withdraw", before, "Ana Silva"),
+                             ("ana-silva.txt", "letters", before), ("docket.csv", "auditor", before), ("", "compare", before, now),
+                             ("", "settings", *tables)):
+            out = self.folder / words[0]
+            for number in stopping.SIGNALS:
+                stopped, _ = self.half_made(name, [*words, "--out", str(out)], number)
+                self.assertEqual((stopped, list(self.folder.glob(".part-*"))), ((1, b"", b"office: interrupted\n"), []), words)
+            killed, (part,) = self.half_made(name, [*words, "--out", str(out)], signal.SIGKILL)
+            self.assertEqual((killed, out.exists()), ((-signal.SIGKILL, b"", b""), False), words)
+            self.assertEqual(oct(mode_of(part)), oct(0o700 if name else 0o600), words)
+            if name == "secret.txt":
+                self.assertEqual(oct(mode_of(part / name)), oct(0o600))
+            said = office(*words, "--out", out)
+            self.assertEqual((said.status, said.err), (0, f"office: a run that was killed left {part.name}, which was removed\n"), words)
+            self.assertEqual((out.exists(), part.exists()), (True, False), words)
+
     def test_what_only_looks_left(self) -> None:
-        """Another name, a file, a link and, where no lock is had, a folder stay."""
-        part = f".part-{'0' * 32}"
+        """Another name, a link and, where no lock is had, a folder or a file stay."""
+        part, file = f".part-{'0' * 32}", f".part-{'1' * 32}"
         (self.folder / f"{part}x").mkdir()
-        (self.folder / f".part-{'1' * 32}").write_text("kept")
-        os.symlink(self.folder / "nowhere", self.folder / f".part-{'2' * 32}")
+        (self.folder / f"{file}x").write_text("kept")
+        os.symlink(self.folder / "before", self.folder / f".part-{'2' * 32}")
         (self.folder / part).mkdir()
+        (self.folder / file).write_text("left")
         before = self.left()
         with mock.patch("fcntl.flock", side_effect=OSError(95, "Operation not supported")):
             self.run_tables(out="a")
         self.assertEqual(self.left(), sorted([*before, "a"]))
         said = office("run", *self.tables(), "--out", self.folder / "b")
-        self.assertEqual((said.status, said.err), (0, f"office: a run that was killed left {part}, which was removed\n"))
-        self.assertEqual(self.left(), sorted([*(name for name in before if name != part), "a", "b"]))
+        self.assertEqual((said.status, said.err), (0, "".join(
+            f"office: a run that was killed left {name}, which was removed\n" for name in (part, file))))
+        self.assertEqual(self.left(), sorted([*(name for name in before if name not in (part, file)), "a", "b"]))
 
     def test_a_stop_when_all_is_done(self) -> None:
         """A stop while signals are given back to whoever had them changes nothing, and is no traceback."""
@@ -338,10 +409,10 @@ class Writes(OfficeTest):
 
     def test_what_appears_meanwhile(self) -> None:
         """A file or a link that appears while another of its name is being written stays as it is."""
-        whole = writing.write_new
+        whole = writing.umask
         target = self.folder / "changes.csv"
         for appear in (lambda: target.write_text("kept"), lambda: os.symlink(self.folder / "nowhere", target)):
-            with mock.patch.object(writing, "write_new", lambda *words: (whole(*words), appear())):
+            with mock.patch.object(writing, "umask", lambda: (appear(), whole())[1]):
                 with self.assertRaises(OfficeError) as told:
                     writing.new_file(str(target), b"new")
             self.assertIn("is there already; nothing was written", str(told.exception))
@@ -356,6 +427,26 @@ class Writes(OfficeTest):
         with mock.patch("residency.office.running.write_letters", side_effect=lambda *words: target.mkdir()):
             said.append(office("run", *self.tables(), "--out", target))
         self.assertEqual((said[0].status, said[0].out, os.listdir(target)), (2, "", []))
+
+    def test_a_file_that_cant_be_written(self) -> None:
+        """Of a disk that is full when half is written, or of a name that can't be given, nothing is left."""
+        words, before = [["compare", *self.runs], ["settings", *self.tables()]], self.left()
+        limit = resource.getrlimit(resource.RLIMIT_FSIZE)
+        self.addCleanup(resource.setrlimit, resource.RLIMIT_FSIZE, limit)
+        no_links = mock.patch("os.link", side_effect=PermissionError(1, "Operation not permitted"))
+        no_names = mock.patch("os.rename", side_effect=OSError(5, "Input/output error"))
+        for one in words:
+            out = self.folder / "out"
+            resource.setrlimit(resource.RLIMIT_FSIZE, (20, limit[1]))
+            said = office(*one, "--out", out)
+            resource.setrlimit(resource.RLIMIT_FSIZE, limit)
+            self.assertEqual((said.status, said.out, said.err), (
+                1, "", f"office: {out} can't be written: file too large; nothing was left there\n"))
+            with no_links, no_names:
+                said = office(*one, "--out", out)
+            self.assertEqual((said.status, said.out, said.err), (
+                1, "", f"office: {out} can't be written: input/output error; nothing was left there\n"))
+            self.assertEqual(self.left(), before)
 
     def test_where_files_have_no_second_name(self) -> None:
         """Some file systems know no links to files: there the name is claimed, and the claim is replaced."""

@@ -1,7 +1,7 @@
-"""What a killed command left behind: a folder under way, which no command holds any more. The next command says so, and removes it.
+"""What a killed command left behind: a folder or a file under way, which no command holds any more. The next command says so, and
+removes it.
 
-Who makes such a folder holds a lock on it for as long as it lives, however it ends. Where a file system has no locks, nothing is
-removed."""
+Who makes one holds a lock on it for as long as it lives, however it ends. Where a file system has no locks, nothing is removed."""
 import fcntl
 import os
 import re
@@ -9,12 +9,13 @@ import stat
 import time
 from contextlib import contextmanager
 from pathlib import Path
-from typing import Iterator, List
+from typing import Callable, Iterator, List
 
 from . import stopping
 from .telling import complain
 
 PART = re.compile(r"\.part-[0-9a-f]{32}")
+OPEN = os.O_RDONLY | os.O_NOFOLLOW | os.O_NONBLOCK | os.O_CLOEXEC
 # How often another command's hold on the folder around is waited for, a hundredth of a second each time.
 MOST_TRIES = 100
 
@@ -32,15 +33,23 @@ def is_held(number: int, tries: int = 1) -> bool:
     return False
 
 
-def opened(path: Path) -> int:
-    return os.open(path, os.O_RDONLY | os.O_DIRECTORY | os.O_NOFOLLOW | os.O_CLOEXEC)
+def new_folder(path: Path) -> int:
+    """A new folder for its owner alone, opened."""
+    path.mkdir(mode=0o700)
+    return os.open(path, OPEN | os.O_DIRECTORY)
+
+
+def new_file(path: Path) -> int:
+    """A new file for its owner alone, opened to be written."""
+    return os.open(path, os.O_WRONLY | os.O_CREAT | os.O_EXCL | os.O_NOFOLLOW | os.O_CLOEXEC, 0o600)
 
 
 def is_left(path: Path) -> bool:
-    """Whether a folder is this user's own, and nobody holds it. What its maker has removed meanwhile was not left."""
-    if not stat.S_ISDIR(path.lstat().st_mode) or path.lstat().st_uid != os.getuid():
+    """Whether a folder or a file is this user's own, and nobody holds it. What its maker has removed meanwhile was not left."""
+    found = path.lstat()
+    if not (stat.S_ISDIR(found.st_mode) or stat.S_ISREG(found.st_mode)) or found.st_uid != os.getuid():
         return False
-    number = opened(path)
+    number = os.open(path, OPEN)
     try:
         return is_held(number) and path.exists()
     finally:
@@ -61,22 +70,22 @@ def clear(around: Path) -> List[str]:
 
 
 @contextmanager
-def made(part: Path) -> Iterator[None]:
-    """Makes a folder under way, for its owner alone, and holds it until it has another name or is removed; first removes what killed
+def made(part: Path, make: Callable[[Path], int] = new_folder) -> Iterator[int]:
+    """Makes a folder or a file under way and holds it, opened, until it has another name or is removed; first removes what killed
     commands left beside it, and says so. OSError where it can't be made."""
     around = os.open(part.parent, os.O_RDONLY | os.O_DIRECTORY | os.O_CLOEXEC)
     try:
         # No other command looks for what was left between the making of a folder and the hold on it.
         gone = clear(part.parent) if is_held(around, MOST_TRIES) else []
-        part.mkdir(mode=0o700)
-        number = opened(part)
+        number = make(part)
         is_held(number)
     finally:
         os.close(around)
     for name in gone:
         complain(f"a run that was killed left {name}, which was removed")
     try:
-        yield
+        yield number
     finally:
+        # While it is held, so that no other command takes it for one that was left.
         stopping.remove(part)
         os.close(number)

@@ -4,9 +4,10 @@ import os
 import secrets
 import stat
 import tempfile
+from contextlib import suppress
 from pathlib import Path
 
-from . import stopping
+from . import leftover, stopping
 from .faults import OfficeError, shown
 
 # Whom a file is for: its owner alone, or all whom the user's mask lets read it.
@@ -52,18 +53,28 @@ def settle(part: Path, target: Path) -> None:
         raise
     except OSError:
         # A file system without links to files: the name is claimed first, and what is renamed over is the claim.
-        write_new(target, b"")
-        os.rename(part, target)
+        write_new(target, b"", PRIVATE)
+        try:
+            os.rename(part, target)
+        except BaseException:
+            target.unlink()
+            raise
 
 
 def new_file(out: str, data: bytes, mode: int = SHARED) -> None:
-    """Writes a file that isn't there yet, whole or not at all; for its owner alone where `mode` is PRIVATE. OfficeError."""
+    """Writes a file that isn't there yet, whole or not at all; for its owner alone where `mode` is PRIVATE, and in each case until
+    it is whole. OfficeError."""
     refuse(out)
     target = Path(os.path.abspath(out))
     with stopping.unfinished(draft_of(out)) as part:
         try:
-            write_new(part, data, mode)
-            settle(part, target)
+            with leftover.made(part, leftover.new_file) as number:
+                with open(number, "wb", closefd=False) as file:
+                    file.write(data)
+                wanted = mode if mode == PRIVATE else mode & ~umask()
+                settle(part, target)
+                with suppress(OSError):
+                    os.fchmod(number, wanted)
         except FileExistsError:
             raise OfficeError(f"{shown(out)} is there already; nothing was written", 2) from None
         except (OSError, ValueError) as error:
