@@ -44,6 +44,21 @@ def other_number(path: Path) -> None:
     path.write_bytes((text[:at] + str((int(text[at]) + 1) % 10) + text[at + 1:]).encode("utf-8"))
 
 
+# What of a folder has real names.
+NAMED = ("key.csv", "letters/", "letters.html", "matches.csv", "page.html", "rosters/", "unfilled.csv", "public/page.html", "public/unfilled.csv")
+FOR_AUDITOR = """The match, 2026-03-20: for its auditor.
+
+Get the programs from the project that makes them, not from the office.
+Take the roots, and how many members there are, from where they were published.
+Then run, in a clone of the project (of a release the command is residency-office):
+
+  ./office verify FOLDER --lists MEMBERS,ROOT --result MEMBERS,ROOT
+
+"""
+WITH_KEY = "With the office's two tables, --tables PROGRAMMES RESIDENTS makes docket and key again, too.\n"
+WITHOUT_KEY = "The key isn't here. Nor is what has names, and verify says that these aren't checked.\n"
+
+
 class Altered(unittest.TestCase):
     """Over a match sealed with cut-offs of which one resident withdrew, so that it has every kind of file."""
 
@@ -208,6 +223,19 @@ class Honest(unittest.TestCase):
                              "South" if name == "ids" else "South Hospital")
             self.holds(more, "--tables", *tables, *kept)
         self.assertGreaterEqual(self.count, 40)
+
+    def test_what_an_auditor_gets(self) -> None:
+        """All but the key and what has names, or these too where the key is asked for, and a page that says what to run."""
+        tables = next(self.wished())[1]
+        matched = self.make("match", "run", self.make("sealed", "seal", *tables), "--date", "2026-03-20")
+        for words, without, last in (([], NAMED, WITHOUT_KEY), (["--key"], (), WITH_KEY)):
+            copy = self.make(f"for-auditor{len(words)}", "auditor", matched, *words)
+            data, given = ({path.relative_to(at).as_posix(): path.read_bytes() for path in at.rglob("*") if path.is_file()} for at in (matched, copy))
+            self.assertEqual(given.pop("for-auditor.txt").decode("utf-8"), FOR_AUDITOR + last)
+            made = ("manifest.json", "SHA256SUMS")
+            self.assertEqual({name: one for name, one in given.items() if name not in made},
+                             {name: one for name, one in data.items() if name not in made and not name.startswith(tuple(without))})
+            self.assertEqual({path.stat().st_mode & 0o077 for path in copy.rglob("*") if "public" not in path.parts}, {0})
 
     def test_by_each_python(self) -> None:
         """Those that are here, from 3.9 on: made by one, and verified by another."""

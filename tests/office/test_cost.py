@@ -65,6 +65,15 @@ class Cost(OfficeTest):
             most.append(more().seconds)
         self.assertLess(min(most) / min(least), times, f"{most} to {least}")
 
+    def test_verify_of_the_example(self) -> None:
+        """Of its sealed folder, in seconds of a processor."""
+        tables = [Path(OFFICE).parent / "examples" / "office" / f"{side}.csv" for side in ("programmes", "residents")]
+        for words in (["seal", *tables, "--out", self.folder / "sealed"], ["run", self.folder / "sealed", "--out", self.folder / "match"]):
+            self.assertEqual(self.took(*words).status, 0)
+        took = self.took("verify", self.folder / "match")
+        self.assertEqual(took.status, 0, took.lines)
+        self.assertLess(took.seconds, 10)
+
     def test_a_run_at_the_limits(self) -> None:
         """It reads its tables as a check does; the docket, its match and the letters take a few times as long again."""
         for script, long in (("devanagari", False), ("latin", True))[: 1 + support.FULL]:

@@ -7,6 +7,7 @@ import signal
 import stat
 import subprocess
 import sys
+import tempfile
 import time
 import venv
 import zipfile
@@ -309,6 +310,16 @@ class Stops(OfficeTest):
             said = office(*words, "--out", out)
             self.assertEqual((said.status, said.err), (0, f"office: a run that was killed left {part.name}, which was removed\n"), words)
             self.assertEqual((out.exists(), part.exists()), (True, False), words)
+
+    def test_a_killed_verify(self) -> None:
+        """What it made again is for its owner alone, among the temporary files; the next one there says so and removes it."""
+        whole = self.run_tables(out="whole")
+        with mock.patch.dict(os.environ, TMPDIR=str(self.folder)), mock.patch.object(tempfile, "tempdir", str(self.folder)):
+            killed, (part,) = self.half_made("", ["verify", str(whole)], signal.SIGKILL)
+            self.assertEqual((killed[0], oct(mode_of(part))), (-signal.SIGKILL, oct(0o700)))
+            said = office("verify", whole)
+        self.assertEqual((said.status, said.err), (0, f"office: a run that was killed left {part.name}, which was removed\n"))
+        self.assertFalse(part.exists())
 
     def test_what_only_looks_left(self) -> None:
         """Another name, a link and, where no lock is had, a folder or a file stay."""
