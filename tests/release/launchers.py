@@ -184,16 +184,20 @@ class Clone:
         os.chmod(f"{self.folder}/{path}", 0o755)
 
     def start(self, launcher: str = "./residency", status: int = 0) -> None:
-        ran = subprocess.run([launcher, *WORDS], cwd=self.folder, env=self.known, capture_output=True, text=True, check=False)
+        ran = subprocess.run([f"{self.folder}/{launcher}", *WORDS], cwd=self.folder, env=self.known, capture_output=True, text=True, check=False)
         says = "" if status else "".join(f"<{word}>" for word in WORDS) + ("tuned\n" if launcher == "./residency" else "\n")
         self.trial.same((ran.returncode, ran.stdout), (status, says), f"{launcher} of a counted clone ({ran.stderr})")
 
-    def builds(self) -> int:
+    def built(self) -> str:
+        """What was built, in a line each."""
         try:
             with open(f"{self.folder}/built") as file:
-                return file.read().count("\n")
+                return file.read()
         except OSError:
-            return 0
+            return ""
+
+    def builds(self) -> int:
+        return self.built().count("\n")
 
     def after(self, changed: Optional[str], wanted: int, what: str, launcher: str = "./residency") -> None:
         """Changes a file, starts twice, and wants so many builds."""
@@ -237,8 +241,7 @@ def freshness(trial: Trial, folder: str) -> None:
     clone.start(status=1)
     clone.start(status=1)
     trial.same(clone.builds() - before, 2, "builds that fail")
-    with open(f"{folder}/built") as file:
-        trial.tell("tuned" not in file.read(), "the tunables of a match reach a build")
+    trial.tell("tuned" not in clone.built(), "the tunables of a match reach a build")
 
 
 def seconds_of(words: List[str]) -> float:
