@@ -16,6 +16,9 @@ NAMES = re.compile(r"has\s+no\s+field|is\s+not\s+in\s+scope|has\s+no\s+`|was\s+n
 LESS = re.compile(r"has not tried the goals of [^\n]*|antt ran out of [^\n]*|outgrew the memory limit[^\n]*|stopped at the step limit[^\n]*"
                   r"|the check was killed[^\n]*|rattle: no verdict[^\n]*")
 
+# What a check adds to its word on a function that waits, where the repository lets its code wait.
+WAITS = ", may wait"
+
 REFUSED, MISSED, UNTRIED = "refused", "not refused", "no verdict"
 
 
@@ -24,9 +27,14 @@ class Verdict(NamedTuple):
     why: str
 
 
+def functions_of(said: str) -> List[Tuple[str, str]]:
+    """Each function's path, and what the check says of it."""
+    return [(path, what[:-len(WAITS)] if what.endswith(WAITS) else what) for path, what in LINE.findall(said)]
+
+
 def lines_of(said: str) -> Dict[str, Tuple[str, str]]:
     """By the last step of its path each function's whole path, and what the check says of it."""
-    return {path.rpartition("::")[2]: (path, what) for path, what in LINE.findall(said)}
+    return {path.rpartition("::")[2]: (path, what) for path, what in functions_of(said)}
 
 
 def is_proved(said: str) -> bool:
@@ -44,7 +52,7 @@ def missing_in_check(said: str, planted: Planted) -> str:
     less = LESS.search(said)
     if less:
         return f"the check looked at less than all: {less[0].replace('has not tried', 'left out')[:160]}"
-    every = LINE.findall(said)
+    every = functions_of(said)
     if not every:
         return "the check names no function"
     own = set(planted.siblings)
