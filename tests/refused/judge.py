@@ -16,8 +16,8 @@ NAMES = re.compile(r"has\s+no\s+field|is\s+not\s+in\s+scope|has\s+no\s+`|was\s+n
 LESS = re.compile(r"has not tried the goals of [^\n]*|antt ran out of [^\n]*|outgrew the memory limit[^\n]*|stopped at the step limit[^\n]*"
                   r"|the check was killed[^\n]*|rattle: no verdict[^\n]*")
 
-# What a check adds to its word on a function that waits, where the repository lets its code wait.
-WAITS = ", may wait"
+# A check's words on a function that is proved: of one that is given to another, and of one that waits where the repository lets it.
+PROVED = re.compile(r"proved(?: where its callers give what it asks)?(?:, may wait)?")
 
 REFUSED, MISSED, UNTRIED = "refused", "not refused", "no verdict"
 
@@ -29,7 +29,7 @@ class Verdict(NamedTuple):
 
 def functions_of(said: str) -> List[Tuple[str, str]]:
     """Each function's path, and what the check says of it."""
-    return [(path, what[:-len(WAITS)] if what.endswith(WAITS) else what) for path, what in LINE.findall(said)]
+    return [(path, "proved" if PROVED.fullmatch(what) else what) for path, what in LINE.findall(said)]
 
 
 def lines_of(said: str) -> Dict[str, Tuple[str, str]]:
