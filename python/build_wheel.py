@@ -74,7 +74,7 @@ def packed(files: Files, version: str, tag: str = PURE, scripts: str = "") -> by
 def office_script(files: Files, version: str) -> Dict[str, Tuple[bytes, bool]]:
     """What a wheel of these files puts on the path for the office, where they have its command."""
     made = f"{_field('name')}-{version}.data/scripts/residency-office"
-    return {made: (files[START][0].replace(b"@VERSION@", version.encode("ascii")), True)} if START in files else {}
+    return {made: (b"#!/bin/sh\n" + files[START][0].replace(b"@VERSION@", version.encode("ascii")), True)} if START in files else {}
 
 
 def _package() -> Iterable[Path]:

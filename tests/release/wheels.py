@@ -61,7 +61,7 @@ def opened(trial: Trial, path: str, archive: str, programs: List[str]) -> None:
     wanted, office = wanted_of(archive, programs), f"{name}-{version}.data/scripts/residency-office"
     has_office = os.path.exists(f"{archive}/bin/residency-office")
     if has_office:
-        wanted[office] = wanted["residency/office/start.sh"].replace(b"@VERSION@", version.encode())
+        wanted[office] = b"#!/bin/sh\n" + wanted["residency/office/start.sh"].replace(b"@VERSION@", version.encode())
         trial.tell(wanted.get("residency/office/second-opinion.py") == read(f"{archive}/examples/second-opinion.py"),
                    "the wheel's second opinion isn't the example")
     trial.same(set(data), {*wanted, *(f"{info}/{each}" for each in OWN)}, "the wheel's files")

@@ -1,4 +1,4 @@
-#!/bin/sh
+# shellcheck shell=sh
 # What a wheel puts on the path as `residency-office`: it becomes the office's command, by the package of this release that was
 # installed with it, and by a Python that runs nothing of the caller's folders (-I, -S). Ctrl-C is held back while Python starts,
 # so that it gives no traceback.
