@@ -1,13 +1,20 @@
-"""Finds what prints, asks or ends a process outside the edge of the office's command: its steps and faults are values."""
+"""Finds what prints, asks or ends a process outside the edge of the office's command, and what words a fault there: its steps and
+faults are values."""
 from __future__ import annotations
 
 import ast
+import re
 from typing import Dict, Iterator, List
 
 # Where the command meets a terminal. `apart` ends a process that it made itself, and `leftover` says what a killed command left,
 # whatever comes after.
 EDGE = {"__main__.py", "command.py", "line.py", "telling.py", "stopping.py"}
-STILL = {"apart.py": {"_exit"}, "leftover.py": {"complain"}}
+STILL = {"apart.py": {"_exit"}, "leftover.py": {"complain"}, "auditor.py": {"a word of the command line"},
+         "verify.py": {"a word of the command line"}}
+# Where sentences are made, with the names of options, and what else is no sentence. An error is made of its code alone.
+TEXTS = {"command.py", "line.py", "sentences.py", "style.py"}
+WORDS = re.compile(r"(?<![\w-])--[a-z]+\b|nothing was (?:written|left)")
+CODE = re.compile(r"[a-z]+\.[a-z-]+")
 CALLS = {"print", "say", "complain", "failed", "input", "exit", "_exit", "quit", "chdir", "umask"}
 OF_OS = {"chdir", "umask"}
 STREAMS = {"stdout", "stderr"}
@@ -29,25 +36,49 @@ def found_in(text: str) -> Iterator[str]:
             yield called(node)
         elif isinstance(node, ast.Attribute) and node.attr in STREAMS and isinstance(node.value, ast.Name) and node.value.id == "sys":
             yield node.attr
+        elif isinstance(node, ast.ImportFrom) and node.module == "sys":
+            yield from (one.name for one in node.names if one.name in STREAMS)
         elif isinstance(node, ast.Name) and node.id == "SystemExit":
             yield node.id
+
+
+def worded(text: str) -> Iterator[str]:
+    """Each sentence for the command alone. A text of one word is what a program is given, and a docstring is shown to nobody."""
+    whole = ast.parse(text)
+    untold = {id(node.value) for node in ast.walk(whole) if isinstance(node, ast.Expr)}
+    for node in ast.walk(whole):
+        if isinstance(node, ast.Constant) and isinstance(node.value, str) and id(node) not in untold:
+            if " " in node.value and WORDS.search(node.value):
+                yield "a word of the command line"
+
+
+def uncoded(text: str) -> Iterator[str]:
+    """Each error that is made of a sentence."""
+    for node in ast.walk(ast.parse(text)):
+        if isinstance(node, ast.Call) and isinstance(node.func, ast.Name) and node.func.id == "OfficeError" and node.args:
+            first = node.args[0]
+            if isinstance(first, ast.JoinedStr) or isinstance(first, ast.Constant) and not CODE.fullmatch(str(first.value)):
+                yield "a sentence in an error"
 
 
 def faults_of(modules: Dict[str, str]) -> List[str]:
     """What is found in these modules of the office, by their names; and what is let through and isn't there any more."""
     told: List[str] = []
     for name, text in sorted(modules.items()):
-        if name not in EDGE:
-            found, allowed = set(found_in(text)), STILL.get(name, set())
-            told += [f"{name}: {one} is for the edge alone" for one in sorted(found - allowed)]
-            told += [f"{name}: {one} is gone: take it off STILL of tests/lint/edge.py" for one in sorted(allowed - found)]
+        found = set(uncoded(text)) | set(() if name in EDGE else found_in(text)) | set(() if name in TEXTS else worded(text))
+        allowed = STILL.get(name, set())
+        told += [f"{name}: {one} is for the edge alone" for one in sorted(found - allowed)]
+        told += [f"{name}: {one} is gone: take it off STILL of tests/lint/edge.py" for one in sorted(allowed - found)]
     return told
 
 
 def planted() -> List[str]:
     """What isn't told as it should be."""
     plants = {"print.py": "print('one')\n", "say.py": "from .telling import say\nsay('one')\n", "exit.py": "import sys\nsys.exit(1)\n",
-              "stream.py": "import sys\nout = sys.stderr\n", "ends.py": "raise SystemExit(2)\n", "mask.py": "import os\nos.umask(7)\n"}
+              "stream.py": "import sys\nout = sys.stderr\n", "ends.py": "raise SystemExit(2)\n", "mask.py": "import os\nos.umask(7)\n", "streams.py": "from sys import stderr\n",
+              "option.py": "told = 'say which (--heading)'\n", "written.py": "told = f'{name}: nothing was written'\n",
+              "error.py": "OfficeError(f'{path} is no folder', 1)\n", "text.py": "OfficeError('it is no folder')\n"}
     unseen = [f"planted and not told: {name}" for name, text in plants.items() if len(faults_of({name: text})) != 1]
-    whole = {"whole.py": "def exits(words):\n    return words.exit()\n", "command.py": plants["print.py"]}
+    whole = {"whole.py": "def exits(words):\n    return words.exit()\n", "command.py": plants["print.py"],
+             "coded.py": "'It tells of --key.'\nOfficeError('folder.none', at=path, words=['--sheet', '--version'])\n"}
     return unseen + [f"told, and nothing is wrong: {one}" for one in faults_of(whole)]

@@ -197,7 +197,7 @@ def a_zero_byte(pair):
     pair.residents[6][0] = "Fatima\0 Abel"
 
 
-@mistake("residents", 9, 1, "a letter was lost")
+@mistake("residents", 9, 1, "1 name lost letters where ? or \ufffd stands, as Hann\ufffd Abel")
 def a_lost_letter(pair):
     pair.residents[8][0] = "Hann\ufffd Abel"
 
@@ -446,7 +446,7 @@ def a_row_of_semicolons(pair):
 
 
 # IDs.
-@mistake("residents", 17, 2, "Priya Abel has no ID")
+@mistake("residents", 17, 2, "Priya Abel has no ID; every row needs one once one has it")
 def a_row_without_an_id(pair):
     pair.residents[16][1] = ""
 

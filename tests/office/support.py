@@ -6,7 +6,7 @@ import subprocess
 import tempfile
 import unittest
 from pathlib import Path
-from typing import Dict, List, NamedTuple, Optional, Sequence, Union
+from typing import Any, Dict, List, NamedTuple, Optional, Sequence, Union
 
 from residency.office import main
 
@@ -69,6 +69,11 @@ class OfficeTest(unittest.TestCase):
         folder = tempfile.TemporaryDirectory()
         self.addCleanup(folder.cleanup)
         return Path(folder.name)
+
+    def enter(self, changed: Any) -> None:
+        """Lets what is changed, as by `mock.patch`, be so up to the test's end."""
+        changed.start()
+        self.addCleanup(changed.stop)
 
     def write(self, name: str, text: Union[str, bytes]) -> str:
         path = self.folder / name

@@ -9,6 +9,7 @@ import derived
 from residency import Member, Names
 from residency.office import who
 from residency.office.faults import OfficeError
+from residency.office.sentences import said_by
 from support import PROGRAMMES, RESIDENTS, SAMPLES, OfficeTest, office
 from test_folder import sample, sha256, table
 
@@ -145,10 +146,10 @@ class Withdraw(Again):
                     except OfficeError as error:
                         self.assertEqual(error.status, 3)
                         self.assertIn(
-                            f"{len(wanted)} members may be meant by {text}: " if len(wanted) > 1 else f" is named {text}", str(error)
+                            f"{len(wanted)} members may be meant by {text}: " if len(wanted) > 1 else f" is named {text}", said_by(error)
                         )
                         for one in wanted:
-                            self.assertIn(f"{one.name} ({one.id or one.docket_name})", str(error))
+                            self.assertIn(f"{one.name} ({one.id or one.docket_name})", said_by(error))
                         self.assertNotEqual(len(wanted), 1, (seed, text, side))
                         continue
                     self.assertEqual(found, wanted, (seed, text, side))
@@ -165,7 +166,7 @@ class Withdraw(Again):
         with self.assertRaises(OfficeError) as told:
             who.the_one(names, "Kim Lee")
         self.assertEqual(
-            str(told.exception),
+            said_by(told.exception),
             "13 members may be meant by Kim Lee: "
             + ", ".join(f"Kim Lee ({number})" for number in range(1, 11))
             + " and 3 more; give the ID; nothing was written",

@@ -10,6 +10,7 @@ from typing import Tuple
 import derived
 from residency import Market
 from residency.office.faults import OfficeError
+from residency.office.sentences import said_by
 from residency.office.folder import file_names
 from residency.office.letters import SAYS, checked_template, fields_of, why_not
 from residency.office.letters import Letters as Letters_
@@ -375,7 +376,7 @@ class Kept(OfficeTest):
         for text, columns in (("$email", []), ("$Email", ["Email"]), ("$phone", ["Email"])):
             with self.assertRaises(OfficeError) as told:
                 checked_template(text, columns)
-            self.assertIn(f"line 1: {text} is none of $day, $date, ", str(told.exception))
+            self.assertIn(f"line 1: {text} is none of $day, $date, ", said_by(told.exception))
 
 
 class Whole(OfficeTest):

@@ -18,6 +18,7 @@ from unittest import mock
 import build_wheel
 from residency.office import leftover, stopping, writing
 from residency.office.faults import OfficeError
+from residency.office.sentences import said_by
 from residency.program import find_program
 from support import OFFICE, PROGRAMMES, RESIDENTS, TOP, OfficeTest, office
 
@@ -426,7 +427,7 @@ class Writes(OfficeTest):
             with mock.patch.object(writing, "umask", lambda: (appear(), whole())[1]):
                 with self.assertRaises(OfficeError) as told:
                     writing.new_file(str(target), b"new")
-            self.assertIn("is there already; nothing was written", str(told.exception))
+            self.assertEqual(said_by(told.exception), f"{target} is there already; nothing was written")
             self.assertFalse((self.folder / "nowhere").exists())
             self.assertTrue(target.is_symlink() or target.read_text() == "kept")
             target.unlink()

@@ -1,19 +1,25 @@
 """The office's steps as a library: faults as values and as JSON, the settings file, and a process of its own for what strangers send."""
+import ctypes
 import io
 import json
 import os
+import shutil
 import signal
 import subprocess
+import tempfile
 import threading
 import time
 import unittest
 import zipfile
 from pathlib import Path
+from typing import Callable
+from unittest import mock
 
+import support
 import test_books
-from residency.office import sentences, settings, steps, writing
+from residency.office import sentences, settings, steps, stopping, writing
 from residency.office.apart import Limits
-from residency.office.faults import Cell, Remedy
+from residency.office.faults import Cell, OfficeError, Remedy
 from residency.office.settings import Settings
 from support import OFFICE, PROGRAMMES, RESIDENTS, OfficeTest, office
 
@@ -88,12 +94,66 @@ class Values(OfficeTest):
         self.assertEqual((fault.code, fault.remedies), ("row.short", (Remedy("allow_short", True),)))
         self.assertIsNotNone(steps.check(GIVEN[0], steps.Given("r", short.encode()), Settings(allow_short=True)).market)
 
+    def test_a_row_that_is_the_heading_is_a_remedy(self) -> None:
+        """Of a title above the heading, in a check and in a look; with it all is read. Rows that are no heading are none."""
+        for title, below in (("Residents of 2026,,,\n", 2), ("Residents of 2026\n\nall of them,,\n", 4), ("Name,,,\n" + "x,,,\n" * 8, 10)):
+            given = steps.Given("r", (title + RESIDENTS).encode())
+            wanted = Remedy("heading_row", below, "residents")
+            for faults in (steps.check(GIVEN[0], given, Settings()).faults, steps.look(given, "residents", Settings()).faults):
+                self.assertEqual([fault.remedies[0] for fault in faults.every()], [wanted] * len(faults.every()), title)
+                self.assertEqual({fault.kind for fault in faults.every()}, {"heading"})
+            self.assertIsNotNone(steps.check(GIVEN[0], given, Settings(heading_row={"residents": below})).market)
+        titled = steps.Given("p", b"Programmes\n" + PROGRAMMES.encode())
+        read = steps.check(titled, steps.Given("r", RESIDENTS.replace("Rank 2", "Rnak 2").encode()), Settings())
+        self.assertEqual([(fault.table, fault.code, len(fault.remedies)) for fault in read.faults.every()], [
+            ("programmes", "heading.none", 1), ("residents", "heading.unknown", 2), ("residents", "heading.beside", 0)])
+        for text in ("Residents of 2026,,,\n" + "x,a\x07b,,\n" * 30 + RESIDENTS, "a,b\nc,d\n", RESIDENTS.replace("Rank 2", "Rnak 2")):
+            read = steps.check(GIVEN[0], steps.Given("r", text.encode()), Settings())
+            self.assertEqual([one for fault in read.faults.every() for one in fault.remedies if one.setting == "heading_row"], [], text[:30])
+            self.assertEqual({fault.kind for fault in read.faults.every()}, {"heading"})
+
     def test_a_look_says_what_each_column_is(self) -> None:
         above = "Residents of 2026,,,\n" + RESIDENTS
         look = steps.look(steps.Given("r", above.encode()), "residents", Settings(heading_row={"residents": 2}))
         self.assertEqual((look.heading_row, look.headings, look.meanings, look.encoding, look.delimiter, look.sheets), (
             2, ["Applicant", "Rank 1", "Rank 2", "Rank 3"], ["resident", "rank 1", "rank 2", "rank 3"], "utf-8", ",", []))
         self.assertEqual((look.preview[0], len(look.preview), len(look.faults)), ((3, ["Ana Silva", "South Hospital", "North Clinic", ""]), 7, 0))
+
+
+class Folders(OfficeTest):
+    """Steps over a folder: what became of each choice, and the next year's settings."""
+
+    def test_why_by_any_name(self) -> None:
+        told: list = []
+        run = steps.Run(str(self.run_tables()))
+        for name in ("Omar Haddad", "omar-haddad", " Omar  Haddad", "Omar Haddad (omar-haddad)"):
+            self.assertEqual([(one.programme, one.answer, one.rank, one.quota) for one in steps.why(run, name, progress=told.append)],
+                             [("East Ward", "full", 2, 1), ("South Hospital", "full", 3, 1)])
+        (one,) = steps.why(run, "Kim Lee", "west-infirmary")
+        self.assertEqual((one.resident, one.programme, one.answer), ("Kim Lee", "West Infirmary", "better"))
+        self.assertEqual(steps.why(run, "Rosa Rossi"), ())
+        for words, code in ((("Omar Hadad",), "member.nobody"), (("East Ward",), "member.other-side"),
+                            (("Kim Lee", "Kim Lee"), "member.other-side"), (("",), "member.empty")):
+            with self.assertRaises(OfficeError) as error:
+                steps.why(run, *words)
+            self.assertEqual(error.exception.fault.code, code)
+        self.assertEqual(told, ["why"] * 4)
+
+    def test_the_settings_of_the_next_year(self) -> None:
+        out = self.run_tables(PROGRAMMES.replace(",", ";"), "Residents,,,\n" + RESIDENTS, "out", "--heading-row", "residents=2", "--delimiter",
+                              "programmes=;", "--title", "T")
+        told: list = []
+        self.assertEqual(steps.next(str(out), told.append),
+                         Settings(heading_row={"residents": 2}, delimiter={"programmes": ";"}, title="T"))
+        self.assertEqual(told, ["folder"])
+        self.assertEqual(steps.next(str(self.run_tables(out="plain"))), Settings())
+        manifest = json.loads((out / "manifest.json").read_text())
+        for reading in ([], {"x": {}, "tables": {"heding": 1}}, {"tables": []}, {"match": {"heading_row": 2}}, {"residents": {"heading_row": 0}},
+                        {"residents": {"encoding": "utf-99"}}, {"tables": {"heading": "rank=Rang"}}, {"match": {"title": ["a"]}}):
+            (out / "manifest.json").write_text(json.dumps({**manifest, "reading": reading}))
+            with self.assertRaises(OfficeError) as error:
+                steps.next(str(out))
+            self.assertEqual((error.exception.fault.code, error.exception.status, error.exception.at), ("folder.no-manifest", 3, str(out)))
 
 
 class File(OfficeTest):
@@ -116,7 +176,8 @@ class File(OfficeTest):
         self.assertEqual((said.status, said.out, said.err), (3, "", "".join(f"office: {path}, line {line}: {cause}\n" for line, cause in (
             (1, f"title stands above the first section; the sections are {sections}"),
             (3, "allow_gaps is maybe, where yes or no is wanted"),
-            (4, "there is no setting heding in the section tables; there are heading, ignore, keep, allow_gaps, allow_short, allow_alone"),
+            (4, "there is no setting heding in the section tables; there are heading, ignore, keep, allow_gaps, allow_short, allow_alone, "
+             "allow_lost_letters, allow_alike"),
             (5, f"heading is Rang, where ROLE=WORD, where ROLE is one of {roles} is wanted"),
             (9, "encoding is utf-99, where a character set is wanted"), (10, "heading_row is 0, where a number from 1 is wanted"),
             (11, "expect is many, where a number is wanted"), (13, "sheet stands twice in the section residents"),
@@ -192,6 +253,7 @@ class Apart(OfficeTest):
         yield "cells", test_books.sheet(EMPTY)
         yield "attributes", test_books.sheet(ATTRIBUTES)
         yield "texts", test_books.sheet('<row r="1"><c r="A1" t="s"><v>1</v></c></row>', TEXTS)
+        yield "one text", test_books.sheet('<row r="1"><c r="A1" t="s"><v>1</v></c></row>', f"<si><t>{'text ' * 40_000_000}</t></si>")
 
     def test_bombs_end_at_a_limit(self) -> None:
         """Each is told as a fault of its table, soon, and no process is left."""
@@ -205,6 +267,24 @@ class Apart(OfficeTest):
                       "file.memory": "residents: reading this table needs more than 200 MB of memory: save it as CSV"}
             self.assertEqual(sentences.report(read.faults), [wanted[fault.code]])
             self.assertEqual((children(os.getpid()) - before, time.process_time() - started < 2), (set(), True), name)
+
+    def test_a_zip_that_is_far_larger_unpacked(self) -> None:
+        """Blanks of more than any table, of which a zip keeps a thousandth, and one part under many names."""
+        data = test_books.sheet(" " * (257 << 20))
+        self.assertLess(len(data), 1 << 20)
+        read = steps.check(GIVEN[0], steps.Given("bomb.xlsx", data), Settings())
+        self.assertEqual(sentences.report(read.faults), ["residents: the workbook has more than 256 MB, which is no table"])
+        parts = test_books.planted.book([["Applicant", "Rank 1"]], {"xl/media": " " * (64 << 20)})
+        name, others = b"xl/media", [b"xl/med%02d" % number for number in range(99)]
+        at, end = parts.rindex(b"PK\x01\x02", 0, parts.rindex(name)), parts.rindex(b"PK\x05\x06")
+        entry, tail = parts[at:parts.index(name, at) + len(name)], bytearray(parts[end:])
+        begin, rest = int.from_bytes(tail[16:20], "little"), parts[at + len(entry):end]
+        self.assertFalse(rest)
+        more = b"".join(entry.replace(name, one) for one in others)
+        count = int.from_bytes(tail[8:10], "little") + len(others)
+        tail[8:12], tail[12:16] = count.to_bytes(2, "little") * 2, (end - begin + len(more)).to_bytes(4, "little")
+        read = steps.check(GIVEN[0], steps.Given("bomb.xlsx", parts[:end] + more + bytes(tail)), Settings(), limits=Limits(5, 300))
+        self.assertEqual(sentences.report(read.faults), ["residents, row 2, cell 1 (A2): no resident stands below the heading"])
 
     def test_a_zip_of_many_files(self) -> None:
         """Pictures and all, a workbook may have ten thousand files."""
@@ -242,6 +322,101 @@ class Apart(OfficeTest):
                          {number: f"Member {number} A" for number in range(4)})
         self.assertEqual((modes, os.getcwd(), sorted(told)), ({0o600}, folder, sorted(["programmes", "residents", "lists"] * 4)))
         self.assertEqual(os.umask(0o077), 0o077)
+
+    def test_four_steps_at_once_in_threads(self) -> None:
+        """A look, a check, a folder's check and its reasons answer together what each answers alone."""
+        out = str(self.run_tables())
+        docket = (self.folder / "out" / "docket.csv").read_bytes()
+        run, title = steps.Run(out), steps.Given("r", b"Residents\n" + RESIDENTS.encode())
+        def looked() -> tuple:
+            look = steps.look(title, "residents", Settings())
+            return look.headings, look.preview, look.faults.every()
+
+        does = (looked, lambda: steps.check(*GIVEN, Settings()).market.docket(),
+                lambda: steps.verify(out).verdict(), lambda: (steps.why(run, "Kim Lee"), steps.next(out), list(steps.lint(docket[5:]))))
+        alone, together = [one() for one in does], [[], [], [], []]
+
+        def again(place: int) -> None:
+            for _ in range(3):
+                together[place].append(does[place]())
+
+        threads = [threading.Thread(target=again, args=(place,)) for place in range(4)]
+        before, folder = children(os.getpid()), os.getcwd()
+        for thread in threads:
+            thread.start()
+        for thread in threads:
+            thread.join()
+        self.assertEqual(repr(together), repr([[one] * 3 for one in alone]))
+        self.assertEqual((children(os.getpid()) - before, os.getcwd(), alone[1]), (set(), folder, docket))
+
+    def test_a_signal_at_any_moment_of_any_step(self) -> None:
+        """A step is done, or it is stopped: no process goes on, and nothing is left half written. Each is tried with signals over its whole
+        time, some with --full by the hundred."""
+        self.assertEqual(ctypes.CDLL(None).prctl(36, 1, 0, 0, 0), 0)
+        self.addCleanup(ctypes.CDLL(None).prctl, 36, 0, 0, 0, 0)
+        run = steps.Run(str(self.run_tables()))
+        docket, out = run.market.docket(), self.folder / "new"
+        large = steps.Given("r", (RESIDENTS + "".join(f"Member {number} A,North Clinic,,\n" for number in range(3000))).encode())
+        temporary = self.folder / "temporary"
+        temporary.mkdir()
+        self.enter(mock.patch.dict(os.environ, TMPDIR=str(temporary)))
+        self.enter(mock.patch.object(tempfile, "tempdir", str(temporary)))
+        does = {
+            "look": lambda: steps.look(large, "residents", Settings()), "check": lambda: steps.check(GIVEN[0], large, Settings()),
+            "lint": lambda: list(steps.lint(docket * 300)), "match": lambda: steps.match(run.market, run.details),
+            "seal": lambda: steps.seal(str(out), run.market, run.details, steps.Wishes(), {}),
+            "withdraw": lambda: steps.withdraw(run, either=["Kim Lee"]), "compare": lambda: steps.compare(run, run),
+            "letters": lambda: steps.letters(run).page(), "write": lambda: steps.write(str(out), steps.match(run.market, run.details),
+                                                                                     steps.Wishes(), {}),
+            "verify": lambda: steps.verify(str(run.at)), "why": lambda: steps.why(run, "Kim Lee"), "next": lambda: steps.next(run.at)}
+        every = set()
+        for name, step in does.items():
+            started = time.monotonic()
+            self.assertEqual(self.stopped(step, 0, 1000), 0, name)
+            whole, ends = time.monotonic() - started, set()
+            count = 200 if support.FULL else 9
+            for place in range(count):
+                shutil.rmtree(out, ignore_errors=True)
+                ends.add(self.stopped(step, stopping.SIGNALS[place % 3], whole * place / count))
+                self.assertEqual((os.listdir(temporary), [one for one in self.left() if one not in ("out", "new", "temporary")]), ([], []), name)
+                self.assertEqual(out.exists(), (out / "SHA256SUMS").exists(), name)
+            self.assertLessEqual(ends, {0, 1}, name)
+            every |= ends
+            shutil.rmtree(out, ignore_errors=True)
+        self.assertIn(1, every)
+
+    def stopped(self, step: Callable[[], object], number: int, wait: float) -> int:
+        """How a process ends that does a step as the command does and gets a signal after so long; whatever it started has ended then."""
+        before = signal.pthread_sigmask(signal.SIG_BLOCK, stopping.SIGNALS)
+        pid = os.fork()
+        if not pid:
+            status = 2
+            try:
+                with stopping.stoppable():
+                    signal.pthread_sigmask(signal.SIG_SETMASK, before)
+                    step()
+                    # A signal after that is the test's own matter, and would end it as it ends any process.
+                    signal.pthread_sigmask(signal.SIG_BLOCK, stopping.SIGNALS)
+                    status = 0
+            except stopping.Stopped:
+                stopping.clean()
+                status = 1
+            finally:
+                os._exit(status)
+        signal.pthread_sigmask(signal.SIG_SETMASK, before)
+        if number:
+            time.sleep(wait)
+            os.kill(pid, number)
+        status = os.waitstatus_to_exitcode(os.waitpid(pid, 0)[1])
+        # What it left is this process's own now, and has a moment to end.
+        until = time.monotonic() + 5
+        while time.monotonic() < until:
+            try:
+                if os.waitpid(-1, os.WNOHANG)[0] == 0:
+                    time.sleep(0.01)
+            except ChildProcessError:
+                return status
+        self.fail(f"a process goes on after a step was stopped: {children(os.getpid())}")
 
     def test_a_signal_ends_the_reader_too(self) -> None:
         tables = [self.write("programmes.csv", PROGRAMMES), self.write("residents.xlsx", test_books.sheet(EMPTY))]

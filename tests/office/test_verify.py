@@ -1,12 +1,12 @@
 """`office verify`: what it says of a folder as it was made, of one without a part, and of parts that the programs refuse."""
 import contextlib
 import hashlib
+import importlib
 import io
 import json
 import os
 import shutil
 import subprocess
-import sys
 import tempfile
 import unittest
 from pathlib import Path
@@ -232,7 +232,7 @@ class Verify(unittest.TestCase):
         lines = said[len("second opinion: "):-len(", the same")].split(" ")
         self.assertEqual((lines[0], lines[1][:2], len(lines)), ("S,stable", "G,", 2))
         script = self.at.parent / "opinion.py"
-        module = sys.modules["residency.office.verify"]
+        module = importlib.import_module("residency.office.verify")
         for told, status in ((["S,unstable", lines[1]], 0), ([lines[0], "G,1"], 0), (lines[:1], 0), ([*lines, "K,0,1"], 0), ([], 0),
                              (lines, 1), (lines[::-1], 0)):
             script.write_text(f"print({chr(10).join(told)!r})\nraise SystemExit({status})\n")
@@ -243,7 +243,7 @@ class Verify(unittest.TestCase):
 
     def test_reasons_of_something_else(self) -> None:
         """What the program says of each choice has to be what the letters say."""
-        module = sys.modules["residency.office.verify"]
+        module = importlib.import_module("residency.office.verify")
         real = module.run_program
         for old, new in ((b"full", b"unranked"), (b"unranked", b"better"), (b"matched", b"full"), (b"better", b"full")):
             with mock.patch.object(module, "run_program", lambda name, words, *more, old=old, new=new: (

@@ -88,7 +88,7 @@ class Page(unittest.TestCase):
     def test_the_offices_steps(self):
         (block,) = [one for one in blocks() if "steps.check" in one]
         test = doctest.DocTestParser().get_doctest(block, {}, "python.md", "docs/python.md", 0)
-        self.assertEqual(doctest.DocTestRunner(verbose=False).run(test, out=self.fail), (0, 6))
+        self.assertEqual(doctest.DocTestRunner(verbose=False).run(test, out=self.fail), (0, 14))
 
     def test_every_name_is_there(self):
         for name in re.findall(r"`((?:Market|market|residency)\.[a-z_]+|[a-z_]+(?=\())", PAGE):

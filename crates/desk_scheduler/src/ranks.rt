@@ -1,5 +1,5 @@
 //! The ranks of a run's threads: a thread takes a lock only with a rank for this kind of lock.
-ghost use Rattle.std.specs.Prelude.{◌≡◌, ◌≢◌, ◌*◌, IfSome};
+ghost use Rattle.std.specs.Prelude.{◌≡◌, ◌≢◌, ◌+◌, ◌*◌, IfSome, IfNone};
 
 use crate::workers::WorkersIdentity;
 use std::marker::PhantomData;
@@ -42,7 +42,9 @@ impl<J: WorkersIdentity> Ranks<J> {
 
     /// The ranks of one more thread: two parts of the ledger. The result is none if 64 threads have their ranks.
     pub fn of_thread(&mut self) -> Option<Share<RankLedger<J>>>
-        ensures { IfSome result (λ parts. (parts.parts ≡ 2) × (parts.amount ≡ 0)) }
+        ensures two { IfSome result (λ parts. (parts.parts ≡ 2) × (parts.amount ≡ 0)) }
+        ensures one { IfSome result (λ _. self.new.threads + 1 ≡ self.old.threads) }
+        ensures none { IfNone result ((self.old.threads ≡ 0) × (self.new ≡ self.old)) }
     {
         if self.threads == 0 {
             return None;
@@ -53,7 +55,8 @@ impl<J: WorkersIdentity> Ranks<J> {
     // Cuts two parts for one more thread.
     fn cut(&mut self) -> Share<RankLedger<J>>
         requires { self.old.threads ≢ 0 }
-        ensures { (result.parts ≡ 2) × (result.amount ≡ 0) }
+        ensures two { (result.parts ≡ 2) × (result.amount ≡ 0) }
+        ensures one { self.new.threads + 1 ≡ self.old.threads }
     {
         let Ranks { threads, parts } = self;
         *threads -= 1;

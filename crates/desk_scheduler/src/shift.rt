@@ -72,11 +72,12 @@ impl<J: WorkersIdentity> Shift<J> {
     /// crew has no worker left.
     pub fn begins(&mut self, crew: &mut Crew<J>) -> Option<Looking<J>>
         ensures begun { IfSome result (λ _. self.new.begun ≡ self.old.begun + 1) }
+        ensures crew { IfSome result (λ _. crew.new.left + 1 ≡ crew.old.left) }
         ensures looks { IfSome result (λ _. self.new.looking ≡ self.old.looking + 1) }
         ensures others { (self.new.holding ≡ self.old.holding)
             × (self.new.resting ≡ self.old.resting) }
         ensures none { IfNone result (((63 ≤ self.old.begun) ⊎ (crew.old.left ≡ 0))
-            × (self.new ≡ self.old)) }
+            × (self.new ≡ self.old) × (crew.new ≡ crew.old)) }
         ensures schedule { self.new.schedule ≡ self.old.schedule }
     {
         self.workers.begins(crew)

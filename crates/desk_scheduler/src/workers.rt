@@ -196,11 +196,12 @@ impl<J: WorkersIdentity> Workers<J> {
     /// crew has no worker left.
     pub fn begins(&mut self, crew: &mut Crew<J>) -> Option<Looking<J>>
         ensures begun { IfSome result (λ _. self.new.begun ≡ self.old.begun + 1) }
+        ensures crew { IfSome result (λ _. crew.new.left + 1 ≡ crew.old.left) }
         ensures looks { IfSome result (λ _. self.new.looking.total ≡ self.old.looking.total + 1) }
         ensures others { (self.new.holding.total ≡ self.old.holding.total)
             × (self.new.resting.total ≡ self.old.resting.total) }
         ensures none { IfNone result (((63 ≤ self.old.begun) ⊎ (crew.old.left ≡ 0))
-            × (self.new ≡ self.old)) }
+            × (self.new ≡ self.old) × (crew.new ≡ crew.old)) }
     {
         if self.begun >= MOST || crew.left == 0 {
             return None;
@@ -213,6 +214,7 @@ impl<J: WorkersIdentity> Workers<J> {
         requires begun { self.old.begun < 63 }
         requires left { crew.old.left ≢ 0 }
         ensures begun { self.new.begun ≡ self.old.begun + 1 }
+        ensures crew { crew.new.left + 1 ≡ crew.old.left }
         ensures looks { self.new.looking.total ≡ self.old.looking.total + 1 }
         ensures others { (self.new.holding.total ≡ self.old.holding.total)
             × (self.new.resting.total ≡ self.old.resting.total) }

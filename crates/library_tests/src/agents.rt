@@ -5,7 +5,6 @@ mod desk;
 ghost use Rattle.std.specs.Prelude.{◌≡◌, []};
 ghost use Rattle.mailbox_rule.specs.Replies.{MatchTake};
 
-use crate::instances::{TWO_PLACES, made};
 use desk::{ProgrammeRun, ResidentRun};
 use exchange_core::{AnswerKind, AnswerNote, OfferNote};
 use mailbox_rule::{ListTake, TakeEnd, TakeReply};
@@ -14,6 +13,7 @@ use match_model::{ProgrammeNo, ResidentNo};
 use std::alloc::Global;
 use std::test::Fail;
 use test_support::events::{A, B, HOLD, RELEASE, X, Y, Z};
+use test_support::instances::{TWO_PLACES, made};
 
 // What a resident's agent answers to a take, and the two answers that the agent gives afterwards.
 type Taken = (

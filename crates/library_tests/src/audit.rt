@@ -1,5 +1,4 @@
 //! Sheets and lists of events with known answers: programme 0 is `A`, 1 is `B`, and residents 0 to 2 are `X`, `Y` and `Z`.
-use crate::instances::{Members, TWO_BY_TWO, TWO_PLACES, made};
 use exchange_core::{AnswerKind, Capacity, Event, Pending, Refused};
 use match_audit::{AuditFault, AuditReport, ReplayFault, audit, check, counts, replay};
 use match_model::{Assignment, ModelFault, ProgrammeNo, ResidentNo};
@@ -8,6 +7,7 @@ use std::test::Fail;
 use test_support::events::{
     A, B, X, Y, Z, answer, hear, nine_events, nineteen_events, offer, take,
 };
+use test_support::instances::{Members, TWO_BY_TWO, TWO_PLACES, made};
 
 // The sheet that matches each resident with the programme of this number, or with none.
 fn sheet(alloc: Global, places: &[Option<u32>]) -> Result<Assignment, ModelFault> {

@@ -4,7 +4,6 @@ pub(super) mod run;
 mod slow;
 mod walks;
 
-use crate::instances::{Members, TWO_BY_TWO, TWO_PLACES, has_places, made};
 use exchange_core::{Capacity, CoreFault, Event, Pending, Refused};
 use match_model::{Instance, ProgrammeNo, ResidentNo};
 use run::{Run, Seen};
@@ -13,6 +12,7 @@ use std::test::Fail;
 use test_support::events::{
     A, B, DECLINE, HOLD, RELEASE, X, Y, Z, answer, hear, nine_events, nineteen_events, offer, take,
 };
+use test_support::instances::{Members, TWO_BY_TWO, TWO_PLACES, has_places, made};
 
 // A core with its instance, before any event between these members.
 fn begin(alloc: Global, members: Members, cap: Capacity) -> Result<Run, CoreFault> {

@@ -3,7 +3,6 @@ ghost use Rattle.std.specs.Prelude.{◌≡◌, ℕ, [], Some, slice_get, IfOk};
 ghost use Rattle.mailbox_rule.specs.Lists.{PutList};
 ghost use Rattle.mailbox_rule.specs.Mail.{PutSide};
 
-use crate::instances::{TWO_BY_TWO, TWO_PLACES, made};
 use exchange_core::{AnswerNote, Capacity, Event, OfferNote, Pending, Refused};
 use mailbox_rule::{ListPut, MailFault, PutEnd, RuledPut, RuledTake, mailbox};
 use match_model::Instance;
@@ -16,6 +15,7 @@ use std::sync::Wait;
 use std::sync::ledger::Blank;
 use std::test::Fail;
 use test_support::events::{A, X, nine_events, nineteen_events};
+use test_support::instances::{TWO_BY_TWO, TWO_PLACES, made};
 
 // Ends in memory, each with room for `room` notes.
 #[tactic(auto, using(match_model::proofs::Prefixes::slice_get_push_parts))]

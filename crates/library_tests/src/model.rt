@@ -1,11 +1,11 @@
 //! Small instances and assignments, made by hand.
-use crate::markets::{TEN, all_residents, made_in_one_order};
 use match_model::{
     Assignment, Instance, InstanceBuilder, Limits, ModelFault, ProgrammeNo, ResidentNo,
 };
 use std::alloc::Global;
 use std::test::Fail;
 use test_support::events::{A, B, X, Y, Z};
+use test_support::markets::{TEN, all_residents, made_in_one_order};
 use test_support::members::{is_programme, is_resident};
 
 // A builder with one programme, which has one place, and with one resident.

@@ -14,8 +14,8 @@ use std::sync::{Mutex, Wait};
 use std::test::Fail;
 use std::thread;
 use std::thread::Threads;
+use test_gates::gates::{Firm, Held};
 use test_support::events::desk_of;
-use test_support::gates::{Firm, Held};
 use test_support::randomness::OneByte;
 
 // How many rows of a text begin with `start` and end with `end`.

@@ -99,11 +99,9 @@ def work(number: int, limits: Limits, step: str, words: Sequence[Any]) -> NoRetu
         try:
             done: Tuple[str, Any] = (DONE, getattr(steps, step)(*words, lambda what: answer(number, (PROGRESS, what))))
         except OfficeError as error:
-            done = (FAILED, (str(error), error.status))
-        except (DocketFault, MarketFault) as error:
-            done = (FAILED, (str(error), 3))
+            done = (FAILED, (error.fault.code, error.status, error.at, error.fault.table, error.fault.row, dict(error.fault.values)))
         except ResidencyError as error:
-            done = (FAILED, (str(error), 1))
+            done = (FAILED, ("reader.fault", 3 if isinstance(error, (DocketFault, MarketFault)) else 1, "", "", None, {"cause": str(error)}))
         answer(number, done)
         status = 0
     except MemoryError:
@@ -163,7 +161,7 @@ class Started:
         except (pickle.UnpicklingError, AttributeError, ImportError, IndexError, TypeError, ValueError, EOFError):
             message = None
         if not isinstance(message, tuple) or len(message) != 2:
-            raise OfficeError("the reader of the tables gave no answer")
+            raise OfficeError("reader.silent")
         return message
 
     def end(self, is_cut: bool) -> int:
@@ -198,9 +196,10 @@ def apart(limits: Limits, step: str, words: Sequence[Any], progress: Progress) -
     if message and message[0] == DONE:
         return message[1]
     if message and message[0] == FAILED:
-        raise OfficeError(*message[1])
+        *words, values = message[1]
+        raise OfficeError(*words, **values)
     if status == NO_MEMORY:
         raise Costly("file.memory", at, limits)
     if status in (-signal.SIGXCPU, -signal.SIGKILL):
         raise Costly("file.slow", at, limits)
-    raise OfficeError(f"the reader of the tables ended with status {status}")
+    raise OfficeError("reader.ended", status=1, ended=status)

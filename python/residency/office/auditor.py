@@ -4,7 +4,7 @@ from typing import Any, Dict
 
 from ..names import PROGRAMME, RESIDENT
 from . import folder
-from .faults import OfficeError, counted, shown
+from .faults import OfficeError
 from .running import Kept
 
 PAGE = "for-auditor.txt"
@@ -34,8 +34,8 @@ def manifest_of(kept: Kept, with_key: bool) -> Dict[str, Any]:
     return {**made, "auditor": {"key": with_key}}
 
 
-def copy(path: str, out: str, with_key: bool) -> str:
-    """Copies what an auditor gets into a new folder, and says so. OfficeError where a file isn't as SHA256SUMS has it."""
+def copy(path: str, out: str, with_key: bool) -> int:
+    """Copies what an auditor gets into a new folder: how many files. OfficeError where a file isn't as SHA256SUMS has it."""
     kept = Kept(path)
     manifest, sums = manifest_of(kept, with_key), folder.sums_of(kept.results.read(folder.SUMS))
     without = {folder.MANIFEST, folder.SUMS, PAGE} | (set() if with_key else folder.NEEDS_KEY)
@@ -44,8 +44,8 @@ def copy(path: str, out: str, with_key: bool) -> str:
         for name in names:
             data = kept.results.read(name)
             if sums.get(name) != folder.digest(data):
-                raise OfficeError(f"{kept.label}: {shown(name)} isn't as {folder.SUMS} has it; nothing was written", 3)
+                raise OfficeError("folder.other-sum", 3, kept.at, name)
             draft.write(name, data)
         draft.write(PAGE, page(manifest, with_key))
         draft.finish(manifest)
-    return f"{counted(len(names), 'file')} for an auditor, with{'' if with_key else 'out'} the key; written to {shown(out)}"
+    return len(names)

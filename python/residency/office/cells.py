@@ -5,7 +5,7 @@ from dataclasses import dataclass
 from typing import Callable, Dict, Iterable, Iterator, List, Optional, Sequence, Tuple
 
 from ..text import BadQuotes, rows, tidy
-from .faults import Faults, OfficeError, Values, shown
+from .faults import Faults, OfficeError, Values
 from .text import LINE_END
 
 DELIMITERS = {",": "commas", ";": "semicolons", "\t": "tabs", "|": "bars"}
@@ -35,7 +35,7 @@ def known_delimiter(word: str) -> str:
     """The delimiter that a word of the command line names: comma, semicolon, tab, bar, or one letter."""
     one = WORDS.get(word, word)
     if len(one) != 1 or one in '"\r\n \0' or ord(one) > 127 or one.isalnum():
-        raise OfficeError(f"{shown(word)} parts no cells; comma, semicolon, tab and bar do", 2)
+        raise OfficeError("setting.delimiter", 2, text=word)
     return one
 
 
@@ -121,7 +121,7 @@ class Cells:
         if known is not None:
             return known
         name = name_of(text)
-        is_plain = len(text) <= MOST_LETTERS_OF_A_CELL and text.isprintable() and "\ufffd" not in text
+        is_plain = len(text) <= MOST_LETTERS_OF_A_CELL and text.isprintable() and (number > 1 or "\ufffd" not in text)
         found = None if is_plain else self.fault(number, text)
         if found is None:
             self.good[text] = name
@@ -139,7 +139,7 @@ class Cells:
             return "row.line-end", begin
         if "\t" in inside:
             return "row.tab", {"text": text}
-        if "\ufffd" in text:
+        if "\ufffd" in text and number == 1:
             return "row.lost-letter", {"text": text}
         if any(unicodedata.category(c) in ("Cc", "Cs", "Co", "Cn") and c not in "\r\n" for c in inside):
             return "row.no-letter", {"text": text}

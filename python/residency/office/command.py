@@ -9,21 +9,21 @@ from typing import Callable, Dict, List, Optional, Sequence, Tuple
 from ..errors import DocketFault, MarketFault, ResidencyError
 from ..market import Market
 from ..text import decode
-from . import auditor, compare, folder, national, running, sealing, settings, sheets, steps, stopping, writing
+from . import compare, folder, national, running, sealing, settings, sheets, steps, stopping, writing
 from .cells import DELIMITERS, known_delimiter
-from .faults import MOST_SHOWN, Faults, OfficeError, column_letters, counted, shown
+from .faults import MOST_SHOWN, Faults, FaultsError, OfficeError, column_letters, counted, shown
 from .headings import Words
 from .letters import checked_template
 from .line import parser
 from .outcome import UNMATCHED, Standing
 from .running import Run, Wishes
-from .sentences import as_dict, how, line_of, note, report
+from .sentences import as_dict, errors_as_dicts, how, line_of, note, report, said_by, said_otherwise
 from .settings import TABLES, Settings
 from .steps import Given, Look, Read, TablesError
 from .tables import Table
 from .telling import complain, failed, say, silence
 from .text import bytes_of, decoded, known_encoding, title_of
-from .verify import FromTables, read_by
+from .tree import Roots
 
 
 # The commands that may tell all as JSON, and then nothing else on standard output.
@@ -58,10 +58,8 @@ def ended(words: Optional[Sequence[str]]) -> int:
         # Whoever reads has had enough; what is left in the buffer goes nowhere.
         silence()
         return 1
-    except settings.SettingsError as error:
-        return failed("\n".join(report(error.faults, True)), error.status)
     except OfficeError as error:
-        return failed(str(error), error.status)
+        return failed(said_by(error), error.status)
     except (DocketFault, MarketFault) as fault:
         return failed(str(fault), 3)
     except ResidencyError as error:
@@ -81,7 +79,12 @@ def dispatch(words: Optional[Sequence[str]]) -> int:
         given = parser().parse_args(words)
     except SystemExit as end:
         return int(end.code or 0)
-    return DOES[given.command](given)
+    try:
+        return DOES[given.command](given)
+    except OfficeError as error:
+        if given.command in QUIET and given.json:
+            say(json.dumps({"faults": errors_as_dicts(error)}, ensure_ascii=False))
+        raise
 
 
 def as_text(word: str) -> str:
@@ -89,7 +92,7 @@ def as_text(word: str) -> str:
     try:
         return os.fsencode(word).decode("utf-8") if any("\ud800" <= c <= "\udfff" for c in word) else word
     except UnicodeError:
-        raise OfficeError(f"{shown(word)} is no text", 2) from None
+        raise OfficeError("words.no-text", 2, text=word) from None
 
 
 def said_of(given: argparse.Namespace) -> Dict[str, object]:
@@ -100,7 +103,7 @@ def said_of(given: argparse.Namespace) -> Dict[str, object]:
         "encoding": known_encoding, "delimiter": known_delimiter, "sheet": as_text, "heading_row": row_number}
     tables = {name: by_table(getattr(given, name, []), known) for name, known in by_tables.items()}
     tables["expect"] = {table: count for table, count in expected.items() if count is not None}
-    plain = {name: getattr(given, name, None) for name in ("allow_gaps", "allow_short", "allow_alone", "order", "cut_offs")}
+    plain = {name: getattr(given, name, None) for name in (*settings.ALLOWED, "order", "cut_offs")}
     found: Dict[str, object] = {**said, **tables, **plain, "title": title_of_line(given)}
     return {name: value for name, value in found.items() if value}
 
@@ -126,7 +129,7 @@ def row_number(word: str) -> int:
     try:
         return settings.from_one(word)
     except ValueError:
-        raise OfficeError(f"{shown(word)} is no row; rows count from 1", 2) from None
+        raise OfficeError("setting.heading-row", 2, text=word) from None
 
 
 def by_table(given: Sequence[str], known: Callable[[str], object]) -> Dict[str, object]:
@@ -144,7 +147,7 @@ def read_tables(programmes: str, residents: str, chosen: Settings) -> Read:
     """Both tables and their market; TablesError with all faults."""
     if programmes == residents and not chosen.sheet or os.path.exists(programmes) and os.path.exists(residents) \
             and not chosen.sheet and os.path.samefile(programmes, residents):
-        raise OfficeError(f"only one table was given, {shown(programmes)}, twice: PROGRAMMES and RESIDENTS are two", 2)
+        raise OfficeError("words.one-twice", 2, programmes)
     read = steps.check(Given(programmes, bytes_of(programmes)), Given(residents, bytes_of(residents)), chosen)
     if read.market is None:
         raise TablesError(read)
@@ -184,7 +187,7 @@ def check(given: argparse.Namespace) -> int:
         refuse_one_table(given.files[0], data)
         return tell_docket(data, shown(given.files[0]), given)
     if len(given.files) != 2:
-        raise OfficeError("check takes two tables, PROGRAMMES and RESIDENTS, or one docket", 2)
+        raise OfficeError("words.two-tables", 2)
     try:
         read = read_tables(given.files[0], given.files[1], settings_of(given, given.files[0]))
     except TablesError as error:
@@ -201,11 +204,11 @@ def check(given: argparse.Namespace) -> int:
 def settings_command(given: argparse.Namespace) -> int:
     out = given.out or os.path.join(os.path.dirname(given.programmes), settings.NAME)
     if given.residents is None and not os.path.isdir(given.programmes):
-        raise OfficeError("only one table was given: PROGRAMMES and RESIDENTS are two, and one word alone is a folder that seal or run made", 2)
+        raise OfficeError("words.one-table", 2, makers="seal or run")
     if given.residents is None:
         out = given.out or settings.NAME
         writing.refuse(out)
-        found, remarks = settings.from_values(folder.Results(given.programmes).manifest.get("reading", {})), {}
+        found, remarks = steps.next(given.programmes), {}
     else:
         writing.refuse(out)
         found = settings_of(given)
@@ -242,7 +245,7 @@ def remarks_of(look: Look, path: str) -> List[str]:
 def lint_command(given: argparse.Namespace) -> int:
     if given.docket == "-":
         if sys.stdin is None:
-            raise OfficeError("standard input is closed")
+            raise OfficeError("words.closed")
         return tell_docket(sys.stdin.buffer.read(), "standard input", given)
     return tell_docket(bytes_of(given.docket), shown(given.docket), given)
 
@@ -293,7 +296,7 @@ def refuse_one_table(path: str, data: bytes) -> None:
     except (sheets.BadBook, UnicodeError):
         is_table = False
     if is_table:
-        raise OfficeError(f"only one table was given, {shown(path)}: check takes two, PROGRAMMES and RESIDENTS, or one docket", 2)
+        raise OfficeError("words.one-of-two", 2, path)
 
 
 def wishes_of(given: argparse.Namespace, chosen: Settings, title: str, columns: Sequence[str]) -> Wishes:
@@ -305,7 +308,7 @@ def title_of_line(given: argparse.Namespace) -> str:
     """The title that the command line gives, if any. OfficeError for one that can't be shown."""
     title = " ".join(as_text(getattr(given, "title", None) or "").split())
     if title and not title.isprintable():
-        raise OfficeError(f"the title {shown(title)} has a character that is no letter", 2)
+        raise OfficeError("setting.title", 2, text=title)
     return title
 
 
@@ -314,7 +317,7 @@ def text_of(path: str) -> str:
     faults = Faults()
     text = decoded(bytes_of(path), shown(path), None, faults).text
     if len(faults):
-        raise OfficeError(report(faults)[0], 3)
+        raise FaultsError(faults)
     return text
 
 
@@ -355,16 +358,16 @@ def seal_command(given: argparse.Namespace) -> int:
         return 3
     tables, market = found
     roots = steps.seal(given.out, market, steps.details_of(tables[1], market), wishes, how_read(tables, chosen))
-    for line in [*describe(tables, market), sealing.written(given.out, roots), *sealing.told(roots)]:
+    for line in [*describe(tables, market), sealed(given.out, roots), *published(roots)]:
         say(line)
     return 0
 
 
 def run(given: argparse.Namespace) -> int:
     if given.residents is None and not os.path.isdir(given.programmes):
-        raise OfficeError("only one table was given: PROGRAMMES and RESIDENTS are two, and one word alone is a folder that seal made", 2)
+        raise OfficeError("words.one-table", 2, makers="seal")
     if given.residents is None and given.seal is not None:
-        raise OfficeError("FOLDER and --seal are the same: give one of them", 2)
+        raise OfficeError("words.seal-twice", 2)
     path = given.seal if given.residents is not None else given.programmes
     writing.refuse(given.out)
     if path is not None:
@@ -393,14 +396,17 @@ def run_sealed(given: argparse.Namespace, sealed: running.Kept) -> int:
         if found is None:
             return 3
         tables, market = found
-        sealing.refuse_others(sealed, market, given.all)
+        try:
+            sealing.refuse_others(sealed, market)
+        except sealing.OtherTables as error:
+            return failed(said_otherwise(error, error.faults, given.all), error.status)
         lines, details = describe(tables, market), steps.details_of(tables[1], market)
         manifest = from_of(sealed, settings.values_of(chosen))
     wishes = wishes_of(given, chosen, chosen.title or sealed.title(), details.columns)
     result = steps.match(sealed.market, details, wishes.timeout)
     roots = steps.write(given.out, result, wishes, manifest, sealed.secret(), sealed)
     assert roots is not None
-    for line in lines + told(given.out, result) + sealing.told(roots):
+    for line in lines + told(given.out, result) + published(roots):
         say(line)
     return 0
 
@@ -409,6 +415,21 @@ def from_of(kept: running.Kept, said: Optional[Dict[str, Dict[str, object]]] = N
     """What a manifest says of the folder that another one is made from, whose settings are carried on where no others are said."""
     reading = said or kept.results.manifest.get("reading")
     return {**({"reading": reading} if isinstance(reading, dict) else {}), "from": kept.digests()}
+
+
+def sealed(out: str, roots: Roots) -> str:
+    return f"{counted(roots.count, 'member')} sealed, each with a receipt; written to {shown(out)}"
+
+
+def published(roots: Roots) -> List[str]:
+    """What is said of a market that was sealed: the roots, to be published."""
+    return [f"publish what is in {folder.PUBLIC}/, and these roots wherever members look:", *roots.rows().decode("ascii").splitlines()]
+
+
+def published_anew(roots: Roots) -> List[str]:
+    """What is said of a market that was sealed anew: who needs a new receipt, and the roots."""
+    return [f"all {counted(roots.count, 'member')} need their new receipt: the roots are others, and receipts of before hold no more",
+            *published(roots)]
 
 
 def told(out: str, result: running.Matched) -> List[str]:
@@ -424,7 +445,7 @@ def told(out: str, result: running.Matched) -> List[str]:
 
 def withdraw(given: argparse.Namespace) -> int:
     if not given.names and not given.programme and not given.resident:
-        raise OfficeError("who withdraws? give a name", 2)
+        raise OfficeError("words.nobody", 2)
     before = running.opened(given.folder)
     sealing.refuse_readable(given.readable and before.is_sealed())
     out = folder.free_name(given.folder) if given.out is None else given.out
@@ -436,7 +457,7 @@ def withdraw(given: argparse.Namespace) -> int:
     chosen = settings_of(given)
     wishes = wishes_of(given, chosen, chosen.title or before.title(), before.details.columns)
     roots = steps.write(out, done.matched, wishes, from_of(before), done.secret(), changes=done.changes)
-    for line in [one.line() for one in done.changes] + told(out, done.matched) + ([] if roots is None else sealing.told_anew(roots)):
+    for line in [one.line() for one in done.changes] + told(out, done.matched) + ([] if roots is None else published_anew(roots)):
         say(line)
     return 0
 
@@ -446,7 +467,7 @@ def withdraw_sealed(given: argparse.Namespace, done: steps.Withdrawn, out: str) 
     kept = done.before
     wishes = Wishes(kept.title(), given.date or date.today(), timeout=given.timeout)
     roots = steps.seal(out, done.market, kept.details, wishes, from_of(kept))
-    for line in [f"{shown(name)}: withdrawn" for name in done.gone] + [sealing.written(out, roots), *sealing.told_anew(roots)]:
+    for line in [f"{shown(name)}: withdrawn" for name in done.gone] + [sealed(out, roots), *published_anew(roots)]:
         say(line)
     return 0
 
@@ -458,7 +479,8 @@ def compare_command(given: argparse.Namespace) -> int:
     if given.out is not None:
         writing.new_file(given.out, compare.changes_table(found.changes))
     lines = [f"{what}: {was} before, {is_now} now" for what, was, is_now in found.figures]
-    lines += [compare.summary(found.before.outcome, found.now.outcome, found.changes, given.names)]
+    summary = compare.summary(found.before.outcome, found.now.outcome, found.changes)
+    lines += [summary + ("" if given.names or not found.changes else "; --names lists them")]
     for line in lines + [one.line() for one in found.changes if given.names]:
         say(line)
     return 0
@@ -476,6 +498,8 @@ def letters(given: argparse.Namespace) -> int:
 
 
 def verify_command(given: argparse.Namespace) -> int:
+    from .verify import FromTables, read_by
+
     published = {word: said for word, said in (("lists", given.lists), ("result", given.result)) if said is not None}
     made = None
     if given.tables is not None:
@@ -491,8 +515,11 @@ def verify_command(given: argparse.Namespace) -> int:
 
 
 def auditor_command(given: argparse.Namespace) -> int:
+    from . import auditor
+
     writing.refuse(given.out)
-    say(auditor.copy(given.folder, given.out, given.key))
+    count = auditor.copy(given.folder, given.out, given.key)
+    say(f"{counted(count, 'file')} for an auditor, with{'' if given.key else 'out'} the key; written to {shown(given.out)}")
     return 0
 
 

@@ -121,12 +121,12 @@ def has_ids(outcomes: Iterable[Outcome]) -> bool:
     return all(one.id for outcome in outcomes for one in outcome.residents.values())
 
 
-def summary(before: Outcome, now: Outcome, found: Sequence[Change], are_listed: bool) -> str:
+def summary(before: Outcome, now: Outcome, found: Sequence[Change]) -> str:
     """One line on who stands otherwise, and how they are known."""
     counts = Counter(one.what for one in found if one.side == "resident")
     told = ", ".join(f"{counts[what]:,} {what}" for what in ORDER if what in counts) or "nobody stands otherwise"
     known = "by their IDs" if has_ids((before, now)) else "by their names, since not all have an ID"
-    return f"residents {known}: {told}" + ("" if are_listed or not found else "; --names lists them")
+    return f"residents {known}: {told}"
 
 
 def changes_table(found: Sequence[Change]) -> bytes:

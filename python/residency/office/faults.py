@@ -14,14 +14,6 @@ MOST_LETTERS = 80
 Values = Mapping[str, Any]
 
 
-class OfficeError(Exception):
-    """A command can't be done; the text says why, in one line. `status` is the exit status that it ends with."""
-
-    def __init__(self, text: str, status: int = 1) -> None:
-        super().__init__(text)
-        self.status = status
-
-
 def shown(text: str, most: int = MOST_LETTERS) -> str:
     """A text from a table as one line that a terminal can print: without control characters, and not too long."""
     if len(text) <= most and text.isprintable():
@@ -80,7 +72,21 @@ class Fault:
         return self.code.partition(".")[0]
 
 
-# The kinds in the order in which one mends them.
+class OfficeError(Exception):
+    """A step can't be done: `fault` says why, as a value. `status` is the exit status of its command, and `at` the folder or the file
+    that it is about, as it was given, where it is about one; `table` is the file in that folder."""
+
+    def __init__(self, code: str, status: int = 1, at: str = "", table: str = "", row: Optional[int] = None, **values: Any) -> None:
+        super().__init__(code, values)
+        self.fault = Fault(code, table, row, values=values)
+        self.status, self.at = status, at
+
+    def __str__(self) -> str:
+        said = ", ".join(f"{name} {value}" for name, value in self.fault.values.items())
+        return self.fault.code + (f": {said}" if said else "")
+
+
+# The kinds of what tables and settings have, in the order in which one mends them.
 KINDS = ("file", "heading", "row", "name", "places", "rank", "unknown", "twice", "limit")
 
 
@@ -91,6 +97,8 @@ class Faults:
         self.kept: Dict[str, List[Fault]] = {kind: [] for kind in KINDS}
         self.counts: Dict[str, int] = dict.fromkeys(KINDS, 0)
         self.by_key: Dict[Tuple[str, ...], Fault] = {}
+        # Whether what is told is left out, while rows are only looked at.
+        self.is_deaf = False
 
     def __len__(self) -> int:
         return sum(self.counts.values())
@@ -98,6 +106,8 @@ class Faults:
     def tell(self, code: str, table: str, row: Optional[int], column: Optional[int], values: Optional[Values] = None,
              key: Tuple[str, ...] = (), remedies: Sequence[Remedy] = ()) -> None:
         """Notes a fault. One with a key that was told before is a further cell of that one."""
+        if self.is_deaf:
+            return
         kind = code.partition(".")[0]
         cell = [] if row is None or column is None else [Cell(table, row, column)]
         before = self.by_key.get((kind,) + key) if key else None
@@ -123,5 +133,13 @@ class Faults:
     def every(self) -> List[Fault]:
         """All that are kept, in the order in which one mends them."""
         return [fault for kind in KINDS for fault in self.ordered(kind)]
+
+
+class FaultsError(OfficeError):
+    """What was read is at fault: every fault at once. Exit status 3."""
+
+    def __init__(self, faults: Faults) -> None:
+        super().__init__("file.faults", 3)
+        self.faults = faults
 
 

@@ -7,7 +7,7 @@ from pathlib import Path
 from typing import Any, Dict, Iterable, Iterator, List, Set
 
 from . import leftover, stopping
-from .faults import OfficeError, shown
+from .faults import OfficeError
 from .writing import PRIVATE, SHARED, cause_of, draft_of, refuse, umask, write_new
 
 DOCKET, KEY, SHEET, JOURNAL, PAGE = "docket.csv", "key.csv", "sheet.csv", "journal.csv", "page.html"
@@ -116,7 +116,7 @@ def new_folder(out: str, private: bool = False, readable: bool = False) -> Itera
                 refuse(out)
                 os.rename(part, target)
         except OSError as error:
-            raise OfficeError(f"{shown(out)} can't be written: {cause_of(error)}; nothing was left there") from None
+            raise OfficeError("out.unwritten", 1, out, cause=cause_of(error)) from None
 
 
 def free_name(folder: str) -> str:
@@ -129,25 +129,24 @@ class Results:
     """A folder that `run` or `withdraw` made, as it is read again."""
 
     def __init__(self, path: str) -> None:
-        self.path = Path(path)
-        self.label = shown(path)
+        self.path, self.at = Path(path), path
         self.manifest = self.read_manifest()
 
     def read(self, name: str) -> bytes:
         try:
             return (self.path / name).read_bytes()
         except OSError as error:
-            raise OfficeError(f"{self.label}: {name} can't be read: {cause_of(error)}") from None
+            raise OfficeError("folder.unread", 1, self.at, name, cause=cause_of(error)) from None
 
     def read_manifest(self) -> Dict[str, Any]:
         if not self.path.is_dir():
-            raise OfficeError(f"{self.label} is no folder")
+            raise OfficeError("folder.none", 1, self.at)
         try:
             manifest = json.loads(self.read(MANIFEST).decode("utf-8"))
         except (ValueError, RecursionError):
             manifest = None
         if not isinstance(manifest, dict) or not isinstance(manifest.get("sha256"), dict):
-            raise OfficeError(f"{self.label}: {MANIFEST} isn't one that office wrote", 3)
+            raise OfficeError("folder.no-manifest", 3, self.at, MANIFEST)
         return manifest
 
     def checked(self, name: str) -> bytes:
@@ -155,7 +154,7 @@ class Results:
         data = self.read(name)
         wanted = self.manifest["sha256"].get(name)
         if digest(data) != wanted:
-            raise OfficeError(f"{self.label}: {name} was changed since it was written; {MANIFEST} names another sha256", 3)
+            raise OfficeError("folder.changed", 3, self.at, name)
         return data
 
     def names(self) -> List[str]:

@@ -6,7 +6,7 @@ from typing import Dict, FrozenSet, List, Optional, Sequence, Tuple, TypeVar
 
 from ..docket import MOST_RESIDENTS
 from ..near import edits
-from .faults import Faults, OfficeError, Remedy, Values, shown
+from .faults import Faults, OfficeError, Remedy, Values
 
 # What a heading is known by: its role, or a rank.
 Key = TypeVar("Key", str, int)
@@ -55,7 +55,7 @@ class Words:
         for one in added:
             role, _, word = one.partition("=")
             if role not in ROLES or not plain(word):
-                raise OfficeError(f"--heading {shown(one)}: it is {HEADING}", 2)
+                raise OfficeError("setting.heading", 2, text=one, roles=ROLES)
             self.roles[plain(word)] = role
 
     def role(self, heading: str) -> Optional[str]:

@@ -7,7 +7,7 @@ from typing import Dict, Iterable, List, Optional, Sequence, Tuple
 
 from ..market import Market
 from ..names import docket_names
-from .faults import OfficeError, counted, shown
+from .faults import OfficeError, counted
 from .outcome import Became, Lists, Outcome, Resident, Standing, by_name, ordinal
 from .page import About, bdi, long_day
 from .style import LETTERS_STYLE
@@ -76,8 +76,7 @@ def refuse_unsalted(text: str) -> None:
     """OfficeError for a template of sealed letters that names the docket's hash."""
     for number, line in enumerate(LINE_END.split(text), 1):
         if any(UNSALTED in found for found in re.findall(r"\$(?:\$|(\w+)|\{(\w+)\})", line)):
-            raise OfficeError(f"the template, line {number}: ${UNSALTED} is a hash from which others' lists can be guessed, and this "
-                              "match is sealed; $lists_root and $result_root are the published roots", 3)
+            raise OfficeError("template.unsalted", 3, "", "template", number, text=UNSALTED)
 
 
 def checked_template(text: str, columns: Sequence[str] = ()) -> str:
@@ -86,13 +85,11 @@ def checked_template(text: str, columns: Sequence[str] = ()) -> str:
     known = (*FIELDS, *fields_of(columns))
     lines = LINE_END.split(text)
     if not text.strip():
-        raise OfficeError("the template has no text, and all letters would have none", 3)
+        raise OfficeError("template.empty", 3, "", "template")
     for number, line in enumerate(lines, 1):
         for found in re.finditer(r"\$(?:(\$)|(\w+)|\{(\w+)\}|)", line):
             if not found.group(1) and (found.group(2) or found.group(3)) not in known:
-                fields = ", $".join(known)
-                raise OfficeError(f"the template, line {number}: {shown(found.group(0))} is none of ${fields}; write $$ for the "
-                                  "sign itself", 3)
+                raise OfficeError("template.field", 3, "", "template", number, text=found.group(0), fields=known)
     return "\n".join(lines)
 
 

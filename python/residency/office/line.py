@@ -3,7 +3,7 @@ import argparse
 import re
 import textwrap
 from datetime import date
-from typing import Any, NoReturn
+from typing import TYPE_CHECKING, Any, NoReturn
 
 from ..program import DEFAULT_TIMEOUT
 from ..version import is_release
@@ -12,7 +12,9 @@ from .letters import FIELDS
 from .running import TITLE
 from .settings import NAME
 from .telling import say
-from .verify import Published
+
+if TYPE_CHECKING:
+    from .verify import Published
 
 # A release has the command by a name that says whose it is.
 CALLED = "residency-office" if is_release() else "office"
@@ -51,7 +53,7 @@ class Parser(argparse.ArgumentParser):
     def error(self, message: str) -> NoReturn:
         if message == "the following arguments are required: RESIDENTS":
             message = "only one table was given: PROGRAMMES and RESIDENTS are two"
-        raise OfficeError(f"{shown(message, 300)} ({self.prog} --help says more)", 2)
+        raise OfficeError("words.wrong", 2, text=message, program=self.prog)
 
 
 def wrapped(*paragraphs: str) -> str:
@@ -99,6 +101,9 @@ def add_tables(one: argparse.ArgumentParser) -> None:
     one.add_argument("--allow-short", action="store_true", help="take rows with fewer cells than the heading")
     one.add_argument("--allow-alone", action="store_true",
                      help="take a row that looks like a remark, without a list and in no list, for a resident")
+    one.add_argument("--allow-alike", action="store_true",
+                     help="take names that differ in capitals, blanks or accents alone for two members")
+    one.add_argument("--allow-lost-letters", action="store_true", help="take names in which ? or another sign stands for a letter")
     one.add_argument("--all", action="store_true", help="tell every fault on a line of its own, however many there are")
     add_settings_file(one)
 
@@ -129,7 +134,9 @@ def day(text: str) -> date:
         raise argparse.ArgumentTypeError(f"{shown(text)} is no day; it is written as 2026-03-20") from None
 
 
-def root(text: str) -> Published:
+def root(text: str) -> "Published":
+    from .verify import Published
+
     found = re.fullmatch("(?:([0-9]{1,9}),)?([0-9a-f]{64})", text)
     if found is None:
         raise argparse.ArgumentTypeError(f"{shown(text)} is no root: it has 64 small hexadecimal digits, after the number of members "

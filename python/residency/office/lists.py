@@ -7,7 +7,7 @@ from ..market import Market
 from ..names import PROGRAMME, RESIDENT, Member, Names, docket_names
 from ..near import NearNames, edits, folded
 from ..records import is_name
-from . import national
+from . import doubts, national
 from .faults import Cell, Fault, Faults, Remedy, Values
 from .headings import meanings
 from .remarks import is_remark
@@ -207,11 +207,15 @@ def docket_names_of(table: Table, letter: str) -> List[str]:
 
 def market_of(programmes: Table, residents: Table, faults: Faults, options: Settings) -> Optional[Market]:
     """The market of two tables, or None where there is a fault, which is told."""
+    for table in (programmes, residents):
+        doubts.tell(table, options, faults)
     if not programmes.whole or not residents.whole:
         return None
     programme_lists, resident_lists = Joiner(programmes, residents, faults).lists()
     note_alone(programmes, programme_lists, resident_lists, faults, options)
     note_alone(residents, resident_lists, programme_lists, faults, options)
+    doubts.note_empty(programmes, programme_lists, resident_lists)
+    doubts.note_empty(residents, resident_lists, programme_lists)
     for table in (programmes, residents):
         note_shared(table)
     pairs = mutual_pairs(programme_lists, resident_lists)

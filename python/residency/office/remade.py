@@ -104,7 +104,7 @@ def before_of(market: Market, wanted: str) -> Market:
     """The market before the last withdrawals, by its docket's digest. OfficeError where there is none."""
     found = next((one for one in befores(market) if digest(one.docket()) == wanted), None)
     if found is None:
-        raise OfficeError(f"{folder.MANIFEST}: no withdrawal leads here from the docket that it names")
+        raise OfficeError("before.no-way", table=folder.MANIFEST)
     return found
 
 
@@ -170,18 +170,18 @@ def came_from(source: Source, result: Optional[Matched]) -> Optional[bytes]:
         return None
     names = source.market.names
     if source.has_key and before.get(folder.KEY) != digest(write_key(names)):
-        raise OfficeError(f"{folder.MANIFEST}: the key of the folder before is another one")
+        raise OfficeError("before.other-key", table=folder.MANIFEST)
     docket = before.get(folder.DOCKET)
     if result is not None and not before.get(folder.SHEET):
         if docket != digest(source.market.docket()):
-            raise OfficeError(f"{folder.MANIFEST}: the docket that was sealed is another one")
+            raise OfficeError("before.other-docket", table=folder.MANIFEST)
         return None
     earlier = before_of(source.market, docket)
     if result is None:
         return None
     match = earlier.match(workers=1, timeout=source.timeout)
     if before[folder.SHEET] != digest(match.sheet):
-        raise OfficeError(f"{folder.MANIFEST}: the sheet of the folder before is another one")
+        raise OfficeError("before.other-sheet", table=folder.MANIFEST)
     return compare.changes_table(compare.changes(outcome_of(earlier, match.places, source.details), result.outcome))
 
 

@@ -9,7 +9,7 @@ from ..market import Market
 from ..names import PROGRAMME, RESIDENT, Names
 from ..program import DEFAULT_TIMEOUT, run_program
 from . import folder, public, rosters, seal
-from .faults import OfficeError, shown
+from .faults import OfficeError
 from .folder import Draft, Results, digest, file_names
 from .letters import LETTERS_PAGE, Letters
 from .outcome import Details, Outcome, outcome_of
@@ -60,7 +60,7 @@ def matched(market: Market, timeout: float, details: Details) -> Matched:
     _, audit = run_program("residency", ["audit"], docket + match.sheet, timeout)
     _, replay = run_program("residency", ["replay"], docket + match.sheet + match.journal, timeout)
     if audit != b"S,stable\n" or not replay.startswith(b"G,"):
-        raise OfficeError("the result doesn't pass its own audit and replay; nothing was written")
+        raise OfficeError("program.unchecked")
     _, version = run_program("residency", ["--version"], b"", timeout)
     return Matched(market, docket, match.sheet, match.journal, audit, replay, version.decode("utf-8", "replace").strip(),
                    outcome_of(market, match.places, details))
@@ -138,12 +138,12 @@ class Kept:
 
     def __init__(self, path: str) -> None:
         self.results = Results(path)
-        self.label = self.results.label
+        self.at = path
         self.names = self.key()
         try:
             self.market = Market.from_docket(self.results.checked(folder.DOCKET), self.names)
         except (DocketFault, MarketFault) as fault:
-            raise OfficeError(f"{self.label}: {folder.DOCKET}: {fault}", 3) from None
+            raise OfficeError("folder.fault", 3, self.at, folder.DOCKET, cause=str(fault)) from None
         self.details = self.read_details()
 
     def key(self) -> Names:
@@ -153,9 +153,9 @@ class Kept:
         try:
             names = read_key(data)
         except KeyFault as fault:
-            raise OfficeError(f"{self.label}: {folder.KEY}: {fault}", 3) from None
+            raise OfficeError("folder.fault", 3, self.at, folder.KEY, cause=str(fault)) from None
         if digest(data) != wanted and digest(write_key(names)) != wanted:
-            raise OfficeError(f"{self.label}: {folder.KEY} was changed since it was written, and says something else now", 3)
+            raise OfficeError("folder.other-key", 3, self.at, folder.KEY)
         return names
 
     def is_sealed(self) -> bool:
@@ -172,7 +172,7 @@ class Kept:
         try:
             return Roots.read(self.results.checked(folder.ROOTS))
         except ValueError as error:
-            raise OfficeError(f"{self.label}: {folder.ROOTS}: {error}", 3) from None
+            raise OfficeError("folder.fault", 3, self.at, folder.ROOTS, cause=str(error)) from None
 
     def secret(self) -> bytes:
         """The secret of a sealed folder, as it stands in its file."""
@@ -180,7 +180,7 @@ class Kept:
         try:
             seal.secret_of(data)
         except ValueError as error:
-            raise OfficeError(f"{self.label}: {folder.SECRET}: {error}", 3) from None
+            raise OfficeError("folder.fault", 3, self.at, folder.SECRET, cause=str(error)) from None
         return data
 
     def sheet_places(self) -> Dict[str, Optional[str]]:
@@ -205,7 +205,7 @@ class Kept:
         try:
             return date.fromisoformat(str(self.results.manifest.get("date")))
         except ValueError:
-            raise OfficeError(f"{self.label}: {folder.MANIFEST} has no date", 3) from None
+            raise OfficeError("folder.no-date", 3, self.at, folder.MANIFEST) from None
 
     def title(self) -> str:
         return str(self.results.manifest.get("title", TITLE))
@@ -220,7 +220,7 @@ class Run(Kept):
     def __init__(self, path: str) -> None:
         super().__init__(path)
         if self.is_sealed() and not self.is_matched():
-            raise OfficeError(f"{self.label} has no match: it was sealed, and run comes next", 3)
+            raise OfficeError("folder.no-match", 3, self.at)
         self.places = self.sheet_places()
         self.outcome = outcome_of(self.market, self.places, self.details)
 
@@ -241,9 +241,10 @@ def withdrawn(run: Kept, programmes: Sequence[str], residents: Sequence[str], ei
         try:
             member = the_one(run.names, text, side)
         except OfficeError as error:
-            raise OfficeError(f"{run.label}: {error}", error.status) from None
+            error.at = run.at
+            raise
         name = run.names.name(member.side, member.docket_name)
         if name in before[member.side] or name in gone[member.side]:
-            raise OfficeError(f"{run.label}: {shown(name)} is withdrawn already; nothing was written", 3)
+            raise OfficeError("member.withdrawn", 3, run.at, name=name)
         gone[member.side].append(name)
     return run.market.withdraw(programmes=gone[PROGRAMME], residents=gone[RESIDENT])

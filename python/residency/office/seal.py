@@ -1,6 +1,5 @@
 """Sealing: the secret, the published roots, and each member's receipt. The program `seal` and the trees of this package's own code
 have to give the same bytes, else nothing is written."""
-import secrets
 from pathlib import Path
 from typing import Dict, Optional, Sequence, Tuple
 
@@ -19,6 +18,8 @@ STEMS = {PROGRAMME: "programme", RESIDENT: "resident"}
 
 def new_secret() -> bytes:
     """A secret's file: 64 digits that nobody can guess."""
+    import secrets
+
     return f"{secrets.token_hex(32)}\n".encode("ascii")
 
 
@@ -56,7 +57,7 @@ def made(docket: bytes, secret: Path, sheet: Optional[Path] = None, timeout: flo
         _, roots = run_program("seal", ["root", *words], docket, timeout)
         _, data = run_program("seal", ["receipts", *words], docket, timeout)
         if roots != own.roots().rows() or data != b"".join(tree.text_of([("member", *one)]) + text for one, text in receipts.items()):
-            raise OfficeError("the program seal and the office's own trees differ; nothing was written")
+            raise OfficeError("program.other-seal")
     return own.roots(), receipts
 
 

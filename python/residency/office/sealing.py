@@ -4,7 +4,7 @@ from typing import Dict, List, Mapping, Optional, Sequence, Tuple
 from ..market import Market
 from . import folder, running
 from . import seal as seals
-from .faults import MOST_SHOWN, OfficeError, counted, shown
+from .faults import Fault, OfficeError
 from .outcome import Details
 from .running import Kept, Wishes
 from .tree import Roots
@@ -14,14 +14,14 @@ def sealed_folder(path: str) -> Kept:
     """A folder that was sealed. OfficeError for any other."""
     kept = Kept(path)
     if not kept.is_sealed():
-        raise OfficeError(f"{kept.label} has no {folder.SECRET}: it is no folder that seal made", 3)
+        raise OfficeError("folder.not-sealed", 3, kept.at, folder.SECRET)
     return kept
 
 
 def refuse_readable(is_readable: bool) -> None:
     """OfficeError where others are to read a sealed folder."""
     if is_readable:
-        raise OfficeError("--readable is for a match that isn't sealed: of a sealed one others may read public/ alone", 2)
+        raise OfficeError("out.readable", 2)
 
 
 def seal(out: str, market: Market, details: Details, wishes: Wishes, manifest: Dict[str, object]) -> Roots:
@@ -30,56 +30,47 @@ def seal(out: str, market: Market, details: Details, wishes: Wishes, manifest: D
         return running.fill_sealed(draft, market, details, wishes, manifest, seals.new_secret())
 
 
-def written(out: str, roots: Roots) -> str:
-    return f"{counted(roots.count, 'member')} sealed, each with a receipt; written to {shown(out)}"
+class OtherTables(OfficeError):
+    """Tables say otherwise than what was sealed: each difference, as a fault. Exit status 3."""
+
+    def __init__(self, at: str, faults: List[Fault]) -> None:
+        super().__init__("folder.other-tables", 3, at)
+        self.faults = faults
 
 
-def told(roots: Roots) -> List[str]:
-    """What is said of a market that was sealed: the roots, to be published."""
-    return [f"publish what is in {folder.PUBLIC}/, and these roots wherever members look:", *roots.rows().decode("ascii").splitlines()]
-
-
-def told_anew(roots: Roots) -> List[str]:
-    """What is said of a market that was sealed anew: who needs a new receipt, and the roots."""
-    return [f"all {counted(roots.count, 'member')} need their new receipt: the roots are others, and receipts of before hold no more",
-            *told(roots)]
-
-
-def listed_otherwise(what: str, name: str, before: Sequence[str], now: Sequence[str]) -> str:
+def listed_otherwise(what: str, name: str, before: Sequence[str], now: Sequence[str]) -> Fault:
     """Where two lists of one member begin to differ."""
     place = next((place for place, (one, other) in enumerate(zip(before, now)) if one != other), min(len(before), len(now)))
-    was, is_now = (shown(listed[place]) if place < len(listed) else "nobody" for listed in (before, now))
-    return f"{what} {shown(name)}: rank {place + 1} was sealed as {was}, and the table has {is_now}"
+    was, is_now = (listed[place] if place < len(listed) else "" for listed in (before, now))
+    return Fault("sealed.rank", f"{what}s", values={"what": what, "name": name, "rank": place + 1, "was": was, "now": is_now})
 
 
-def differences(sealed: Market, now: Market) -> List[str]:
+def differences(sealed: Market, now: Market) -> List[Fault]:
     """What tables say otherwise than what was sealed; who is withdrawn stands in no table."""
-    found: List[str] = []
+    found: List[Fault] = []
     sides: List[Tuple[str, List[Mapping[str, Sequence[str]]]]] = [
         ("programme", [{name: market.programme_lists.get(name, ()) for name in market.quotas} for market in (sealed, now)]),
         ("resident", [market.resident_lists for market in (sealed, now)])]
     for what, (before, after) in sides:
-        found += [f"{what} {shown(name)} was sealed, and isn't in the table" for name in before if name not in after]
-        found += [f"{what} {shown(name)} is in the table, and wasn't sealed" for name in after if name not in before]
+        found += [Fault("sealed.gone", f"{what}s", values={"what": what, "name": name}) for name in before if name not in after]
+        found += [Fault("sealed.new", f"{what}s", values={"what": what, "name": name}) for name in after if name not in before]
         found += [listed_otherwise(what, name, listed, after[name]) for name, listed in before.items()
                   if name in after and tuple(listed) != tuple(after[name])]
-    found += [f"programme {shown(name)}: {counted(quota, 'place')} sealed, and the table has {now.quotas[name]:,}"
+    found += [Fault("sealed.places", "programmes", values={"name": name, "was": quota, "now": now.quotas[name]})
               for name, quota in sealed.quotas.items() if now.quotas.get(name, quota) != quota]
     return found
 
 
-def refuse_others(sealed: Kept, now: Market, all_of_them: bool) -> None:
-    """OfficeError where tables say otherwise than what was sealed, with what changed."""
+def refuse_others(sealed: Kept, now: Market) -> None:
+    """OtherTables where tables say otherwise than what was sealed."""
     found = differences(sealed.market, now)
     if found:
-        most = len(found) if all_of_them else MOST_SHOWN
-        more = [f"and {len(found) - most:,} more (--all tells each)"] if len(found) > most else []
-        raise OfficeError("\n".join([*found[:most], *more, f"the tables say otherwise than what {sealed.label} sealed; nothing was written"]), 3)
+        raise OtherTables(sealed.at, found)
 
 
 def same_lists(sealed: Kept, roots: Optional[Roots]) -> Roots:
     """The roots of what was matched. OfficeError where that of the lists is another one than was sealed."""
     before = sealed.roots()
     if before is None or roots is None or (before.count, before.lists) != (roots.count, roots.lists):
-        raise OfficeError(f"{sealed.label}: {folder.ROOTS} isn't that of its docket and secret; nothing was written", 3)
+        raise OfficeError("folder.other-root", 3, sealed.at, folder.ROOTS)
     return roots

@@ -1,8 +1,12 @@
 """The sentences of faults and notes, in English and with the names of the command's options: what the command shows of values."""
 from typing import Any, Callable, Dict, List, Mapping, Sequence, Union
 
+from .. import naming
+from ..names import PROGRAMME, RESIDENT, Member
+from . import folder
 from .cells import DELIMITERS, Rows
-from .faults import KINDS, MOST_KEPT, MOST_LETTERS, MOST_SHOWN, Fault, Faults, Values, column_letters, counted, shown
+from .faults import (KINDS, MOST_KEPT, MOST_LETTERS, MOST_SHOWN, Fault, Faults, FaultsError, OfficeError, Values, column_letters,
+                     counted, shown)
 from .headings import OTHER, TITLES
 from .tables import Table
 
@@ -30,14 +34,16 @@ FILES = {
 
 
 class Told:
-    """A value as a sentence shows it, by what stands after the colon: a text with so many letters at most, each of several texts
-    so; a number with commas, plain (`d`), or of things (`cell`); or, after `?`, what is said only where the value is there."""
+    """A value as a sentence shows it, by what stands after the colon: a text with so many letters at most, or `whole`, each of
+    several texts so; a number with commas, plain (`d`), or of things (`cell`); or, after `?`, what is said only where it is there."""
 
     def __init__(self, value: Any) -> None:
         self.value = value
 
     def __format__(self, how: str) -> str:
         value = self.value
+        if how == "whole":
+            return str(value)
         if how.startswith("?"):
             return how[1:] if value else ""
         if isinstance(value, int):
@@ -93,6 +99,13 @@ def shared(values: Values) -> str:
     return f"{counted(len(names), 'name is', 'names are')} shared: {named}{more}"
 
 
+def empty(values: Values) -> str:
+    names: Sequence[Sequence[Any]] = values["names"]
+    named = ", ".join(f"{shown(name, 40)} (by {count:,})" for name, count in names[:MOST_NOTED])
+    more = f" and {len(names) - MOST_NOTED:,} more" if len(names) > MOST_NOTED else ""
+    return f"{counted(len(names), values['owners'])} with an empty list whom others rank: {named}{more}"
+
+
 def unread(values: Values) -> str:
     columns: Sequence[Sequence[Any]] = values["columns"]
     named = ", ".join(f"{shown(heading, 40)} ({column_letters(column)})" for heading, column in columns[:MOST_NAMED])
@@ -101,6 +114,33 @@ def unread(values: Values) -> str:
     return f"{counted(len(columns), 'column is', 'columns are')} left out: {named}{more}{keeps}"
 
 
+def listed(members: Sequence[Member]) -> str:
+    """The labels of members, ten at most, on each side of which there are some."""
+    there = [(side, those) for side in SIDES for those in [[one for one in members if one.side == side]] if those]
+    return ", ".join(f"{SIDES[side]} {naming.labels(those)}" if len(there) > 1 else naming.labels(those) for side, those in there)
+
+
+def several(values: Values) -> str:
+    found = values["members"]
+    both = len({one.side for one in found}) > 1
+    how = "give the ID" if all(one.id for one in found) else "say --programme or --resident" if both else "give the docket's name"
+    return f"{len(found):,} members may be meant by {Told(values['name'])}: {listed(found)}; {how}; nothing was written"
+
+
+def nobody(values: Values) -> str:
+    side, near = values["side"], values["near"]
+    hint = shown(near[0].name) if len(near) == 1 else f"one of {listed(near)}" if near else ""
+    told = f"no {SIDES[side]} is named" if side else "nobody is named"
+    return f"{told} {Told(values['name'])}; " + (f"is it {hint}? nothing was written" if hint else "nothing was written")
+
+
+def other_side(values: Values) -> str:
+    side = values["side"]
+    other = SIDES[RESIDENT if side == PROGRAMME else PROGRAMME]
+    return f"no {SIDES[side]} is named {Told(values['name'])}, but a {other} is (--{other}); nothing was written"
+
+
+SIDES = {PROGRAMME: "programme", RESIDENT: "resident"}
 Sentence = Union[str, Callable[[Values], str]]
 SCIENTIFIC = "IDs look like {id:20}: format the column as text, and write them anew"
 NATIONAL = "; a docket of up to {national} {things} is for {program}"
@@ -129,6 +169,8 @@ SENTENCES: Dict[str, Sentence] = {
     "file.no-rows": "no {owners} stands below the heading",
     "file.expected": lambda values: f"{counted(values['count'], values['owners'])}, where --expect-{values['table']} says "
                                     f"{values['expected']:,}",
+    "file.some-ids": lambda values: (f"{values['count']:,} of {values['of']:,} {values['owners']}s have" if values["count"] > 1 else
+                                     f"{Told(values['name'])} has") + " no ID; every row needs one once one has it",
     "file.without-point": "{things} match without `.0`: " + AS_TEXT,
     "file.with-point": "{things} match with `.0`: " + AS_TEXT,
     "file.zeros": "{things} match but for zeros before them: " + AS_TEXT,
@@ -160,6 +202,8 @@ SENTENCES: Dict[str, Sentence] = {
     "row.line-end": "the cell goes on over a line's end after {text:40}{quote:?; is a quote left open?}",
     "row.tab": "{text} has a tab in it",
     "row.lost-letter": "{text}: a letter was lost when the table was saved",
+    "row.lost-letters": "{count:name} lost letters where ? or \ufffd stands, as {names:40}; save the table anew as UTF-8 or .xlsx "
+                        "(--allow-lost-letters takes them)",
     "row.no-letter": "{text} has a character that is no letter",
     "row.other-mark": other_mark,
     "row.no-name": "the row has no {owners}'s name",
@@ -173,6 +217,8 @@ SENTENCES: Dict[str, Sentence] = {
     "name.same-id": "the ID {id} is that of {name} in row {row:d}",
     "name.id-again": "the ID {id} has a row before, row {row:d}",
     "name.again": "{name} has a row before, row {row:d}; if these are two, a column headed ID tells them apart",
+    "name.alike": "{name} is {before} in row {row:d} but for capitals, blanks or accents; if these are two, a column headed ID tells them apart "
+                  "(or --allow-alike)",
     "name.scientific": SCIENTIFIC,
     "name.both-sides": "{name} is the {what} of a programme, too ({table}, row {row:d}); is the row shifted, or split in two?",
     "places.none": "{name} has no number of places",
@@ -201,14 +247,105 @@ SENTENCES: Dict[str, Sentence] = {
     "note.unread": unread,
     "note.alone": lambda values: f"{counted(values['count'], values['owners'])} without a list whom nobody ranks; the first is "
                                  f"{shown(values['name'])}, row {values['row']}",
+    "note.empty": empty,
     "note.shared": shared,
 }
 
 
+# What can't be done, by its code; `at` is the folder or file that it is about, and `table` the file in that folder.
+WRITTEN = "; nothing was written"
+ERRORS: Dict[str, Sentence] = {
+    "file.unread": "{at} can't be read: {cause:whole}",
+    "file.no-path": "{at} can't be read: it is no path",
+    "file.too-large": "{at} has more than {megabytes:d} MB, which is no table",
+    "setting.delimiter": "{text} parts no cells; comma, semicolon, tab and bar do",
+    "setting.encoding": "no character set is named {text}; utf-8, windows-1252, iso-8859-2 and utf-16 are some",
+    "setting.heading": "--heading {text}: it is ROLE=WORD, where ROLE is one of {roles}",
+    "setting.heading-row": "{text} is no row; rows count from 1",
+    "setting.title": "the title {text} has a character that is no letter",
+    "template.empty": "the template has no text, and all letters would have none",
+    "template.field": lambda values: f"the template, line {values['row']}: {Told(values['text'])} is none of ${', $'.join(values['fields'])}; "
+                                     "write $$ for the sign itself",
+    "template.unsalted": "the template, line {row:d}: ${text} is a hash from which others' lists can be guessed, and this match is "
+                         "sealed; $lists_root and $result_root are the published roots",
+    "out.no-path": "'{at}' can't be written: it is no path",
+    "out.there": "{at} is there already" + WRITTEN,
+    "out.unwritten": "{at} can't be written: {cause:whole}; nothing was left there",
+    "out.no-room": "{at} can't be written: {cause:whole}",
+    "out.readable": "--readable is for a match that isn't sealed: of a sealed one others may read public/ alone",
+    "folder.none": "{at} is no folder",
+    "folder.missing": "{at}: {table} is missing",
+    "folder.no-file": "{at}: {table} is no file",
+    "folder.unread": "{at}: {table} can't be read: {cause:whole}",
+    "folder.fault": "{at}: {table}: {cause:whole}",
+    "folder.changed": "{at}: {table} was changed since it was written; " + folder.MANIFEST + " names another sha256",
+    "folder.other-key": "{at}: {table} was changed since it was written, and says something else now",
+    "folder.other-root": "{at}: {table} isn't that of its docket and secret" + WRITTEN,
+    "folder.other-sum": "{at}: {table} isn't as " + folder.SUMS + " has it" + WRITTEN,
+    "folder.other-tables": "the tables say otherwise than what {at} sealed" + WRITTEN,
+    "folder.no-manifest": "{at}: {table} isn't one that office wrote",
+    "folder.no-date": "{at}: {table} has no date",
+    "folder.no-match": "{at} has no match: it was sealed, and run comes next",
+    "folder.not-sealed": "{at} has no {table}: it is no folder that seal made",
+    "before.no-way": "{table}: no withdrawal leads here from the docket that it names",
+    "before.other-key": "{table}: the key of the folder before is another one",
+    "before.other-docket": "{table}: the docket that was sealed is another one",
+    "before.other-sheet": "{table}: the sheet of the folder before is another one",
+    "member.empty": "a name without a letter means nobody" + WRITTEN,
+    "member.several": several,
+    "member.nobody": nobody,
+    "member.other-side": other_side,
+    "member.withdrawn": "{name} is withdrawn already" + WRITTEN,
+    "program.other-seal": "the program seal and the office's own trees differ" + WRITTEN,
+    "program.unchecked": "the result doesn't pass its own audit and replay" + WRITTEN,
+    "reader.ended": "the reader of the tables ended with status {ended:d}",
+    "reader.fault": "{cause:whole}",
+    "reader.silent": "the reader of the tables gave no answer",
+    "words.closed": "standard input is closed",
+    "words.no-text": "{text} is no text",
+    "words.nobody": "who withdraws? give a name",
+    "words.one-of-two": "only one table was given, {at}: check takes two, PROGRAMMES and RESIDENTS, or one docket",
+    "words.one-table": "only one table was given: PROGRAMMES and RESIDENTS are two, and one word alone is a folder that {makers:whole} made",
+    "words.one-twice": "only one table was given, {at}, twice: PROGRAMMES and RESIDENTS are two",
+    "words.seal-twice": "FOLDER and --seal are the same: give one of them",
+    "words.two-tables": "check takes two tables, PROGRAMMES and RESIDENTS, or one docket",
+    "words.wrong": "{text:300} ({program:whole} --help says more)",
+}
+# What tables say otherwise than what was sealed.
+OTHERWISE: Dict[str, Sentence] = {
+    "sealed.gone": "{what} {name} was sealed, and isn't in the table",
+    "sealed.new": "{what} {name} is in the table, and wasn't sealed",
+    "sealed.rank": lambda values: f"{values['what']} {Told(values['name'])}: rank {values['rank']} was sealed as "
+                                  f"{Told(values['was'] or 'nobody')}, and the table has {Told(values['now'] or 'nobody')}",
+    "sealed.places": "programme {name}: {was:place} sealed, and the table has {now}",
+}
+
+
+def as_sentence(sentence: Sentence, values: Values) -> str:
+    return sentence(values) if callable(sentence) else sentence.format_map(Tellable(values))
+
+
 def cause(fault: Fault) -> str:
     """What a fault or a note is, without where it is."""
-    sentence = SENTENCES[fault.code]
-    return sentence(fault.values) if callable(sentence) else sentence.format_map(Tellable(fault.values))
+    return as_sentence(SENTENCES[fault.code] if fault.code in SENTENCES else OTHERWISE[fault.code], fault.values)
+
+
+def said_by(error: Exception) -> str:
+    """Why something can't be done, in one line; more where each fault of a file is told."""
+    if isinstance(error, FaultsError):
+        return "\n".join(report(error.faults, True))
+    if not isinstance(error, OfficeError):
+        return str(error)
+    fault = error.fault
+    said = as_sentence(ERRORS[fault.code], {**fault.values, "at": error.at, "table": fault.table, "row": fault.row})
+    return f"{shown(error.at)}: {said}" if error.at and fault.kind == "member" else said
+
+
+def said_otherwise(error: OfficeError, faults: Sequence[Fault], all_of_them: bool) -> str:
+    """What tables say otherwise than what was sealed: each difference, or the first ones."""
+    most = len(faults) if all_of_them else MOST_SHOWN
+    more = [f"and {len(faults) - most:,} more (--all tells each)"] if len(faults) > most else []
+    return "\n".join([*map(cause, faults[:most]), *more, said_by(error)])
 
 
 class Tellable(Dict[str, Told]):
@@ -271,11 +408,18 @@ def report(faults: Faults, all_of_them: bool = False) -> List[str]:
     return lines
 
 
-def as_dict(fault: Fault, sheets: Mapping[str, str]) -> Dict[str, Any]:
-    """A fault or a note as JSON has it; `sheets` has each workbook's sheet by its table."""
+def errors_as_dicts(error: OfficeError) -> List[Dict[str, Any]]:
+    """Why something can't be done, as JSON has it."""
+    if isinstance(error, FaultsError):
+        return [as_dict(fault, {}) for fault in error.faults.every()]
+    return [as_dict(error.fault, {}, said_by(error))]
+
+
+def as_dict(fault: Fault, sheets: Mapping[str, str], said: str = "") -> Dict[str, Any]:
+    """A fault or a note as JSON has it; `sheets` has each workbook's sheet by its table, and `said` is its sentence, if it is known."""
     return {
         "kind": fault.kind, "code": fault.code, "table": fault.table, "sheet": sheets.get(fault.table), "row": fault.row,
-        "column": fault.column, "cause": cause(fault), "values": dict(fault.values),
+        "column": fault.column, "cause": said or cause(fault), "values": dict(fault.values),
         "cells": [{"table": one.table, "row": one.row, "column": one.column, "name": f"{column_letters(one.column)}{one.row}"}
                   for one in fault.cells],
         "remedies": [{"setting": one.setting, "value": one.value, **({"table": one.table} if one.table else {})}

@@ -7,7 +7,7 @@ from dataclasses import dataclass, field
 from typing import Any, Callable, Dict, Iterator, List, Mapping, Tuple
 
 from .cells import WORDS, known_delimiter
-from .faults import Faults, OfficeError
+from .faults import Faults, FaultsError, OfficeError
 from .headings import HEADING, ROLES, plain
 from .text import known_encoding
 
@@ -36,6 +36,8 @@ class Settings:
     title: str = ""
     order: str = "name"
     cut_offs: bool = False
+    allow_lost_letters: bool = False
+    allow_alike: bool = False
 
 
 def yes_or_no(word: str) -> bool:
@@ -84,6 +86,8 @@ SETTINGS: Dict[str, Setting] = {
     "allow_gaps": Setting(BOTH, yes_or_no, YES, "in long tables, take ranks in their order where one is left out"),
     "allow_short": Setting(BOTH, yes_or_no, YES, "take rows with fewer cells than the heading"),
     "allow_alone": Setting(BOTH, yes_or_no, YES, "take a row that looks like a remark for a resident"),
+    "allow_lost_letters": Setting(BOTH, yes_or_no, YES, "take names in which a sign stands for a letter"),
+    "allow_alike": Setting(BOTH, yes_or_no, YES, "take two names that differ in capitals, blanks or accents alone for two members"),
     "sheet": Setting(TABLES[0], str, TEXT, "the sheet of a workbook"),
     "heading_row": Setting(TABLES[0], from_one, "a number from 1", "the row of the headings"),
     "encoding": Setting(TABLES[0], known_encoding, "a character set", "the character set of a text"),
@@ -94,14 +98,7 @@ SETTINGS: Dict[str, Setting] = {
     "cut_offs": Setting(MATCH, yes_or_no, YES, "of a sealed match, publish the last rank that each programme took, too"),
 }
 SECTIONS = (BOTH, *TABLES, MATCH)
-
-
-class SettingsError(OfficeError):
-    """A settings file is at fault: every fault at once. Exit status 3."""
-
-    def __init__(self, faults: Faults) -> None:
-        super().__init__("the settings are at fault", 3)
-        self.faults = faults
+ALLOWED = tuple(name for name in SETTINGS if name.startswith("allow_"))
 
 
 def section_of(setting: Setting) -> Tuple[str, ...]:
@@ -129,7 +126,7 @@ def lines_of(text: str, label: str, faults: Faults) -> Iterator[Tuple[int, str, 
 
 
 def read_settings(text: str, label: str) -> Settings:
-    """The settings of a file's text. SettingsError with each setting that is unknown, that stands twice, or whose value is none."""
+    """The settings of a file's text. FaultsError with each setting that is unknown, that stands twice, or whose value is none."""
     faults, found, seen = Faults(), Settings(), set()
     for line, section, name, value in lines_of(text, label, faults):
         setting = SETTINGS.get(name)
@@ -145,7 +142,7 @@ def read_settings(text: str, label: str) -> Settings:
                 faults.tell("file.setting-value", label, line, None, {"name": name, "value": value, "wanted": setting.wanted})
         seen.add((section, name))
     if len(faults):
-        raise SettingsError(faults)
+        raise FaultsError(faults)
     return found
 
 
@@ -172,12 +169,17 @@ def values_of(settings: Settings) -> Dict[str, Dict[str, Any]]:
 
 
 def from_values(said: Mapping[str, Mapping[str, Any]]) -> Settings:
-    """The settings of what `values_of` gave."""
+    """The settings of what `values_of` gave. ValueError where it gave no such thing."""
     found = Settings()
-    for section, values in said.items():
-        for name, value in values.items():
-            for one in value if isinstance(value, list) else [value]:
-                put(found, section, name, one)
+    try:
+        for section, values in said.items():
+            for name, value in values.items():
+                if section not in section_of(SETTINGS[name]) or isinstance(value, list) != (name in SEVERAL):
+                    raise ValueError(name)
+                for one in value if isinstance(value, list) else [value]:
+                    put(found, section, name, SETTINGS[name].reads(word_of(name, one)))
+    except (AttributeError, LookupError, TypeError, OfficeError) as error:
+        raise ValueError(str(error)) from None
     return found
 
 

@@ -4,19 +4,20 @@ Nothing of a workbook is run, and nothing outside of it is read. One that declar
 table, is refused; and what is no workbook is told by the name of what it is.
 """
 import io
-import lzma
 import math
 import posixpath
 import re
 import struct
-import zipfile
 import zlib
 from dataclasses import dataclass, field
 from datetime import datetime, timedelta
-from typing import Callable, Dict, Iterator, List, Optional, Tuple
+from typing import TYPE_CHECKING, Callable, Dict, Iterator, List, Optional, Tuple
 from xml.parsers import expat
 
 from .faults import Values
+
+if TYPE_CHECKING:
+    from zipfile import ZipFile
 
 MOST_BYTES, MOST_CELLS = 256 << 20, 16_000_000
 MOST_ROWS, MOST_COLUMNS = 1 << 20, 1 << 14
@@ -68,6 +69,9 @@ def is_book(data: bytes) -> bool:
 
 def sheet_of(data: bytes, wanted: Optional[str] = None) -> Sheet:
     """The sheet that is wanted by its name, or the only one that has cells. BadBook."""
+    import lzma
+    import zipfile
+
     try:
         with zipfile.ZipFile(io.BytesIO(data)) as archive:
             return Book(archive).sheet(wanted)
@@ -83,7 +87,7 @@ def sheet_of(data: bytes, wanted: Optional[str] = None) -> Sheet:
 class Book:
     """An open workbook."""
 
-    def __init__(self, archive: zipfile.ZipFile) -> None:
+    def __init__(self, archive: "ZipFile") -> None:
         self.archive = archive
         self.names = set(archive.namelist())
         if len(archive.infolist()) > MOST_FILES:

@@ -5,32 +5,36 @@ its own, whose limits grow with the bytes. A step that may take long tells its p
 """
 from dataclasses import dataclass, field
 from datetime import date
+from itertools import chain, islice
 from typing import TYPE_CHECKING, Callable, Dict, Iterator, List, Optional, Sequence, Tuple
 
 from ..errors import DocketFault
 from ..market import Market
+from ..names import PROGRAMME, RESIDENT
 from ..passes import Passes
 from ..program import DEFAULT_TIMEOUT
 from ..records import records
+from ..results import Why
 from . import compare as changes_of
 from . import folder, letters as written, running, sealing, seal as seals
 from .apart import Costly, Limits, Progress, apart
 from .compare import Change
-from .faults import Fault, Faults, OfficeError
-from .headings import Words, columns_of
+from .faults import Fault, Faults, FaultsError, OfficeError
+from .headings import Words
 from .lists import market_of
 from .outcome import Details
 from .page import About
 from .running import Kept, Matched, Run, Wishes
-from .settings import TABLES, Settings
-from .tables import Given, Table, heading_of, opened, read_table
+from .settings import TABLES, Settings, from_values
+from .tables import Given, Table, headed, heading_of, opened, read_table
 from .tree import Roots
+from .who import the_one
 
 if TYPE_CHECKING:
     from .verify import Checked, FromTables, Published, Verified
 
 __all__ = ["Compared", "Given", "Kept", "Limits", "Look", "Matched", "Read", "Run", "Settings", "Wishes", "Withdrawn", "check", "compare",
-           "details_of", "letters", "lint", "look", "match", "seal", "sealed", "verify", "withdraw", "write"]
+           "details_of", "letters", "lint", "look", "match", "next", "seal", "sealed", "verify", "why", "withdraw", "write"]
 OWNERS = dict(zip(TABLES, ("programme", "resident")))
 # So many rows below the heading are shown of a table.
 MOST_PREVIEW = 10
@@ -56,12 +60,12 @@ class Read:
         return {table.name: table.rows.sheet for table in self.tables if table.rows.sheet is not None}
 
 
-class TablesError(OfficeError):
+class TablesError(FaultsError):
     """The tables are at fault: what was read of them has every fault. Exit status 3."""
 
     def __init__(self, read: Read) -> None:
-        super().__init__("the tables are at fault", 3)
-        self.read, self.faults = read, read.faults
+        super().__init__(read.faults)
+        self.read = read
 
 
 @dataclass
@@ -124,9 +128,10 @@ def looked_at(given: Given, name: str, settings: Settings, progress: Progress = 
     look.encoding, look.delimiter, look.sheet = text.encoding, rows.delimiter, rows.sheet
     look.sheets = rows.sheets or [name for fault in look.faults.every() for name in fault.values.get("sheets", ())]
     look.heading_row, look.headings = heading_of(rows, settings.heading_row.get(name, 1))
-    look.preview = [row for row, _ in zip(rows.rows, range(MOST_PREVIEW))]
+    look.preview = list(islice(rows.rows, MOST_PREVIEW))
     if look.heading_row:
-        columns = columns_of(name, OWNERS[name], look.heading_row, list(look.headings), words, look.faults)
+        rows.rows = chain(look.preview, rows.rows)
+        columns = headed(name, OWNERS[name], look.heading_row, list(look.headings), rows, words, look.faults)
         look.meanings = columns.meanings(OWNERS[name]) if columns is not None else ()
     return look
 
@@ -141,8 +146,9 @@ def look(given: Given, name: str, settings: Settings, progress: Progress = quiet
     return done
 
 
-def lint(docket: bytes) -> Iterator[DocketFault]:
+def lint(docket: bytes, progress: Progress = quietly) -> Iterator[DocketFault]:
     """Every fault of a docket, one at a time as they are found."""
+    progress("docket")
     return Passes().faults(records(docket))
 
 
@@ -219,16 +225,39 @@ class Compared:
     changes: Sequence[Change]
 
 
-def compare(before: Run, now: Run) -> Compared:
+def compare(before: Run, now: Run, progress: Progress = quietly) -> Compared:
+    """Compares two matches."""
+    progress("compare")
     pairs = zip(changes_of.figures_of(before.outcome), changes_of.figures_of(now.outcome))
     return Compared(before, now, [(what, was, is_now) for (what, was), (_, is_now) in pairs],
                     changes_of.changes(before.outcome, now.outcome))
 
 
-def letters(run: Run, template: Optional[str] = None, day: Optional[date] = None, title: str = "") -> written.Letters:
+def letters(run: Run, template: Optional[str] = None, day: Optional[date] = None, title: str = "",
+            progress: Progress = quietly) -> written.Letters:
     """The letters of a match: `all()` has each resident's, and `page()` all of them on one page."""
+    progress("letters")
     about = About(title or run.title(), day or run.day(), run.digests(), run.roots())
     return written.Letters(run.market, run.outcome, about, template)
+
+
+def why(run: Run, resident: str, programme: str = "", timeout: float = DEFAULT_TIMEOUT, progress: Progress = quietly) -> Tuple[Why, ...]:
+    """What became of each programme on a resident's list, best first, or of one programme, by the built program. Both may be named as
+    the tables have them, by ID, or as the docket has them."""
+    progress("why")
+    asked = [(RESIDENT, resident), *([(PROGRAMME, programme)] if programme else [])]
+    found = {side: run.names.name(side, the_one(run.names, text, side).docket_name) for side, text in asked}
+    return run.market.why(run.places, found[RESIDENT], found.get(PROGRAMME), timeout)
+
+
+def next(path: str, progress: Progress = quietly) -> Settings:
+    """The settings for the next year: those by which the tables of a folder were read."""
+    progress("folder")
+    results = folder.Results(path)
+    try:
+        return from_values(results.manifest.get("reading", {}))
+    except ValueError:
+        raise OfficeError("folder.no-manifest", 3, path, folder.MANIFEST) from None
 
 
 def verify(path: str, timeout: float = DEFAULT_TIMEOUT, published: "Optional[Dict[str, Published]]" = None,

@@ -2,6 +2,7 @@
 import hashlib
 import re
 from dataclasses import dataclass, field
+from itertools import islice
 from typing import Dict, List, NamedTuple, Optional, Sequence, Set, Tuple
 
 from ..docket import MOST_PLACES, MOST_PROGRAMMES, MOST_RESIDENTS
@@ -16,12 +17,19 @@ NUMBER = re.compile(r"0*([0-9]{1,9})(?:\.0+)?")
 RANK = re.compile(r"0*([0-9]{1,7})(?:\.0+|\.|st|nd|rd|th)?", re.IGNORECASE)
 # A long number as a spreadsheet writes it where its column is too narrow for it.
 SCIENTIFIC = re.compile(r"[0-9](?:[.,][0-9]+)?E\+[0-9]+", re.IGNORECASE)
-TOTALS = {"total", "totals", "sum", "subtotal", "grand total", "total places", "average", "count", "all", "gesamt", "summe"}
+TOTALS = {
+    "total", "totals", "sum", "subtotal", "grand total", "total places", "average", "count", "all", "gesamt", "gesamtsumme", "summe", "insgesamt",
+    "zusammen", "zwischensumme", "totaux", "total general", "sous total", "somme", "ensemble", "totales", "suma", "suma total", "totale", "totali",
+    "totale generale", "somma", "ogołem", "razem", "łacznie", "toplam", "genel toplam", "ara toplam"}
+# What may stand behind such a word in its cell: a number, and what was counted.
+COUNTED = re.compile("(?: (?:of|von|de|di|du|der|des))? (?:places|platze|stellen|plazas|posti|miejsc|miejsca|yer|postes)$|[ 0-9=]+$")
 MOST = {"programme": MOST_PROGRAMMES, "resident": MOST_RESIDENTS}
 # Of a column that isn't read, so many different cells are compared with the other table's names.
 MOST_COMPARED = 100
 # So many gaps of blank rows part a table from remarks below it; more are its form.
 MOST_GAPS = 2
+# So many rows below one that is no heading are looked at for it.
+MOST_ABOVE = 20
 # So many rows with too few cells are told by their places.
 MOST_SHORT = 1000
 
@@ -73,8 +81,9 @@ class Table:
     entries: List[Entry] = field(default_factory=list)
     notes: List[Fault] = field(default_factory=list)
     whole: bool = False
-    # The headings of the columns that are kept; and by its cell each column that isn't read, with some of what stands there.
+    # The headings of the columns that are kept, and where these are; and by its cell each column that isn't read, with some of what stands there.
     kept: List[str] = field(default_factory=list)
+    kept_at: List[int] = field(default_factory=list)
     unread: Dict[int, Tuple[str, Set[str]]] = field(default_factory=dict)
     heading: int = 1
 
@@ -107,9 +116,11 @@ class Members:
         self.short: List[Tuple[int, int]] = []
         self.short_count, self.count, self.padded = 0, 0, False
         self.last = table.heading
+        # The rows that have no ID where a column is headed so.
+        self.without_id: List[Item] = []
         # How many gaps of blank rows stand before a row.
         self.gaps_before = 0
-        table.kept = [heading for _, heading in columns.kept]
+        table.kept_at, table.kept = [cell for cell, _ in columns.kept], [heading for _, heading in columns.kept]
         table.unread = {cell: (heading, set()) for cell, heading in columns.unread}
 
     def tell(self, code: str, row: int, cell: int, values: Optional[Values] = None, key: Tuple[str, ...] = (),
@@ -167,7 +178,7 @@ class Members:
     def is_member(self, number: int, row: List[str], name: str) -> bool:
         """Whether a new name can be a member's; a total, a formula's error or a second heading can't, and is told."""
         cell = self.columns.owner
-        if len(name) < 20 and plain(name) in TOTALS:
+        if len(name) < 30 and COUNTED.sub("", plain(name)) in TOTALS:
             self.tell("row.total", number, cell, {"name": name, "owners": self.table.owners})
         elif sheets.IS_ERROR.fullmatch(name):
             self.tell("row.formula", number, cell, {"name": name})
@@ -190,9 +201,11 @@ class Members:
         ident = ""
         if self.columns.ident is not None:
             ident = cell_of(row, self.columns.ident)
-            if not ident or sheets.IS_ERROR.fullmatch(ident):
+            if sheets.IS_ERROR.fullmatch(ident):
                 self.tell("name.no-id", number, self.columns.ident, {"name": name}, ("no id",))
                 return None
+            if not ident:
+                self.without_id.append(Item(name, number, self.columns.ident + 1))
         known = self.by_id.get(ident) if ident else self.by_name.get(name)
         if known is None:
             return self.added(number, row, name, ident)
@@ -289,6 +302,7 @@ class Members:
     def finish(self) -> None:
         """What is known once all rows are read."""
         self.tell_short()
+        self.tell_some_ids()
         for entry in self.table.entries:
             # Where there are many gaps, they say nothing of what stands below.
             entry.after_blank = entry.after_blank and self.gaps_before <= MOST_GAPS
@@ -321,6 +335,16 @@ class Members:
             return
         for number, cells in self.short:
             self.tell("row.short", number, 0, {"cells": cells, "width": self.columns.width}, ("short",), (Remedy("allow_short", True),))
+
+    def tell_some_ids(self) -> None:
+        """Tells that some members have an ID and others none. A column of IDs without any says nothing."""
+        if not self.by_id:
+            self.without_id = []
+        names = {one.text for one in self.without_id}
+        values = {"count": len(names), "of": len({entry.name for entry in self.table.entries}), "owners": self.table.owners,
+                  "name": min(names, default="")}
+        for one in self.without_id:
+            self.tell("file.some-ids", one.row, one.cell - 1, values, ("some ids",))
 
     def gap(self, entry: Entry, ranks: Dict[int, Item]) -> None:
         """Ranks that don't count on may mean a row that is lost, or a name that is misspelt in one of the rows."""
@@ -357,6 +381,19 @@ def opened(data: bytes, name: str, words: Words, options: Settings, faults: Faul
     return text, rows_of(text.text, name, options.delimiter.get(name), words.is_heading, faults), text.notes
 
 
+def headed(name: str, owners: str, number: int, heading: List[str], rows: Rows, words: Words, faults: Faults) -> Optional[Columns]:
+    """Which column of a table is what, or None where its heading is at fault. Where a row below is one, that is the remedy."""
+    columns = columns_of(name, owners, number, heading, words, faults)
+    if columns is None and not words.is_heading(heading):
+        faults.is_deaf = True
+        below = next((row for row, cells in islice(rows.rows, MOST_ABOVE) if words.is_heading(cells)), None)
+        faults.is_deaf = False
+        for fault in faults.kept["heading"] if below is not None else ():
+            if (fault.table, fault.row) == (name, number):
+                fault.remedies = (Remedy("heading_row", below, name), *fault.remedies)
+    return columns
+
+
 def heading_of(rows: Rows, first: int) -> Tuple[int, List[str]]:
     """The heading row and its number: the first row, or the first from this one on; 0 where there is none."""
     nothing: Tuple[int, List[str]] = (0, [])
@@ -373,7 +410,7 @@ def read_table(given: Given, name: str, owners: str, words: Words, options: Sett
         if len(faults) == told:
             faults.tell("file.empty", name, 1, 1)
         return table
-    columns = columns_of(name, owners, number, heading, words, faults)
+    columns = headed(name, owners, number, heading, rows, words, faults)
     if columns is None:
         return table
     table.is_long, table.heading = columns.is_long, number
@@ -382,7 +419,8 @@ def read_table(given: Given, name: str, owners: str, words: Words, options: Sett
         members.take(below, row)
     members.finish()
     text.text = ""
-    table.whole = bool(table.entries)
+    # Where some IDs are missing nobody knows yet whom the lists mean.
+    table.whole = bool(table.entries) and not members.without_id
     expected = options.expect.get(name)
     if expected is not None and len(table.entries) != expected:
         values = {"count": len(table.entries), "owners": owners, "table": name, "expected": expected}

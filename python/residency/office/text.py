@@ -5,7 +5,7 @@ from dataclasses import dataclass, field
 from typing import List, Optional
 
 from ..text import decode
-from .faults import Fault, Faults, OfficeError, Remedy, shown
+from .faults import Fault, Faults, OfficeError, Remedy
 from .spelling import names_beyond_ascii, odd_words
 
 MOST_BYTES = 256 << 20
@@ -41,11 +41,11 @@ def bytes_of(path: str) -> bytes:
         with open(path, "rb") as file:
             data = file.read(MOST_BYTES + 1)
     except OSError as error:
-        raise OfficeError(f"{shown(path)} can't be read: {(error.strerror or str(error)).lower()}") from None
+        raise OfficeError("file.unread", 1, path, cause=(error.strerror or str(error)).lower()) from None
     except ValueError:
-        raise OfficeError(f"{shown(path)} can't be read: it is no path") from None
+        raise OfficeError("file.no-path", 1, path) from None
     if len(data) > MOST_BYTES:
-        raise OfficeError(f"{shown(path)} has more than {MOST_BYTES >> 20} MB, which is no table")
+        raise OfficeError("file.too-large", 1, path, megabytes=MOST_BYTES >> 20)
     return data
 
 
@@ -55,8 +55,7 @@ def known_encoding(name: str) -> str:
         "Kim".encode(name)
         return codecs.lookup(name).name
     except (LookupError, ValueError, TypeError):
-        raise OfficeError(f"no character set is named {shown(name)}; utf-8, windows-1252, iso-8859-2 and utf-16 are some",
-                          2) from None
+        raise OfficeError("setting.encoding", 2, text=name) from None
 
 
 def table_text(data: bytes, table: str, encoding: Optional[str], faults: Faults) -> Text:

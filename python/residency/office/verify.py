@@ -23,6 +23,7 @@ from . import folder, leftover, remade, rosters, seal, stopping, tree
 from .faults import MOST_SHOWN, OfficeError, counted, shown
 from .outcome import Became, Details, Lists, outcome_of
 from .remade import Source
+from .sentences import said_by
 from .settings import Settings, from_values
 from .tree import Roots
 from .writing import cause_of, draft_of
@@ -82,14 +83,14 @@ class Verifier:
 
     def __init__(self, path: str, timeout: float, published: Dict[str, Published], tables: Optional[FromTables],
                  progress: Callable[[Checked], object]) -> None:
-        self.path, self.label, self.timeout = Path(path), shown(path), timeout
+        self.path, self.at, self.timeout = Path(path), path, timeout
         self.published, self.tables, self.progress = published, tables, progress
         self.done = Verified()
         if not self.path.is_dir():
-            raise OfficeError(f"{self.label} is no folder")
+            raise OfficeError("folder.none", 1, path)
         self.there = folder.files_below(self.path)
         if folder.DOCKET not in self.there:
-            raise OfficeError(f"{self.label}: {folder.DOCKET} is missing", 3)
+            raise OfficeError("folder.missing", 3, path, folder.DOCKET)
         self.data: Dict[str, bytes] = {}
         self.files = [name for name in PARTS if name in self.there]
         self.rows: Dict[str, List[List[str]]] = {}
@@ -114,11 +115,11 @@ class Verifier:
         if name not in self.data:
             path = self.there[name]
             if path.is_symlink() or not path.is_file():
-                raise OfficeError(f"{self.label}: {shown(name)} is no file", 3)
+                raise OfficeError("folder.no-file", 3, self.at, name)
             try:
                 self.data[name] = path.read_bytes()
             except OSError as error:
-                raise OfficeError(f"{self.label}: {shown(name)} can't be read: {cause_of(error)}") from None
+                raise OfficeError("folder.unread", 1, self.at, name, cause=cause_of(error)) from None
         return self.data[name]
 
     def parts(self) -> bool:
@@ -282,9 +283,9 @@ class Verifier:
                 with leftover.made(room):
                     made = remade.remade(room, source, claimed)
         except OSError as error:
-            raise OfficeError(f"{shown(tempfile.gettempdir())} can't be written: {cause_of(error)}") from None
+            raise OfficeError("out.no-room", 1, tempfile.gettempdir(), cause=cause_of(error)) from None
         except (ResidencyError, OfficeError, ValueError) as fault:
-            self.tell("made again", shown(str(fault), 300), False)
+            self.tell("made again", shown(said_by(fault), 300), False)
             return
         if remade.is_matched(source.manifest):
             self.reasons(source)
@@ -366,7 +367,7 @@ class Verifier:
         """All checks."""
         manifest = self.manifest()
         if folder.SHEET not in self.there and (manifest is None or remade.is_matched(manifest)):
-            raise OfficeError(f"{self.label}: {folder.SHEET} is missing", 3)
+            raise OfficeError("folder.missing", 3, self.at, folder.SHEET)
         if self.parts():
             self.facts()
             if folder.SHEET in self.there:

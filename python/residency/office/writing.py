@@ -1,14 +1,12 @@
 """How files are written: under a name that nobody can guess until they are whole, never over what stands, and never through a
 link. All that the command writes goes through here."""
 import os
-import secrets
 import stat
-import tempfile
 from contextlib import suppress
 from pathlib import Path
 
 from . import leftover, stopping
-from .faults import OfficeError, shown
+from .faults import OfficeError
 
 # Whom a file is for: its owner alone, or all whom the user's mask lets read it.
 PRIVATE, SHARED = 0o600, 0o666
@@ -16,9 +14,11 @@ PRIVATE, SHARED = 0o600, 0o666
 
 def umask() -> int:
     """The mask of this process, as a new folder shows it: to ask for it would change it for a moment, in all threads."""
-    with tempfile.TemporaryDirectory() as room:
-        os.mkdir(f"{room}/made", 0o777)
-        return 0o777 & ~stat.S_IMODE(os.stat(f"{room}/made").st_mode)
+    import tempfile
+
+    with stopping.unfinished(draft_of(os.path.join(tempfile.gettempdir(), "mask"))) as made:
+        os.mkdir(made, 0o777)
+        return 0o777 & ~stat.S_IMODE(os.stat(made).st_mode)
 
 
 def cause_of(error: Exception) -> str:
@@ -28,13 +28,15 @@ def cause_of(error: Exception) -> str:
 def refuse(out: str) -> None:
     """OfficeError where something stands at this path, be it a link that leads nowhere, or where it is none."""
     if not out or "\0" in out:
-        raise OfficeError(f"'{shown(out)}' can't be written: it is no path", 2)
+        raise OfficeError("out.no-path", 2, out)
     if os.path.lexists(out):
-        raise OfficeError(f"{shown(out)} is there already; nothing was written", 2)
+        raise OfficeError("out.there", 2, out)
 
 
 def draft_of(out: str) -> Path:
     """Where what will stand at a path is made: beside it, under a name that nobody can guess."""
+    import secrets
+
     return Path(os.path.abspath(out)).with_name(f".part-{secrets.token_hex(16)}")
 
 
@@ -76,6 +78,6 @@ def new_file(out: str, data: bytes, mode: int = SHARED) -> None:
                 with suppress(OSError):
                     os.fchmod(number, wanted)
         except FileExistsError:
-            raise OfficeError(f"{shown(out)} is there already; nothing was written", 2) from None
+            raise OfficeError("out.there", 2, out) from None
         except (OSError, ValueError) as error:
-            raise OfficeError(f"{shown(out)} can't be written: {cause_of(error)}; nothing was left there") from None
+            raise OfficeError("out.unwritten", 1, out, cause=cause_of(error)) from None

@@ -6,7 +6,6 @@ ghost use Rattle.std.specs.List.{All};
 ghost use Rattle.match_model.specs.Instance.{IsProgramme, IsResident};
 ghost use Rattle.exchange_core.specs.declared.event.Capacity.TheVariants.{Full};
 
-use crate::instances::{TWO_PLACES, made};
 use desks::{Programme, Resident};
 use exchange_core::{AnswerNote, Capacity, Event, OfferNote};
 use mailbox_rule::{MailFault, PutEnd, RuledPut, RuledTake, TakeEnd, mailbox};
@@ -17,6 +16,7 @@ use std::marker::Brand;
 use std::sync::Wait;
 use std::sync::ledger::Blank;
 use std::test::Fail;
+use test_support::instances::{TWO_PLACES, made};
 
 /// A number of turns that is larger than any exchange here needs.
 const TURNS: u32 = 20;

@@ -1,10 +1,10 @@
 //! What the core reports about the mailboxes after each event.
 use super::begin;
 use super::run::Run;
-use crate::instances::TWO_PLACES;
 use exchange_core::{Capacity, Event, MailLeft, Refused};
 use std::alloc::Global;
 use test_support::events::{A, B, HOLD, X, Y, answer, nineteen_events, offer, take};
+use test_support::instances::TWO_PLACES;
 
 const NOTHING: MailLeft = MailLeft {
     receiver_was_empty: false,

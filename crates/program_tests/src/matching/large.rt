@@ -10,7 +10,7 @@ use std::random::RandomSource;
 use std::sync::Wait;
 use std::test::Fail;
 use std::thread::Threads;
-use test_support::gates::{Firm, Held};
+use test_gates::gates::{Firm, Held};
 
 // Runs a match through a gate that keeps a call of `pass` waiting.
 fn matched_through<H: Threads + Wait + RandomSource + Sync + Send + Copy>(

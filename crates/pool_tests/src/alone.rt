@@ -1,0 +1,214 @@
+//! Runs by one worker, and in which order the worker visits the desks.
+use crate::runs::ran;
+use exchange_core::{Capacity, Event};
+use match_model::{ProgrammeNo, ResidentNo};
+use match_pool::OpenGate;
+use std::test::Fail;
+use test_support::events::{A, B, HOLD, RELEASE, X, Y, Z, answer, hear, offer, take};
+use test_support::instances::{Members, TWO_PLACES};
+
+// The journal of a run by one worker over `TWO_PLACES`, through full mailboxes. The worker visits residents before
+// programmes, and first of all the resident that was woken last. Programmes that are woken for a hold alone come last.
+fn journal_by_one() -> [Event; 19] {
+    [
+        offer(A, X),
+        offer(A, Y),
+        take(Y, A),
+        answer(Y, A, HOLD),
+        take(X, A),
+        answer(X, A, HOLD),
+        offer(B, X),
+        take(X, B),
+        answer(X, B, HOLD),
+        answer(X, A, RELEASE),
+        hear(B, X, HOLD),
+        hear(A, Y, HOLD),
+        hear(A, X, HOLD),
+        hear(A, X, RELEASE),
+        offer(A, Z),
+        take(Z, A),
+        answer(Z, A, HOLD),
+        hear(A, Z, HOLD),
+        Event::Close,
+    ]
+}
+
+// Whether this is the journal of a run by one worker over `TWO_PLACES`.
+pub(crate) fn is_by_one(journal: &[Event]) -> bool {
+    journal == &journal_by_one()[..]
+}
+
+#[test]
+fn one_worker_is_repeated_to_the_event(rt: HostRuntime) -> Result<(), Fail> {
+    for _ in 0..10 {
+        let told = ran(rt, rt.alloc(), TWO_PLACES, Capacity::Full, 1, &OpenGate)?;
+        assert!(rt; is_by_one(told.journal.as_slice()));
+    }
+    Ok(())
+}
+
+// Two pairs. Each pair is a programme with one place and a resident.
+const TWO_PAIRS: Members = (&[(1, &[0]), (1, &[1])], &[&[0], &[1]]);
+
+#[test]
+fn what_a_visit_woke_comes_before_any_programme(rt: HostRuntime) -> Result<(), Fail> {
+    let told = ran(rt, rt.alloc(), TWO_PAIRS, Capacity::Full, 1, &OpenGate)?;
+    let wanted = [
+        offer(A, X),
+        take(X, A),
+        answer(X, A, HOLD),
+        offer(B, Y),
+        take(Y, B),
+        answer(Y, B, HOLD),
+    ];
+    for (event, other) in told.journal.iter().zip(&wanted) {
+        assert!(rt; event == other, "{event:?} for {other:?}");
+    }
+    assert!(rt; told.journal.len() == 9);
+    Ok(())
+}
+
+// Markets with mailboxes that have room for one message. In each a programme waits for room at a resident's mailbox,
+// while an answer of another resident waits at the programme. When the programme is called because of the room, it
+// offers first, and then it hears that answer.
+const CALLED: [(Members, Event, Event); 3] = [
+    (
+        (
+            &[(2, &[0, 1]), (2, &[1, 0]), (3, &[1, 0]), (2, &[1, 0])],
+            &[&[1, 0, 3, 2], &[3, 1, 2, 0]],
+        ),
+        Event::Offer {
+            programme: ProgrammeNo(3),
+            resident: X,
+        },
+        Event::Hear {
+            programme: ProgrammeNo(3),
+            resident: Y,
+            kind: HOLD,
+        },
+    ),
+    (
+        (
+            &[(2, &[2, 0, 1]), (2, &[2, 0, 1]), (3, &[0, 1, 2])],
+            &[&[1, 2, 0], &[1, 0, 2], &[0, 1, 2]],
+        ),
+        Event::Offer {
+            programme: ProgrammeNo(2),
+            resident: Z,
+        },
+        Event::Hear {
+            programme: ProgrammeNo(2),
+            resident: Y,
+            kind: RELEASE,
+        },
+    ),
+    (
+        (
+            &[
+                (3, &[1, 2, 0]),
+                (1, &[2, 3, 0]),
+                (1, &[2, 0, 3]),
+                (3, &[3, 0, 2, 1]),
+            ],
+            &[&[1, 0], &[3, 1, 2], &[0, 1, 3], &[1, 3, 0, 2]],
+        ),
+        Event::Offer {
+            programme: ProgrammeNo(3),
+            resident: Z,
+        },
+        Event::Hear {
+            programme: ProgrammeNo(3),
+            resident: ResidentNo(3),
+            kind: RELEASE,
+        },
+    ),
+];
+
+// Whether one event stands right before another event in the journal.
+fn is_followed(journal: &[Event], first: &Event, next: &Event) -> bool {
+    let mut is_after = false;
+    for event in journal {
+        if is_after && event == next {
+            return true;
+        }
+        is_after = event == first;
+    }
+    false
+}
+
+#[test]
+fn a_called_programme_offers_first_and_hears_then(rt: HostRuntime) -> Result<(), Fail> {
+    for (members, offered, heard) in CALLED {
+        let told = ran(rt, rt.alloc(), members, Capacity::Each(1), 1, &OpenGate)?;
+        assert!(rt;
+            is_followed(&told.journal, &offered, &heard),
+            "{offered:?}, {heard:?}"
+        );
+    }
+    Ok(())
+}
+
+// Markets as in `CALLED`, in which another programme uses the room before the called programme comes. The called
+// programme goes on waiting, and hears its answer.
+const REFUSED_AGAIN: [(Members, Event, Event); 2] = [
+    (
+        (
+            &[
+                (3, &[0, 2, 1]),
+                (2, &[1, 2, 0]),
+                (2, &[0, 1, 2]),
+                (2, &[1, 2, 0]),
+                (3, &[2, 1, 0]),
+            ],
+            &[&[4, 1, 3, 0, 2], &[2, 3, 0, 4, 1], &[3, 2, 4, 1, 0]],
+        ),
+        Event::Offer {
+            programme: ProgrammeNo(3),
+            resident: X,
+        },
+        Event::Hear {
+            programme: ProgrammeNo(4),
+            resident: Z,
+            kind: HOLD,
+        },
+    ),
+    (
+        (
+            &[
+                (2, &[1, 2, 0]),
+                (2, &[2, 0, 1]),
+                (2, &[2, 0, 1]),
+                (3, &[2, 1, 0]),
+                (2, &[1, 2, 0]),
+                (3, &[0, 1, 2]),
+            ],
+            &[
+                &[4, 1, 3, 0, 5, 2],
+                &[1, 2, 3, 4, 0, 5],
+                &[3, 2, 4, 1, 5, 0],
+            ],
+        ),
+        Event::Hear {
+            programme: ProgrammeNo(4),
+            resident: X,
+            kind: HOLD,
+        },
+        Event::Hear {
+            programme: ProgrammeNo(3),
+            resident: Z,
+            kind: HOLD,
+        },
+    ),
+];
+
+#[test]
+fn a_called_programme_that_is_refused_hears(rt: HostRuntime) -> Result<(), Fail> {
+    for (members, before, heard) in REFUSED_AGAIN {
+        let told = ran(rt, rt.alloc(), members, Capacity::Each(1), 1, &OpenGate)?;
+        assert!(rt;
+            is_followed(&told.journal, &before, &heard),
+            "{before:?}, {heard:?}"
+        );
+    }
+    Ok(())
+}

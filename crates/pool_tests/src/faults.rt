@@ -1,0 +1,273 @@
+//! Faults of a run that have a real cause: mailboxes that slip, which means that they answer what a good mailbox never
+//! answers.
+use crate::slips::{PutSlip, Slip, Slipping, TakeSlip};
+use exchange_core::{AnswerKind, AnswerNote, Capacity, Desk, Event, OfferNote};
+use match_model::{ProgrammeNo, ResidentNo};
+use match_pool::{Ending, Gate, OpenGate, RunFault, run_over};
+use std::alloc::Global;
+use std::sync::Wait;
+use std::thread::Threads;
+use test_gates::gates::{AfterAnother, Counting};
+use test_support::events::{A, B, DECLINE, HOLD, RELEASE, X, Y, Z, hear, take};
+use test_support::instances::{Members, TWO_BY_TWO, TWO_PLACES, has_places, made};
+
+// What a run with this number of workers returns if one mailbox answers wrongly: its fault, or whether the run closed
+// with each resident at the expected programme.
+fn told_by<G: Gate + Sync, R: Threads + Wait + Sync + Send + Copy>(
+    rt: R,
+    alloc: Global,
+    case: (Members, &[Option<u32>]),
+    form: (Capacity, usize),
+    gate: &G,
+    slip: Slip,
+) -> Result<bool, RunFault> {
+    let (members, places) = case;
+    let (cap, workers) = form;
+    let Ok(inst) = made(alloc, members) else {
+        return Err(RunFault::Memory);
+    };
+    let mailboxes = Slipping {
+        rt,
+        slips: [slip, slip],
+    };
+    let done = run_over(rt, alloc, &mailboxes, &inst, cap, workers, gate)?;
+    Ok(done.ending == Ending::Closed && has_places(&done.assignment, places))
+}
+
+const CAPACITIES: [Capacity; 3] = [Capacity::Full, Capacity::Each(1), Capacity::Each(2)];
+
+const SMALL: (Members, &[Option<u32>]) = (TWO_BY_TWO, &[Some(0), Some(1)]);
+
+const LARGER: (Members, &[Option<u32>]) = (TWO_PLACES, &[Some(1), Some(0), Some(0)]);
+
+// A number that no programme has.
+const STRANGE: ProgrammeNo = ProgrammeNo(7);
+
+// Slips after which a run goes on. A message that was refused as full is put again, and a message that was missing is
+// looked for again.
+const PASSING: [Slip; 8] = [
+    Slip::Offer(X, 0, PutSlip::Full),
+    Slip::Offer(X, 1, PutSlip::Full),
+    Slip::Answer(A, 0, PutSlip::Full),
+    Slip::Answer(A, 2, PutSlip::Full),
+    Slip::Take(X, 0, TakeSlip::Nothing),
+    Slip::Take(X, 1, TakeSlip::Nothing),
+    Slip::Hear(A, 0, TakeSlip::Nothing),
+    Slip::Hear(A, 3, TakeSlip::Nothing),
+];
+
+#[test]
+fn goes_on_after_full_and_nothing(rt: HostRuntime) {
+    for slip in PASSING {
+        for cap in CAPACITIES {
+            for workers in 1..=4 {
+                assert!(rt;
+                    told_by(rt, rt.alloc(), LARGER, (cap, workers), &OpenGate, slip) == Ok(true),
+                    "{slip:?}, {cap:?}, {workers} workers"
+                );
+            }
+        }
+    }
+}
+
+// Slips in which a mailbox loses its other end, with the desk of this mailbox.
+fn losing() -> [(Slip, Desk); 8] {
+    [
+        (Slip::Offer(X, 0, PutSlip::Gone), Desk::Resident(X)),
+        (Slip::Offer(Z, 0, PutSlip::Gone), Desk::Resident(Z)),
+        (Slip::Answer(A, 0, PutSlip::Gone), Desk::Programme(A)),
+        (Slip::Answer(B, 0, PutSlip::Gone), Desk::Programme(B)),
+        (Slip::Take(X, 1, TakeSlip::Gone), Desk::Resident(X)),
+        (Slip::Take(Y, 0, TakeSlip::Gone), Desk::Resident(Y)),
+        (Slip::Hear(A, 1, TakeSlip::Gone), Desk::Programme(A)),
+        (Slip::Hear(B, 0, TakeSlip::Gone), Desk::Programme(B)),
+    ]
+}
+
+// Whether a run has the fault that the other end of this desk's mailbox is gone.
+fn is_gone(told: &Result<bool, RunFault>, desk: &Desk) -> bool {
+    match told {
+        Err(RunFault::MailGone(gone)) => gone == desk,
+        _ => false,
+    }
+}
+
+#[test]
+fn tells_whose_mailbox_is_gone(rt: HostRuntime) {
+    for (slip, desk) in losing() {
+        for cap in CAPACITIES {
+            for workers in 1..=4 {
+                let gate = Counting::new();
+                let told = told_by(rt, rt.alloc(), LARGER, (cap, workers), &gate, slip);
+                assert!(rt;
+                    is_gone(&told, &desk),
+                    "{slip:?}, {cap:?}, {workers} workers"
+                );
+            }
+        }
+    }
+}
+
+// Slips that last until the end of the run, with the desk that stays pending. In some, an offer of a programme or an
+// answer of a resident finds no room. In others, a desk finds no message in its mailbox, though a message waits.
+fn lasting() -> [(Slip, Desk); 8] {
+    [
+        (Slip::Offer(Y, 0, PutSlip::AlwaysFull), Desk::Programme(A)),
+        (Slip::Offer(Z, 0, PutSlip::AlwaysFull), Desk::Programme(A)),
+        (Slip::Answer(B, 0, PutSlip::AlwaysFull), Desk::Resident(X)),
+        (Slip::Take(X, 0, TakeSlip::AlwaysNothing), Desk::Resident(X)),
+        (Slip::Take(X, 1, TakeSlip::AlwaysNothing), Desk::Resident(X)),
+        (Slip::Take(Y, 0, TakeSlip::AlwaysNothing), Desk::Resident(Y)),
+        (
+            Slip::Hear(A, 0, TakeSlip::AlwaysNothing),
+            Desk::Programme(A),
+        ),
+        (
+            Slip::Hear(B, 0, TakeSlip::AlwaysNothing),
+            Desk::Programme(B),
+        ),
+    ]
+}
+
+// Whether a run has the fault that this desk is torn.
+fn is_torn(told: &Result<bool, RunFault>, desk: &Desk) -> bool {
+    match told {
+        Err(RunFault::Torn(torn)) => torn == desk,
+        _ => false,
+    }
+}
+
+#[test]
+fn tells_the_desk_that_is_left_pending(rt: HostRuntime) {
+    for (slip, desk) in lasting() {
+        for cap in CAPACITIES {
+            for workers in 1..=4 {
+                let gate = Counting::new();
+                let told = told_by(rt, rt.alloc(), LARGER, (cap, workers), &gate, slip);
+                assert!(rt;
+                    is_torn(&told, &desk),
+                    "{slip:?}, {cap:?}, {workers} workers"
+                );
+            }
+        }
+    }
+}
+
+// A wrong answer of a mailbox: the resident's first take gives an offer of this programme. With it stands the take that
+// the worker then tries to enter.
+fn offer_of(resident: ResidentNo, programme: ProgrammeNo) -> (Slip, Event) {
+    let slip = TakeSlip::Gives(OfferNote { programme });
+    (Slip::Take(resident, 0, slip), take(resident, programme))
+}
+
+// A wrong answer of a mailbox: the programme's look with this number gives this answer. With it stands the hear that
+// the worker then tries to enter.
+fn answer_of(
+    programme: ProgrammeNo,
+    call: u32,
+    resident: ResidentNo,
+    kind: AnswerKind,
+) -> (Slip, Event) {
+    let slip = TakeSlip::Gives(AnswerNote { resident, kind });
+    (
+        Slip::Hear(programme, call, slip),
+        hear(programme, resident, kind),
+    )
+}
+
+// Slips that give a message that was never put, or give a message before an older one; each with the receipt.
+fn out_of_step() -> [(Slip, Event); 8] {
+    [
+        offer_of(X, STRANGE),
+        offer_of(Z, B),
+        offer_of(Y, B),
+        answer_of(A, 0, Y, DECLINE),
+        answer_of(A, 1, Z, DECLINE),
+        answer_of(A, 2, X, DECLINE),
+        answer_of(B, 0, X, RELEASE),
+        answer_of(B, 0, Y, HOLD),
+    ]
+}
+
+// Whether a run is out of step at this receipt. Its journal has all events that were entered, and no close.
+fn is_out_of_step(told: &Result<bool, RunFault>, gate: &Counting, receipt: &Event) -> bool {
+    match told {
+        Err(RunFault::OutOfStep { journal, event }) => {
+            event == receipt
+                && journal.len() as u64 == gate.count_all()
+                && !journal.contains(&Event::Close)
+        }
+        _ => false,
+    }
+}
+
+#[test]
+fn tells_the_receipt_that_is_out_of_step(rt: HostRuntime) {
+    for (slip, receipt) in out_of_step() {
+        for cap in CAPACITIES {
+            for workers in 1..=4 {
+                let gate = Counting::new();
+                let told = told_by(rt, rt.alloc(), LARGER, (cap, workers), &gate, slip);
+                assert!(rt;
+                    is_out_of_step(&told, &gate, &receipt),
+                    "{slip:?}, {cap:?}, {workers} workers"
+                );
+            }
+        }
+    }
+}
+
+// Whether a run is out of step at a receipt that already stands in its journal.
+fn is_repeated(told: &Result<bool, RunFault>, gate: &Counting) -> bool {
+    match told {
+        Err(RunFault::OutOfStep { journal, event }) => {
+            journal.contains(event) && journal.len() as u64 == gate.count_all()
+        }
+        _ => false,
+    }
+}
+
+#[test]
+fn takes_no_message_twice(rt: HostRuntime) {
+    for slip in [
+        Slip::Take(X, 1, TakeSlip::Repeats),
+        Slip::Hear(A, 1, TakeSlip::Repeats),
+        Slip::Hear(A, 2, TakeSlip::Repeats),
+    ] {
+        for cap in CAPACITIES {
+            for workers in 1..=4 {
+                let gate = Counting::new();
+                let told = told_by(rt, rt.alloc(), LARGER, (cap, workers), &gate, slip);
+                assert!(rt;
+                    is_repeated(&told, &gate),
+                    "{slip:?}, {cap:?}, {workers} workers"
+                );
+            }
+        }
+    }
+}
+
+// How often a test is repeated that may miss what it looks for.
+const TRIES: u32 = 5;
+
+// Whether no event is entered after a receipt that was out of step, though another worker has a receipt to enter.
+fn is_spoiled<R: Threads + Wait + Sync + Send + Copy>(rt: R, alloc: Global) -> bool {
+    for _ in 0..TRIES {
+        let gate = AfterAnother::new(Desk::Resident(X));
+        let (slip, receipt) = offer_of(X, STRANGE);
+        let told = told_by(rt, alloc, SMALL, (Capacity::Full, 2), &gate, slip);
+        if let Err(RunFault::OutOfStep { journal, event }) = told
+            && event == receipt
+            && gate.has_held()
+            && !journal.contains(&take(Y, B))
+        {
+            return true;
+        }
+    }
+    false
+}
+
+#[test]
+fn enters_nothing_after_a_receipt_that_is_out_of_step(rt: HostRuntime) {
+    assert!(rt; is_spoiled(rt, rt.alloc()));
+}

@@ -1,0 +1,342 @@
+//! What a gate promises, tested in runs: when `pass` is called for a receipt, when `entered` is called, and how a run
+//! stops.
+use crate::runs::{Told, ran, ran_on};
+use exchange_core::{Capacity, Desk, Event};
+use match_model::{Instance, ModelFault, ProgrammeNo};
+use match_pool::Ending;
+use std::alloc::Global;
+use std::sync::Wait;
+use std::test::Fail;
+use std::thread::Threads;
+use test_gates::gates::{Hold, HoldsEntered, HoldsVisit, Rested, Stalls, StopsBy, StopsFrom};
+use test_support::events::desk_of;
+use test_support::instances::{Members, TWO_BY_TWO, TWO_PLACES, made};
+use test_support::markets::{made_chain, made_pairs};
+
+const CAPACITIES: [Capacity; 3] = [Capacity::Full, Capacity::Each(1), Capacity::Each(2)];
+
+// How often a test is repeated that may miss what it looks for.
+const TRIES: u32 = 10;
+
+// Four instances: two small ones, a hundred pairs, and a chain of forty links.
+fn made_all(alloc: Global) -> Result<[Instance; 4], ModelFault> {
+    Ok([
+        made(alloc, TWO_BY_TWO)?,
+        made(alloc, TWO_PLACES)?,
+        made_pairs(alloc, 100)?,
+        made_chain(alloc, 40)?,
+    ])
+}
+
+// How many takes and hears a run has.
+fn receipts_of(journal: &[Event]) -> u64 {
+    let mut count = 0_u64;
+    for event in journal {
+        if let Event::Take { .. } | Event::Hear { .. } = event {
+            count = count.saturating_add(1);
+        }
+    }
+    count
+}
+
+// Whether each worker entered as many events as the gate counted, and the journal has all of them.
+fn is_told(told: &Told, counts: &[u64]) -> bool {
+    let mut sum = 0_u64;
+    for (entered, count) in told.entered.iter().zip(counts) {
+        if entered != count {
+            return false;
+        }
+        sum = sum.saturating_add(*count);
+    }
+    told.journal.len() as u64 == sum && told.who.len() == told.journal.len()
+}
+
+// Whether a run ended as it should that was stopped from the call of `pass` with this number on.
+fn is_stopped_from(told: &Told, gate: &StopsFrom, first: u64, workers: usize) -> bool {
+    let counts = [0, 1, 2, 3, 4, 5, 6, 7].map(|worker| gate.count(worker));
+    let receipts = receipts_of(&told.journal);
+    let is_closed = told.journal.last() == Some(&Event::Close);
+    let ends = match told.ending {
+        Ending::Closed => is_closed,
+        Ending::Stopped => !is_closed && receipts >= first,
+    };
+    // several workers can close a run while one worker is stopped at the run's last receipt
+    ends && (workers > 1 || is_closed && receipts < first || !is_closed && receipts == first)
+        && gate.all_ended()
+        && is_told(told, &counts)
+}
+
+// How a run ended that was stopped from the call of `pass` with this number on. The result is none if the run did not
+// end as it should.
+fn stopped_from<R: Threads + Wait + Sync + Send + Copy>(
+    rt: R,
+    alloc: Global,
+    inst: &Instance,
+    form: (Capacity, usize),
+    first: u64,
+) -> Option<Ending> {
+    let (cap, workers) = form;
+    let gate = StopsFrom::new(first);
+    let Ok(told) = ran_on(rt, alloc, inst, cap, workers, &gate) else {
+        return None;
+    };
+    if is_stopped_from(&told, &gate, first, workers) {
+        Some(told.ending)
+    } else {
+        None
+    }
+}
+
+// Whether runs ended as they should that were stopped from each of these calls of `pass` on.
+fn stop_well<R: Threads + Wait + Sync + Send + Copy>(
+    rt: R,
+    alloc: Global,
+    workers: usize,
+) -> Result<bool, ModelFault> {
+    let inst = made(alloc, TWO_PLACES)?;
+    for first in 1..=10 {
+        for cap in CAPACITIES {
+            let is_well = match stopped_from(rt, alloc, &inst, (cap, workers), first) {
+                Some(Ending::Closed) => first > 1,
+                Some(Ending::Stopped) => first < 10,
+                None => false,
+            };
+            if !is_well {
+                return Ok(false);
+            }
+        }
+    }
+    Ok(true)
+}
+
+#[test]
+fn one_worker_stops_from_each_pass_on(rt: HostRuntime) -> Result<(), Fail> {
+    assert!(rt; stop_well(rt, rt.alloc(), 1)?);
+    Ok(())
+}
+
+#[test]
+fn stops_from_each_pass_on(rt: HostRuntime) -> Result<(), Fail> {
+    for workers in [2, 8] {
+        assert!(rt; stop_well(rt, rt.alloc(), workers)?, "{workers} workers");
+    }
+    Ok(())
+}
+
+#[test]
+fn every_worker_heeds_a_stop(rt: HostRuntime) -> Result<(), Fail> {
+    let [_, _, pairs, chain] = made_all(rt.alloc())?;
+    for inst in [&pairs, &chain] {
+        for first in [1, 30] {
+            for cap in CAPACITIES {
+                for workers in [2, 4, 8] {
+                    let ending = stopped_from(rt, rt.alloc(), inst, (cap, workers), first);
+                    assert!(rt;
+                        ending == Some(Ending::Stopped),
+                        "from {first} on, {cap:?}, {workers} workers"
+                    );
+                }
+            }
+        }
+    }
+    Ok(())
+}
+
+// Whether a run over pairs ends by the stop of this worker, or of any worker if none is given.
+fn is_stopped_by<R: Threads + Wait + Sync + Send + Copy>(
+    rt: R,
+    alloc: Global,
+    inst: &Instance,
+    workers: usize,
+    worker: Option<usize>,
+) -> bool {
+    let gate = StopsBy::new(rt, worker);
+    let told = ran_on(rt, alloc, inst, Capacity::Full, workers, &gate);
+    told.is_ok_and(|told| told.ending == Ending::Stopped)
+}
+
+#[test]
+fn the_stop_of_each_worker_is_heeded(rt: HostRuntime) -> Result<(), Fail> {
+    // all other workers are kept waiting, each at a desk of its own, so the worker finds a pair
+    let inst = made_pairs(rt.alloc(), 16)?;
+    for worker in 0..8 {
+        assert!(rt;
+            is_stopped_by(rt, rt.alloc(), &inst, 8, Some(worker)),
+            "worker {worker}"
+        );
+    }
+    Ok(())
+}
+
+#[test]
+fn a_stop_wakes_who_rests(rt: HostRuntime) -> Result<(), Fail> {
+    // one worker has the only desk with work, and all others rest
+    let inst = made_pairs(rt.alloc(), 1)?;
+    for workers in [2, 8] {
+        assert!(rt;
+            is_stopped_by(rt, rt.alloc(), &inst, workers, None),
+            "{workers} workers"
+        );
+    }
+    Ok(())
+}
+
+// The index in the journal of the event that a worker entered after `own` earlier events of its own.
+fn place_of(told: &Told, worker: usize, own: u64) -> Option<usize> {
+    let mut before = 0_u64;
+    for (place, of) in told.who.iter().enumerate() {
+        if usize::from(*of) == worker {
+            if before == own {
+                return Some(place);
+            }
+            before = before.saturating_add(1);
+        }
+    }
+    None
+}
+
+// Whether a receipt that was kept waiting was entered after all events that were entered meanwhile, and no other worker
+// visited its desk.
+fn is_entered_after(told: &Told, hold: &Hold, workers: usize) -> bool {
+    let Some(place) = place_of(told, hold.worker, hold.own) else {
+        return false;
+    };
+    for (at, event) in told.journal.iter().enumerate() {
+        let is_meanwhile = at >= (hold.from as usize).saturating_add(workers) && at < place;
+        if is_meanwhile && (desk_of(event) == Some(hold.desk) || *event == Event::Close) {
+            return false;
+        }
+    }
+    place as u64 >= hold.to
+        && told.journal.get(place).is_some_and(|event| {
+            desk_of(event) == Some(hold.desk) && receipts_of(&[*event]) == 1
+        })
+}
+
+// Whether a call of `pass` was kept waiting, and its receipt was entered only afterwards.
+fn is_late_enough(told: &Told, gate: &Stalls, workers: usize) -> bool {
+    match gate.hold() {
+        Some(hold) => is_entered_after(told, &hold, workers),
+        None => false,
+    }
+}
+
+// Whether a run ends as it should whose call of `pass` with this number is kept waiting, and whether a call was kept
+// waiting.
+fn is_held<R: Threads + Wait + Sync + Send + Copy>(
+    rt: R,
+    alloc: Global,
+    inst: &Instance,
+    form: (Capacity, usize),
+    place: u64,
+) -> bool {
+    let (cap, workers) = form;
+    let gate = Stalls::new(place);
+    let Ok(told) = ran_on(rt, alloc, inst, cap, workers, &gate) else {
+        return false;
+    };
+    let counts = [0, 1, 2, 3, 4, 5, 6, 7].map(|worker| gate.count(worker));
+    told.ending == Ending::Closed
+        && is_told(&told, &counts)
+        && is_late_enough(&told, &gate, workers)
+}
+
+#[test]
+fn a_receipt_passes_before_it_is_entered(rt: HostRuntime) -> Result<(), Fail> {
+    let all = made_all(rt.alloc())?;
+    // the last of these numbers is the call for the run's last receipt
+    let places: [[u64; 2]; 4] = [[0, 3], [2, 7], [50, 199], [1, 60]];
+    for (inst, places) in all.iter().zip(places) {
+        for cap in [Capacity::Full, Capacity::Each(1)] {
+            for workers in [1, 2, 4] {
+                for place in places {
+                    assert!(rt;
+                        is_held(rt, rt.alloc(), inst, (cap, workers), place),
+                        "at {place}, {cap:?}, {workers} workers"
+                    );
+                }
+            }
+        }
+    }
+    Ok(())
+}
+
+// Whether another worker entered events while the worker waited that entered the event with this number.
+fn goes_on<R: Threads + Wait + Sync + Send + Copy>(
+    rt: R,
+    alloc: Global,
+    inst: &Instance,
+    form: (Capacity, usize),
+    number: u64,
+) -> bool {
+    let (cap, workers) = form;
+    let gate = HoldsEntered::new(number);
+    let Ok(told) = ran_on(rt, alloc, inst, cap, workers, &gate) else {
+        return false;
+    };
+    let counts = [0, 1, 2, 3, 4, 5, 6, 7].map(|worker| gate.count(worker));
+    gate.has_held() && told.ending == Ending::Closed && is_told(&told, &counts)
+}
+
+#[test]
+fn an_entry_is_told_with_the_ledger_free(rt: HostRuntime) -> Result<(), Fail> {
+    let all = made_all(rt.alloc())?;
+    for inst in &all {
+        for cap in CAPACITIES {
+            for workers in [2, 4, 8] {
+                assert!(rt;
+                    goes_on(rt, rt.alloc(), inst, (cap, workers), 1),
+                    "{cap:?}, {workers} workers"
+                );
+            }
+        }
+    }
+    Ok(())
+}
+
+// A programme that offers to ten residents in one visit.
+const ONE_FOR_TEN: Members = (
+    &[(10, &[0, 1, 2, 3, 4, 5, 6, 7, 8, 9])],
+    &[&[0], &[0], &[0], &[0], &[0], &[0], &[0], &[0], &[0], &[0]],
+);
+
+// Whether another worker did the work that an offer caused, while the worker waited that entered the offer.
+fn goes_on_beside<R: Threads + Wait + Sync + Send + Copy>(
+    rt: R,
+    alloc: Global,
+    cap: Capacity,
+) -> bool {
+    let gate = HoldsVisit::new();
+    let told = ran(rt, alloc, ONE_FOR_TEN, cap, 2, &gate);
+    gate.has_held() && told.is_ok_and(|told| told.ending == Ending::Closed)
+}
+
+#[test]
+fn what_an_entry_woke_is_listed_before_its_worker_is_held(rt: HostRuntime) {
+    for _ in 0..TRIES {
+        for cap in CAPACITIES {
+            assert!(rt; goes_on_beside(rt, rt.alloc(), cap), "{cap:?}");
+        }
+    }
+}
+
+// Two programmes that offer to the same resident, who prefers the first programme. The second programme is rejected,
+// and offers to a second resident.
+const RIVALS: Members = (&[(1, &[0]), (1, &[0, 1])], &[&[0, 1], &[1]]);
+
+// Whether a worker that found nothing to do was woken for a listed desk, while another worker stayed at its own desk.
+// The listed desk is the rejected programme's, which hears of the rejection and offers again.
+fn is_woken<R: Threads + Wait + Sync + Send + Copy>(rt: R, alloc: Global, cap: Capacity) -> bool {
+    let gate = Rested::new(rt, Desk::Programme(ProgrammeNo(1)));
+    let told = ran(rt, alloc, RIVALS, cap, 2, &gate);
+    gate.has_held() && told.is_ok_and(|told| told.ending == Ending::Closed)
+}
+
+#[test]
+fn no_worker_waits_for_the_desk_of_another(rt: HostRuntime) {
+    for _ in 0..TRIES {
+        for cap in CAPACITIES {
+            assert!(rt; is_woken(rt, rt.alloc(), cap), "{cap:?}");
+        }
+    }
+}

@@ -1,0 +1,363 @@
+//! In which order workers heed a stop, note a fault, list the desks that they woke, and end the run after the close.
+//! The tests use gates, and mailboxes that keep a worker waiting while it has the ledger's lock.
+ghost use Rattle.std.specs.Prelude.{true, false};
+
+use crate::latched::{Latch, Latched};
+use crate::runs::ran;
+use exchange_core::{Capacity, Desk};
+use match_model::{Instance, InstanceBuilder, ModelFault, ProgrammeNo, ResidentNo};
+use match_pool::{Ending, Gate, Go, RunFault, run_over};
+use std::alloc::Global;
+use std::sync::Wait;
+use std::sync::atomic::{AtomicBool, AtomicU64, Ordering};
+use std::test::Fail;
+use std::thread::Threads;
+use std::time::Duration;
+use test_support::events::{X, Y};
+use test_support::instances::{Members, TWO_BY_TWO, made};
+
+// At which receipt a gate stops a run: at the first receipt of one desk, of all residents or of all programmes.
+#[derive(Clone, Copy, Debug, PartialEq, Eq)]
+enum At {
+    Desk(Desk),
+    Take,
+    Hear,
+}
+
+impl At {
+    fn has(&self, desk: Desk) -> bool {
+        match self {
+            At::Desk(one) => *one == desk,
+            At::Take => matches!(&desk, Desk::Resident(_)),
+            At::Hear => matches!(&desk, Desk::Programme(_)),
+        }
+    }
+}
+
+// A gate that stops a run at one receipt, once another worker's put or take is kept waiting. The gate counts the events
+// that are entered from then on, and lets the take go on once an event was entered.
+#[derive(Drop)]
+struct StopsBeside<R: Wait + Copy> {
+    latch: Latch<R>,
+    at: At,
+    has_stopped: AtomicBool,
+    entered: AtomicU64,
+}
+
+impl<R: Wait + Copy> StopsBeside<R> {
+    fn new(latch: Latch<R>, at: At) -> StopsBeside<R> {
+        StopsBeside {
+            latch,
+            at,
+            has_stopped: AtomicBool::new(false),
+            entered: AtomicU64::new(0),
+        }
+    }
+}
+
+impl<R: Wait + Copy + Sync> Gate for StopsBeside<R> {
+    ghost MAY_STOP = { true };
+
+    const MAY_STOP: bool = true;
+
+    fn pass(&self, _worker: usize, desk: Desk) -> Go {
+        if !self.at.has(desk) || !self.latch.arms() {
+            return Go::On;
+        }
+        self.latch.wait_until_begun();
+        self.has_stopped.store(true, Ordering::SeqCst);
+        Go::Stop
+    }
+
+    fn entered(&self, _worker: usize) {
+        if self.has_stopped.load(Ordering::SeqCst) {
+            self.entered.fetch_add(1, Ordering::SeqCst);
+            self.latch.opens();
+        }
+    }
+}
+
+// How a run by two workers ends, over mailboxes under a latch. The latch's lifetime has a name here, since the borrow checker
+// asks for one at this call.
+fn ended<'a, R: Threads + Wait + Sync + Send + Copy>(
+    rt: R,
+    alloc: Global,
+    mailboxes: &Latched<'a, R>,
+    inst: &Instance,
+    gate: &StopsBeside<R>,
+) -> Result<Ending, RunFault> {
+    let done = run_over(rt, alloc, mailboxes, inst, Capacity::Full, 2, gate)?;
+    Ok(done.ending)
+}
+
+// What a run reports that was stopped at one resident, after another resident's mailbox lost an end.
+fn told_after_a_stop<R: Threads + Wait + Sync + Send + Copy>(
+    rt: R,
+    alloc: Global,
+) -> Option<RunFault> {
+    let Ok(inst) = made(alloc, TWO_BY_TWO) else {
+        return None;
+    };
+    let gate = StopsBeside::new(Latch::new(rt, false), At::Desk(Desk::Resident(Y)));
+    let mailboxes = Latched {
+        rt,
+        latch: &gate.latch,
+        lost: Some(X),
+    };
+    ended(rt, alloc, &mailboxes, &inst, &gate).err()
+}
+
+#[test]
+fn a_trouble_after_a_stop_is_told(rt: HostRuntime) {
+    for _ in 0..3 {
+        let told = told_after_a_stop(rt, rt.alloc());
+        assert!(rt; told.is_some_and(|told| told == RunFault::MailGone(Desk::Resident(X))));
+    }
+}
+
+// Ten times two programmes and two residents. Both programmes offer to the first resident, who declines the second
+// programme. The second programme then offers to the second resident.
+fn made_rivals(alloc: Global) -> Result<Instance, ModelFault> {
+    let mut builder = InstanceBuilder::new(alloc);
+    for _ in 0..20 {
+        builder.add_programme(1)?;
+        builder.add_resident()?;
+    }
+    for n in 0..10 {
+        let (first, second) = (2 * n, 2 * n + 1);
+        let both = [ResidentNo(first), ResidentNo(second)];
+        builder.programme_list(ProgrammeNo(first), &both[..1])?;
+        builder.programme_list(ProgrammeNo(second), &both)?;
+        builder.resident_list(
+            ResidentNo(first),
+            &[ProgrammeNo(first), ProgrammeNo(second)],
+        )?;
+        builder.resident_list(ResidentNo(second), &[ProgrammeNo(second)])?;
+    }
+    builder.finish().map_err(|refused| refused.fault)
+}
+
+// Whether no worker began an event after a stop, while another worker had the ledger's lock when the gate said stop.
+// Only the event that the other worker had begun is entered, and the receipt at which the gate stopped.
+fn is_heeded_at_once<R: Threads + Wait + Sync + Send + Copy>(
+    rt: R,
+    alloc: Global,
+    inst: &Instance,
+    at: At,
+) -> bool {
+    let gate = StopsBeside::new(Latch::new(rt, true), at);
+    let mailboxes = Latched {
+        rt,
+        latch: &gate.latch,
+        lost: None,
+    };
+    let ending = ended(rt, alloc, &mailboxes, inst, &gate);
+    ending == Ok(Ending::Stopped)
+        && gate.latch.has_begun()
+        && gate.entered.load(Ordering::SeqCst) == 2
+}
+
+// Other work of the machine may keep a worker from heeding the stop for long, but not in two of three runs.
+#[test]
+fn a_stop_is_heeded_before_its_receipt_is_entered(rt: HostRuntime) -> Result<(), Fail> {
+    let inst = made_rivals(rt.alloc())?;
+    for at in [At::Take, At::Hear] {
+        let mut heeded = 0_u32;
+        for _ in 0..3 {
+            let is_heeded = is_heeded_at_once(rt, rt.alloc(), &inst, at);
+            heeded = heeded.saturating_add(is_heeded as u32);
+        }
+        assert!(rt; heeded >= 2, "{at:?}: {heeded} of 3");
+    }
+    Ok(())
+}
+
+// Waits until the number is at least this large, or until this number of milliseconds has passed. Returns whether the
+// number is large enough.
+fn wait_for<R: Wait + Copy>(
+    rt: R,
+    clock: &AtomicU64,
+    number: &AtomicU64,
+    least: u64,
+    millis: u64,
+) -> bool {
+    for _ in 0..millis {
+        if number.load(Ordering::SeqCst) >= least {
+            return true;
+        }
+        clock.park_timeout(&rt, 0, Duration::from_millis(1));
+    }
+    number.load(Ordering::SeqCst) >= least
+}
+
+// How long a gate waits for an event that has to come, in milliseconds.
+const LONG: u64 = 15_000;
+
+// A gate for two pairs and two workers, where each worker has one of the last two hears. The first worker to enter its
+// hear goes on once the second worker has entered the other hear, and closes the exchange. The second worker goes on
+// once the close is entered, but before the other workers learn that the run ends.
+#[derive(Drop)]
+struct ClosesBeside<R: Wait + Copy> {
+    rt: R,
+    clock: AtomicU64,
+    hears: AtomicU64,
+    told: AtomicU64,
+}
+
+impl<R: Wait + Copy + Sync> Gate for ClosesBeside<R> {
+    ghost MAY_STOP = { false };
+
+    const MAY_STOP: bool = false;
+
+    fn pass(&self, _worker: usize, desk: Desk) -> Go {
+        if At::Hear.has(desk) {
+            self.hears.fetch_add(1, Ordering::SeqCst);
+            wait_for(self.rt, &self.clock, &self.hears, 2, LONG);
+        }
+        Go::On
+    }
+
+    fn entered(&self, _worker: usize) {
+        let told = self.told.fetch_add(1, Ordering::SeqCst).saturating_add(1);
+        // two hears come, then the close, and no event after that
+        match told {
+            7 | 8 => {
+                wait_for(
+                    self.rt,
+                    &self.clock,
+                    &self.told,
+                    told.saturating_add(1),
+                    LONG,
+                );
+            }
+            9 => {
+                wait_for(self.rt, &self.clock, &self.told, 10, 700);
+            }
+            _ => {}
+        }
+    }
+}
+
+// Two pairs. Each pair is a programme with one place and a resident.
+const TWO_PAIRS: Members = (&[(1, &[0]), (1, &[1])], &[&[0], &[1]]);
+
+#[test]
+fn a_close_is_told_once(rt: HostRuntime) -> Result<(), Fail> {
+    let gate = ClosesBeside {
+        rt,
+        clock: AtomicU64::new(0),
+        hears: AtomicU64::new(0),
+        told: AtomicU64::new(0),
+    };
+    let told = ran(rt, rt.alloc(), TWO_PAIRS, Capacity::Full, 2, &gate)?;
+    assert!(rt; told.ending == Ending::Closed && told.journal.len() == 9);
+    assert!(rt; gate.told.load(Ordering::SeqCst) == 9);
+    Ok(())
+}
+
+// A gate for two workers and two programmes. The first programme has ten residents, the second has one. The gate keeps
+// workers waiting at entries, though it says that it doesn't. Each worker waits after its first offer for the other's
+// first offer, so each has a programme, and neither rests. The second programme's worker then gets the offer of that
+// programme's resident, and goes on once the other worker has made three offers. The other worker waits until one of
+// these three is answered. Then it makes one further offer, and has a hear. The gate's call for this hear lasts until
+// all four offers are answered.
+#[derive(Drop)]
+struct HoldsHear<R: Wait + Copy> {
+    rt: R,
+    clock: AtomicU64,
+    entered: (AtomicU64, AtomicU64),
+    second: AtomicU64,
+    has_held: AtomicBool,
+    has_seen: AtomicBool,
+}
+
+impl<R: Wait + Copy> HoldsHear<R> {
+    // How many events this worker entered, and how many the other worker entered.
+    fn entries(&self, worker: usize) -> (&AtomicU64, &AtomicU64) {
+        let (first, second) = &self.entered;
+        if worker == 0 {
+            (first, second)
+        } else {
+            (second, first)
+        }
+    }
+
+    fn waits_for(&self, entries: &AtomicU64, least: u64) -> bool {
+        wait_for(self.rt, &self.clock, entries, least, LONG)
+    }
+}
+
+impl<R: Wait + Copy + Sync> Gate for HoldsHear<R> {
+    ghost MAY_STOP = { false };
+
+    const MAY_STOP: bool = false;
+
+    const ENTERED_MAY_HOLD: bool = false;
+
+    fn pass(&self, worker: usize, desk: Desk) -> Go {
+        let (_, others) = self.entries(worker);
+        match desk {
+            Desk::Resident(ResidentNo(10)) => {
+                self.second
+                    .store((worker as u64).saturating_add(1), Ordering::SeqCst);
+                self.waits_for(others, 3);
+            }
+            Desk::Programme(ProgrammeNo(0)) if !self.has_held.swap(true, Ordering::SeqCst) => {
+                // four events of the second programme, and two for each of the four offers
+                let all = self.waits_for(others, 12);
+                self.has_seen.store(all, Ordering::SeqCst);
+            }
+            _ => {}
+        }
+        Go::On
+    }
+
+    fn entered(&self, worker: usize) {
+        let (own, others) = self.entries(worker);
+        let is_second = self.second.load(Ordering::SeqCst) == (worker as u64).saturating_add(1);
+        match own.fetch_add(1, Ordering::SeqCst).saturating_add(1) {
+            1 => {
+                self.waits_for(others, 1);
+            }
+            3 if !is_second => {
+                // four events of the second programme, a take and an answer
+                self.waits_for(others, 6);
+            }
+            _ => {}
+        }
+    }
+}
+
+// A programme that has a place for each of its ten residents, and a programme with one resident.
+const TEN_AND_ONE: Members = (
+    &[(10, &[0, 1, 2, 3, 4, 5, 6, 7, 8, 9]), (1, &[10])],
+    &[
+        &[0],
+        &[0],
+        &[0],
+        &[0],
+        &[0],
+        &[0],
+        &[0],
+        &[0],
+        &[0],
+        &[0],
+        &[1],
+    ],
+);
+
+#[test]
+fn what_a_visit_woke_is_listed_before_a_hear_passes(rt: HostRuntime) -> Result<(), Fail> {
+    let gate = HoldsHear {
+        rt,
+        clock: AtomicU64::new(0),
+        entered: (AtomicU64::new(0), AtomicU64::new(0)),
+        second: AtomicU64::new(0),
+        has_held: AtomicBool::new(false),
+        has_seen: AtomicBool::new(false),
+    };
+    let told = ran(rt, rt.alloc(), TEN_AND_ONE, Capacity::Full, 2, &gate)?;
+    assert!(rt; told.ending == Ending::Closed);
+    assert!(rt; gate.has_seen.load(Ordering::SeqCst));
+    Ok(())
+}

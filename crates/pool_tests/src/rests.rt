@@ -1,0 +1,279 @@
+//! Runs in which some workers are kept waiting until the others have done all that needs none of their desks. What that is
+//! follows from the market.
+ghost use Rattle.std.specs.Prelude.{true, false};
+
+use crate::runs::{ran, ran_on};
+use exchange_core::{Capacity, Desk};
+use match_model::{Instance, InstanceBuilder, ModelFault, ProgrammeNo, ResidentNo};
+use match_pool::{Ending, Gate, Go};
+use std::alloc::Global;
+use std::sync::Wait;
+use std::sync::atomic::{AtomicBool, AtomicU32, AtomicU64, Ordering};
+use std::test::Fail;
+use std::thread::Threads;
+use std::time::Duration;
+use test_gates::rests::{Holds, Until, UntilDone};
+use test_support::events::{A, X, Y};
+use test_support::instances::Members;
+use test_support::markets::made_pairs;
+
+const NONE: (u64, Until) = (0, Until::Entered(0));
+
+const FIRST: Desk = Desk::Resident(X);
+
+// Four programmes with one resident.
+const ALL_FOR_ONE: Members = (
+    &[(1, &[0]), (1, &[0]), (1, &[0]), (1, &[0])],
+    &[&[0, 1, 2, 3]],
+);
+
+// The worker at the resident's desk waits at its first take until all four offers are entered and the others sleep. The
+// worker then answers this offer, and waits at its second take until the answer is heard.
+const AT_THE_SECOND_TAKE: Holds = Holds {
+    begun: 0,
+    offers: 0,
+    first: (FIRST, 4),
+    other: None,
+    next: (1, Until::Entered(7)),
+};
+
+// A pair, and four programmes with a second resident.
+const PROGRAMMES_WAIT: Members = (
+    &[(1, &[0]), (1, &[1]), (1, &[1]), (1, &[1]), (1, &[1])],
+    &[&[0], &[1, 2, 3, 4]],
+);
+
+// The first take of the second resident waits until the other three programmes wait for room in its mailbox. The take of
+// the first resident waits until the pair's offer and all events of the others are entered, at least sixteen.
+const BESIDE_PROGRAMMES: Holds = Holds {
+    begun: 0,
+    offers: 0,
+    first: (Desk::Resident(Y), 2),
+    other: Some((FIRST, 17)),
+    next: NONE,
+};
+
+// A pair, and a programme with a place for each of its four residents.
+const RESIDENTS_WAIT: Members = (
+    &[(1, &[0]), (4, &[1, 2, 3, 4])],
+    &[&[0], &[1], &[1], &[1], &[1]],
+);
+
+// The take of the first resident waits until the pair's offer and all sixteen events of the others are entered. Three of
+// these residents wait for room in their programme's mailbox.
+const BESIDE_RESIDENTS: Holds = Holds {
+    begun: 0,
+    offers: 5,
+    first: (FIRST, 17),
+    other: None,
+    next: NONE,
+};
+
+const AT_TAKES: [(Members, Capacity, Holds, &[usize]); 3] = [
+    (ALL_FOR_ONE, Capacity::Full, AT_THE_SECOND_TAKE, &[2, 3]),
+    (PROGRAMMES_WAIT, Capacity::Each(1), BESIDE_PROGRAMMES, &[3]),
+    (RESIDENTS_WAIT, Capacity::Each(1), BESIDE_RESIDENTS, &[2, 3]),
+];
+
+// Whether a run closed, and all its events that need no desk of a waiting worker were entered meanwhile.
+fn leaves_no_work<R: Threads + Wait + Sync + Send + Copy>(
+    rt: R,
+    alloc: Global,
+    form: (Members, Capacity, usize),
+    holds: Holds,
+) -> bool {
+    let (members, cap, workers) = form;
+    let gate = UntilDone::new(rt, holds);
+    let told = ran(rt, alloc, members, cap, workers, &gate);
+    gate.has_held_all() && told.is_ok_and(|told| told.ending == Ending::Closed)
+}
+
+#[test]
+fn no_work_is_left_while_workers_are_held_in_passes(rt: HostRuntime) {
+    for (members, cap, holds, all) in AT_TAKES {
+        for workers in all {
+            assert!(rt;
+                leaves_no_work(rt, rt.alloc(), (members, cap, *workers), holds),
+                "{holds:?}, {workers} workers"
+            );
+        }
+    }
+}
+
+// The next entry that a worker makes in a market of pairs, through mailboxes that never fill.
+const A_PUT: u32 = 0;
+
+const A_TAKE: u32 = 1;
+
+const A_HEAR: u32 = 2;
+
+const ITS_ANSWER: u32 = 3;
+
+// How many pairs there are. Each pair has four events.
+const PAIRS: u32 = 4;
+
+// How often a gate looks whether an expected event is entered. The gate looks once in a millisecond.
+const LOOKS: u32 = 10_000;
+
+// A gate for pairs of a programme with one place and a resident. After the event with this number, counted from 1, the
+// gate keeps the worker waiting until every event is entered that doesn't need the worker's desk.
+#[derive(Drop)]
+struct HoldsTold<R: Wait + Copy> {
+    rt: R,
+    clock: AtomicU64,
+    place: u32,
+    told: AtomicU32,
+    next: [AtomicU32; 3],
+    is_over: AtomicBool,
+}
+
+impl<R: Wait + Copy> HoldsTold<R> {
+    fn new(rt: R, place: u32) -> HoldsTold<R> {
+        HoldsTold {
+            rt,
+            clock: AtomicU64::new(0),
+            place,
+            told: AtomicU32::new(0),
+            next: [
+                AtomicU32::new(A_PUT),
+                AtomicU32::new(A_PUT),
+                AtomicU32::new(A_PUT),
+            ],
+            is_over: AtomicBool::new(false),
+        }
+    }
+
+    // How many events of its pair need a worker after whose entry the gate waits.
+    fn needed(&self, worker: usize) -> u32 {
+        let Some(next) = self.next.get(worker) else {
+            return 0;
+        };
+        let now = next.load(Ordering::SeqCst);
+        next.store(
+            if now == A_TAKE { ITS_ANSWER } else { A_PUT },
+            Ordering::SeqCst,
+        );
+        match now {
+            A_TAKE => 2,
+            A_HEAR | ITS_ANSWER => 0,
+            // an offer, whose answer only this desk hears
+            _ => 1,
+        }
+    }
+}
+
+impl<R: Wait + Copy + Sync> Gate for HoldsTold<R> {
+    ghost MAY_STOP = { false };
+
+    const MAY_STOP: bool = false;
+
+    fn pass(&self, worker: usize, desk: Desk) -> Go {
+        if let Some(next) = self.next.get(worker) {
+            let receipt = match desk {
+                Desk::Resident(_) => A_TAKE,
+                Desk::Programme(_) => A_HEAR,
+            };
+            next.store(receipt, Ordering::SeqCst);
+        }
+        Go::On
+    }
+
+    fn entered(&self, worker: usize) {
+        let needed = self.needed(worker);
+        if self.told.fetch_add(1, Ordering::SeqCst).saturating_add(1) != self.place {
+            return;
+        }
+        for _ in 0..LOOKS {
+            if self.told.load(Ordering::SeqCst).saturating_add(needed) >= 4 * PAIRS {
+                self.is_over.store(true, Ordering::SeqCst);
+                return;
+            }
+            self.clock
+                .park_timeout(&self.rt, 0, Duration::from_millis(1));
+        }
+    }
+}
+
+#[test]
+fn no_work_is_left_while_a_worker_is_told_of_an_entry(rt: HostRuntime) -> Result<(), Fail> {
+    let inst = made_pairs(rt.alloc(), PAIRS)?;
+    for workers in [2, 3] {
+        for place in 1..=4 * PAIRS {
+            let gate = HoldsTold::new(rt, place);
+            let told = ran_on(rt, rt.alloc(), &inst, Capacity::Full, workers, &gate)?;
+            assert!(rt;
+                told.ending == Ending::Closed && gate.is_over.load(Ordering::SeqCst),
+                "event {place}, {workers} workers"
+            );
+        }
+    }
+    Ok(())
+}
+
+// A programme with three places that loses its first three residents to a second programme. If the first programme
+// hears of all three in one visit, it then makes three offers in a row.
+const THREE_LOST: Members = (
+    &[(3, &[0, 1, 2, 3, 4, 5]), (3, &[0, 1, 2])],
+    &[&[1, 0], &[1, 0], &[1, 0], &[0], &[0], &[0]],
+);
+
+// How often a test is repeated, since other work of the machine may keep a worker from sleeping in time.
+const TRIES: u32 = 4;
+
+// Each programme's worker makes three offers before any take passes. The first programme's first hear waits until six takes,
+// six answers or more and the other programme's three hears are entered, and the others sleep. Then the first programme
+// makes three more offers, and all workers but one wait at takes until the third take has begun.
+#[test]
+fn each_that_sleeps_is_woken_for_what_one_visit_gave(rt: HostRuntime) {
+    for (workers, most) in [(2, 1), (3, 2)] {
+        for _ in 0..TRIES {
+            let holds = Holds {
+                begun: 2,
+                offers: 6,
+                first: (Desk::Programme(A), 21),
+                other: None,
+                next: (most, Until::Takes(9)),
+            };
+            let form = (THREE_LOST, Capacity::Full, workers);
+            assert!(rt;
+                leaves_no_work(rt, rt.alloc(), form, holds),
+                "{workers} workers"
+            );
+        }
+    }
+}
+
+// One programme that ranks seventy residents and has a place for each of them. The programme ranks the resident with the
+// highest number first. Every resident ranks only this programme.
+fn made_crowd(alloc: Global) -> Result<Instance, ModelFault> {
+    let mut builder = InstanceBuilder::new(alloc);
+    let programme = builder.add_programme(70)?;
+    let mut list = Vec::new(alloc);
+    for r in 0..70 {
+        let resident = builder.add_resident()?;
+        builder.resident_list(resident, &[programme])?;
+        let Ok(()) = list.push(ResidentNo(69 - r)) else {
+            return Err(ModelFault::Memory);
+        };
+    }
+    builder.programme_list(programme, list.as_slice())?;
+    builder.finish().map_err(|refused| refused.fault)
+}
+
+// No take passes before all seventy offers are made, so one visit wakes seventy desks. The take of the first resident
+// then waits until the events of all other residents are entered.
+#[test]
+fn a_visit_that_wakes_many_lists_them_all(rt: HostRuntime) -> Result<(), Fail> {
+    let inst = made_crowd(rt.alloc())?;
+    let holds = Holds {
+        begun: 0,
+        offers: 70,
+        first: (FIRST, 277),
+        other: None,
+        next: NONE,
+    };
+    let gate = UntilDone::new(rt, holds);
+    let told = ran_on(rt, rt.alloc(), &inst, Capacity::Full, 2, &gate)?;
+    assert!(rt; told.ending == Ending::Closed && gate.has_held_all());
+    Ok(())
+}

@@ -1,0 +1,321 @@
+//! Runs of the pool over worked markets.
+use exchange_core::{Capacity, Desk, Event};
+use match_model::{Assignment, Instance, ProgrammeNo, ResidentNo};
+use match_pool::{Ending, Gate, OpenGate, RunFault, run};
+use std::alloc::{AllocError, Global};
+use std::sync::Wait;
+use std::test::Fail;
+use std::thread::Threads;
+use test_gates::gates::{Firm, Held, Loose, StopsAtOnce};
+use test_support::events::{A, B, X};
+use test_support::instances::{Members, TWO_BY_TWO, TWO_PLACES, has_places, made};
+use test_support::markets::made_in_one_order;
+
+// What is noted of a run, without its ends and agents.
+#[derive(Drop)]
+pub(crate) struct Told {
+    pub(crate) ending: Ending,
+    pub(crate) journal: Vec<Event>,
+    pub(crate) who: Vec<u8>,
+    pub(crate) assignment: Assignment,
+    pub(crate) entered: Vec<u64>,
+}
+
+// Runs the exchange of an instance, and notes what happened.
+pub(crate) fn ran_on<G: Gate + Sync, R: Threads + Wait + Sync + Send + Copy>(
+    rt: R,
+    alloc: Global,
+    inst: &Instance,
+    cap: Capacity,
+    workers: usize,
+    gate: &G,
+) -> Result<Told, RunFault> {
+    match run(rt, alloc, inst, cap, workers, gate) {
+        Ok(done) => Ok(Told {
+            ending: done.ending,
+            journal: done.journal,
+            who: done.who,
+            assignment: done.assignment,
+            entered: done.entered,
+        }),
+        Err(fault) => Err(fault),
+    }
+}
+
+// Runs the exchange of these members, and notes what happened.
+pub(crate) fn ran<G: Gate + Sync, R: Threads + Wait + Sync + Send + Copy>(
+    rt: R,
+    alloc: Global,
+    members: Members,
+    cap: Capacity,
+    workers: usize,
+    gate: &G,
+) -> Result<Told, RunFault> {
+    match made(alloc, members) {
+        Ok(inst) => ran_on(rt, alloc, &inst, cap, workers, gate),
+        Err(_) => Err(RunFault::Memory),
+    }
+}
+
+// Whether a run closed with each resident at the programme of this number, or at none.
+fn ends_with<R: Threads + Wait + Sync + Send + Copy>(
+    rt: R,
+    alloc: Global,
+    members: Members,
+    cap: Capacity,
+    workers: usize,
+    places: &[Option<u32>],
+) -> bool {
+    match ran(rt, alloc, members, cap, workers, &OpenGate) {
+        Ok(told) => told.ending == Ending::Closed && has_places(&told.assignment, places),
+        Err(_) => false,
+    }
+}
+
+// Markets, with the programme of each resident after the close. One market has no place, one has a member whom nobody
+// ranks, and one leaves a place and a resident over. In three of these markets everybody ranks everybody, and an
+// implementation of plain deferred acceptance gave the placements.
+const MARKETS: [(Members, &[Option<u32>]); 8] = [
+    (TWO_BY_TWO, &[Some(0), Some(1)]),
+    (TWO_PLACES, &[Some(1), Some(0), Some(0)]),
+    ((&[(0, &[0]), (1, &[0])], &[&[0, 1]]), &[Some(1)]),
+    ((&[(1, &[0])], &[&[]]), &[None]),
+    (
+        (&[(2, &[0]), (1, &[0, 1])], &[&[1, 0], &[1]]),
+        &[Some(1), None],
+    ),
+    (
+        (
+            &[
+                (1, &[3, 1, 2, 0, 4]),
+                (2, &[0, 1, 2, 4, 3]),
+                (1, &[0, 4, 3, 2, 1]),
+            ],
+            &[&[2, 1, 0], &[2, 0, 1], &[0, 1, 2], &[0, 2, 1], &[1, 2, 0]],
+        ),
+        &[Some(2), Some(1), Some(1), Some(0), None],
+    ),
+    (
+        (
+            &[
+                (1, &[0, 1, 2, 5, 6, 4, 3]),
+                (1, &[0, 6, 4, 3, 2, 5, 1]),
+                (2, &[6, 3, 2, 1, 5, 0, 4]),
+                (1, &[0, 2, 5, 4, 1, 3, 6]),
+            ],
+            &[
+                &[2, 0, 3, 1],
+                &[1, 2, 3, 0],
+                &[1, 0, 2, 3],
+                &[0, 2, 1, 3],
+                &[2, 3, 0, 1],
+                &[3, 0, 1, 2],
+                &[3, 0, 2, 1],
+            ],
+        ),
+        &[Some(0), None, Some(3), Some(2), Some(1), None, Some(2)],
+    ),
+    (
+        (
+            &[
+                (1, &[1, 5, 3, 0, 4, 2]),
+                (1, &[2, 4, 3, 5, 0, 1]),
+                (1, &[3, 1, 5, 0, 4, 2]),
+                (1, &[3, 2, 1, 0, 4, 5]),
+                (2, &[4, 2, 3, 0, 5, 1]),
+            ],
+            &[
+                &[0, 4, 2, 3, 1],
+                &[2, 1, 4, 3, 0],
+                &[1, 4, 2, 3, 0],
+                &[3, 2, 0, 1, 4],
+                &[4, 2, 3, 0, 1],
+                &[3, 1, 0, 2, 4],
+            ],
+        ),
+        &[Some(4), Some(2), Some(1), Some(3), Some(4), Some(0)],
+    ),
+];
+
+#[test]
+fn closes(rt: HostRuntime) {
+    for (members, places) in MARKETS {
+        for cap in [Capacity::Full, Capacity::Each(1), Capacity::Each(1024)] {
+            for workers in 1..=8 {
+                assert!(rt;
+                    ends_with(rt, rt.alloc(), members, cap, workers, places),
+                    "{cap:?}, {workers} workers"
+                );
+            }
+        }
+    }
+}
+
+// Whether a run with two residents is refused with this fault.
+fn is_refused<R: Threads + Wait + Sync + Send + Copy>(
+    rt: R,
+    alloc: Global,
+    cap: Capacity,
+    workers: usize,
+    wanted: &RunFault,
+) -> bool {
+    match ran(rt, alloc, TWO_BY_TWO, cap, workers, &OpenGate) {
+        Ok(_) => false,
+        Err(fault) => fault == *wanted,
+    }
+}
+
+#[test]
+fn refuses_a_bad_number_of_workers_or_capacity(rt: HostRuntime) {
+    let cases = [
+        (Capacity::Full, 0, RunFault::BadWorkers),
+        (Capacity::Full, 9, RunFault::BadWorkers),
+        (Capacity::Each(0), 9, RunFault::BadWorkers),
+        (Capacity::Each(0), 2, RunFault::BadCapacity),
+        (Capacity::Each(1025), 2, RunFault::BadCapacity),
+    ];
+    for (cap, workers, wanted) in &cases {
+        assert!(rt;
+            is_refused(rt, rt.alloc(), *cap, *workers, wanted),
+            "{cap:?}, {workers} workers"
+        );
+    }
+}
+
+// Whether a gate kept a worker of a closed run waiting, each worker entered as many events as the gate counted, and two
+// workers entered some.
+fn is_seen(told: &Told, held: &Held) -> bool {
+    let mut busy = 0_usize;
+    for (worker, entered) in told.entered.iter().enumerate() {
+        if *entered != held.count(worker) {
+            return false;
+        }
+        if *entered > 0 {
+            busy = busy.saturating_add(1);
+        }
+    }
+    held.has_held()
+        && told.ending == Ending::Closed
+        && busy >= 2
+        && told.journal.len() as u64 == held.count_all()
+        && told.who.len() == told.journal.len()
+}
+
+// How many events a run has, if its gate saw what is expected.
+fn seen<G: Gate + Sync, R: Threads + Wait + Sync + Send + Copy>(
+    rt: R,
+    alloc: Global,
+    members: Members,
+    workers: usize,
+    gate: &G,
+    held: &Held,
+) -> Option<usize> {
+    let Ok(told) = ran(rt, alloc, members, Capacity::Full, workers, gate) else {
+        return None;
+    };
+    if is_seen(&told, held) {
+        Some(told.journal.len())
+    } else {
+        None
+    }
+}
+
+#[test]
+fn two_at_once(rt: HostRuntime) {
+    let alloc = rt.alloc();
+    for workers in 2..=8 {
+        for (members, counts) in [(TWO_BY_TWO, [9, 9]), (TWO_PLACES, [17, 19])] {
+            let firm = Firm(Held::new(0));
+            let events = seen(rt, alloc, members, workers, &firm, &firm.0);
+            assert!(rt;
+                events.is_some_and(|n| counts.contains(&n)),
+                "{counts:?}, {workers}"
+            );
+            let loose = Loose(Held::new(0));
+            let events = seen(rt, alloc, members, workers, &loose, &loose.0);
+            assert!(rt;
+                events.is_some_and(|n| counts.contains(&n)),
+                "{counts:?}, {workers}"
+            );
+        }
+    }
+}
+
+// Whether the first 2,000 residents are at the first programme, the next 2,000 at the second, and so on.
+fn is_in_one_order(sheet: &Assignment) -> bool {
+    for r in 0..sheet.len() {
+        if sheet.get(ResidentNo(r)) != Some(ProgrammeNo(r / 2_000)) {
+            return false;
+        }
+    }
+    sheet.len() == 20_000
+}
+
+#[test]
+fn two_at_once_on_their_way(rt: HostRuntime) -> Result<(), Fail> {
+    let inst = made_in_one_order(rt.alloc())?;
+    let firm = Firm(Held::new(9_999));
+    let told = ran_on(rt, rt.alloc(), &inst, Capacity::Full, 2, &firm);
+    assert!(rt;
+        told.is_ok_and(|told| is_seen(&told, &firm.0) && is_in_one_order(&told.assignment))
+    );
+    Ok(())
+}
+
+// Whether a run was stopped after a take, and its workers entered exactly the events of its journal.
+fn is_stopped(told: &Told) -> bool {
+    let mut takes = 0_usize;
+    for event in &told.journal {
+        match event {
+            Event::Close => return false,
+            Event::Take { .. } => takes = takes.saturating_add(1),
+            _ => {}
+        }
+    }
+    let mut entered = 0_u64;
+    for count in &told.entered {
+        entered = entered.saturating_add(*count);
+    }
+    told.ending == Ending::Stopped && takes > 0 && told.journal.len() as u64 == entered
+}
+
+#[test]
+fn heeds_a_stop(rt: HostRuntime) {
+    let told = ran(rt, rt.alloc(), TWO_BY_TWO, Capacity::Full, 2, &StopsAtOnce);
+    assert!(rt; told.is_ok_and(|told| is_stopped(&told)));
+}
+
+const TORN: &str = "a desk's log differs from the journal";
+
+// Whether a fault prints as this text.
+fn says(alloc: Global, fault: RunFault, text: &str) -> Result<bool, AllocError> {
+    Ok(fault.to_string(alloc)?.as_str() == text)
+}
+
+// Whether the faults that name an event or a desk print the expected texts.
+fn desks_are_told(alloc: Global) -> Result<bool, AllocError> {
+    let receipt = RunFault::OutOfStep {
+        journal: Vec::new(alloc),
+        event: Event::Close,
+    };
+    Ok(
+        says(alloc, receipt, "a receipt was out of step")?
+            && says(alloc, RunFault::Torn(Desk::Resident(X)), TORN)?
+            && says(
+                alloc,
+                RunFault::MailGone(Desk::Programme(B)),
+                "a mailbox is gone",
+            )?,
+    )
+}
+
+#[test]
+fn prints_its_faults(rt: HostRuntime) -> Result<(), Fail> {
+    let alloc = rt.alloc();
+    assert!(rt; says(alloc, RunFault::BadWorkers, "bad number of workers")?);
+    assert!(rt; says(alloc, RunFault::BadCapacity, "bad capacity")?);
+    assert!(rt; says(alloc, RunFault::Memory, "out of memory")?);
+    assert!(rt; says(alloc, RunFault::Thread, "a worker could not be started")?);
+    assert!(rt; desks_are_told(alloc)?);
+    Ok(())
+}

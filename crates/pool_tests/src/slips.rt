@@ -1,0 +1,239 @@
+//! Mailboxes that slip, which means that an end answers wrongly: its contract allows the answer, but a good mailbox
+//! never gives it.
+ghost use Rattle.std.specs.Prelude.{◌≡◌, ◌≢◌, ◌≤◌, [], vec_capacity, IfOk, IfErr};
+
+use exchange_core::{AnswerNote, OfferNote};
+use mailbox_rule::{MailFault, PutEnd, PutReply, RuledPut, RuledTake, TakeEnd, TakeReply, mailbox};
+use match_model::{ProgrammeNo, ResidentNo};
+use match_pool::Mailboxes;
+use std::alloc::Global;
+use std::marker::Model;
+use std::mem;
+use std::sync::Wait;
+
+/// The greatest number of messages that an end gives.
+const MOST: usize = 64;
+
+/// What a sending end does at one of its calls, or from this call on.
+#[derive(Clone, Copy, Debug, PartialEq, Eq)]
+pub(crate) enum PutSlip {
+    /// The end says once that the mailbox has no room.
+    Full,
+    /// The end says from this call on that the mailbox has no room.
+    AlwaysFull,
+    /// The end says from this call on that the mailbox has no room, except at each eighth call.
+    OftenFull,
+    /// The end says from this call on that the receiving end is gone.
+    Gone,
+}
+
+/// What a receiving end does once, or from then on, after it gave a number of messages.
+#[derive(Clone, Copy, Debug, PartialEq, Eq)]
+pub(crate) enum TakeSlip<M> {
+    /// The end gives no message once, though a message waits.
+    Nothing,
+    /// The end gives no message from then on.
+    AlwaysNothing,
+    /// The end says from then on that the sending end is gone.
+    Gone,
+    /// The end gives this message, and leaves the waiting message in the mailbox.
+    Gives(M),
+    /// The end gives the last message a second time, and leaves the waiting message in the mailbox.
+    Repeats,
+}
+
+/// A sending end that answers wrongly at one of its calls, which are counted from 0.
+#[derive(Drop)]
+pub(crate) struct SlippingPut<M: Copy, R: Wait + Copy> {
+    end: RuledPut<M, R>,
+    calls: u32,
+    slip: Option<(u32, PutSlip)>,
+}
+
+impl<M: Copy, R: Wait + Copy> Model for SlippingPut<M, R> {
+    ghost use Rattle.mailbox_rule.specs.Mail.{PutSide};
+
+    ghost Value = { PutSide M };
+
+    ghost view = { λ e. e.end };
+}
+
+impl<M: Copy, R: Wait + Copy> PutEnd<M> for SlippingPut<M, R> {
+    ghost puts = { λ end. end.puts };
+
+    ghost may_fill = { λ _. Unit {0} };
+
+    ghost may_go = { λ _. Unit {0} };
+
+    fn put(&mut self, m: M) -> PutReply<M> {
+        let call = self.calls;
+        self.calls = call.saturating_add(1);
+        match self.slip {
+            Some((at, PutSlip::Full)) if at == call => PutReply::Full(m),
+            Some((at, PutSlip::AlwaysFull)) if at <= call => PutReply::Full(m),
+            Some((_, PutSlip::OftenFull)) if call % 8 < 7 => PutReply::Full(m),
+            Some((at, PutSlip::Gone)) if at <= call => PutReply::Gone(m),
+            _ => self.end.put(m),
+        }
+    }
+}
+
+/// A receiving end that answers wrongly after it has given this number of messages.
+#[derive(Drop)]
+pub(crate) struct SlippingTake<M: Copy, R: Wait + Copy> {
+    end: RuledTake<M, R>,
+    given: Vec<M>,
+    has_slipped: bool,
+    slip: Option<(u32, TakeSlip<M>)>,
+    ghost reserved: { 64 ≤ vec_capacity given },
+}
+
+impl<M: Copy, R: Wait + Copy> Model for SlippingTake<M, R> {
+    ghost use Rattle.std.specs.Prelude.{List};
+
+    ghost Value = { List M };
+
+    ghost view = { λ e. e.given.items };
+}
+
+impl<M: Copy, R: Wait + Copy> TakeEnd<M> for SlippingTake<M, R> {
+    ghost taken = { λ given. given };
+
+    ghost may_lack = { λ _. Unit {0} };
+
+    ghost may_go = { λ _. Unit {0} };
+
+    fn take(&mut self) -> TakeReply<M> {
+        if self.given.len() >= MOST {
+            return TakeReply::Nothing;
+        }
+        let reply = match self.slip {
+            Some((at, slip)) if at as usize <= self.given.len() => self.slipped(slip),
+            _ => self.end.take(),
+        };
+        match reply {
+            TakeReply::Got(m) => {
+                self.given.push_reserved(m);
+                TakeReply::Got(m)
+            }
+            other => other,
+        }
+    }
+}
+
+impl<M: Copy, R: Wait + Copy> SlippingTake<M, R> {
+    // The wrong answer to a call that takes a message. Most kinds of wrong answers come once, and two kinds last.
+    fn slipped(&mut self, slip: TakeSlip<M>) -> TakeReply<M>
+        ensures { self.new ≡ self.old }
+    {
+        let again = mem::replace(&mut self.has_slipped, true);
+        match slip {
+            TakeSlip::AlwaysNothing => TakeReply::Nothing,
+            TakeSlip::Gone => TakeReply::Gone,
+            _ if again => self.end.take(),
+            TakeSlip::Nothing => TakeReply::Nothing,
+            TakeSlip::Gives(m) => TakeReply::Got(m),
+            TakeSlip::Repeats => match self.given.last() {
+                Some(m) => TakeReply::Got(*m),
+                None => TakeReply::Nothing,
+            },
+        }
+    }
+}
+
+/// Whose mailbox answers wrongly, at which end, at which call, and how.
+#[derive(Clone, Copy, Debug, PartialEq, Eq)]
+pub(crate) enum Slip {
+    /// The wrong answer comes when an offer is put for this resident.
+    Offer(ResidentNo, u32, PutSlip),
+    /// The wrong answer comes when this resident takes an offer.
+    Take(ResidentNo, u32, TakeSlip<OfferNote>),
+    /// The wrong answer comes when an answer is put for this programme.
+    Answer(ProgrammeNo, u32, PutSlip),
+    /// The wrong answer comes when this programme takes an answer out of its mailbox.
+    Hear(ProgrammeNo, u32, TakeSlip<AnswerNote>),
+}
+
+/// Mailboxes of which one or two answer wrongly.
+#[derive(Clone, Copy, Debug)]
+pub(crate) struct Slipping<R: Wait + Copy> {
+    pub(crate) rt: R,
+    pub(crate) slips: [Slip; 2],
+}
+
+// The two ends of a mailbox. Their wrong answers are those of the two arguments.
+fn ends_of<M: Copy + Eq, R: Wait + Copy>(
+    rt: R,
+    alloc: Global,
+    room: u32,
+    put_slip: Option<(u32, PutSlip)>,
+    take_slip: Option<(u32, TakeSlip<M>)>,
+) -> Result<(SlippingPut<M, R>, SlippingTake<M, R>), MailFault>
+    requires { room ≢ 0 }
+    ensures made { IfOk result (λ ends. (ends.0.room ≡ room) × (ends.0.puts ≡ []) × (ends.1 ≡ [])) }
+    ensures memory { IfErr result (λ fault. fault ≡ MailFault.Memory) }
+{
+    let (put, take) = mailbox(alloc, rt, room)?;
+    let put = SlippingPut {
+        end: put,
+        calls: 0,
+        slip: put_slip,
+    };
+    let take = SlippingTake {
+        end: take,
+        given: Vec::with_capacity(alloc, MOST)?,
+        has_slipped: false,
+        slip: take_slip,
+    };
+    Ok((put, take))
+}
+
+impl<R: Wait + Copy + Send> Mailboxes for Slipping<R> {
+    type OfferPut = SlippingPut<OfferNote, R>;
+
+    type OfferTake = SlippingTake<OfferNote, R>;
+
+    type AnswerPut = SlippingPut<AnswerNote, R>;
+
+    type AnswerTake = SlippingTake<AnswerNote, R>;
+
+    const PATIENCE: u32 = 50;
+
+    ghost offer_room = { λ end. end.room };
+
+    ghost answer_room = { λ end. end.room };
+
+    fn open_offers(
+        &self,
+        alloc: Global,
+        resident: ResidentNo,
+        room: u32,
+    ) -> Result<(SlippingPut<OfferNote, R>, SlippingTake<OfferNote, R>), MailFault> {
+        let (mut put, mut take) = (None, None);
+        for slip in &self.slips {
+            match slip {
+                Slip::Offer(at, call, slip) if *at == resident => put = Some((*call, *slip)),
+                Slip::Take(at, call, slip) if *at == resident => take = Some((*call, *slip)),
+                _ => {}
+            }
+        }
+        ends_of(self.rt, alloc, room, put, take)
+    }
+
+    fn open_answers(
+        &self,
+        alloc: Global,
+        programme: ProgrammeNo,
+        room: u32,
+    ) -> Result<(SlippingPut<AnswerNote, R>, SlippingTake<AnswerNote, R>), MailFault> {
+        let (mut put, mut take) = (None, None);
+        for slip in &self.slips {
+            match slip {
+                Slip::Answer(at, call, slip) if *at == programme => put = Some((*call, *slip)),
+                Slip::Hear(at, call, slip) if *at == programme => take = Some((*call, *slip)),
+                _ => {}
+            }
+        }
+        ends_of(self.rt, alloc, room, put, take)
+    }
+}

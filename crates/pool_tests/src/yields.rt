@@ -1,0 +1,153 @@
+//! Runs over random small markets, through a gate that sometimes yields or parks a worker. Each run has to give the
+//! sheet that its journal leads to.
+ghost use Rattle.std.specs.Prelude.{true, false};
+
+use crate::runs::ran_on;
+use exchange_core::{Capacity, Desk};
+use match_audit::check;
+use match_model::{Instance, InstanceBuilder, ModelFault, ProgrammeNo, ResidentNo};
+use match_pool::{Ending, Gate, Go};
+use std::alloc::Global;
+use std::sync::Wait;
+use std::sync::atomic::{AtomicU64, Ordering};
+use std::test::Fail;
+use std::thread;
+use std::thread::Threads;
+use std::time::Duration;
+
+// The next number of a random sequence.
+fn after(number: u64) -> u64 {
+    let mut mixed = number.wrapping_add(0x9E37_79B9_7F4A_7C15);
+    mixed = (mixed ^ (mixed >> 30)).wrapping_mul(0xBF58_476D_1CE4_E5B9);
+    mixed = (mixed ^ (mixed >> 27)).wrapping_mul(0x94D0_49BB_1331_11EB);
+    mixed ^ (mixed >> 31)
+}
+
+// Draws a number from 0 to 6.
+fn drawn(chance: &mut u64) -> u32 {
+    *chance = after(*chance);
+    ((*chance >> 8) % 7) as u32
+}
+
+// A gate that parks its worker for a while at one of seven calls, and mostly lets other workers go first at the other
+// calls.
+#[derive(Drop)]
+struct Yields<R: Wait + Copy> {
+    rt: R,
+    clock: AtomicU64,
+    passed: AtomicU64,
+}
+
+impl<R: Wait + Copy> Yields<R> {
+    // What the worker does at this call is drawn from the number of calls before.
+    fn turn(&self) {
+        let mut chance = self.passed.fetch_add(1, Ordering::SeqCst);
+        match drawn(&mut chance) {
+            0 => {
+                self.clock
+                    .park_timeout(&self.rt, 0, Duration::from_micros(300));
+            }
+            1..=4 => thread::yield_now(),
+            _ => {}
+        }
+    }
+}
+
+impl<R: Wait + Copy + Sync> Gate for Yields<R> {
+    ghost MAY_STOP = { false };
+
+    const MAY_STOP: bool = false;
+
+    fn pass(&self, _worker: usize, _desk: Desk) -> Go {
+        self.turn();
+        Go::On
+    }
+
+    fn entered(&self, _worker: usize) {
+        self.turn();
+    }
+}
+
+// Gives a programme or a resident a list with most of the seven members of the other side, in a random order.
+fn give(
+    builder: &mut InstanceBuilder,
+    alloc: Global,
+    owner: u32,
+    chance: &mut u64,
+) -> Result<(), ModelFault> {
+    let (first, step) = (drawn(chance), drawn(chance).max(1));
+    let (mut residents, mut programmes) = (Vec::new(alloc), Vec::new(alloc));
+    for place in 0..7_u32 {
+        let other = first.wrapping_add(place.wrapping_mul(step)) % 7;
+        if drawn(chance) < 5 {
+            residents.push(ResidentNo(other))?;
+        }
+        if drawn(chance) < 5 {
+            programmes.push(ProgrammeNo(other))?;
+        }
+    }
+    builder.programme_list(ProgrammeNo(owner), residents.as_slice())?;
+    builder.resident_list(ResidentNo(owner), programmes.as_slice())
+}
+
+// A random instance: seven programmes with at most two places each, and seven residents.
+fn made_by_chance(alloc: Global, chance: &mut u64) -> Result<Instance, ModelFault> {
+    let mut builder = InstanceBuilder::new(alloc);
+    for _ in 0..7 {
+        builder.add_programme(drawn(chance) % 3)?;
+        builder.add_resident()?;
+    }
+    for owner in 0..7 {
+        give(&mut builder, alloc, owner, chance)?;
+    }
+    builder.finish().map_err(|refused| refused.fault)
+}
+
+// How many workers entered events in a run that closed and gave the sheet that its journal leads to. The result is none
+// for any other run.
+fn busy_in<R: Threads + Wait + Sync + Send + Copy>(
+    rt: R,
+    alloc: Global,
+    inst: &Instance,
+    form: (Capacity, usize),
+    chance: u64,
+) -> Option<usize> {
+    let (cap, workers) = form;
+    let gate = Yields {
+        rt,
+        clock: AtomicU64::new(0),
+        passed: AtomicU64::new(chance),
+    };
+    let Ok(told) = ran_on(rt, alloc, inst, cap, workers, &gate) else {
+        return None;
+    };
+    let checked = check(alloc, inst, cap, &told.journal, &told.assignment);
+    if told.ending != Ending::Closed || checked.is_err() {
+        return None;
+    }
+    let mut busy = 0_usize;
+    for entered in &told.entered {
+        busy = busy.saturating_add((*entered > 0) as usize);
+    }
+    Some(busy)
+}
+
+#[test]
+fn each_journal_of_workers_that_yield_gives_its_sheet(rt: HostRuntime) -> Result<(), Fail> {
+    let (mut chance, mut several) = (56, 0_u32);
+    for round in 0..60_usize {
+        let inst = made_by_chance(rt.alloc(), &mut chance)?;
+        for cap in [Capacity::Full, Capacity::Each(1), Capacity::Each(2)] {
+            let workers = 2 + round % 7;
+            let busy = busy_in(rt, rt.alloc(), &inst, (cap, workers), chance);
+            assert!(rt;
+                busy.is_some(),
+                "market {round}, {cap:?}, {workers} workers"
+            );
+            several = several.saturating_add(busy.is_some_and(|busy| busy > 1) as u32);
+        }
+    }
+    // at least 60 of the 180 runs
+    assert!(rt; several >= 60, "{several}");
+    Ok(())
+}

@@ -1,0 +1,97 @@
+//! Large instances, instances of pairs, and chains.
+use match_model::{Instance, InstanceBuilder, ModelFault, ProgrammeNo, ResidentNo};
+use std::alloc::Global;
+
+/// All residents with numbers below 20,000.
+pub fn all_residents(alloc: Global) -> Result<Vec<ResidentNo>, ModelFault> {
+    let mut residents = Vec::new(alloc);
+    for r in 0..20_000 {
+        let Ok(()) = residents.push(ResidentNo(r)) else {
+            return Err(ModelFault::Memory);
+        };
+    }
+    Ok(residents)
+}
+
+/// All programmes with numbers below ten.
+pub const TEN: [ProgrammeNo; 10] = [
+    ProgrammeNo(0),
+    ProgrammeNo(1),
+    ProgrammeNo(2),
+    ProgrammeNo(3),
+    ProgrammeNo(4),
+    ProgrammeNo(5),
+    ProgrammeNo(6),
+    ProgrammeNo(7),
+    ProgrammeNo(8),
+    ProgrammeNo(9),
+];
+
+fn add_in_one_order(
+    builder: &mut InstanceBuilder,
+    residents: &[ResidentNo],
+) -> Result<(), ModelFault> {
+    for _ in residents {
+        builder.add_resident()?;
+    }
+    for _ in 0..10 {
+        let programme = builder.add_programme(2_000)?;
+        builder.programme_list(programme, residents)?;
+    }
+    for resident in residents {
+        builder.resident_list(*resident, &TEN)?;
+    }
+    Ok(())
+}
+
+/// Ten programmes with 2,000 places each, and 20,000 residents. Each member ranks the other side in the order of
+/// numbers.
+pub fn made_in_one_order(alloc: Global) -> Result<Instance, ModelFault> {
+    let mut builder = InstanceBuilder::new(alloc);
+    let residents = all_residents(alloc)?;
+    add_in_one_order(&mut builder, residents.as_slice())?;
+    builder.finish().map_err(|refused| refused.fault)
+}
+
+// Adds these numbers of residents and of programmes. Each programme has one place.
+fn add_ones(
+    builder: &mut InstanceBuilder,
+    residents: u32,
+    programmes: u32,
+) -> Result<(), ModelFault> {
+    for _ in 0..residents {
+        builder.add_resident()?;
+    }
+    for _ in 0..programmes {
+        builder.add_programme(1)?;
+    }
+    Ok(())
+}
+
+/// Pairs of a programme with one place and a resident, who rank only each other.
+pub fn made_pairs(alloc: Global, pairs: u32) -> Result<Instance, ModelFault> {
+    let mut builder = InstanceBuilder::new(alloc);
+    add_ones(&mut builder, pairs, pairs)?;
+    for n in 0..pairs {
+        builder.programme_list(ProgrammeNo(n), &[ResidentNo(n)])?;
+        builder.resident_list(ResidentNo(n), &[ProgrammeNo(n)])?;
+    }
+    builder.finish().map_err(|refused| refused.fault)
+}
+
+/// A chain. The last programme displaces the first resident, whose programme then offers to the second resident and
+/// displaces that one, and so on.
+pub fn made_chain(alloc: Global, links: u32) -> Result<Instance, ModelFault> {
+    let mut builder = InstanceBuilder::new(alloc);
+    add_ones(&mut builder, links, links.saturating_add(1))?;
+    for n in 0..links {
+        let next = n.saturating_add(1);
+        let both = [ResidentNo(n), ResidentNo(next)];
+        let list = if next < links { &both[..] } else { &both[..1] };
+        builder.programme_list(ProgrammeNo(n), list)?;
+        let better = ProgrammeNo(if n == 0 { links } else { n.saturating_sub(1) });
+        builder.resident_list(ResidentNo(n), &[better, ProgrammeNo(n)])?;
+    }
+    builder.programme_list(ProgrammeNo(links), &[ResidentNo(0)])?;
+    builder.finish().map_err(|refused| refused.fault)
+}

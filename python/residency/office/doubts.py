@@ -1,0 +1,68 @@
+"""What the names of a table leave in doubt, once all of its rows are read: each doubt is one fault, with every cell."""
+import re
+import unicodedata
+from collections import Counter
+from typing import Dict, Iterator, List, Sequence
+
+from .faults import Cell, Fault, Faults, Remedy
+from .settings import Settings
+from .tables import Entry, Item, Table
+
+# A sign that takes the place of a letter that a character set doesn't have, inside a word or at its edge.
+LOST = "\ufffd"
+ASKED = re.compile(r"[^\W\d_]\?|\?[^\W\d_]")
+# So many names are told of those that are in doubt.
+MOST_NAMES = 3
+
+
+def names_of(table: Table) -> Iterator[Item]:
+    """Each name of a table, of its members and in their lists."""
+    for entry in table.entries:
+        yield Item(entry.name, entry.row, entry.cell)
+        yield from entry.items
+
+
+def tell_lost_letters(table: Table, options: Settings, faults: Faults) -> None:
+    """Tells names with a sign where a letter was."""
+    found: List[Item] = []
+    if not options.allow_lost_letters:
+        found = [one for one in names_of(table) if LOST in one.text or "?" in one.text and ASKED.search(one.text)]
+        found += [Item(text, entry.row, cell + 1) for entry in table.entries for cell, text in zip(table.kept_at, entry.kept) if LOST in text]
+    names = list(dict.fromkeys(one.text for one in found))
+    values = {"count": len(names), "names": names[:MOST_NAMES]}
+    for one in sorted(found, key=lambda one: (one.row, one.cell)):
+        faults.tell("row.lost-letters", table.name, one.row, one.cell, values, (table.name, "lost"), (Remedy("allow_lost_letters", True),))
+
+
+def bare(name: str) -> str:
+    """A name without capitals, blanks and accents."""
+    small = name.casefold()
+    letters = small if small.isascii() else (c for c in unicodedata.normalize("NFKD", small) if not unicodedata.combining(c))
+    return "".join(c for c in letters if not c.isspace())
+
+
+def tell_alike(table: Table, options: Settings, faults: Faults) -> None:
+    """Tells members whose names differ in capitals, blanks and accents alone: they may be one person. Those with IDs are two."""
+    known: Dict[str, Entry] = {}
+    for entry in table.entries if not options.allow_alike else ():
+        before = known.setdefault(bare(entry.name), entry)
+        if before.name != entry.name and not (before.id and entry.id):
+            faults.tell("name.alike", table.name, entry.row, entry.cell, {"name": entry.name, "before": before.name, "row": before.row},
+                        remedies=(Remedy("allow_alike", True),))
+
+
+def note_empty(table: Table, lists: Sequence[Sequence[int]], others: Sequence[Sequence[int]]) -> None:
+    """Notes members with an empty list whom others rank, those whom most rank first."""
+    ranked = Counter(member for listed in others for member in listed)
+    empty = [(entry, ranked[index]) for index, (entry, listed) in enumerate(zip(table.entries, lists)) if not listed and ranked[index]]
+    if empty:
+        empty.sort(key=lambda one: -one[1])
+        cells = [Cell(table.name, entry.row, entry.cell) for entry, _ in empty]
+        values = {"owners": table.owners, "names": [(entry.name, count) for entry, count in empty]}
+        table.notes.append(Fault("note.empty", table.name, cells[0].row, cells[0].column, cells, values))
+
+
+def tell(table: Table, options: Settings, faults: Faults) -> None:
+    """Tells all doubts."""
+    tell_lost_letters(table, options, faults)
+    tell_alike(table, options, faults)
