@@ -322,6 +322,21 @@ class Stops(OfficeTest):
         self.assertEqual((said.status, said.err), (0, f"office: a run that was killed left {part.name}, which was removed\n"))
         self.assertFalse(part.exists())
 
+    def test_the_mask_of_a_process(self) -> None:
+        """It is read. Where the system doesn't tell it, it is shown by a folder that no other command takes for one that was left."""
+        whole, gone = os.fstat, []
+        self.enter(mock.patch.object(tempfile, "tempdir", str(self.folder)))
+        old = os.umask(0)
+        self.addCleanup(os.umask, old)
+        for mask in (0o077, 0o027, 0):
+            os.umask(mask)
+            with mock.patch.object(leftover, "plain_folder", side_effect=AssertionError("a folder was made")):
+                self.assertEqual(writing.umask(), mask)
+            with mock.patch.object(writing, "STATUS", str(self.folder / "nowhere")), \
+                    mock.patch("os.fstat", lambda number: (gone.append(leftover.clear(self.folder)), whole(number))[1]):
+                self.assertEqual(writing.umask(), mask)
+        self.assertEqual(({tuple(names) for names in gone}, self.left()), ({()}, []))
+
     def test_what_only_looks_left(self) -> None:
         """Another name, a link and, where no lock is had, a folder or a file stay."""
         part, file = f".part-{'0' * 32}", f".part-{'1' * 32}"

@@ -33,10 +33,15 @@ def is_held(number: int, tries: int = 1) -> bool:
     return False
 
 
+def plain_folder(path: Path, mode: int = 0o777) -> int:
+    """A new folder for all whom the mask lets, opened."""
+    path.mkdir(mode)
+    return os.open(path, OPEN | os.O_DIRECTORY)
+
+
 def new_folder(path: Path) -> int:
     """A new folder for its owner alone, opened."""
-    path.mkdir(mode=0o700)
-    return os.open(path, OPEN | os.O_DIRECTORY)
+    return plain_folder(path, 0o700)
 
 
 def new_file(path: Path) -> int:

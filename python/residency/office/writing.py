@@ -10,15 +10,21 @@ from .faults import OfficeError
 
 # Whom a file is for: its owner alone, or all whom the user's mask lets read it.
 PRIVATE, SHARED = 0o600, 0o666
+# What the system tells of this process.
+STATUS = "/proc/self/status"
 
 
 def umask() -> int:
-    """The mask of this process, as a new folder shows it: to ask for it would change it for a moment, in all threads."""
+    """The mask of this process. To ask for it would change it for a moment, in all threads: where the system doesn't tell it, a new
+    folder shows it, which is held, so that no other command takes it for one that was left."""
+    with suppress(OSError), open(STATUS, "rb") as file:
+        for word, _, text in (line.partition(b":") for line in file):
+            if word == b"Umask":
+                return int(text, 8)
     import tempfile
 
-    with stopping.unfinished(draft_of(os.path.join(tempfile.gettempdir(), "mask"))) as made:
-        os.mkdir(made, 0o777)
-        return 0o777 & ~stat.S_IMODE(os.stat(made).st_mode)
+    with stopping.unfinished(draft_of(os.path.join(tempfile.gettempdir(), "mask"))) as part, leftover.made(part, leftover.plain_folder) as number:
+        return 0o777 & ~stat.S_IMODE(os.fstat(number).st_mode)
 
 
 def cause_of(error: Exception) -> str:
