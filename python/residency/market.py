@@ -103,10 +103,10 @@ class Market:
     @classmethod
     def from_ranks(cls, places: Iterable[Sequence[Cell]], programme_ranks: Iterable[Sequence[Cell]],
                    resident_ranks: Iterable[Sequence[Cell]],
-                   residents: Iterable[Union[Cell, Sequence[Cell]]] = ()) -> Market:
+                   residents: Iterable[Union[Cell, Sequence[Cell]]] = (), allow_gaps: bool = False) -> Market:
         """From long rows without headings: (programme, places); (programme, rank, resident); (resident, rank, programme).
 
-        The ranks of a list are whole numbers, each once, the least of them the best. A row whose rank and last cell are
+        The ranks of a list count from 1, each once; `allow_gaps` takes them in their order where one is left out. A row whose rank and last cell are
         empty says that its member is there, and ranks nobody; a row of empty cells is none. `residents` has every
         resident, each a name or a pair of a name and an ID; without it the residents are those who have a row.
 
@@ -114,7 +114,7 @@ class Market:
         ...                   ["Kim", "Lee"]).programme_lists
         {'North': ('Lee', 'Kim')}
         """
-        return cls._of(read_long(places, programme_ranks, resident_ranks, residents))
+        return cls._of(read_long(places, programme_ranks, resident_ranks, residents, allow_gaps is True))
 
     @classmethod
     def _of(cls, read: Read) -> Market:

@@ -217,7 +217,7 @@ def read_wide(programmes: Iterable[Sequence[Cell]], residents: Iterable[Sequence
 
 
 def read_long(places: Iterable[Sequence[Cell]], programme_ranks: Iterable[Sequence[Cell]],
-              resident_ranks: Iterable[Sequence[Cell]], residents: Iterable[Union[Cell, Sequence[Cell]]]) -> Read:
+              resident_ranks: Iterable[Sequence[Cell]], residents: Iterable[Union[Cell, Sequence[Cell]]], allow_gaps: bool) -> Read:
     """What three long tables say; see `Market.from_ranks`."""
     tables = Tables()
     for number, row in tables.rows("places", places):
@@ -233,16 +233,19 @@ def read_long(places: Iterable[Sequence[Cell]], programme_ranks: Iterable[Sequen
         for name in dict.fromkeys(row[0] for _, row in choices if row[0]):
             tables.sides["R"].add(name)
     ranks = list(tables.rows("programme ranks", programme_ranks))
-    return tables.read(_by_rank(tables, "programme ranks", "P", "R", ranks),
-                       _by_rank(tables, "resident ranks", "R", "P", choices))
+    return tables.read(_by_rank(tables, "programme ranks", "P", "R", ranks, allow_gaps),
+                       _by_rank(tables, "resident ranks", "R", "P", choices, allow_gaps))
 
 
-def _by_rank(tables: Tables, table: str, side: str, other: str, rows: Iterable[Tuple[int, List[str]]]) -> Dict[int, List[int]]:
+def _by_rank(tables: Tables, table: str, side: str, other: str, rows: Iterable[Tuple[int, List[str]]],
+             allow_gaps: bool) -> Dict[int, List[int]]:
     """The lists that rows (owner, rank, member) say; one that has an owner alone says that it ranks nobody."""
     ranked: Dict[int, Dict[int, int]] = {}
     listed: Set[Tuple[int, int]] = set()
+    # Of whom a row is at fault, so that a gap is only its consequence.
+    broken: Set[Optional[int]] = set()
     for number, cells in rows:
-        row = cells + [""] * 3
+        row, before = cells + [""] * 3, len(tables.faults)
         owner = _found(tables, table, number, side, row, 0)
         if not row[1] and not row[2]:
             if owner is not None:
@@ -253,6 +256,7 @@ def _by_rank(tables: Tables, table: str, side: str, other: str, rows: Iterable[T
         if rank is None:
             tables.tell(table, number, 2, f"{shown(row[1])} is no rank" if row[1] else f"{shown(row[2])} has no rank")
         if owner is None or member is None or rank is None:
+            broken.add(owner)
             continue
         if rank in ranked.setdefault(owner, {}):
             tables.tell(table, number, 2, f"{shown(row[0])} has two of rank {rank}")
@@ -260,6 +264,12 @@ def _by_rank(tables: Tables, table: str, side: str, other: str, rows: Iterable[T
             tables.tell(table, number, 3, f"{shown(row[2])} is listed twice by {shown(row[0])}")
         ranked[owner].setdefault(rank, member)
         listed.add((owner, member))
+        broken |= {owner} if len(tables.faults) > before else set()
+    for owner, by_rank in ranked.items():
+        gap = next((rank for rank in range(1, len(by_rank) + 1) if rank not in by_rank), None)
+        if gap is not None and not allow_gaps and owner not in broken:
+            tables.faults.append(f"{table}: {shown(tables.sides[side].members[owner][0])} has no rank {gap}; is a row lost? allow_gaps=True takes the "
+                                 "ranks in their order")
     return {owner: [member for _, member in sorted(by_rank.items())] for owner, by_rank in ranked.items()}
 
 

@@ -9,10 +9,17 @@ from typing import Dict, Iterator, List
 # Where the command meets a terminal. `apart` ends a process that it made itself, and `leftover` says what a killed command left,
 # whatever comes after.
 EDGE = {"__main__.py", "command.py", "line.py", "telling.py", "stopping.py"}
-STILL = {"apart.py": {"_exit"}, "leftover.py": {"complain"}, "auditor.py": {"a word of the command line"},
+# What the office hands out is written by these, in phrases; the page that checks a receipt is in English still, and so is what the
+# command says of two matches.
+WRITERS = {"compare.py", "letters.py", "page.py", "public.py", "rosters.py"}
+UNPHRASED = "a sentence that is no phrase"
+SENTENCE = re.compile(r"[A-Za-z]{2,},? [a-z]{2,}")
+# Markup, and the classes of a table's rows and cells.
+MARKUP = re.compile(r"<[^>]*>|<[^>]*$|^[^<]*>|[a-z-]+=\S*|^(?:stack|bar) [a-z]+$")
+STILL = {"compare.py": {UNPHRASED}, "public.py": {UNPHRASED}, "apart.py": {"_exit"}, "leftover.py": {"complain"}, "auditor.py": {"a word of the command line"},
          "verify.py": {"a word of the command line"}}
 # Where sentences are made, with the names of options, and what else is no sentence. An error is made of its code alone.
-TEXTS = {"command.py", "line.py", "sentences.py", "style.py"}
+TEXTS = {"command.py", "line.py", "sentences.py"}
 WORDS = re.compile(r"(?<![\w-])--[a-z]+\b|nothing was (?:written|left)")
 CODE = re.compile(r"[a-z]+\.[a-z-]+")
 CALLS = {"print", "say", "complain", "failed", "input", "exit", "_exit", "quit", "chdir", "umask"}
@@ -61,11 +68,21 @@ def uncoded(text: str) -> Iterator[str]:
                 yield "a sentence in an error"
 
 
+def unphrased(text: str) -> Iterator[str]:
+    """Each text of several words that no file of phrases has, and that isn't markup alone."""
+    whole = ast.parse(text)
+    untold = {id(node.value) for node in ast.walk(whole) if isinstance(node, ast.Expr)}
+    for node in ast.walk(whole):
+        if isinstance(node, ast.Constant) and isinstance(node.value, str) and id(node) not in untold and SENTENCE.search(MARKUP.sub("", node.value)):
+            yield UNPHRASED
+
+
 def faults_of(modules: Dict[str, str]) -> List[str]:
     """What is found in these modules of the office, by their names; and what is let through and isn't there any more."""
     told: List[str] = []
     for name, text in sorted(modules.items()):
         found = set(uncoded(text)) | set(() if name in EDGE else found_in(text)) | set(() if name in TEXTS else worded(text))
+        found |= set(unphrased(text)) if name in WRITERS else set()
         allowed = STILL.get(name, set())
         told += [f"{name}: {one} is for the edge alone" for one in sorted(found - allowed)]
         told += [f"{name}: {one} is gone: take it off STILL of tests/lint/edge.py" for one in sorted(allowed - found)]
@@ -77,8 +94,9 @@ def planted() -> List[str]:
     plants = {"print.py": "print('one')\n", "say.py": "from .telling import say\nsay('one')\n", "exit.py": "import sys\nsys.exit(1)\n",
               "stream.py": "import sys\nout = sys.stderr\n", "ends.py": "raise SystemExit(2)\n", "mask.py": "import os\nos.umask(7)\n", "streams.py": "from sys import stderr\n",
               "option.py": "told = 'say which (--heading)'\n", "written.py": "told = f'{name}: nothing was written'\n",
+              "letters.py": "told = f'{count} letters were written'\n", "page.py": "told = '<p class=\"a b\">No place left</p>'\n",
               "error.py": "OfficeError(f'{path} is no folder', 1)\n", "text.py": "OfficeError('it is no folder')\n"}
     unseen = [f"planted and not told: {name}" for name, text in plants.items() if len(faults_of({name: text})) != 1]
-    whole = {"whole.py": "def exits(words):\n    return words.exit()\n", "command.py": plants["print.py"],
+    whole = {"rosters.py": "\"\"\"Writes some tables.\"\"\"\nmade = f'<td class=\"n short\">{phrases.say(\"head.id\")}</td>'\n", "whole.py": "def exits(words):\n    return words.exit()\n", "command.py": plants["print.py"],
              "coded.py": "'It tells of --key.'\nOfficeError('folder.none', at=path, words=['--sheet', '--version'])\n"}
     return unseen + [f"told, and nothing is wrong: {one}" for one in faults_of(whole)]

@@ -6,7 +6,7 @@ import subprocess
 import tempfile
 import unittest
 from pathlib import Path
-from typing import Any, Dict, List, NamedTuple, Optional, Sequence, Union
+from typing import Any, Dict, List, NamedTuple, Optional, Sequence, Set, Union
 
 from residency.office import main
 
@@ -55,6 +55,12 @@ def spawn(words: Sequence[str], env: Optional[Dict[str, str]] = None, data: byte
     line = ["bash", "-c", f'"$0" "$@" {shell}', OFFICE, *map(str, words)]
     done = subprocess.run(line, input=data, capture_output=True, env={**os.environ, **(env or {})}, timeout=300)
     return Said(done.returncode, done.stdout.decode("utf-8", "replace"), done.stderr.decode("utf-8", "replace"))
+
+
+def children(of: int) -> Set[int]:
+    """The processes that one started and that are there yet."""
+    done = subprocess.run(["ps", "-o", "pid=,comm=", "--ppid", str(of)], capture_output=True, text=True)
+    return {int(line.split()[0]) for line in done.stdout.splitlines() if line.split()[1] != "ps"}
 
 
 class OfficeTest(unittest.TestCase):

@@ -306,6 +306,18 @@ class Compare(OfficeTest):
             ["residents by their names, since not all have an ID: nobody stands otherwise"],
         )
 
+    def test_an_id_that_another_has_now(self) -> None:
+        """Where an ID has another name, the two are told and not compared; accents, capitals and the order of words are none."""
+        programmes = "Programme,ID,Places,1,2\nNorth,N,1,7,8\nSouth,S,1,8,9\n"
+        before = self.run_tables(programmes, "Applicant,ID,1,2\nZoë Brontë,7,North,\nKim Lee,8,South,North\nAna Silva,9,South,\n", "before")
+        now = self.run_tables(programmes, "Applicant,ID,1,2\nBRONTE Zoe,7,,\nOmar Haddad,8,South,North\nAna Silva,9,South,\n", "now")
+        said = office("compare", before, now, "--names")
+        self.assertEqual((said.status, said.out.splitlines()[10:]), (0, [
+            "residents by their IDs: 1 no longer matched, 1 another name under one ID",
+            "BRONTE Zoe (7): no longer matched; North (1st of 1) -> unmatched (ranked nobody)",
+            "Omar Haddad (8): another name under one ID; Kim Lee -> Omar Haddad",
+            "North (N): filled otherwise; 1 of 1 filled -> 0 of 1 filled"]))
+
     def figures(self, given: derived.Derived, gone: Sequence[str]) -> List[str]:
         """The ten figures of a year, counted from its tables."""
         match = derived.match(given, gone)
@@ -372,9 +384,9 @@ class Compare(OfficeTest):
         self.assertEqual(
             office("compare", before, now, "--names").out.splitlines()[10:],
             [
-                "residents by their IDs: 1 now matched, 1 no longer matched",
-                "Ana Silva (18): now matched; unmatched (lost out) -> North Clinic (1st of 1)",
-                "Ana Silva-Lee (17): no longer matched; North (1st of 1) -> unmatched (lost out)",
+                "residents by their IDs: 2 another name under one ID",
+                "Ana Silva (18): another name under one ID; Kim Lee -> Ana Silva",
+                "Ana Silva-Lee (17): another name under one ID; Ana Silva -> Ana Silva-Lee",
             ],
         )
         # Members are told by the names that they have now.
@@ -382,8 +394,9 @@ class Compare(OfficeTest):
         self.assertEqual(
             office("compare", before, self.run_tables(*more, "more"), "--names").out.splitlines()[10:],
             [
-                "residents by their IDs: 1 now matched",
-                "Ana Silva (18): now matched; unmatched (lost out) -> North Clinic (1st of 1)",
+                "residents by their IDs: 2 another name under one ID",
+                "Ana Silva (18): another name under one ID; Kim Lee -> Ana Silva",
+                "Ana Silva-Lee (17): another name under one ID; Ana Silva -> Ana Silva-Lee",
                 "North Clinic (p1): filled otherwise; 1 of 1 filled -> 2 of 2 filled",
             ],
         )

@@ -45,7 +45,7 @@ def other_number(path: Path) -> None:
 
 
 # What of a folder has real names.
-NAMED = ("key.csv", "letters/", "letters.html", "matches.csv", "page.html", "rosters/", "unfilled.csv", "public/page.html", "public/unfilled.csv")
+NAMED = ("key.csv", "letters/", "letters.html", "matches.csv", "results.csv", "page.html", "rosters/", "unfilled.csv", "public/page.html", "public/unfilled.csv")
 FOR_AUDITOR = """The match, 2026-03-20: for its auditor.
 
 Get the programs from the project that makes them, not from the office.

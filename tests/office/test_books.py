@@ -133,7 +133,7 @@ class Runs(OfficeTest):
         said = office("check", *self.tables("Programme,Places,Rank 1\nNorth,1,Kim\n", data))
         self.assertEqual(said.status, 0, said)
         self.assertIn("residents.csv, .xlsx, sheet Table, a row for each resident; 1 resident", said.out)
-        self.assertIn("note: residents: 1 hidden row is read too; the first is row 3", said.out)
+        self.assertIn("note: residents: 1 hidden row is read too: row 3, Kim", said.out)
 
     def test_both_tables_in_one_workbook(self) -> None:
         names = '<sheet name="P" r:id="b"/><sheet name="R" r:id="c"/>'

@@ -46,7 +46,7 @@ class Told(OfficeTest):
             ("check|a|b|--encoding|utf-99", 2, "no character set is named utf-99; utf-8, windows-1252, iso-8859-2 and utf-16 are some",
              "setting.encoding"),
             ("check|a|b|--heading|Rang", 2, "--heading Rang: it is ROLE=WORD, where ROLE is one of programme, resident, places, rank, id, "
-             "given, family", "setting.heading"),
+             "given, family, withdrawn", "setting.heading"),
             ("check|a|b|--heading-row|0", 2, "0 is no row; rows count from 1", "setting.heading-row"),
             ("run|a|b|--out|c|--title|T\x1b", 2, "the title T\\x1b has a character that is no letter", "setting.title"),
             ("check|a|b|c", 2, "check takes two tables, PROGRAMMES and RESIDENTS, or one docket", "words.two-tables"),
@@ -74,6 +74,8 @@ class Told(OfficeTest):
         with mock.patch("residency.office.text.MOST_BYTES", 1 << 20):
             self.write("large", bytes((1 << 20) + 1))
             self.said("lint|large", 1, "large has more than 1 MB, which is no table", "file.too-large")
+            with open("large", "rb") as large, mock.patch.object(sys, "stdin", mock.Mock(buffer=large)):
+                self.said("lint|-", 1, "standard input has more than 1 MB, which is no table", "file.too-large")
         with mock.patch.object(sys, "stdin", None):
             self.said("lint|-", 1, "standard input is closed", "words.closed")
 
@@ -100,7 +102,7 @@ class Told(OfficeTest):
             self.said(spoilt(name, text), 3, words, code)
         self.write("letter.txt", "$phone\n")
         fields = ("day, date, title, name, id, programme, choice, listed, outcome, list, docket_name, docket_sha256, lists_root, "
-                  "result_root, sealed").replace(" ", " $")
+                  "result_root, sealed, sender, appeals, signature").replace(" ", " $")
         self.said("letters|match|--out|c|--template|letter.txt", 3,
                   f"the template, line 1: $phone is none of ${fields}; write $$ for the sign itself", "template.field")
         self.write("letter.txt", " \n")
@@ -177,7 +179,7 @@ class Values(unittest.TestCase):
             steps.look(given, "programmes", Settings(["Rang"]))
         self.assertEqual((told.exception.fault, told.exception.status, told.exception.at), (
             Fault("setting.heading", "", values={"text": "Rang", "roles": headings.ROLES}), 2, ""))
-        self.assertEqual(str(told.exception), "setting.heading: text Rang, roles ('programme', 'resident', 'places', 'rank', 'id', 'given', 'family')")
+        self.assertEqual(str(told.exception), "setting.heading: text Rang, roles ('programme', 'resident', 'places', 'rank', 'id', 'given', 'family', 'withdrawn')")
 
     def test_each_error_has_a_sentence(self) -> None:
         """Every code of an error that stands in the package has one, and no sentence is left without a code."""
@@ -189,8 +191,12 @@ class Values(unittest.TestCase):
         self.assertEqual(set(re.findall(r'Fault\("(sealed\.[a-z]+)"', text)), set(sentences.OTHERWISE))
 
     def test_how_a_reader_ends(self) -> None:
-        for code, values, text in (("reader.ended", {"ended": -11}, "the reader of the tables ended with status -11"),
-                                   ("reader.silent", {}, "the reader of the tables gave no answer"),
+        for code, values, text in (("reader.ended", {"ended": -11}, "what read this ended with status -11"),
+                                   ("reader.silent", {}, "what read this gave no answer"),
+                                   ("reader.slow", {"seconds": 1030}, "checking this needs more than 1030 s of a processor"),
+                                   ("reader.memory", {"megabytes": 1040}, "checking this needs more than 1,040 MB of memory"),
+                                   ("folder.large", {"files": 1_000_000, "megabytes": 2048},
+                                    "t has more than 1,000,000 files or 2,048 MB, which no match has"),
                                    ("reader.fault", {"cause": "one\ntwo"}, "one\ntwo"),
                                    ("program.unchecked", {}, "the result doesn't pass its own audit and replay; nothing was written"),
                                    ("out.no-room", {"cause": "full"}, "t can't be written: full"),

@@ -29,6 +29,7 @@ FILES = [
     "matches.csv",
     "page.html",
     "replay.csv",
+    "results.csv",
     "rosters",
     "sheet.csv",
     "unfilled.csv",
@@ -151,8 +152,25 @@ class Written(OfficeTest):
             if places > len(self.wanted.members(one))
         }
         rows = table(self.out / "unfilled.csv")
-        self.assertEqual({row["Programme"]: (int(row["Places"]), int(row["Filled"])) for row in rows}, wanted)
-        self.assertEqual(sum(int(row["Unfilled"]) for row in rows), 4)
+        self.assertEqual({row["Programme"]: (int(row["Quota"]), int(row["Filled"])) for row in rows}, wanted)
+        self.assertEqual((list(rows[0]), sum(int(row["Free"]) for row in rows)), (["Programme", "Quota", "Filled", "Free"], 4))
+
+    def test_results(self) -> None:
+        """A row for each resident by name, with no column of IDs where nobody has one."""
+        rows = table(self.out / "results.csv")
+        self.assertEqual(list(rows[0]), ["Resident", "Standing", "Programme", "Choice"])
+        self.assertEqual({row["Resident"]: row["Programme"] or None for row in rows}, self.wanted.match)
+        self.assertEqual({row["Resident"]: row["Choice"] for row in rows},
+                         {one: str(self.wanted.choice(one)) if where else "" for one, where in self.wanted.match.items()})
+        self.assertEqual({row["resident"]: row["standing"] for row in table(self.out / "matches.csv")}, {row["Resident"]: row["Standing"] for row in rows})
+
+    def test_results_and_rosters_with_what_is_kept(self) -> None:
+        residents = "Applicant,ID,Email,1\n=Ana,7,a@b,North\nBo,8,b@b,North\n"
+        out = self.run_tables("Programme,Places,1,2\nNorth,1,8,7\n", residents, "kept", "--keep", "Email")
+        self.assertEqual(table(out / "results.csv"), [
+            {"Resident": "'=Ana", "ID": "7", "Standing": "lost out", "Programme": "", "Choice": "", "Email": "a@b"},
+            {"Resident": "Bo", "ID": "8", "Standing": "matched", "Programme": "North", "Choice": "1", "Email": "b@b"}])
+        self.assertEqual(table(out / "rosters" / "north.csv"), [{"Rank on your list": "1", "Resident": "Bo", "ID": "8", "Email": "b@b"}])
 
     def test_rosters(self) -> None:
         for programme in self.wanted.places:
@@ -235,7 +253,7 @@ class Ranks(OfficeTest):
         out = self.run_tables(programmes, residents)
         row = table(out / "matches.csv")[0]
         self.assertEqual((row["programme"], row["choice"], row["rank_at_programme"]), ("North", "2", "3"))
-        self.assertEqual(table(out / "rosters" / "north.csv"), [{"Rank on your list": "3", "Resident": "Ana", "ID": ""}])
+        self.assertEqual(table(out / "rosters" / "north.csv"), [{"Rank on your list": "3", "Resident": "Ana"}])
         page = (out / "page.html").read_text(encoding="utf-8")
         self.assertIn('<td class="n">2nd of 2</td>', page)
         self.assertIn('<td class="n">3rd of 3</td>', page)

@@ -12,9 +12,10 @@ from residency import Market
 from residency.office.faults import OfficeError
 from residency.office.sentences import said_by
 from residency.office.folder import file_names
-from residency.office.letters import SAYS, checked_template, fields_of, why_not
+from residency.office.letters import checked_template, fields_of, why_not
 from residency.office.letters import Letters as Letters_
-from residency.office.outcome import Became, Details, ordinal, outcome_of
+from residency.office.outcome import Became, Details, outcome_of
+from residency.office.phrases import english
 from residency.office.page import About
 from support import PROGRAMMES, RESIDENTS, OfficeTest, office
 from test_again import Again, snapshot
@@ -48,6 +49,53 @@ class Letters(Again):
             "An Jürgen Groß (jurgen-gross): Queen's Park – Psychiatry/4th von 4, $5, 2026-03-20",
             [one.text() for one in page.all("article")],
         )
+
+    def test_a_template_for_each_standing(self) -> None:
+        """A folder has a text for each standing, and one for all others; what a preview shows is what is written."""
+        templates = self.folder / "templates"
+        templates.mkdir()
+        (templates / "lost-out.txt").write_text("Sorry, $name\n")
+        (templates / "letter.txt").write_text("$sender\n\nTo $name: $choice\n\n$signature\n")
+        settings = self.write("own.ini", "[match]\nsender = The Office | 1 High Street\nsignature = K. Lee\n")
+        words = ["letters", self.out, "--template", templates, "--settings", settings]
+        self.assertEqual(office(*words, "--out", self.folder / "letters").status, 0)
+        self.assertEqual(read(self.folder / "letters" / "jurgen-gross.txt"), "The Office\n1 High Street\n\nTo Jürgen Groß: 4th\n\nK. Lee\n")
+        said = office(*words, "--preview", "1")
+        self.assertEqual((said.status, said.err), (0, ""))
+        shown = said.out.split(f"settings: {settings}\n")[1]
+        parts = [read(path) for path in sorted((self.folder / "letters").glob("*.txt"))]
+        self.assertEqual(sum(shown.count(part) for part in parts), 3)
+        self.assertEqual(len(re.findall("^Sorry, ", shown, re.M)), 1)
+        self.assertEqual(len([part for part in parts if part.startswith("Sorry, ")]), 9)
+        self.refused(2, "one of the arguments --out --preview is required", "letters", self.out)
+        (templates / "lost-out.txt").unlink()
+        (templates / "letter.txt").unlink()
+        self.refused(3, f"{templates} has none of matched.txt, ranked-nobody.txt, ranked-back-by-nobody.txt, lost-out.txt, withdrawn.txt, letter.txt",
+                     *words, "--out", self.folder / "none")
+
+    def test_who_sends_and_signs(self) -> None:
+        """What the settings say stands in the office's own letter, in its place, and the folder is made again with it."""
+        settings = self.write("own.ini", "[match]\nsender = The Office | 1 High Street\nappeals = Appeals until 1 May.\nsignature = K. Lee\n")
+        out = self.run_tables(PROGRAMMES, RESIDENTS, "signed", "--settings", settings)
+        self.assertEqual(read(out / "letters" / "rosa-rossi.txt"), """\
+The Office
+1 High Street
+
+20 March 2026
+
+Rosa Rossi
+
+You are not matched, since your list is empty.
+
+Your list, as it was matched, is empty.
+
+In the docket that was matched you are rosa-rossi.
+
+Appeals until 1 May.
+
+K. Lee
+""")
+        self.assertEqual(office("verify", out).status, 0)
 
     def test_without_a_template_they_are_the_same(self) -> None:
         self.assertEqual(office("letters", self.out, "--out", self.folder / "letters").status, 0)
@@ -169,7 +217,8 @@ class Said(OfficeTest):
         kinds = [Became.FULL, Became.NO_PLACES, Became.NOT_RANKED, Became.IT_WITHDREW]
         for size in range(1, 6):
             for listed in itertools.combinations_with_replacement(kinds, size):
-                self.assertEqual(why_not(list(listed)), derived.sentence([SAYS[one] for one in listed]))
+                said = [english().say(f"letter.became.{one.key}") for one in listed]
+                self.assertEqual(why_not(list(listed), english()), derived.sentence(said))
         full, none, unranked, withdrew = kinds
         for listed, said in (
             ([full], "The programme on your list filled all of its places with residents whom it ranks before you."),
@@ -185,7 +234,7 @@ class Said(OfficeTest):
                 "places, 1 did not rank you, and 2 withdrew from the match.",
             ),
         ):
-            self.assertEqual(why_not(listed), said)
+            self.assertEqual(why_not(listed, english()), said)
 
     def test_random_markets(self) -> None:
         """Every letter of random markets with withdrawals, as text and on the page, by the derivation."""
@@ -257,10 +306,10 @@ class Names(OfficeTest):
             self.assertFalse({"con.txt", "..txt"} & {name.lower() for name in made.values()})
 
     def test_ordinals(self) -> None:
-        self.assertEqual([ordinal(number) for number in range(1, 2200)], [derived.nth(number) for number in range(1, 2200)])
+        self.assertEqual([english().ordinal(number) for number in range(1, 2200)], [derived.nth(number) for number in range(1, 2200)])
         by_hand = {1: "1st", 2: "2nd", 3: "3rd", 11: "11th", 12: "12th", 13: "13th", 21: "21st", 101: "101st", 111: "111th",
                    112: "112th", 113: "113th", 121: "121st", 1011: "1,011th", 1022: "1,022nd"}
-        self.assertEqual({number: ordinal(number) for number in by_hand}, by_hand)
+        self.assertEqual({number: english().ordinal(number) for number in by_hand}, by_hand)
 
     def test_a_letter_of_a_111th_choice(self) -> None:
         """A choice, a rank and a length of 111 in letter and page."""

@@ -8,7 +8,8 @@ from typing import Dict, List, Optional
 import derived
 from residency import Market, Member, Names
 from residency.office.letters import Letters
-from residency.office.outcome import Details, Resident, Standing, alphabetical, outcome_of
+from residency.office.outcome import Details, Resident, Standing, outcome_of
+from residency.office.phrases import english
 from residency.office.page import About, Page, label
 from residency.office.rosters import details_of, matches
 from support import PROGRAMMES, RESIDENTS, SAMPLES, OfficeTest, office
@@ -225,7 +226,7 @@ class Sample(PageTest):
 
     def test_programmes(self) -> None:
         rows = {row[0]: row[1:] for row in self.rows(self.root, "programmes")}
-        self.assertEqual(list(rows), sorted(rows, key=alphabetical))
+        self.assertEqual(list(rows), sorted(rows, key=english().alphabetical))
         for one, places in self.wanted.places.items():
             members = self.wanted.members(one)
             self.assertEqual(rows[one][:3], [str(places), str(len(members)), str(places - len(members))])

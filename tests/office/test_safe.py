@@ -502,7 +502,7 @@ class Writes(OfficeTest):
             ["letters", self.runs[0], "--out", letters], ["compare", *self.runs, "--out", changes])], [0, 0])
         self.assertEqual(oct(mode_of(changes)), oct(0o644))
         self.tell_modes(letters, {"letters.html"}, {""}, {".txt"})
-        owners = {"key.csv", "matches.csv", "letters.html", *(f"letters/{path.name}" for path in (self.runs[0] / "letters").iterdir())}
+        owners = {"key.csv", "matches.csv", "results.csv", "letters.html", *(f"letters/{path.name}" for path in (self.runs[0] / "letters").iterdir())}
         lists = {"docket.csv", "journal.csv", "page.html", "changes.csv", "manifest.json", "SHA256SUMS",
                  *(f"rosters/{path.name}" for path in (self.runs[0] / "rosters").iterdir())}
         for number, words in enumerate((["run", *tables], ["withdraw", self.runs[0], "Ana Silva"])):

@@ -370,16 +370,16 @@ class Verified(Sealed):
         events = (match / "replay.csv").read_text().strip().partition(",")[2]
         lines = self.verify(match, "--lists", f"11,{lists}", "--result", f"11,{result}")
         by = "by the program seal and by the office's own trees" if sealing.is_built() else "by the office's own trees; the program seal isn't here"
-        # Seven letters, four rosters, five files of public/ and fifteen at the top.
-        held = f"30 files made again, 11 receipts, the result, the journal of {events} events"
+        # Seven letters, four rosters, five files of public/ and sixteen at the top.
+        held = f"31 files made again, 11 receipts, the result, the journal of {events} events"
         self.assertEqual(lines[-4:], [f"roots: {rows[0]} and {rows[1]}, {by}", "published: the same roots, of 11 members",
-                                      "files: 41 as made again", f"{held}; {self.LEFT}"])
+                                      "files: 42 as made again", f"{held}; {self.LEFT}"])
         self.assertEqual(self.verify(match)[-1], f"{held}; {self.LEFT}; what was published, for want of --lists and --result")
         self.assertEqual(self.verify(match, "--lists", lists, "--result", result)[-1],
                          f"{held}; {self.LEFT}; how many members were published, for want of N,ROOT")
         self.assertEqual(self.verify(match, "--lists", f"12,{result}", "--result", f"11,{result}")[-3:], [
             f"published: for the lists {result} was published; 12 members were published for the lists, and there are 11",
-            "files: 41 as made again", f"this does not hold: published; {self.LEFT}"])
+            "files: 42 as made again", f"this does not hold: published; {self.LEFT}"])
         for word in (lists.upper(), f"x,{lists}", f"11,{lists[1:]}", ",".join(rows)):
             self.assertEqual(office("verify", match, "--lists", word).status, 2)
 
@@ -402,7 +402,7 @@ class Verified(Sealed):
         match = self.matched(self.sealed())
         (match / "secret.txt").unlink()
         lines = self.verify(match)
-        self.assertEqual(lines[-3:-1], ["roots and receipts and 11 files made of them: not checked: needs the secret", "files: 29 as made again"])
+        self.assertEqual(lines[-3:-1], ["roots and receipts and 11 files made of them: not checked: needs the secret", "files: 30 as made again"])
         self.assertIn("; roots and receipts and 11 files made of them, for want of the secret", lines[-1])
 
     def test_without_the_program(self) -> None:
@@ -411,10 +411,10 @@ class Verified(Sealed):
             match = self.matched(self.sealed())
             self.assertIn("by the office's own trees; the program seal isn't here", self.verify(match)[-3])
         self.assertEqual(self.receipts(match), derived(match, True).receipts())
-        self.assertIn("files: 41 as made again", self.verify(match))
+        self.assertIn("files: 42 as made again", self.verify(match))
 
     def test_in_a_process_of_its_own(self) -> None:
         match = self.matched(self.sealed())
         done = spawn(["verify", str(match)])
         self.assertEqual((done.status, done.err), (0, ""))
-        self.assertIn("\nfiles: 41 as made again\n", done.out)
+        self.assertIn("\nfiles: 42 as made again\n", done.out)

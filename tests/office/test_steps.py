@@ -21,19 +21,13 @@ from residency.office import sentences, settings, steps, stopping, writing
 from residency.office.apart import Limits
 from residency.office.faults import Cell, OfficeError, Remedy
 from residency.office.settings import Settings
-from support import OFFICE, PROGRAMMES, RESIDENTS, OfficeTest, office
+from support import OFFICE, PROGRAMMES, RESIDENTS, OfficeTest, children, office
 
 GIVEN = [steps.Given(f"{name}.csv", text.encode()) for name, text in (("programmes", PROGRAMMES), ("residents", RESIDENTS))]
 # Sheets that take a reader long, or much memory: cells without a text, attributes, texts, and a part of blanks.
 EMPTY = "".join(f'<row r="{row}">' + "<c/>" * 16000 + "</row>" for row in range(1, 901))
 ATTRIBUTES = '<row r="1"><c ' + " ".join(f'a{number}=""' for number in range(1_500_000)) + "/></row>"
 TEXTS = "<si><t>text</t></si>" * 6_000_000
-
-
-def children(of: int) -> set:
-    """The processes that one started and that are there yet."""
-    done = subprocess.run(["ps", "-o", "pid=,comm=", "--ppid", str(of)], capture_output=True, text=True)
-    return {int(line.split()[0]) for line in done.stdout.splitlines() if line.split()[1] != "ps"}
 
 
 class Values(OfficeTest):
@@ -64,10 +58,10 @@ class Values(OfficeTest):
         self.assertEqual((gap["row"], gap["column"], gap["code"], gap["remedies"]), (1, 5, "heading.beside", []))
         self.assertEqual(fault, {
             "kind": "heading", "code": "heading.unknown", "table": "residents", "sheet": None, "row": 1, "column": 3,
-            "cause": "Rnak 2 is no heading of this table; mend it, say what it is (--heading 'rank=Rnak 2'), or leave the column out "
+            "cause": "Rnak 2 is no heading of this table; mend it, say what it is (--heading 'rank=Rnak'), or leave the column out "
                      "(--ignore 'Rnak 2')",
-            "values": {"heading": "Rnak 2", "role": "rank"}, "cells": [{"table": "residents", "row": 1, "column": 3, "name": "C1"}],
-            "remedies": [{"setting": "heading", "value": "rank=Rnak 2"}, {"setting": "ignore", "value": "Rnak 2"}]})
+            "values": {"heading": "Rnak 2", "role": "rank", "word": "Rnak"}, "cells": [{"table": "residents", "row": 1, "column": 3, "name": "C1"}],
+            "remedies": [{"setting": "heading", "value": "rank=Rnak"}, {"setting": "ignore", "value": "Rnak 2"}]})
 
     def test_a_check_without_a_fault_as_json(self) -> None:
         status, told = self.json(*self.tables(), "--keep", "Rank 9")
@@ -77,7 +71,7 @@ class Values(OfficeTest):
         self.assertEqual([(table["table"], table["members"], table["encoding"], table["delimiter"]) for table in told["tables"]],
                          [("programmes", 4, "utf-8", ","), ("residents", 7, "utf-8", ",")])
         self.assertEqual([(note["code"], note["row"], note["cause"]) for note in told["notes"]], [
-            ("note.alone", 8, "1 resident without a list whom nobody ranks; the first is Rosa Rossi, row 8")])
+            ("note.alone", 8, "1 resident without a list whom nobody ranks: Rosa Rossi (row 8)")])
 
     def test_a_docket_as_json(self) -> None:
         docket = self.write("docket.csv", "Q,a,1\nP,b\n")
@@ -96,18 +90,18 @@ class Values(OfficeTest):
 
     def test_a_row_that_is_the_heading_is_a_remedy(self) -> None:
         """Of a title above the heading, in a check and in a look; with it all is read. Rows that are no heading are none."""
-        for title, below in (("Residents of 2026,,,\n", 2), ("Residents of 2026\n\nall of them,,\n", 4), ("Name,,,\n" + "x,,,\n" * 8, 10)):
+        for title, below in (("Residents of,2026,,\n", 2), ("Residents of,2026\n\nall of,them,\n", 4), ("Name,,,\n" + "x,,,\n" * 8, 10)):
             given = steps.Given("r", (title + RESIDENTS).encode())
             wanted = Remedy("heading_row", below, "residents")
             for faults in (steps.check(GIVEN[0], given, Settings()).faults, steps.look(given, "residents", Settings()).faults):
                 self.assertEqual([fault.remedies[0] for fault in faults.every()], [wanted] * len(faults.every()), title)
                 self.assertEqual({fault.kind for fault in faults.every()}, {"heading"})
             self.assertIsNotNone(steps.check(GIVEN[0], given, Settings(heading_row={"residents": below})).market)
-        titled = steps.Given("p", b"Programmes\n" + PROGRAMMES.encode())
+        titled = steps.Given("p", b"Programmes,all\n" + PROGRAMMES.encode())
         read = steps.check(titled, steps.Given("r", RESIDENTS.replace("Rank 2", "Rnak 2").encode()), Settings())
         self.assertEqual([(fault.table, fault.code, len(fault.remedies)) for fault in read.faults.every()], [
             ("programmes", "heading.none", 1), ("residents", "heading.unknown", 2), ("residents", "heading.beside", 0)])
-        for text in ("Residents of 2026,,,\n" + "x,a\x07b,,\n" * 30 + RESIDENTS, "a,b\nc,d\n", RESIDENTS.replace("Rank 2", "Rnak 2")):
+        for text in ("Residents of,2026,,\n" + "x,a\x07b,,\n" * 30 + RESIDENTS, "a,b\nc,d\n", RESIDENTS.replace("Rank 2", "Rnak 2")):
             read = steps.check(GIVEN[0], steps.Given("r", text.encode()), Settings())
             self.assertEqual([one for fault in read.faults.every() for one in fault.remedies if one.setting == "heading_row"], [], text[:30])
             self.assertEqual({fault.kind for fault in read.faults.every()}, {"heading"})
@@ -172,12 +166,12 @@ class File(OfficeTest):
                                    "encoding = utf-99\nheading_row = 0\nexpect = many\nsheet = a\nsheet = b\nnothing\n[year]\n")
         said = office("check", *self.tables(), "--settings", path)
         sections = "tables, programmes, residents, match"
-        roles = "programme, resident, places, rank, id, given, family"
+        roles = "programme, resident, places, rank, id, given, family, withdrawn"
         self.assertEqual((said.status, said.out, said.err), (3, "", "".join(f"office: {path}, line {line}: {cause}\n" for line, cause in (
             (1, f"title stands above the first section; the sections are {sections}"),
             (3, "allow_gaps is maybe, where yes or no is wanted"),
             (4, "there is no setting heding in the section tables; there are heading, ignore, keep, allow_gaps, allow_short, allow_alone, "
-             "allow_lost_letters, allow_alike"),
+             "allow_lost_letters, allow_alike, language_column"),
             (5, f"heading is Rang, where ROLE=WORD, where ROLE is one of {roles} is wanted"),
             (9, "encoding is utf-99, where a character set is wanted"), (10, "heading_row is 0, where a number from 1 is wanted"),
             (11, "expect is many, where a number is wanted"), (13, "sheet stands twice in the section residents"),
@@ -297,7 +291,51 @@ class Apart(OfficeTest):
             self.assertEqual(sentences.report(read.faults), [f"residents{told}"])
 
     def test_limits_grow_with_the_bytes(self) -> None:
+        """Of what is read, and of a folder that is checked by a fifth of the memory."""
         self.assertEqual([Limits.of(count << 20) for count in (0, 1, 100)], [Limits(30, 1000), Limits(33, 1040), Limits(330, 5000)])
+        (self.folder / "deep").mkdir()
+        for name, size in (("a", 10), ("deep/b", 90)):
+            with open(self.folder / name, "wb") as file:
+                file.truncate(size << 20)
+        os.symlink(self.folder / "a", self.folder / "link")
+        limits = steps.limits_of(str(self.folder))
+        self.assertEqual((limits.seconds, limits.megabytes), (330, 1800))
+
+    def test_a_docket_that_takes_much(self) -> None:
+        """Its faults come as they are found, the first one at once; a limit is told, and whoever asks no more ends the process."""
+        docket = b"Q,a,1\n" + b"".join(b"R,%06x,b\n" % number for number in range(300_000)) + b"x" * (20 << 20)
+        before = children(os.getpid())
+        found = steps.lint(docket)
+        self.assertEqual(str(next(found)), "record 20002: more than 20000 residents")
+        self.assertEqual(len(children(os.getpid()) - before), 1)
+        found.close()
+        self.assertEqual(children(os.getpid()) - before, set())
+        for limits, told in ((Limits(1, 4000), "checking this needs more than 1 s of a processor"),
+                             (Limits(60, 5), "checking this needs more than 5 MB of memory")):
+            with self.assertRaises(OfficeError) as error:
+                list(steps.lint(docket, limits=limits))
+            self.assertEqual((sentences.said_by(error.exception), error.exception.status), (told, 3))
+            self.assertEqual(children(os.getpid()) - before, set())
+        with mock.patch.object(steps.Limits, "of", lambda _: Limits(60, 5)):
+            said = office("lint", self.write("docket.csv", docket), "--json")
+        self.assertEqual((said.status, said.err), (3, "office: checking this needs more than 5 MB of memory\n"))
+        (fault,) = json.loads(said.out)["faults"]
+        self.assertEqual((fault["code"], fault["cause"], fault["values"]), (
+            "reader.memory", "checking this needs more than 5 MB of memory", {"megabytes": 5}))
+
+    def test_a_docket_in_threads(self) -> None:
+        """The same faults as alone, from a new Python: each row but the first names its programme again, and one name is unknown."""
+        docket = b"Q,a,1\n" + b"P,a,b\n" * 3000
+        parts: list = []
+        steps.linted(docket, parts.append)
+        self.assertEqual([len(part) for part in parts], [1, 2, 4, 8, 16, 32, 64, 128, 256, 512, 1000, 977])
+        alone, together = [str(one) for one in steps.lint(docket)], []
+        threads = [threading.Thread(target=lambda: together.append([str(one) for one in steps.lint(docket)])) for _ in range(2)]
+        for thread in threads:
+            thread.start()
+        for thread in threads:
+            thread.join()
+        self.assertEqual((len(alone), together), (3000, [alone, alone]))
 
     def test_four_at_once_in_threads(self) -> None:
         """Each has its own answer; mask and folder stay as they were, and files are made with their mode all the while."""

@@ -208,8 +208,8 @@ class Forms(Tables):
         self.assertEqual(
             said.out.splitlines()[2:],
             [
-                "note: programmes: 1 programme without a list whom nobody ranks; the first is * without Saturdays, row 6",
-                "note: residents: 2 residents without a list whom nobody ranks; the first is Rosa Rossi, row 8",
+                "note: programmes: 1 programme without a list whom nobody ranks: * without Saturdays (row 6)",
+                "note: residents: 2 residents without a list whom nobody ranks: Rosa Rossi (row 8), Exported on 20 March (row 9)",
                 "no fault",
             ],
         )

@@ -6,14 +6,22 @@ import io
 import json
 import os
 import shutil
+import signal
 import subprocess
+import sys
 import tempfile
+import time
 import unittest
 from pathlib import Path
 from unittest import mock
 
-from residency.office import steps
-from support import OFFICE, PROGRAMMES, RESIDENTS, office
+import test_books
+from residency.office import leftover, steps, stopping
+from residency.office.apart import Limits
+from residency.office.faults import OfficeError
+from residency.office.sentences import said_by
+from residency.office.settings import Settings
+from support import OFFICE, PROGRAMMES, RESIDENTS, children, office
 
 SUMS, SHEET, DOCKET, MANIFEST = "SHA256SUMS", "sheet.csv", "docket.csv", "manifest.json"
 NO_TABLES = "not checked: lists and names, for want of the tables (--tables)"
@@ -33,6 +41,14 @@ def make_sums_again(folder: Path) -> None:
         files = {path.relative_to(folder).as_posix(): path for path in folder.rglob("*") if path.is_file()}
         files.pop(SUMS)
         (folder / SUMS).write_text("".join(f"{digest(files[name])}  {name}\n" for name in sorted(files)), encoding="utf-8")
+
+
+def is_alive(pid: int) -> bool:
+    """Whether a process is there, and hasn't ended yet."""
+    try:
+        return Path(f"/proc/{pid}/stat").read_text().rsplit(")", 1)[1].split()[0] not in "ZX"
+    except OSError:
+        return False
 
 
 class Verify(unittest.TestCase):
@@ -76,14 +92,14 @@ class Verify(unittest.TestCase):
         return said.out.splitlines()
 
     def test_a_whole_folder_holds(self) -> None:
-        """Four programmes, seven residents, 4 places filled: 7 letters, 4 rosters and 12 files at the top."""
+        """Four programmes, seven residents, 4 places filled: 7 letters, 4 rosters and 13 files at the top."""
         events = len([line for line in self.text("journal.csv").splitlines() if line.startswith("E,")])
         digests = [f"{name}: SHA-256 {hashlib.sha256((self.at / name).read_bytes()).hexdigest()}" for name in (DOCKET, SHEET, "journal.csv")]
         self.assertEqual(self.holds(), [
             "parts: each file has its own records alone", *digests, "members: 4 programmes and 7 residents", "withdrawn: nobody",
             "audit: S,stable", "result: Y,result", f"replay: G,{events}", f"second opinion: S,stable G,{events}, the same",
-            "reasons: the program says what the letters say", "files: 23 as made again",
-            f"23 files made again, the result, the journal of {events} events; {NO_TABLES}"])
+            "reasons: the program says what the letters say", "files: 24 as made again",
+            f"24 files made again, the result, the journal of {events} events; {NO_TABLES}"])
 
     def test_what_is_told_is_a_value(self) -> None:
         """The step has each line with what it is about and whether it holds, gives each to the call, and prints nothing."""
@@ -94,15 +110,15 @@ class Verify(unittest.TestCase):
             amiss = steps.verify(str(self.at))
         self.assertEqual((done.lines, done.wrong, len(done.held), out.getvalue()), (told, [], 3, ""))
         self.assertEqual([one.what for one in told if one.holds is None], [DOCKET, SHEET, "journal.csv", "members", "withdrawn"])
-        self.assertEqual((told[-1], told[-1].line()), (("files", "23 as made again", True), "files: 23 as made again"))
+        self.assertEqual((told[-1], told[-1].line()), (("files", "24 as made again", True), "files: 24 as made again"))
         self.assertEqual((amiss.lines[-2:], amiss.wrong, amiss.verdict()), (
-            [("page.html", "missing", False), ("files", "1 file of 23 differ, are missing or are more", False)], ["files"],
+            [("page.html", "missing", False), ("files", "1 file of 24 differ, are missing or are more", False)], ["files"],
             f"this does not hold: files; {NO_TABLES}"))
 
     def test_with_the_tables(self) -> None:
         lines = self.holds("--tables", *self.tables)
         self.assertIn("tables: the files that the manifest names, and the docket and key that they give", lines)
-        self.assertRegex(lines[-1], r"\A23 files made again, the result, the journal of [0-9]+ events\Z")
+        self.assertRegex(lines[-1], r"\A24 files made again, the result, the journal of [0-9]+ events\Z")
         spaced = Path(self.tables[1]).with_name("spaced.csv")
         spaced.write_text(RESIDENTS + ",,,\n", encoding="utf-8")
         self.assertIn("tables: other files than the manifest names, and the docket and key that they give",
@@ -134,11 +150,11 @@ class Verify(unittest.TestCase):
         (self.at / "key.csv").unlink()
         lines = self.holds()
         self.assertEqual(lines[-3:], [
-            "names and 15 files made of them: not checked: needs the key", "files: 7 as made again",
-            f"7 files made again, the result, the journal of {events} events; {NO_TABLES}; names and 15 files made of them, for want of the key"])
+            "names and 16 files made of them: not checked: needs the key", "files: 7 as made again",
+            f"7 files made again, the result, the journal of {events} events; {NO_TABLES}; names and 16 files made of them, for want of the key"])
         for name in ("letters", "rosters"):
             shutil.rmtree(self.at / name)
-        for name in ("letters.html", "page.html", "matches.csv", "unfilled.csv"):
+        for name in ("letters.html", "page.html", "matches.csv", "results.csv", "unfilled.csv"):
             (self.at / name).unlink()
         self.assertEqual(self.holds()[-3], "names: not checked: needs the key")
         self.change("audit.csv", "S,unstable\n")
@@ -275,6 +291,129 @@ class Verify(unittest.TestCase):
         (self.at / "page.html").symlink_to(kept)
         said = office("verify", self.at)
         self.assertEqual((said.status, said.err), (3, f"office: {self.at}: page.html is no file\n"))
+
+    def test_a_folder_larger_than_any(self) -> None:
+        """A file of three gigabytes, of which a disk has nothing, is not read, and neither are more files than any match has."""
+        with open(self.at / "page.html", "r+b") as file:
+            file.truncate(3 << 30)
+        for words in ((), ("--tables", *self.tables)):
+            said = office("verify", self.at, *words)
+            self.assertEqual((said.status, said.out, said.err), (
+                3, "", f"office: {self.at} has more than 1,000,000 files or 2,048 MB, which no match has\n"))
+        os.truncate(self.at / "page.html", 3 << 20)
+        with mock.patch.object(importlib.import_module("residency.office.folder"), "MOST_FILES", 22):
+            self.assertEqual(office("verify", self.at).status, 3)
+
+    def test_a_folder_that_takes_much(self) -> None:
+        """Each limit is told as a fault of the folder with its number, and no process and no temporary file is left."""
+        temporary = self.at.parent / "temporary"
+        temporary.mkdir()
+        page, rows = (self.at / "page.html").read_bytes(), self.text("journal.csv")
+        with mock.patch.object(tempfile, "tempdir", str(temporary)):
+            for name, data, limits, told in (
+                    ("page.html", page + bytes(300 << 20), Limits(60, 200), "checking this needs more than 200 MB of memory"),
+                    ("journal.csv", (rows + "E,x,y,z\n" * 4_000_000).encode(), Limits(1, 4000), "checking this needs more than 1 s of a processor")):
+                (self.at / name).write_bytes(data)
+                with self.assertRaises(OfficeError) as error:
+                    steps.verify(str(self.at), limits=limits)
+                self.assertEqual((said_by(error.exception), error.exception.status, error.exception.at), (told, 3, str(self.at)))
+                self.assertEqual((children(os.getpid()), os.listdir(temporary)), (set(), []), name)
+                (self.at / name).write_bytes(page if name == "page.html" else rows.encode())
+            self.assertEqual(steps.verify(str(self.at)).wrong, [])
+
+    def test_a_workbook_that_is_far_larger_unpacked(self) -> None:
+        """Among the tables it is the fault that a check tells, and the folder isn't looked at."""
+        bomb = self.at.parent / "bomb.xlsx"
+        bomb.write_bytes(test_books.sheet(" " * (257 << 20)))
+        said = office("verify", self.at, "--tables", self.tables[0], bomb)
+        self.assertEqual((said.status, said.out, said.err), (
+            3, "", f"office: programmes: {self.tables[0]}, UTF-8, commas, a row for each programme\n"
+                   f"office: residents: {bomb}, UTF-8, commas, a row for each resident\n"
+                   "office: residents: the workbook has more than 256 MB, which is no table\noffice: 1 fault in the tables\n"
+                   "office: nothing was written\n"))
+
+    def test_a_manifest_of_a_stranger(self) -> None:
+        """It is read apart, too, before the tables are: what takes long says nothing of them."""
+        good = json.loads(self.text(MANIFEST))
+        for reading, wanted in (({"match": {"title": "T"}}, Settings(title="T")), ({"match": {"title": 1}}, Settings(title="1")), ([], Settings()),
+                                ({"x": {}}, Settings())):
+            (self.at / MANIFEST).write_text(json.dumps({**good, "reading": reading, "details": []}))
+            self.assertEqual(steps.read_by(str(self.at)), wanted)
+        (self.at / MANIFEST).write_text("[" * 100_000)
+        self.assertEqual(steps.read_by(str(self.at)), Settings())
+        (self.at / MANIFEST).write_text(json.dumps({**good, "reading": {"match": {"title": "T"}}, "details": [], "more": "x" * (60 << 20)}))
+        for limits, wanted in ((None, Settings(title="T")), (Limits(60, 50), Settings())):
+            self.assertEqual((steps.read_by(str(self.at), limits), children(os.getpid())), (wanted, set()))
+
+    def test_what_a_reader_started_ends_with_it(self) -> None:
+        """A program that goes on ends where its reader is killed, and where the one that asked is, or gets a signal; only a kill
+        leaves the temporary folder, for the next command."""
+        temporary = self.at.parent / "temporary"
+        temporary.mkdir()
+        slow = f"import time; open({str(temporary)!r} + '/is-there', 'w').write(str(__import__('os').getpid())); time.sleep(45)"
+
+        def verify() -> str:
+            with mock.patch.object(tempfile, "tempdir", str(temporary)), mock.patch.object(
+                    importlib.import_module("residency.office.verify"), "run_program", lambda *_: subprocess.run([sys.executable, "-c", slow])):
+                try:
+                    with stopping.stoppable():
+                        steps.verify(str(self.at))
+                except OfficeError as error:
+                    return said_by(error)
+                except stopping.Stopped:
+                    return "stopped"
+            return ""
+
+        for whom, number, told, left in (("reader", signal.SIGKILL, "what read this ended with status -9", 0), ("asker", signal.SIGKILL, "", 1),
+                                         ("asker", signal.SIGINT, "stopped", 0), ("asker", signal.SIGTERM, "stopped", 0),
+                                         ("asker", signal.SIGHUP, "stopped", 0)):
+            ours, theirs = os.pipe()
+            asker = os.fork()
+            if not asker:
+                os.write(theirs, verify().encode())
+                os._exit(0)
+            os.close(theirs)
+            there = temporary / "is-there"
+            while not there.exists() or not there.read_text():
+                time.sleep(0.01)
+            (reader,) = children(asker)
+            program = int(there.read_text())
+            self.assertEqual(os.getpgid(program), reader)
+            os.kill(reader if whom == "reader" else asker, number)
+            until = time.monotonic() + 20
+            with open(ours, "rb") as said:
+                self.assertEqual(said.read().decode(), told)
+            os.waitpid(asker, 0)
+            self.assertLess(time.monotonic(), until, (whom, number))
+            while any(is_alive(one) for one in (reader, program)):
+                self.assertLess(time.monotonic(), until, (whom, number))
+                time.sleep(0.01)
+            there.unlink()
+            parts = os.listdir(temporary)
+            self.assertEqual(len(parts), left, (whom, number))
+            if parts:
+                self.assertRegex(parts[0], leftover.PART)
+                with mock.patch.object(tempfile, "tempdir", str(temporary)):
+                    said_now = office("verify", self.at)
+                self.assertEqual((said_now.status, said_now.err), (0, f"office: a run that was killed left {parts[0]}, which was removed\n"))
+
+    def test_folders_below_folders(self) -> None:
+        """However deep a file is, and be it in a folder whose path is longer than any, it is more than the folder has."""
+        deep = self.at
+        for _ in range(600):
+            deep = deep / "d"
+            deep.mkdir()
+        (deep / "file").write_text("more")
+        name, at = "e" * 200, os.open(self.at, os.O_RDONLY)
+        for _ in range(30):
+            os.mkdir(name, dir_fd=at)
+            before, at = at, os.open(name, os.O_RDONLY, dir_fd=at)
+            os.close(before)
+        os.close(at)
+        depth = next(depth for depth in range(30) if len(str(self.at)) + 201 * depth > 4095)
+        said = self.fails("files")
+        self.assertIn(f"\n{('d/' * 40)}... (1,204 letters): more than the folder has\n", said)
+        self.assertIn(f"\n{'e' * 80}... ({201 * depth - 1:,} letters): more than the folder has\n", said)
 
     def test_no_folder(self) -> None:
         self.assertEqual(office("verify", self.at / "none").status, 1)

@@ -134,7 +134,13 @@ class Building(unittest.TestCase):
         programme_ranks = [("=Köln", 3, "王芳"), ("Łódź, East", 1, "Zoë Weiß"), ("=Köln", 1, "Zoë Weiß"),
                            ("=Köln", 2.0, "Anna (1)")]
         resident_ranks = [("Zoë Weiß", 20, "=Köln"), ("Anna (1)", 1, "=Köln"), ("王芳", 1, "=Köln"), ("Zoë Weiß", 10, "Łódź, East")]
-        self.assertEqual(Market.from_ranks(places, programme_ranks, resident_ranks).docket(), market().docket())
+        self.assertEqual(Market.from_ranks(places, programme_ranks, resident_ranks, allow_gaps=True).docket(), market().docket())
+        with self.assertRaises(MarketFault) as caught:
+            Market.from_ranks(places, [row for row in programme_ranks if row[1] != 2.0], [*resident_ranks, ("Anna (1)", "x", "Łódź, East")])
+        self.assertEqual(list(caught.exception.faults), [
+            "programme ranks: =Köln has no rank 2; is a row lost? allow_gaps=True takes the ranks in their order",
+            "resident ranks, row 5, cell 2: x is no rank",
+            "resident ranks: Zoë Weiß has no rank 1; is a row lost? allow_gaps=True takes the ranks in their order"])
         one = Market.from_ranks(places, [("=Köln", 1, 7)], [(7, 1, "=Köln")], [("Kim", 8), ("Kim", 7)])
         self.assertEqual(one.resident_lists, {"Kim (8)": (), "Kim (7)": ("=Köln",)})
 

@@ -1,8 +1,10 @@
 """A process of its own for each step that reads what strangers send: with limits that grow with the bytes, and ended as a whole.
 
 What it answers comes back as values of a few known classes. Nothing that it does changes the process that asked: no signal, no
-mask, no folder. A process with one thread is copied, and from one with several a new Python is started.
+mask, no folder. A process with one thread is copied, and from one with several a new Python is started. What it starts is of its
+group and has its limits; and the kernel ends that group where the process that asked is gone, even by a kill.
 """
+import fcntl
 import gc
 import io
 import os
@@ -12,9 +14,10 @@ import signal
 import subprocess
 import sys
 import threading
+from contextlib import closing
 from dataclasses import dataclass
 from pathlib import Path
-from typing import IO, Any, Callable, NoReturn, Optional, Sequence, Tuple
+from typing import IO, Any, Callable, Generator, NoReturn, Optional, Sequence, Tuple
 
 from ..errors import DocketFault, MarketFault, ResidencyError
 from . import stopping
@@ -22,13 +25,14 @@ from .faults import OfficeError
 
 Progress = Callable[[str], None]
 # A step that may be asked for: what does it, by the name of a function of `steps`.
-STEPS = ("read", "looked_at")
+STEPS = ("read", "looked_at", "linted", "manifest_read", "verified")
 # The classes of which an answer may be.
 KNOWN = {
-    "builtins": ("iter", "set", "frozenset"), "residency.docket": ("Docket",), "residency.market": ("Market",), "residency.names": ("Member", "Names"),
+    "builtins": ("iter", "set", "frozenset"), "residency.docket": ("Docket",), "residency.errors": ("DocketFault",),
+    "residency.market": ("Market",), "residency.names": ("Member", "Names"),
     "residency.office.cells": ("Rows",), "residency.office.faults": ("Cell", "Fault", "Faults", "Remedy"),
-    "residency.office.headings": ("Columns",), "residency.office.steps": ("Look", "Read"),
-    "residency.office.tables": ("Entry", "Table"), "residency.office.text": ("Text",),
+    "residency.office.headings": ("Columns",), "residency.office.settings": ("Settings",), "residency.office.steps": ("Look", "Read"),
+    "residency.office.tables": ("Entry", "Table"), "residency.office.text": ("Text",), "residency.office.verify": ("Checked", "Verified"),
 }
 PROGRESS, DONE, FAILED = "progress", "done", "failed"
 # How a process ends that has no memory left.
@@ -49,7 +53,7 @@ class Limits:
 
 
 class Costly(Exception):
-    """A step was ended at a limit: `what` is the code of its fault, and `at` what it was reading."""
+    """A step was ended at a limit: `what` is which, `slow` or `memory`, and `at` what it was reading."""
 
     def __init__(self, what: str, at: str, limits: Limits) -> None:
         super().__init__(what, at, limits)
@@ -66,7 +70,7 @@ class Answers(pickle.Unpickler):
 
 
 def limit(limits: Limits) -> None:
-    """Sets the limits of this process; what it has of memory already comes on top."""
+    """Sets the limits of this process and of each one that it starts; what it has of memory already comes on top."""
     try:
         with open("/proc/self/statm", "rb") as file:
             has = int(file.read().split()[0]) * resource.getpagesize()
@@ -86,13 +90,25 @@ def answer(number: int, message: Tuple[Any, ...]) -> None:
         data = data[os.write(number, data):]
 
 
-def work(number: int, limits: Limits, step: str, words: Sequence[Any]) -> NoReturn:
+def end_with(life: int) -> None:
+    """Lets the kernel end this process and all that it starts as soon as nobody has the other end of a pipe."""
+    fcntl.fcntl(life, fcntl.F_SETOWN, -os.getpgrp())
+    fcntl.fcntl(life, fcntl.F_SETFL, os.O_ASYNC | os.O_NONBLOCK)
+    try:
+        if not os.read(life, 1):
+            os._exit(1)
+    except BlockingIOError:
+        pass
+
+
+def work(number: int, life: int, limits: Limits, step: str, words: Sequence[Any]) -> NoReturn:
     """Does a step in a process that was made for it, and ends the process."""
     status = 1
     try:
-        for one in stopping.SIGNALS:
+        for one in (*stopping.SIGNALS, signal.SIGIO, signal.SIGXCPU):
             signal.signal(one, signal.SIG_DFL)
-        signal.pthread_sigmask(signal.SIG_UNBLOCK, stopping.SIGNALS)
+            signal.pthread_sigmask(signal.SIG_UNBLOCK, (one,))
+        end_with(life)
         limit(limits)
         from . import steps
 
@@ -114,27 +130,30 @@ def work(number: int, limits: Limits, step: str, words: Sequence[Any]) -> NoRetu
 
 def serve() -> NoReturn:
     """The whole of a Python that was started for a step: what it is asked stands on its standard input."""
-    limits, step, words = pickle.load(sys.stdin.buffer)
-    work(1, limits, step, words)
+    size = int.from_bytes(sys.stdin.buffer.read(8), "big")
+    work(1, 0, *pickle.loads(sys.stdin.buffer.read(size)))
 
 
 class Started:
-    """A process that was started for a step; `answers` has what it says."""
+    """A process that was started for a step; `answers` has what it says, and while `life` is open, it may live."""
 
     def __init__(self, limits: Limits, step: str, words: Sequence[Any]) -> None:
         if threading.active_count() > 1:
             self.new_python(pickle.dumps((limits, step, words)))
             return
-        ours, theirs = os.pipe()
+        (ours, theirs), (held, life) = os.pipe(), os.pipe()
         self.pid: int = os.fork()
         if not self.pid:
             os.setsid()
             os.close(ours)
+            os.close(life)
             # What is there already is no waste, and stays shared with the process that was copied.
             gc.freeze()
-            work(theirs, limits, step, words)
+            work(theirs, held, limits, step, words)
         os.close(theirs)
+        os.close(held)
         self.answers: IO[bytes] = open(ours, "rb")
+        self.life: IO[bytes] = open(life, "wb", buffering=0)
         self.wait: Callable[[], int] = lambda: os.waitstatus_to_exitcode(os.waitpid(self.pid, 0)[1])
 
     def new_python(self, request: bytes) -> None:
@@ -142,11 +161,11 @@ class Started:
         words = [sys.executable, "-I", "-S", "-B", "-c", text, str(Path(__file__).resolve().parent.parent.parent)]
         child = subprocess.Popen(words, stdin=subprocess.PIPE, stdout=subprocess.PIPE, stderr=subprocess.DEVNULL, start_new_session=True)
         assert child.stdin is not None and child.stdout is not None
-        self.pid, self.answers, self.wait = child.pid, child.stdout, child.wait
+        self.pid, self.answers, self.life, self.wait = child.pid, child.stdout, child.stdin, child.wait
         # It reads all before it answers.
         try:
-            child.stdin.write(request)
-            child.stdin.close()
+            self.life.write(len(request).to_bytes(8, "big") + request)
+            self.life.flush()
         except BrokenPipeError:
             pass
 
@@ -172,26 +191,33 @@ class Started:
             except OSError:
                 pass
         self.answers.close()
-        return self.wait()
+        status = self.wait()
+        try:
+            self.life.close()
+        except BrokenPipeError:
+            pass
+        return status
 
 
-def apart(limits: Limits, step: str, words: Sequence[Any], progress: Progress) -> Any:
-    """What a step answers in a process of its own. Costly where it is ended at a limit; OfficeError as the step has it."""
+def told(limits: Limits, step: str, words: Sequence[Any]) -> Generator[Any, None, Any]:
+    """What a step tells in a process of its own, as soon as it tells it; what is returned is its answer. Costly where it is ended at a
+    limit; OfficeError as the step has it. Whoever asks no more closes this, which ends the process."""
     assert step in STEPS
     started: Optional[Started] = None
     message: Tuple[Any, ...] = ()
     at = ""
     before = signal.pthread_sigmask(signal.SIG_BLOCK, stopping.SIGNALS)
     try:
-        started = Started(limits, step, words)
-        signal.pthread_sigmask(signal.SIG_SETMASK, before)
+        try:
+            started = Started(limits, step, words)
+        finally:
+            signal.pthread_sigmask(signal.SIG_SETMASK, before)
         message = started.message()
         while message and message[0] == PROGRESS:
-            at = str(message[1])
-            progress(at)
+            at = message[1] if isinstance(message[1], str) else at
+            yield message[1]
             message = started.message()
     finally:
-        signal.pthread_sigmask(signal.SIG_SETMASK, before)
         status = started.end(message[:1] not in ((DONE,), (FAILED,))) if started is not None else 0
     if message and message[0] == DONE:
         return message[1]
@@ -199,7 +225,18 @@ def apart(limits: Limits, step: str, words: Sequence[Any], progress: Progress) -
         *words, values = message[1]
         raise OfficeError(*words, **values)
     if status == NO_MEMORY:
-        raise Costly("file.memory", at, limits)
-    if status in (-signal.SIGXCPU, -signal.SIGKILL):
-        raise Costly("file.slow", at, limits)
+        raise Costly("memory", at, limits)
+    if status == -signal.SIGXCPU:
+        raise Costly("slow", at, limits)
     raise OfficeError("reader.ended", status=1, ended=status)
+
+
+def apart(limits: Limits, step: str, words: Sequence[Any], progress: Callable[[Any], object]) -> Any:
+    """What a step answers in a process of its own, whose progress is told by a call. Costly, OfficeError."""
+    with closing(told(limits, step, words)) as tells:
+        while True:
+            try:
+                what = next(tells)
+            except StopIteration as end:
+                return end.value
+            progress(what)

@@ -22,13 +22,16 @@ IsHeading = Callable[[List[str]], bool]
 @dataclass
 class Rows:
     """Rows that aren't blank, of tidy cells, each with its number in a spreadsheet, which counts from 1 and leaves out a
-    line `sep=`; `declared` where there is such a line, `sheet` the name of a workbook's sheet, and `sheets` those of all."""
+    line `sep=`; `declared` where there is such a line, `sheet` the name of a workbook's sheet, `sheets` those of all, and which rows and columns of it
+    are hidden."""
 
     rows: Iterator[Tuple[int, List[str]]]
     delimiter: str
     declared: bool
     sheet: Optional[str] = None
     sheets: Sequence[str] = ()
+    hidden: Sequence[int] = ()
+    hidden_columns: Sequence[int] = ()
 
 
 def known_delimiter(word: str) -> str:

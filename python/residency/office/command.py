@@ -3,6 +3,7 @@ import argparse
 import json
 import os
 import sys
+from dataclasses import replace
 from datetime import date
 from typing import Callable, Dict, List, Optional, Sequence, Tuple
 
@@ -13,16 +14,17 @@ from . import compare, folder, national, running, sealing, settings, sheets, ste
 from .cells import DELIMITERS, known_delimiter
 from .faults import MOST_SHOWN, Faults, FaultsError, OfficeError, column_letters, counted, shown
 from .headings import Words
-from .letters import checked_template
+from .letters import OTHERS, Templates, checked_templates
 from .line import parser
 from .outcome import UNMATCHED, Standing
+from .phrases import Language, languages, read_phrases
 from .running import Run, Wishes
 from .sentences import as_dict, errors_as_dicts, how, line_of, note, report, said_by, said_otherwise
 from .settings import TABLES, Settings
 from .steps import Given, Look, Read, TablesError
 from .tables import Table
 from .telling import complain, failed, say, silence
-from .text import bytes_of, decoded, known_encoding, title_of
+from .text import at_most, bytes_of, decoded, known_encoding, title_of
 from .tree import Roots
 
 
@@ -103,7 +105,7 @@ def said_of(given: argparse.Namespace) -> Dict[str, object]:
         "encoding": known_encoding, "delimiter": known_delimiter, "sheet": as_text, "heading_row": row_number}
     tables = {name: by_table(getattr(given, name, []), known) for name, known in by_tables.items()}
     tables["expect"] = {table: count for table, count in expected.items() if count is not None}
-    plain = {name: getattr(given, name, None) for name in (*settings.ALLOWED, "order", "cut_offs")}
+    plain = {name: getattr(given, name, None) for name in (*settings.ALLOWED, "order", "cut_offs", "language", "language_column")}
     found: Dict[str, object] = {**said, **tables, **plain, "title": title_of_line(given)}
     return {name: value for name, value in found.items() if value}
 
@@ -239,14 +241,14 @@ def remarks_of(look: Look, path: str) -> List[str]:
     sheets_there = [f"its sheets: {', '.join(shown(one, 40) for one in look.sheets)}"] if len(look.sheets) > 1 else []
     columns = [f"column {column_letters(number)}, {shown(heading, 40)}: {meaning or 'left out'}"
                for number, (heading, meaning) in enumerate(zip(look.headings, look.meanings), 1) if heading]
-    return [first, *sheets_there, *columns]
+    return [first, *sheets_there, f"headings in {look.language}", *columns]
 
 
 def lint_command(given: argparse.Namespace) -> int:
     if given.docket == "-":
         if sys.stdin is None:
             raise OfficeError("words.closed")
-        return tell_docket(sys.stdin.buffer.read(), "standard input", given)
+        return tell_docket(at_most(sys.stdin.buffer, "standard input"), "standard input", given)
     return tell_docket(bytes_of(given.docket), shown(given.docket), given)
 
 
@@ -299,9 +301,21 @@ def refuse_one_table(path: str, data: bytes) -> None:
         raise OfficeError("words.one-of-two", 2, path)
 
 
-def wishes_of(given: argparse.Namespace, chosen: Settings, title: str, columns: Sequence[str]) -> Wishes:
-    return Wishes(title, given.date or date.today(), chosen.order, template_of(given.template, columns), given.timeout, chosen.cut_offs,
-                  given.readable)
+def wishes_of(given: argparse.Namespace, chosen: Settings, title: str, columns: Sequence[str], language: Language = Language()) -> Wishes:
+    language = language_of(chosen, language)
+    return Wishes(title or language.phrases().say("title"), given.date or date.today(), chosen.order, template_of(given.template, columns),
+                  given.timeout, chosen.cut_offs, given.readable, language, chosen.texts())
+
+
+def language_of(chosen: Settings, before: Language = Language()) -> Language:
+    """The language that the settings name, or the one of a folder before. OfficeError for one that is none, and for phrases at fault."""
+    word, column = chosen.language, chosen.language_column or before.column
+    if not word or word in languages():
+        return replace(before, column=column) if not word else Language(word, None, column)
+    if not os.path.exists(word):
+        raise OfficeError("words.language", 2, text=word, languages=languages())
+    text = text_of(word)
+    return Language(read_phrases(text, shown(word)).language, text, column)
 
 
 def title_of_line(given: argparse.Namespace) -> str:
@@ -321,13 +335,16 @@ def text_of(path: str) -> str:
     return text
 
 
-def template_of(path: Optional[str], columns: Sequence[str]) -> Optional[str]:
-    """The text of a template's file, tried before anything else is done; `columns` are those that are kept."""
-    if path is None:
-        return None
-    text = text_of(path)
-    checked_template(text, columns)
-    return text
+def template_of(path: Optional[str], columns: Sequence[str]) -> Templates:
+    """A template's file, or a folder's by the standings that they are for, tried before anything else is done; `columns` are those
+    that are kept."""
+    if path is None or not os.path.isdir(path):
+        return checked_templates(None if path is None else text_of(path), columns)
+    names = [one.key for one in Standing] + [OTHERS]
+    found = {name: os.path.join(path, f"{name}.txt") for name in names if os.path.exists(os.path.join(path, f"{name}.txt"))}
+    if not found:
+        raise OfficeError("template.none", 3, path, files=[f"{name}.txt" for name in names])
+    return checked_templates({name: text_of(one) for name, one in found.items()}, columns)
 
 
 def tables_of(given: argparse.Namespace, chosen: Settings) -> Optional[Tuple[Sequence[Table], Market]]:
@@ -352,7 +369,8 @@ def how_read(tables: Sequence[Table], chosen: Settings) -> Dict[str, object]:
 def seal_command(given: argparse.Namespace) -> int:
     writing.refuse(given.out)
     chosen = settings_of(given, given.programmes)
-    wishes = Wishes(chosen.title or running.TITLE, given.date or date.today(), timeout=given.timeout)
+    language = language_of(chosen)
+    wishes = Wishes(chosen.title or language.phrases().say("title"), given.date or date.today(), timeout=given.timeout, language=language)
     found = tables_of(given, chosen)
     if found is None:
         return 3
@@ -373,7 +391,7 @@ def run(given: argparse.Namespace) -> int:
     if path is not None:
         return run_sealed(given, steps.sealed(path))
     chosen = settings_of(given, given.programmes)
-    wishes = wishes_of(given, chosen, chosen.title or running.TITLE, chosen.keep)
+    wishes = wishes_of(given, chosen, chosen.title, chosen.kept())
     found = tables_of(given, chosen)
     if found is None:
         return 3
@@ -402,7 +420,7 @@ def run_sealed(given: argparse.Namespace, sealed: running.Kept) -> int:
             return failed(said_otherwise(error, error.faults, given.all), error.status)
         lines, details = describe(tables, market), steps.details_of(tables[1], market)
         manifest = from_of(sealed, settings.values_of(chosen))
-    wishes = wishes_of(given, chosen, chosen.title or sealed.title(), details.columns)
+    wishes = wishes_of(given, chosen, chosen.title or sealed.title(), details.columns, sealed.language())
     result = steps.match(sealed.market, details, wishes.timeout)
     roots = steps.write(given.out, result, wishes, manifest, sealed.secret(), sealed)
     assert roots is not None
@@ -455,7 +473,7 @@ def withdraw(given: argparse.Namespace) -> int:
     if done.matched is None:
         return withdraw_sealed(given, done, out)
     chosen = settings_of(given)
-    wishes = wishes_of(given, chosen, chosen.title or before.title(), before.details.columns)
+    wishes = wishes_of(given, chosen, chosen.title or before.title(), before.details.columns, before.language())
     roots = steps.write(out, done.matched, wishes, from_of(before), done.secret(), changes=done.changes)
     for line in [one.line() for one in done.changes] + told(out, done.matched) + ([] if roots is None else published_anew(roots)):
         say(line)
@@ -465,7 +483,7 @@ def withdraw(given: argparse.Namespace) -> int:
 def withdraw_sealed(given: argparse.Namespace, done: steps.Withdrawn, out: str) -> int:
     """Seals a folder's market anew, with members withdrawn before the match."""
     kept = done.before
-    wishes = Wishes(kept.title(), given.date or date.today(), timeout=given.timeout)
+    wishes = Wishes(kept.title(), given.date or date.today(), timeout=given.timeout, language=language_of(settings_of(given), kept.language()))
     roots = steps.seal(out, done.market, kept.details, wishes, from_of(kept))
     for line in [f"{shown(name)}: withdrawn" for name in done.gone] + [sealed(out, roots), *published_anew(roots)]:
         say(line)
@@ -477,7 +495,7 @@ def compare_command(given: argparse.Namespace) -> int:
         writing.refuse(given.out)
     found = steps.compare(Run(given.before), Run(given.now))
     if given.out is not None:
-        writing.new_file(given.out, compare.changes_table(found.changes))
+        writing.new_file(given.out, compare.changes_table(found.changes, found.now.language().phrases()))
     lines = [f"{what}: {was} before, {is_now} now" for what, was, is_now in found.figures]
     summary = compare.summary(found.before.outcome, found.now.outcome, found.changes)
     lines += [summary + ("" if given.names or not found.changes else "; --names lists them")]
@@ -487,24 +505,42 @@ def compare_command(given: argparse.Namespace) -> int:
 
 
 def letters(given: argparse.Namespace) -> int:
-    writing.refuse(given.out)
+    if given.out is not None:
+        writing.refuse(given.out)
     run_before = Run(given.folder)
     template = template_of(given.template, run_before.details.columns)
-    written = steps.letters(run_before, template, given.date, settings_of(given).title)
+    chosen = settings_of(given)
+    written = steps.letters(run_before, template, given.date, chosen.title, language_of(chosen, run_before.language()), chosen.texts())
+    if given.preview is not None:
+        for resident in (one for standing in Standing for one in run_before.outcome.standing(standing)[:given.preview]):
+            say(written.letter(resident))
+        return 0
     with folder.new_folder(given.out, private=True) as draft:
         count = running.write_letters(draft, written, "")
     say(f"{counted(count, 'letter')} written to {shown(given.out)}")
     return 0
 
 
+def why_command(given: argparse.Namespace) -> int:
+    from . import counter
+
+    lines = counter.answer(Run(given.folder), as_text(given.name), None if given.programme is None else as_text(given.programme), given.timeout)
+    if given.out is None:
+        say("\n".join(lines))
+    else:
+        writing.new_file(given.out, "\n".join([*lines, ""]).encode("utf-8"), writing.PRIVATE)
+        say(f"written to {shown(given.out)}")
+    return 0
+
+
 def verify_command(given: argparse.Namespace) -> int:
-    from .verify import FromTables, read_by
+    from .verify import FromTables
 
     published = {word: said for word, said in (("lists", given.lists), ("result", given.result)) if said is not None}
     made = None
     if given.tables is not None:
         given.programmes, given.residents = given.tables
-        found = tables_of(given, settings_of(given, start=read_by(given.folder)))
+        found = tables_of(given, settings_of(given, start=steps.read_by(given.folder)))
         if found is None:
             return 3
         tables, market = found
@@ -525,5 +561,5 @@ def auditor_command(given: argparse.Namespace) -> int:
 
 DOES: Dict[str, Callable[[argparse.Namespace], int]] = {
     "check": check, "settings": settings_command, "lint": lint_command, "seal": seal_command, "run": run, "withdraw": withdraw, "compare": compare_command, "letters": letters,
-    "verify": verify_command, "auditor": auditor_command,
+    "why": why_command, "verify": verify_command, "auditor": auditor_command,
 }

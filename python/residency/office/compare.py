@@ -2,52 +2,67 @@
 filled otherwise."""
 from collections import Counter
 from dataclasses import dataclass
-from typing import Dict, Iterable, List, Mapping, Optional, Sequence, Tuple, TypeVar
+from typing import Dict, Iterable, List, Mapping, Optional, Sequence, Tuple, TypeVar, Union
 
 from .faults import shown
-from .outcome import Outcome, Programme, Resident, Standing, alphabetical, ordinal
-from .rosters import table_bytes
+from .outcome import Outcome, Programme, Resident, Standing
+from .phrases import Phrases, english
+from .rosters import heads, table_bytes
 
 One = TypeVar("One", Resident, Programme)
-ORDER = ("moved", "now matched", "no longer matched", "withdrawn", "stands otherwise", "new", "gone")
+ORDER = MOVED, NOW_MATCHED, NO_LONGER, WITHDRAWN, OTHERWISE, NEW, GONE, OTHER_NAME = (
+    "moved", "now-matched", "no-longer-matched", "withdrawn", "stands-otherwise", "new", "gone", "other-name")
 
 
 @dataclass(frozen=True)
 class Change:
-    """One member who differs: `what` is one of ORDER, `before` and `now` how the member stood."""
+    """One member who differs: `what` is one of ORDER or `filled-otherwise`, `before` and `now` the member in each match, if there."""
 
-    side: str
-    name: str
-    id: str
     what: str
-    before: str
-    now: str
+    before: Union[Resident, Programme, None]
+    now: Union[Resident, Programme, None]
+
+    @property
+    def member(self) -> Union[Resident, Programme]:
+        found = self.now or self.before
+        assert found is not None
+        return found
+
+    @property
+    def side(self) -> str:
+        return "resident" if isinstance(self.member, Resident) else "programme"
+
+    def both(self, phrases: Phrases) -> Tuple[str, str]:
+        """How the member stood, and stands; or who had an ID, and has it now."""
+        if self.what == OTHER_NAME:
+            return (self.before.name if self.before else ""), self.member.name
+        return stood(self.before, phrases), stood(self.now, phrases)
 
     def line(self) -> str:
-        named = not self.id or self.name.endswith(f"({self.id})")
-        name = self.name if named else f"{self.name} ({self.id})"
-        return f"{shown(name, 200)}: {self.what}; {shown(self.before, 300)} -> {shown(self.now, 300)}"
+        one, words = self.member, english()
+        name = one.name if not one.id or one.name.endswith(f"({one.id})") else f"{one.name} ({one.id})"
+        before, now = (shown(said, 300) for said in self.both(words))
+        return f"{shown(name, 200)}: {words.say(f'change.{self.what}')}; {before} -> {now}"
 
 
-def share(count: int, whole: int) -> str:
+def share(count: int, whole: int, phrases: Phrases) -> str:
     """A count with its part of the whole: `28 (72%)`."""
-    return f"{count:,} ({100 * count / whole:.0f}%)" if whole else f"{count:,}"
+    return phrases.say("figure.share", count=count, share=phrases.percent(count, whole)) if whole else phrases.number(count)
 
 
-def figures_of(one: Outcome) -> List[Tuple[str, str]]:
+def figures_of(one: Outcome, phrases: Phrases) -> List[Tuple[str, str]]:
     """The ten figures of a match; parts are parts of the residents who take part."""
     there = one.taking_part()
     choices = one.choices()
     kinds = {standing: len(one.standing(standing)) for standing in Standing}
-    of_all = [("matched", kinds[Standing.MATCHED]), ("with their first choice", sum(choices[:1])),
-              ("with their second choice", sum(choices[1:2])), ("with their third choice", sum(choices[2:3])),
-              ("with a later choice", sum(choices[3:])), ("unmatched, though ranked back", kinds[Standing.LOST_OUT]),
-              ("unmatched, ranked back by nobody or with an empty list",
-               kinds[Standing.NOT_RANKED_BACK] + kinds[Standing.RANKED_NOBODY])]
+    of_all = {"matched": kinds[Standing.MATCHED], "first": sum(choices[:1]), "second": sum(choices[1:2]), "third": sum(choices[2:3]),
+              "later": sum(choices[3:]), "lost-out": kinds[Standing.LOST_OUT],
+              "not-ranked": kinds[Standing.NOT_RANKED_BACK] + kinds[Standing.RANKED_NOBODY]}
     programmes = sum(not programme.withdrawn for programme in one.programmes.values())
     left = sum(programme.unfilled for programme in one.programmes.values())
-    return [("residents who take part", f"{there:,}"), *((what, share(count, there)) for what, count in of_all),
-            ("programmes that take part", f"{programmes:,}"), ("places unfilled", f"{left:,} of {one.places():,}")]
+    figures = {"taking-part": phrases.number(there), **{what: share(count, there, phrases) for what, count in of_all.items()},
+               "programmes": phrases.number(programmes), "left": phrases.say("figure.of", count=left, whole=one.places())}
+    return [(phrases.say(f"figure.{what}"), figure) for what, figure in figures.items()]
 
 
 def keyed(members: Mapping[str, One], others: Mapping[str, One]) -> Dict[str, One]:
@@ -56,64 +71,63 @@ def keyed(members: Mapping[str, One], others: Mapping[str, One]) -> Dict[str, On
     return {one.id if by_id else name: one for name, one in members.items()}
 
 
-def stood(one: Optional[Resident]) -> str:
+def stood(one: Union[Resident, Programme, None], phrases: Phrases) -> str:
     if one is None:
-        return "not there"
+        return phrases.say("change.not-there")
+    if isinstance(one, Programme):
+        return phrases.say("change.withdrawn") if one.withdrawn else phrases.say("change.filled", filled=one.filled, places=one.places)
     if one.standing is Standing.MATCHED:
-        return f"{one.programme} ({ordinal(one.choice or 0)} of {one.ranked:,})"
-    standing = str(one.standing.value)
-    return standing if one.standing is Standing.WITHDRAWN else f"unmatched ({standing})"
+        return phrases.say("change.matched", programme=one.programme, choice=phrases.ordinal(one.choice or 0), count=one.ranked)
+    standing = phrases.say(f"standing.{one.standing.key}")
+    return standing if one.standing is Standing.WITHDRAWN else phrases.say("change.unmatched", standing=standing)
 
 
-def filled(one: Optional[Programme]) -> str:
-    if one is None:
-        return "not there"
-    return "withdrawn" if one.withdrawn else f"{one.filled:,} of {one.places:,} filled"
+def is_one(name: str, other: str) -> bool:
+    """Whether two names differ in capitals, accents and the order of their words alone."""
+    return sorted(english().alphabetical(name)[0].split()) == sorted(english().alphabetical(other)[0].split())
 
 
 def of_resident(before: Optional[Resident], now: Optional[Resident], same: Mapping[str, str]) -> str:
-    """What became of a resident, or nothing; `same` names each programme now by its name before."""
+    """What became of a resident, or nothing; `same` names each programme now by its name before. Who has another's ID isn't compared."""
     if before is None or now is None:
-        return "new" if before is None else "gone"
+        return NEW if before is None else GONE
+    if not is_one(before.name, now.name):
+        return OTHER_NAME
     if now.standing is Standing.MATCHED and before.standing is Standing.MATCHED:
-        return "" if same.get(before.programme or "") == now.programme else "moved"
+        return "" if same.get(before.programme or "") == now.programme else MOVED
     if now.standing is before.standing:
         return ""
     if now.standing is Standing.WITHDRAWN:
-        return "withdrawn"
+        return WITHDRAWN
     if Standing.MATCHED in (before.standing, now.standing):
-        return "now matched" if now.standing is Standing.MATCHED else "no longer matched"
-    return "stands otherwise"
+        return NOW_MATCHED if now.standing is Standing.MATCHED else NO_LONGER
+    return OTHERWISE
 
 
 def of_programme(before: Optional[Programme], now: Optional[Programme]) -> str:
     if before is None or now is None:
-        return "new" if before is None else "gone"
+        return NEW if before is None else GONE
     if now.withdrawn and not before.withdrawn:
-        return "withdrawn"
-    return "" if filled(before) == filled(now) else "filled otherwise"
+        return WITHDRAWN
+    is_same = (before.withdrawn, before.filled, before.places) == (now.withdrawn, now.filled, now.places)
+    return "" if is_same or before.withdrawn and now.withdrawn else "filled-otherwise"
 
 
 def changes(before: Outcome, now: Outcome) -> List[Change]:
     """Every member who stands otherwise now, residents first, each kind of change by name."""
-    found: List[Change] = []
     old, new = keyed(before.programmes, now.programmes), keyed(now.programmes, before.programmes)
     same = {old[key].name: new[key].name for key in old if key in new}
-    for key in dict.fromkeys([*old, *new]):
-        what = of_programme(old.get(key), new.get(key))
-        if what:
-            programme = new.get(key) or old[key]
-            before_now = filled(old.get(key)), filled(new.get(key))
-            found.append(Change("programme", programme.name, programme.id, what, *before_now))
+    found = [Change(of_programme(old.get(key), new.get(key)), old.get(key), new.get(key)) for key in dict.fromkeys([*old, *new])]
     people, now_people = keyed(before.residents, now.residents), keyed(now.residents, before.residents)
-    for key in dict.fromkeys([*people, *now_people]):
-        what = of_resident(people.get(key), now_people.get(key), same)
-        if what:
-            resident = now_people.get(key) or people[key]
-            before_now = stood(people.get(key)), stood(now_people.get(key))
-            found.append(Change("resident", resident.name, resident.id, what, *before_now))
+    found += [Change(of_resident(people.get(key), now_people.get(key), same), people.get(key), now_people.get(key))
+              for key in dict.fromkeys([*people, *now_people])]
+    return ordered([one for one in found if one.what], english())
+
+
+def ordered(found: Sequence[Change], phrases: Phrases) -> List[Change]:
+    """Changes by kind, and each kind by name."""
     order = {what: place for place, what in enumerate(ORDER)}
-    return sorted(found, key=lambda one: (one.side == "programme", order.get(one.what, 0), alphabetical(one.name), one.id))
+    return sorted(found, key=lambda one: (one.side == "programme", order.get(one.what, 0), phrases.alphabetical(one.member.name), one.member.id))
 
 
 def has_ids(outcomes: Iterable[Outcome]) -> bool:
@@ -124,11 +138,12 @@ def has_ids(outcomes: Iterable[Outcome]) -> bool:
 def summary(before: Outcome, now: Outcome, found: Sequence[Change]) -> str:
     """One line on who stands otherwise, and how they are known."""
     counts = Counter(one.what for one in found if one.side == "resident")
-    told = ", ".join(f"{counts[what]:,} {what}" for what in ORDER if what in counts) or "nobody stands otherwise"
+    told = ", ".join(f"{counts[what]:,} {english().say(f'change.{what}')}" for what in ORDER if what in counts) or "nobody stands otherwise"
     known = "by their IDs" if has_ids((before, now)) else "by their names, since not all have an ID"
     return f"residents {known}: {told}"
 
 
-def changes_table(found: Sequence[Change]) -> bytes:
-    rows: List[Tuple[object, ...]] = [(one.side, one.name, one.id, one.what, one.before, one.now) for one in found]
-    return table_bytes(("Side", "Name", "ID", "Change", "Before", "Now"), rows)
+def changes_table(found: Sequence[Change], phrases: Phrases) -> bytes:
+    rows = [(phrases.say(f"change.{one.side}"), one.member.name, one.member.id, phrases.say(f"change.{one.what}"), *one.both(phrases))
+            for one in ordered(found, phrases)]
+    return table_bytes(heads(phrases, "side", "name", "id", "change", "before", "now"), rows)

@@ -37,8 +37,8 @@ def tell_lost_letters(table: Table, options: Settings, faults: Faults) -> None:
 def bare(name: str) -> str:
     """A name without capitals, blanks and accents."""
     small = name.casefold()
-    letters = small if small.isascii() else (c for c in unicodedata.normalize("NFKD", small) if not unicodedata.combining(c))
-    return "".join(c for c in letters if not c.isspace())
+    letters = small if small.isascii() else "".join(c for c in unicodedata.normalize("NFKD", small) if not unicodedata.combining(c))
+    return letters.replace(" ", "")
 
 
 def tell_alike(table: Table, options: Settings, faults: Faults) -> None:

@@ -3,6 +3,7 @@ import hashlib
 import json
 import os
 from contextlib import contextmanager
+from itertools import islice
 from pathlib import Path
 from typing import Any, Dict, Iterable, Iterator, List, Set
 
@@ -12,19 +13,21 @@ from .writing import PRIVATE, SHARED, cause_of, draft_of, refuse, umask, write_n
 
 DOCKET, KEY, SHEET, JOURNAL, PAGE = "docket.csv", "key.csv", "sheet.csv", "journal.csv", "page.html"
 AUDIT, REPLAY, MATCHES, UNFILLED, CHANGES = "audit.csv", "replay.csv", "matches.csv", "unfilled.csv", "changes.csv"
-MANIFEST, SUMS, LETTERS, ROSTERS = "manifest.json", "SHA256SUMS", "letters", "rosters"
+MANIFEST, SUMS, LETTERS, ROSTERS, RESULTS = "manifest.json", "SHA256SUMS", "letters", "rosters", "results.csv"
 # Of a sealed match: the secret, the roots, each member's receipt, what may be published, and what the tables have besides.
 SECRET, ROOTS, RECEIPTS, PUBLIC, DETAILS = "secret.txt", "root.txt", "receipts", "public", "details.csv"
 # What is readable by its owner alone: who is who, and what is for one member alone.
-OWNERS = {KEY, MATCHES, LETTERS, "letters.html", SECRET, RECEIPTS, DETAILS}
+OWNERS = {KEY, MATCHES, RESULTS, LETTERS, "letters.html", SECRET, RECEIPTS, DETAILS}
 # What tells somebody's list, or a hash from which lists can be guessed: it is for its owner, too, unless others may read the folder.
 LISTS = {DOCKET, JOURNAL, PAGE, ROSTERS, CHANGES, MANIFEST, SUMS}
 # What only the key, which has the real names, can make, and what only the secret can.
-NEEDS_KEY = {KEY, MATCHES, PAGE, UNFILLED, CHANGES, ROSTERS, LETTERS, "letters.html", DETAILS,
+NEEDS_KEY = {KEY, MATCHES, RESULTS, PAGE, UNFILLED, CHANGES, ROSTERS, LETTERS, "letters.html", DETAILS,
              *(f"{PUBLIC}/{name}" for name in (PAGE, UNFILLED, "cut-offs.csv"))}
 NEEDS_SECRET = {SECRET, RECEIPTS}
 # The entries of a manifest in their order; the digests follow.
-ENTRIES = ("title", "date", "program", "order", "cut_offs", "template", "tables", "reading", "from", "withdrawn", "details", "sealed", "auditor")
+ENTRIES = ("title", "date", "program", "language", "order", "cut_offs", "template", "letter", "tables", "reading", "from", "withdrawn", "details", "sealed", "auditor")
+# So many files and bytes are more than any match has.
+MOST_FILES, MOST_BYTES = 1_000_000, 2 << 30
 RESERVED = {"con", "prn", "aux", "nul"} | {f"{port}{number}" for port in ("com", "lpt") for number in range(1, 10)}
 
 
@@ -43,9 +46,34 @@ def sums_of(data: bytes) -> Dict[str, str]:
     return {name: one for one, name in lines}
 
 
+def below(path: str) -> Iterator[str]:
+    """The path of every file below a folder, links too, and of every folder there that can't be read."""
+    folders = [path]
+    while folders:
+        at = folders.pop()
+        try:
+            with os.scandir(at) as found:
+                for one in found:
+                    if one.is_dir(follow_symlinks=False):
+                        folders.append(one.path)
+                    else:
+                        yield one.path
+        except OSError:
+            yield at
+
+
+def size_of(path: str) -> int:
+    """How many bytes the files below a folder have. OfficeError where no match has so many."""
+    paths = list(islice(below(path), MOST_FILES + 1))
+    size = sum(os.lstat(one).st_size for one in paths if os.path.lexists(one))
+    if len(paths) > MOST_FILES or size > MOST_BYTES:
+        raise OfficeError("folder.large", 3, path, files=MOST_FILES, megabytes=MOST_BYTES >> 20)
+    return size
+
+
 def files_below(path: Path) -> Dict[str, Path]:
     """Every file below a folder, links too, by its name there."""
-    return {one.relative_to(path).as_posix(): one for one in sorted(path.rglob("*")) if one.is_symlink() or not one.is_dir()}
+    return {one.relative_to(path).as_posix(): one for one in sorted(map(Path, below(str(path))))}
 
 
 def file_names(docket_names: Iterable[str], ending: str) -> Dict[str, str]:

@@ -27,6 +27,7 @@ EXAMPLES = {
     "withdraw": "office withdraw match-2026 'Greta Weiß' --out match-2026-b",
     "compare": "office compare match-2025 match-2026",
     "letters": "office letters match-2026 --template letter.txt --out letters-2026",
+    "why": "office why match-2026 'Ewa Zielińska'",
     "verify": "office verify match-2026",
     "auditor": "office auditor match-2026 --out for-auditor",
 }
@@ -66,7 +67,7 @@ def parser() -> argparse.ArgumentParser:
     top = Parser(prog=CALLED, description=wrapped(ABOUT), epilog=f"examples:\n{examples}\n\n{wrapped(STATUSES)}",
                  formatter_class=argparse.RawDescriptionHelpFormatter)
     commands = top.add_subparsers(dest="command", metavar="COMMAND", required=True)
-    for add in (add_check, add_settings, add_lint, add_seal, add_run, add_withdraw, add_compare, add_letters, add_verify, add_auditor):
+    for add in (add_check, add_settings, add_lint, add_seal, add_run, add_withdraw, add_compare, add_letters, add_why, add_verify, add_auditor):
         add(commands)
     return top
 
@@ -86,11 +87,12 @@ def add_tables(one: argparse.ArgumentParser) -> None:
     one.add_argument("--encoding", action="append", default=[], metavar="[TABLE=]SET",
                      help="the character set, as utf-8, windows-1252 or utf-16; of both tables or of one (residents=iso-8859-2)")
     one.add_argument("--heading", action="append", default=[], metavar="ROLE=WORD",
-                     help="a word that heads a column, besides the known ones; ROLE is programme, resident, places, rank, id, given or family "
-                     "(--heading rank=Rang)")
+                     help="a word that heads a column, besides the known ones; ROLE is programme, resident, places, rank, id, given, family or "
+                     "withdrawn (--heading rank=Turno)")
     one.add_argument("--ignore", action="append", default=[], metavar="HEADING", help="a column to leave out, without a word")
     one.add_argument("--keep", action="append", default=[], metavar="HEADING",
                      help="a column to keep for matches.csv and the letters' template (--keep Email)")
+    one.add_argument("--language-column", metavar="HEADING", help="a column of residents that says the language of each letter")
     one.add_argument("--heading-row", action="append", default=[], metavar="[TABLE=]NUMBER",
                      help="the row of the headings, where rows stand above it (residents=3)")
     one.add_argument("--sheet", action="append", default=[], metavar="[TABLE=]NAME",
@@ -116,10 +118,17 @@ def add_settings_file(one: argparse.ArgumentParser) -> None:
 def add_wishes(one: argparse.ArgumentParser) -> None:
     one.add_argument("--date", type=day, default=None, metavar="YYYY-MM-DD", help="the day that page and letters name (today)")
     one.add_argument("--order", choices=("name", "table"), default=None, help="the order of names in the page (name)")
-    one.add_argument("--template", metavar="FILE", help="the text of the letters, with $name, $outcome, $list and others")
+    one.add_argument("--template", metavar="FILE", help="the text of the letters, with $name, $outcome, $list and others; or a "
+                     "folder with matched.txt, lost-out.txt, ranked-back-by-nobody.txt, ranked-nobody.txt, withdrawn.txt, and letter.txt for all else")
     one.add_argument("--cut-offs", action="store_true", help="of a sealed match, publish the last rank that each programme took, too")
     one.add_argument("--readable", action="store_true", help="let others read the docket, page and rosters of a match that isn't sealed")
+    add_language(one)
     add_timeout(one)
+
+
+def add_language(one: argparse.ArgumentParser) -> None:
+    one.add_argument("--language", metavar="WORD", help="the language of letters, pages and tables: de, en, es, fr or pl, or a file of "
+                     "phrases of your own (en, or the one of the folder)")
 
 
 def add_timeout(one: argparse.ArgumentParser) -> None:
@@ -196,6 +205,7 @@ def add_seal(commands: Commands) -> None:
     one.add_argument("--out", required=True, metavar="FOLDER", help="the folder to make, which isn't there yet")
     one.add_argument("--title", default=None, help=f"the page's title ({TITLE})")
     one.add_argument("--date", type=day, default=None, metavar="YYYY-MM-DD", help="the day that the page names (today)")
+    add_language(one)
     add_tables(one)
     add_timeout(one)
 
@@ -248,10 +258,24 @@ def add_letters(commands: Commands) -> None:
         commands, "letters", "Writes the letters of a folder again, into a new folder, from a template of your own.",
         f"In it ${', $'.join(FIELDS)} stand for what they say, and $$ for the sign.")
     one.add_argument("folder", metavar="FOLDER", help="a folder that run or withdraw made")
-    one.add_argument("--out", required=True, metavar="FOLDER", help="the folder to make, which isn't there yet")
-    one.add_argument("--template", metavar="FILE", help="the text of the letters (the one of run)")
+    either = one.add_mutually_exclusive_group(required=True)
+    either.add_argument("--out", metavar="FOLDER", help="the folder to make, which isn't there yet")
+    either.add_argument("--preview", type=count, metavar="NUMBER", help="show so many letters of each standing, and write nothing")
+    one.add_argument("--template", metavar="FILE", help="the text of the letters, or a folder of texts (the one of run)")
     one.add_argument("--date", type=day, default=None, metavar="YYYY-MM-DD", help="the day that the letters name (that of the run)")
+    add_language(one)
     add_settings_file(one)
+
+
+def add_why(commands: Commands) -> None:
+    one = add_command(
+        commands, "why", "Tells what became of each choice of one resident, in the folder's language.",
+        "A name is the one of the tables, as NAME or FAMILY, FIRST, the ID, NAME (ID), or the docket's name.")
+    one.add_argument("folder", metavar="FOLDER", help="a folder that run or withdraw made")
+    one.add_argument("name", metavar="NAME", help="the resident")
+    one.add_argument("programme", nargs="?", metavar="PROGRAMME", help="one programme alone")
+    one.add_argument("--out", metavar="FILE", help="a file to write the answer to, which isn't there yet")
+    add_timeout(one)
 
 
 def add_verify(commands: Commands) -> None:

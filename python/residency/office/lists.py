@@ -9,7 +9,7 @@ from ..near import NearNames, edits, folded
 from ..records import is_name
 from . import doubts, national
 from .faults import Cell, Fault, Faults, Remedy, Values
-from .headings import meanings
+from .headings import bare, meanings
 from .remarks import is_remark
 from .settings import Settings
 from .tables import SCIENTIFIC, Entry, Item, Table
@@ -18,7 +18,14 @@ from .tables import SCIENTIFIC, Entry, Item, Table
 MOST_SEARCHED = 200
 # How many names that no row has may mean that the two tables aren't of one match.
 FEW_NAMES = 10
+# So many numbers that all are IDs are no other numbers.
+FEW_IDS = 3
 SEVERAL = re.compile(r"[;,|/\n]|\s-\s")
+
+
+def bare_id(text: str) -> str:
+    """An ID without signs, blanks and capitals."""
+    return "".join(c for c in text.casefold() if c.isalnum())
 
 
 class Directory:
@@ -120,8 +127,8 @@ class Joiner:
         the likely meant ones."""
         for table, directory in directories.items():
             unknown = {text: items for (name, text), items in self.unknown.items() if name == table}
-            for cause in (self.with_point, self.with_zeros, self.scientific, self.another_year):
-                told = cause(table, directory, unknown)
+            for cause in (self.with_point, self.with_zeros, self.scientific, self.written_otherwise, self.sorted_alone, self.another_year):
+                told = cause(table, directory, unknown) if unknown else ()
                 unknown = {text: items for text, items in unknown.items() if text not in told}
             often = sorted(unknown, key=lambda text: -len(unknown[text]))
             for count, text in enumerate(often):
@@ -172,12 +179,34 @@ class Joiner:
             self.tell_together(table, [item for text in found for item in unknown[text]], "file.scientific", {"id": found[0]})
         return found
 
+    def written_otherwise(self, table: str, directory: Directory, unknown: Dict[str, List[Item]]) -> List[str]:
+        """IDs that have a sign, a blank or a capital more or less in one table."""
+        by_bare: Dict[str, List[str]] = {}
+        for entry in directory.table.entries:
+            if entry.id:
+                by_bare.setdefault(bare_id(entry.id), []).append(entry.id)
+        alone = {text: whole[0] for text, whole in by_bare.items() if len(whole) == 1}
+        return self.told_where(table, directory, unknown, lambda text: alone.get(bare_id(text), text), "file.written")
+
+    def sorted_alone(self, table: str, directory: Directory, unknown: Dict[str, List[Item]]) -> List[str]:
+        """Names of which each part stands in a row of its own: one of the two columns of names was sorted, and the other wasn't."""
+        given, family = ({getattr(entry, part) for entry in directory.table.entries} - {""} for part in ("given", "family"))
+        found = [text for text in unknown if any(text[:at] in given and text[at + 1:] in family for at, c in enumerate(text) if c == " ")]
+        if len(found) < FEW_NAMES or 2 * len(found) < len(unknown):
+            return []
+        self.tell_together(table, [item for text in found for item in unknown[text]], "file.sorted", {
+            "count": len(found), "owners": directory.table.owners, "name": found[0]})
+        return found
+
     def another_year(self, table: str, directory: Directory, unknown: Dict[str, List[Item]]) -> List[str]:
-        """Lists of which most names are in no row: the tables aren't of one match. Not so where they are like other names."""
+        """Lists of which most names are in no row, and in which most rows have no name: the tables aren't of one match. Not so where they
+        are like other names."""
         source = self.programmes if table == self.programmes.name else self.residents
         cells = [item.text for entry in source.entries for item in entry.items]
         named = set(cells)
-        if len(unknown) < FEW_NAMES or 2 * len(unknown) <= len(named) or 2 * sum(map(len, unknown.values())) <= len(cells):
+        listed = {index for text in named for index in directory.find(text)}
+        if len(unknown) < FEW_NAMES or 2 * len(unknown) <= len(named) or 2 * sum(map(len, unknown.values())) <= len(cells) \
+                or 2 * len(listed) > len(directory.table.entries):
             return []
         tried = sorted(unknown, key=lambda text: -len(unknown[text]))[:MOST_SEARCHED]
         if 5 * sum(directory.hint(text)[0] != "name" for text in tried) > len(tried):
@@ -190,9 +219,11 @@ class Joiner:
     def tell_unread(self, table: Table, directory: Directory) -> None:
         """Tells a column that isn't read and yet has names of the other table: it may be a rank under another heading."""
         for cell, (heading, texts) in table.unread.items():
-            known = [text for text in sorted(texts) if any(c.isalpha() for c in text) and directory.find(text)]
-            if known and 2 * len(known) >= len(texts):
-                values = {"heading": heading, "owners": directory.table.owners, "name": known[0]}
+            known = [text for text in sorted(texts) if directory.find(text)]
+            # Numbers may be anything; they are IDs where all of them are.
+            is_named = known and 2 * len([text for text in known if any(c.isalpha() for c in text)]) >= len(texts)
+            if is_named or len(texts) == len(known) >= FEW_IDS:
+                values = {"heading": heading, "owners": directory.table.owners, "name": known[0], "word": bare("rank", heading)}
                 self.faults.tell("heading.members", table.name, table.heading, cell + 1, values, remedies=meanings("rank", heading))
 
 
@@ -230,10 +261,13 @@ def market_of(programmes: Table, residents: Table, faults: Faults, options: Sett
                      for made, entry in zip(docket_names_of(residents, "r"), residents.entries)])
     of_programmes = [names.name(PROGRAMME, member.docket_name) for member in names.members(PROGRAMME)]
     of_residents = [names.name(RESIDENT, member.docket_name) for member in names.members(RESIDENT)]
-    return Market({name: entry.places or 0 for name, entry in zip(of_programmes, programmes.entries)},
-                  {name: [of_residents[one] for one in listed] for name, listed in zip(of_programmes, programme_lists)},
-                  {name: [of_programmes[one] for one in listed] for name, listed in zip(of_residents, resident_lists)},
-                  names=names)
+    market = Market({name: entry.places or 0 for name, entry in zip(of_programmes, programmes.entries)},
+                    {name: [of_residents[one] for one in listed] for name, listed in zip(of_programmes, programme_lists)},
+                    {name: [of_programmes[one] for one in listed] for name, listed in zip(of_residents, resident_lists)},
+                    names=names)
+    gone = [[name for name, entry in zip(called, table.entries) if entry.withdrawn]
+            for called, table in ((of_programmes, programmes), (of_residents, residents))]
+    return market.withdraw(*gone) if any(gone) else market
 
 
 def note_alone(table: Table, lists: List[List[int]], others: List[List[int]], faults: Faults, options: Settings) -> None:
@@ -244,7 +278,7 @@ def note_alone(table: Table, lists: List[List[int]], others: List[List[int]], fa
         if not entry.items and is_remark(entry, table):
             faults.tell("row.remark", table.name, entry.row, entry.cell, {"name": entry.name}, remedies=(Remedy("allow_alone", True),))
     if alone:
-        values = {"count": len(alone), "owners": table.owners, "name": alone[0].name, "row": alone[0].row}
+        values = {"owners": table.owners, "names": [(one.name, one.row) for one in alone]}
         table.notes.append(Fault("note.alone", table.name, alone[0].row, alone[0].cell,
                                  [Cell(table.name, one.row, one.cell) for one in alone], values))
 

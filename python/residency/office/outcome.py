@@ -1,5 +1,4 @@
 """How a match went, in the office's own names: who is where, at which ranks of the lists as written, and why not."""
-import unicodedata
 from collections import Counter
 from dataclasses import dataclass, field
 from enum import Enum
@@ -7,8 +6,7 @@ from typing import Dict, Iterable, List, Mapping, Optional, Sequence, Tuple, Typ
 
 from ..market import Market
 from ..names import PROGRAMME, RESIDENT
-
-PLAIN = str.maketrans({"ß": "ss", "æ": "ae", "œ": "oe", "ø": "o", "ł": "l", "đ": "d", "ð": "d", "þ": "th", "ı": "i"})
+from .phrases import Phrases
 
 
 class Standing(Enum):
@@ -19,6 +17,11 @@ class Standing(Enum):
     NOT_RANKED_BACK = "ranked back by nobody"
     LOST_OUT = "lost out"
     WITHDRAWN = "withdrawn"
+
+    @property
+    def key(self) -> str:
+        """The end of the names of its phrases."""
+        return self.value.replace(" ", "-")
 
 
 class Became(Enum):
@@ -31,6 +34,11 @@ class Became(Enum):
     NOT_RANKED = "not ranked back"
     NO_PLACES = "no places"
     FULL = "full"
+
+    @property
+    def key(self) -> str:
+        """The end of the names of its phrases."""
+        return self.value.replace(" ", "-")
 
 
 UNMATCHED = (Standing.LOST_OUT, Standing.NOT_RANKED_BACK, Standing.RANKED_NOBODY)
@@ -113,17 +121,6 @@ class Outcome:
         return sum(one.places for one in self.programmes.values() if not one.withdrawn)
 
 
-def ordinal(number: int) -> str:
-    ending = "th" if number % 100 in (11, 12, 13) else {1: "st", 2: "nd", 3: "rd"}.get(number % 10, "th")
-    return f"{number:,}{ending}"
-
-
-def alphabetical(name: str) -> Tuple[str, str]:
-    """What names are sorted by: their letters without accents and capitals, then as they are."""
-    plain = unicodedata.normalize("NFKD", name.casefold().translate(PLAIN))
-    return "".join(c for c in plain if not unicodedata.combining(c)), name
-
-
 def outcome_of(market: Market, places: Mapping[str, Optional[str]], details: Details = Details()) -> Outcome:
     """The outcome of these places, in the market's names."""
     gone = set(market.withdrawn_residents)
@@ -154,19 +151,19 @@ def outcome_of(market: Market, places: Mapping[str, Optional[str]], details: Det
     return Outcome(residents, programmes, details.columns)
 
 
-def name_key(one: Union[Resident, Programme]) -> Tuple[Tuple[str, str], Tuple[str, str]]:
+def name_key(one: Union[Resident, Programme], phrases: Phrases) -> Tuple[Tuple[str, str], Tuple[str, str]]:
     """What a member is sorted by: the family name first, where there is one."""
-    whole = alphabetical(one.name)
+    whole = phrases.alphabetical(one.name)
     family = getattr(one, "family", "")
-    return alphabetical(family) if family else whole, whole
+    return phrases.alphabetical(family) if family else whole, whole
 
 
 Member = TypeVar("Member", Resident, Programme)
 
 
-def by_name(members: Iterable[Member], order: str = "name") -> Sequence[Member]:
-    """Members in the order that is asked for: by name, or as the table has them."""
-    return sorted(members, key=name_key) if order == "name" else list(members)
+def by_name(members: Iterable[Member], phrases: Phrases, order: str = "name") -> Sequence[Member]:
+    """Members in the order that is asked for: by name as the language sorts them, or as the table has them."""
+    return sorted(members, key=lambda one: name_key(one, phrases)) if order == "name" else list(members)
 
 
 class Lists:

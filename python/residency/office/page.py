@@ -3,43 +3,31 @@
 It is one file that needs nothing else, without a script; it reads on a telephone and prints with page numbers.
 """
 import html
-from dataclasses import dataclass
+from dataclasses import dataclass, field
 from datetime import date
-from typing import Dict, Iterable, List, Optional, Sequence, Tuple, Union
+from typing import Any, Dict, Iterable, List, Optional, Sequence, Tuple, Union
 
-from .faults import counted
-from .outcome import UNMATCHED, Outcome, Programme, Resident, Standing, by_name, ordinal
+from .outcome import UNMATCHED, Outcome, Programme, Resident, Standing, by_name
+from .phrases import Phrases, english
 from .style import STYLE
 from .tree import Roots
 
-MONTHS = ("January", "February", "March", "April", "May", "June", "July", "August", "September", "October", "November",
-          "December")
 # As many choices have a bar of their own; all later ones share one.
 MOST_BARS = 10
-# The parts of the page, and what the links at its top call them.
-PARTS = (("unfilled", "Unfilled places"), ("figures", "In short"), ("choices", "Choices"), ("unmatched", "Unmatched"),
-         ("withdrawn", "Withdrawn"), ("matched", "Matched"), ("programmes", "Programmes"), ("made", "Digests"))
-TOLD = {
-    Standing.LOST_OUT: ("No place left", "Programmes that they ranked also ranked them, and all places there went to others, whom "
-                        "these programmes rank before them."),
-    Standing.NOT_RANKED_BACK: ("Ranked back by nobody", "No programme on their lists that takes part has them on its own list."),
-    Standing.RANKED_NOBODY: ("Ranked nobody", "Their lists are empty."),
-}
+# The parts of the page, by the ends of the names of their phrases.
+PARTS = ("unfilled", "figures", "choices", "unmatched", "withdrawn", "matched", "programmes", "made")
 
 
 @dataclass(frozen=True)
 class About:
-    """What the page says of itself: its title, its day, the digest of each file that it was made from, and where the match was
-    sealed the roots."""
+    """What the page says of itself: its title, its day, the digest of each file that it was made from, where the match was
+    sealed the roots, and the words that it is written in."""
 
     title: str
     day: date
     digests: Dict[str, str]
     roots: Optional[Roots] = None
-
-
-def long_day(day: date) -> str:
-    return f"{day.day} {MONTHS[day.month - 1]} {day.year}"
+    phrases: Phrases = field(default_factory=english)
 
 
 def bdi(text: str) -> str:
@@ -83,61 +71,76 @@ class Page:
     """The parts of the page."""
 
     def __init__(self, outcome: Outcome, about: About, order: str = "name") -> None:
-        self.outcome, self.about, self.order = outcome, about, order
-        self.parts: Sequence[Tuple[str, str]] = PARTS
-        self.matched = by_name(outcome.standing(Standing.MATCHED), order)
-        self.withdrawn = by_name(outcome.standing(Standing.WITHDRAWN), order)
-        self.programmes = by_name(outcome.programmes.values(), order)
+        self.outcome, self.about, self.order, self.phrases = outcome, about, order, about.phrases
+        self.parts: Sequence[str] = PARTS
+        self.matched = by_name(outcome.standing(Standing.MATCHED), self.phrases, order)
+        self.withdrawn = by_name(outcome.standing(Standing.WITHDRAWN), self.phrases, order)
+        self.programmes = by_name(outcome.programmes.values(), self.phrases, order)
         self.taking_part = len(outcome.residents) - len(self.withdrawn)
+
+    def said(self, key: str, **values: Any) -> str:
+        """A phrase of the page; its values are parts of a page."""
+        return self.phrases.html(f"page.{key}", **values)
+
+    def heads(self, *names: str) -> List[Tuple[str, str]]:
+        """The heads of a table: one that begins with a dot is of numbers."""
+        return [("n" if name[0] == "." else "", self.phrases.html(f"head.{name.lstrip('.')}")) for name in names]
+
+    def number(self, number: int, kind: str = "n") -> Tuple[str, str]:
+        return kind, self.phrases.number(number)
+
+    def ordinal(self, number: int) -> str:
+        return html.escape(self.phrases.ordinal(number))
 
     def in_order(self, members: Sequence[Union[Programme, Resident]]) -> str:
         if self.order != "name":
-            return "in the order of the table"
-        return "by family name" if any(getattr(one, "family", "") for one in members) else "in alphabetical order"
+            return self.said("by-table")
+        return self.said("by-family-name" if any(getattr(one, "family", "") for one in members) else "by-name")
 
     def unfilled(self) -> str:
         short = [one for one in self.programmes if one.unfilled]
         if not short:
-            return section("unfilled", "Unfilled places", "<p>Every place is filled.</p>")
-        rows = (row(label(one), ("n", f"{one.places:,}"), ("n", f"{one.filled:,}"), ("n short", f"{one.unfilled:,}"))
-                for one in short)
-        left = sum(one.unfilled for one in short)
-        told = (f"{left:,} of {counted(self.outcome.places(), 'place')}, at {counted(len(short), 'programme')}, "
-                f"{self.in_order(short)}")
-        return section("unfilled", "Unfilled places",
-                       table(told, (("", "Programme"), ("n", "Places"), ("n", "Filled"), ("n", "Unfilled")), rows, "stack open"))
+            return section("unfilled", self.said("unfilled"), f"<p>{self.said('all-filled')}</p>")
+        rows = (row(label(one), self.number(one.places), self.number(one.filled), self.number(one.unfilled, "n short")) for one in short)
+        told = self.said("unfilled-told", left=sum(one.unfilled for one in short), places=self.outcome.places(), programmes=len(short),
+                         order=self.in_order(short))
+        return section("unfilled", self.said("unfilled"),
+                       table(told, self.heads("programme", ".places", ".filled", ".unfilled"), rows, "stack open"))
 
     def figures(self) -> str:
-        counts = [(len(self.matched), "residents matched")]
-        counts += [(len(self.outcome.standing(one)), TOLD[one][0].lower()) for one in UNMATCHED]
-        counts += [(len(self.withdrawn), "withdrawn")] if self.withdrawn else []
-        boxes = "".join(f"<div><dt>{what}</dt><dd>{count:,}</dd></div>" for count, what in counts)
-        return section("figures", "In short", f'<dl class="figures">{boxes}</dl>')
+        counts = [(one, len(self.outcome.standing(one))) for one in (Standing.MATCHED, *UNMATCHED)]
+        counts += [(Standing.WITHDRAWN, len(self.withdrawn))] if self.withdrawn else []
+        boxes = "".join(f"<div><dt>{self.said(f'figure.{one.key}')}</dt><dd>{self.number(count)[1]}</dd></div>" for one, count in counts)
+        return section("figures", self.said("figures"), f'<dl class="figures">{boxes}</dl>')
 
     def choices(self) -> str:
         counts = self.outcome.choices()
-        bars = [(f"{ordinal(choice)} choice", count, "bar") for choice, count in enumerate(counts[:MOST_BARS], 1)]
+        bars = [(self.said("choice", choice=self.ordinal(choice)), count, "bar") for choice, count in enumerate(counts[:MOST_BARS], 1)]
         if len(counts) > MOST_BARS:
-            bars.append((f"{ordinal(MOST_BARS + 1)} or later", sum(counts[MOST_BARS:]), "bar"))
-        bars.append(("Unmatched", self.taking_part - len(self.matched), "bar left"))
+            bars.append((self.said("later-choice", choice=self.ordinal(MOST_BARS + 1)), sum(counts[MOST_BARS:]), "bar"))
+        bars.append((self.said("no-choice"), self.taking_part - len(self.matched), "bar left"))
         most = max(count for _, count, _ in bars) or 1
-        rows = (row(what, ("n", f"{count:,}"), ("share", self.bar(count, most, kind))) for what, count, kind in bars)
-        told = f"Of {counted(self.taking_part, 'resident')}; a choice is a programme's rank on the resident's list as written"
-        heads = (("", "Choice"), ("n", "Residents"), ("", "Share"))
-        return section("choices", "Which choice residents got", table(told, heads, rows, "bars"))
+        rows = (row(what, self.number(count), ("share", self.bar(count, most, kind))) for what, count, kind in bars)
+        told = self.said("choices-told", count=self.taking_part)
+        return section("choices", self.said("choices"), table(told, self.heads("choice", ".residents", "share"), rows, "bars"))
 
     def bar(self, count: int, most: int, kind: str) -> str:
-        share = f"{100 * count / self.taking_part:.0f}%" if self.taking_part else ""
+        share = html.escape(self.phrases.percent(count, self.taking_part)) if self.taking_part else ""
         return f'<span class="{kind}" style="width:{70 * count / most:.1f}%"></span>{share}'
+
+    def titled(self, title: str, count: int) -> str:
+        return f"<h3>{title}: {self.number(count)[1]}</h3>"
 
     def unmatched(self) -> str:
         parts: List[str] = []
         for standing in UNMATCHED:
-            title, told = TOLD[standing]
-            who = by_name(self.outcome.standing(standing), self.order)
-            parts.append(f"<h3>{title}: {len(who):,}</h3>")
-            parts.append(f'<p class="soft">{told}</p>\n{self.list_of(who)}' if who else "<p>Nobody.</p>")
-        return section("unmatched", "Unmatched residents", *parts)
+            who = by_name(self.outcome.standing(standing), self.phrases, self.order)
+            parts.append(self.titled(self.said(standing.key), len(who)))
+            parts.append(f'<p class="soft">{self.said(f"{standing.key}-told")}</p>\n{self.list_of(who)}' if who else self.nobody())
+        return section("unmatched", self.said("unmatched"), *parts)
+
+    def nobody(self) -> str:
+        return f"<p>{self.said('nobody')}</p>"
 
     @staticmethod
     def list_of(members: Iterable[Union[Resident, Programme]]) -> str:
@@ -145,57 +148,63 @@ class Page:
 
     def gone(self) -> str:
         programmes = [one for one in self.programmes if one.withdrawn]
-        sides: List[Tuple[str, Sequence[Union[Resident, Programme]]]] = [("Residents", self.withdrawn), ("Programmes", programmes)]
-        parts = [f"<h3>{title}: {len(who):,}</h3>\n{self.list_of(who)}" for title, who in sides if who]
-        return section("withdrawn", "Withdrawn", *(parts or ["<p>Nobody.</p>"]))
+        sides: List[Tuple[str, Sequence[Union[Resident, Programme]]]] = [("residents", self.withdrawn), ("programmes", programmes)]
+        parts = [f"{self.titled(self.said(title), len(who))}\n{self.list_of(who)}" for title, who in sides if who]
+        return section("withdrawn", self.said("withdrawn"), *(parts or [self.nobody()]))
 
     def residents(self) -> str:
         rows = (row(label(one), ("", label(self.outcome.programmes[one.programme or ""])),
-                    ("n", f"{ordinal(one.choice or 0)} of {one.ranked:,}")) for one in self.matched)
-        return section("matched", "Matched residents",
-                       table(f"{counted(len(self.matched), 'resident')}, {self.in_order(self.matched)}",
-                             (("", "Resident"), ("", "Programme"), ("n", "Choice")), rows, "stack matched"))
+                    ("n", self.said("choice-of", choice=self.ordinal(one.choice or 0), count=one.ranked))) for one in self.matched)
+        told = self.said("matched-told", count=len(self.matched), order=self.in_order(self.matched))
+        return section("matched", self.said("matched"), table(told, self.heads("resident", "programme", ".choice"), rows, "stack matched"))
 
-    @staticmethod
-    def last_taken(one: Programme) -> str:
+    def last_taken(self, one: Programme) -> str:
         """The last rank that a full programme took; one with unfilled places took all who wanted it, so no rank was the last."""
         if one.withdrawn or not one.places:
             return "–"
-        return "open" if one.unfilled else f"{ordinal(one.last_rank or 0)} of {one.ranked:,}"
+        return self.said("open") if one.unfilled else self.rank_of(one)
 
-    def programme_row(self, one: Programme) -> str:
-        name = label(one) + (" (withdrawn)" if one.withdrawn else "")
-        return row(name, ("n", f"{one.places:,}"), ("n", f"{one.filled:,}"),
-                   ("n short" if one.unfilled else "n", f"{one.unfilled:,}"), ("n", self.last_taken(one)))
+    def rank_of(self, one: Programme) -> str:
+        return self.said("choice-of", choice=self.ordinal(one.last_rank or 0), count=one.ranked)
+
+    def programme_row(self, one: Programme) -> List[Tuple[str, str]]:
+        """What a programme's row has; its head is the first."""
+        name = self.said("is-withdrawn", name=label(one)) if one.withdrawn else label(one)
+        return [("", name), self.number(one.places), self.number(one.filled), self.number(one.unfilled, "n short" if one.unfilled else "n")]
+
+    def programmes_told(self) -> str:
+        return self.said("programmes-told", count=len(self.programmes), order=self.in_order(self.programmes))
 
     def all_programmes(self) -> str:
-        heads = (("", "Programme"), ("n", "Places"), ("n", "Filled"), ("n", "Unfilled"), ("n", "Last rank taken"))
-        told = (f"{counted(len(self.programmes), 'programme')}, {self.in_order(self.programmes)}; the last rank taken is on the "
-                "programme's list as written, and a programme with unfilled places is open")
-        return section("programmes", "Programmes", table(told, heads, map(self.programme_row, self.programmes), "stack programmes"))
+        heads = self.heads("programme", ".places", ".filled", ".unfilled", ".last-taken")
+        rows = (row(head[1], *cells, ("n", self.last_taken(one))) for one in self.programmes for head, *cells in [self.programme_row(one)])
+        told = f"{self.programmes_told()}; {self.said('last-taken-told')}"
+        return section("programmes", self.said("programmes"), table(told, heads, rows, "stack programmes"))
 
     def made_of(self) -> str:
         rows = (row(f"<code>{html.escape(name)}</code>", ("", f"<code>{digest}</code>"))
                 for name, digest in self.about.digests.items())
-        told = "Each file and its SHA-256, which <code>sha256sum</code> prints, too"
-        return section("made", "What this page was made of", table(told, (("", "File"), ("", "SHA-256")), rows, "stack digests"))
+        told = self.said("made-told", command="<code>sha256sum</code>")
+        return section("made", self.said("made"), table(told, [*self.heads("file"), ("", "SHA-256")], rows, "stack digests"))
 
     def head(self) -> str:
         title = html.escape(self.about.title)
-        day = f'<time datetime="{self.about.day.isoformat()}">{long_day(self.about.day)}</time>'
-        links = "".join(f'<li><a href="#{name}">{what}</a></li>' for name, what in self.parts)
-        return (f'<header>\n<h1>{title}</h1>\n<p class="soft">{day}. {counted(len(self.outcome.residents), "resident")}, '
-                f'{counted(len(self.programmes), "programme")}.</p>\n</header>\n'
-                f'<nav aria-label="Parts of this page"><ul>{links}</ul></nav>')
+        day = f'<time datetime="{self.about.day.isoformat()}">{html.escape(self.phrases.day(self.about.day))}</time>'
+        links = "".join(f'<li><a href="#{name}">{self.said(f"link.{name}")}</a></li>' for name in self.parts)
+        counts = self.said("counts", residents=len(self.outcome.residents), programmes=len(self.programmes))
+        return (f'<header>\n<h1>{title}</h1>\n<p class="soft">{day}. {counts}</p>\n</header>\n'
+                f'<nav aria-label="{html.escape(self.phrases.say("page.parts"))}"><ul>{links}</ul></nav>')
 
     def foot(self) -> str:
         """What each sheet of paper says."""
         docket = next(iter(self.about.digests.values()), "")[:16]
-        return f"{self.about.title}, {self.about.day.isoformat()}, docket {docket}"
+        return self.phrases.say("page.foot", title=self.about.title, date=self.about.day.isoformat(), digest=docket)
 
     def style(self) -> str:
-        plain = "".join(c for c in self.foot() if c.isprintable() and c not in '"\\<>&{}')
-        return STYLE.replace("@FOOT@", plain)
+        style = STYLE
+        for mark, text in (("@FOOT@", self.foot()), ("@OF@", self.phrases.say("page.sheet-of"))):
+            style = style.replace(mark, "".join(c for c in text if c.isprintable() and c not in '"\\<>&{}'))
+        return style
 
     def sections(self) -> Sequence[str]:
         """The parts of the page, in order."""
@@ -205,7 +214,7 @@ class Page:
     def text(self) -> str:
         """The whole page."""
         inside = "\n".join(self.sections())
-        return ('<!doctype html>\n<html lang="en">\n<head>\n<meta charset="utf-8">\n'
+        return (f'<!doctype html>\n<html lang="{html.escape(self.phrases.language)}">\n<head>\n<meta charset="utf-8">\n'
                 '<meta name="viewport" content="width=device-width, initial-scale=1">\n'
                 f"<title>{html.escape(self.about.title)}, {self.about.day.isoformat()}</title>\n"
                 f"<style>\n{self.style()}</style>\n</head>\n"

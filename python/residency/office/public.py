@@ -3,17 +3,17 @@ No list stands in it, and no resident's name."""
 import html
 import json
 from pathlib import Path
-from typing import List, Sequence, Tuple
+from typing import Sequence
 
 from . import compare, folder, rosters
 from .faults import counted
 from .folder import Draft
-from .outcome import Outcome, Programme, by_name
-from .page import About, Page, label, long_day, row, section, table
+from .outcome import Outcome, Programme
+from .page import About, Page, row, section, table
 from .tree import Roots
 
 CHECK, FIGURES, CUT_OFFS = "check.html", "figures.csv", "cut-offs.csv"
-PARTS = (("unfilled", "Unfilled places"), ("figures", "In short"), ("choices", "Choices"), ("programmes", "Programmes"), ("made", "Roots"))
+PARTS = ("unfilled", "figures", "choices", "programmes", "roots")
 
 
 def check_page(roots: Roots, about: About) -> str:
@@ -23,7 +23,7 @@ def check_page(roots: Roots, about: About) -> str:
     rows = "\n".join(f"<dt>Root of the {word}, of {counted(roots.count, 'member')}</dt>\n<dd><code>{digits}</code></dd>"
                      for word, digits in there)
     text = (Path(__file__).with_name(CHECK)).read_text(encoding="utf-8")
-    for mark, told in (("@TITLE@", html.escape(about.title)), ("@DAY@", long_day(about.day)), ("@ROOTS@", rows),
+    for mark, told in (("@TITLE@", html.escape(about.title)), ("@DAY@", about.phrases.day(about.day)), ("@ROOTS@", rows),
                        ("@AND_RESULT@", ", and what the match gave you" if roots.result else ""),
                        ("@PUBLISHED@", json.dumps({"result": None, **published}))):
         text = text.replace(mark, told)
@@ -37,37 +37,34 @@ class PublicPage(Page):
         super().__init__(outcome, about, order)
         self.roots, self.cut_offs, self.parts = roots, cut_offs, PARTS
 
-    @staticmethod
-    def last_taken(one: Programme) -> str:
-        """The last rank that a full programme took, without how many its list has."""
-        return Page.last_taken(one).split(" of ")[0]
+    def rank_of(self, one: Programme) -> str:
+        """The last rank, without how many the list has."""
+        return self.ordinal(one.last_rank or 0)
 
     def all_programmes(self) -> str:
-        heads: List[Tuple[str, str]] = [("", "Programme"), ("n", "Places"), ("n", "Filled"), ("n", "Unfilled")]
-        told = f"{counted(len(self.programmes), 'programme')}, {self.in_order(self.programmes)}"
         if self.cut_offs:
             return super().all_programmes()
-        rows = (row(label(one) + (" (withdrawn)" if one.withdrawn else ""), ("n", f"{one.places:,}"), ("n", f"{one.filled:,}"),
-                    ("n short" if one.unfilled else "n", f"{one.unfilled:,}")) for one in self.programmes)
-        return section("programmes", "Programmes", table(told, heads, rows, "stack open"))
+        rows = (row(head[1], *cells) for head, *cells in map(self.programme_row, self.programmes))
+        heads = self.heads("programme", ".places", ".filled", ".unfilled")
+        return section("programmes", self.said("programmes"), table(self.programmes_told(), heads, rows, "stack open"))
 
     def made_of(self) -> str:
         digits = [("lists", self.roots.lists), ("result", self.roots.result)]
-        rows = (row(word, ("", f"<code>{root}</code>")) for word, root in digits)
-        told = f"The roots over the lists and the results of {counted(self.roots.count, 'member')}; check.html checks a receipt against them"
-        return section("made", "Published roots", table(told, (("", "Of"), ("", "Root")), rows, "stack digests"))
+        rows = (row(self.said(f"root-of-{word}"), ("", f"<code>{root}</code>")) for word, root in digits)
+        told = self.said("roots-told", count=self.roots.count)
+        return section("roots", self.said("roots"), table(told, self.heads("of", "root"), rows, "stack digests"))
 
     def foot(self) -> str:
-        return f"{self.about.title}, {self.about.day.isoformat()}, lists {self.roots.lists[:16]}"
+        return self.phrases.say("page.public-foot", title=self.about.title, date=self.about.day.isoformat(), digest=self.roots.lists[:16])
 
     def sections(self) -> Sequence[str]:
         return (self.unfilled(), self.figures(), self.choices(), self.all_programmes(), self.made_of())
 
 
-def cut_offs(outcome: Outcome, order: str) -> bytes:
+def cut_offs(page: PublicPage) -> bytes:
     """The last rank that each programme took, or that it is open."""
-    rows = [(one.name, one.id, one.places, one.filled, PublicPage.last_taken(one)) for one in by_name(outcome.programmes.values(), order)]
-    return rosters.table_bytes(("Programme", "ID", "Places", "Filled", "Last rank taken"), rows)
+    rows = [(one.name, one.id, one.places, one.filled, html.unescape(page.last_taken(one))) for one in page.programmes]
+    return rosters.table_bytes(rosters.heads(page.phrases, "programme", "id", "places", "filled", "last-taken"), rows)
 
 
 def write_check(draft: Draft, roots: Roots, about: About) -> None:
@@ -81,7 +78,8 @@ def write(draft: Draft, outcome: Outcome, roots: Roots, about: About, order: str
     write_check(draft, roots, about)
     page = PublicPage(outcome, about, roots, with_cut_offs, order)
     draft.write(f"{folder.PUBLIC}/{folder.PAGE}", page.text().encode("utf-8"))
-    draft.write(f"{folder.PUBLIC}/{folder.UNFILLED}", rosters.unfilled(outcome))
-    draft.write(f"{folder.PUBLIC}/{FIGURES}", rosters.table_bytes(("Figure", "Number"), compare.figures_of(outcome)))
+    draft.write(f"{folder.PUBLIC}/{folder.UNFILLED}", rosters.unfilled(outcome, page.phrases))
+    figures = compare.figures_of(outcome, page.phrases)
+    draft.write(f"{folder.PUBLIC}/{FIGURES}", rosters.table_bytes(rosters.heads(page.phrases, "figure", "number"), figures))
     if with_cut_offs:
-        draft.write(f"{folder.PUBLIC}/{CUT_OFFS}", cut_offs(outcome, order))
+        draft.write(f"{folder.PUBLIC}/{CUT_OFFS}", cut_offs(page))

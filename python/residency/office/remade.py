@@ -12,8 +12,9 @@ from ..program import run_program
 from . import auditor, compare, folder, running
 from .faults import OfficeError
 from .folder import Draft, digest
-from .letters import checked_template
+from .letters import TEXTS, checked_templates
 from .outcome import Details, outcome_of
+from .phrases import Language
 from .running import Matched, Wishes
 from .tree import Roots
 
@@ -60,11 +61,14 @@ def fault_of(manifest: Any) -> str:
     if not isinstance(manifest, dict):
         return "it is none that office wrote"
     kinds = {"title": str, "date": str, "program": str, "order": str, "cut_offs": bool, "withdrawn": list, "details": list,
-             "sealed": dict, "from": dict, "auditor": dict, "tables": list, "reading": dict, "sha256": dict}
+             "sealed": dict, "from": dict, "auditor": dict, "language": dict, "letter": dict, "tables": list, "reading": dict, "sha256": dict}
     wrong = [name for name, kind in kinds.items() if name in manifest and not isinstance(manifest[name], kind)]
     wrong += [name for name in ("title", "date", "program", "withdrawn", "sha256") if name not in manifest]
-    if not isinstance(manifest.get("template"), (str, type(None))):
+    own = manifest.get("template")
+    if not isinstance(own, (str, type(None))) and not (isinstance(own, dict) and all(isinstance(one, str) for one in own.values())):
         wrong.append("template")
+    if "letter" not in wrong and any(name not in TEXTS or not isinstance(text, str) for name, text in manifest.get("letter", {}).items()):
+        wrong.append("letter")
     if any(not (isinstance(one, list) and len(one) == 2 and all(isinstance(part, str) for part in one)) for one in
            (manifest["withdrawn"] if "withdrawn" not in wrong else [])):
         wrong.append("withdrawn")
@@ -74,10 +78,18 @@ def fault_of(manifest: Any) -> str:
 def wishes_of(manifest: Manifest, columns: Tuple[str, ...], timeout: float) -> Wishes:
     """What was wished of a run, as its manifest has it. ValueError for a day that is none; OfficeError for such a template."""
     template = manifest.get("template")
-    if template is not None:
-        checked_template(template, columns)
+    checked_templates(template, columns)
     return Wishes(manifest["title"], date.fromisoformat(manifest["date"]), manifest.get("order", "name"), template, timeout,
-                  manifest.get("cut_offs", False))
+                  manifest.get("cut_offs", False), texts=manifest.get("letter", {}), language=language_of(manifest, columns))
+
+
+def language_of(manifest: Manifest, columns: Tuple[str, ...]) -> Language:
+    """In which words a folder is written. ValueError where the manifest says of no language; OfficeError for phrases at fault."""
+    language = Language.of(manifest)
+    language.phrases()
+    if language.column and language.column not in columns:
+        raise ValueError("its language is none that office wrote")
+    return language
 
 
 def in_order(market: Market, gone: List[List[str]]) -> Market:
@@ -182,7 +194,8 @@ def came_from(source: Source, result: Optional[Matched]) -> Optional[bytes]:
     match = earlier.match(workers=1, timeout=source.timeout)
     if before[folder.SHEET] != digest(match.sheet):
         raise OfficeError("before.other-sheet", table=folder.MANIFEST)
-    return compare.changes_table(compare.changes(outcome_of(earlier, match.places, source.details), result.outcome))
+    phrases = Language.of(source.manifest).phrases()
+    return compare.changes_table(compare.changes(outcome_of(earlier, match.places, source.details), result.outcome), phrases)
 
 
 def own_names(market: Market) -> Names:

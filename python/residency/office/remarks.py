@@ -15,7 +15,7 @@ WORDS: Set[str] = set(
     "note notes nb source sources page date total sum end draft final version updated update confidential remark remarks comment "
     "comments legend key signed approved checked printed prepared list table data see above below only all none nobody empty "
     "pending tbc tbd todo test example sample footer header residents applicants candidates programmes programs hospitals "
-    "withdrawn deadline status match matching round year office coordinator contact phone email generated exported created by "
+    "group gruppe groupe grupo gruppo grupa grup withdrawn deadline status match matching round year office coordinator contact phone email generated exported created by "
     "the of to be for from with without as at on in is are was were not no this that these those and or if".split())
 # Small words that stand in names.
 PARTICLES = set("de da do dos das los aux del della di du des le la les el al bin ibn ben bint abu van von vom zu zum zur den der dem ter ten "

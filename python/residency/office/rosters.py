@@ -5,6 +5,7 @@ from typing import Iterable, List, Mapping, Sequence
 
 from ..key import to_cell
 from .outcome import Details, Outcome, Programme, by_name
+from .phrases import Phrases
 
 # A mark at the start, by which spreadsheets know that a file is UTF-8.
 MARK = "\ufeff"
@@ -38,17 +39,36 @@ def csv_text(heading: Sequence[str], rows: Iterable[Sequence[object]], end: str)
     return text.getvalue()
 
 
-def roster(outcome: Outcome, programme: Programme, ranks: Sequence[str]) -> bytes:
+def members_table(heading: Sequence[str], rows: Sequence[Sequence[object]], ids: int) -> bytes:
+    """A table for a spreadsheet; its column of IDs is left out where nobody has one."""
+    first, *others = [heading, *rows] if any(row[ids] for row in rows) else [[*row[:ids], *row[ids + 1:]] for row in (heading, *rows)]
+    return table_bytes([str(cell) for cell in first], others)
+
+
+def heads(phrases: Phrases, *names: str) -> List[str]:
+    """The heads of a table's columns."""
+    return [phrases.say(f"head.{name}") for name in names]
+
+
+def roster(outcome: Outcome, programme: Programme, ranks: Sequence[str], phrases: Phrases) -> bytes:
     """A programme's residents, in the order of its list, each with the rank there."""
     rank = {name: place for place, name in enumerate(ranks, 1)}
-    rows = [(rank[name], outcome.residents[name].name, outcome.residents[name].id) for name in programme.residents]
-    return table_bytes(("Rank on your list", "Resident", "ID"), rows)
+    residents = [outcome.residents[name] for name in programme.residents]
+    rows = [(rank[one.name], one.name, one.id, *one.kept) for one in residents]
+    return members_table([*heads(phrases, "rank", "resident", "id"), *outcome.columns], rows, 2)
 
 
-def unfilled(outcome: Outcome) -> bytes:
+def unfilled(outcome: Outcome, phrases: Phrases) -> bytes:
     """The programmes with unfilled places, by name."""
-    rows = [(one.name, one.id, one.places, one.filled, one.unfilled) for one in by_name(outcome.unfilled())]
-    return table_bytes(("Programme", "ID", "Places", "Filled", "Unfilled"), rows)
+    rows = [(one.name, one.id, one.places, one.filled, one.unfilled) for one in by_name(outcome.unfilled(), phrases)]
+    return members_table(heads(phrases, "programme", "id", "quota", "filled", "free"), rows, 1)
+
+
+def results(outcome: Outcome, phrases: Phrases, order: str) -> bytes:
+    """A row for each resident, for a spreadsheet: who is where, by which choice, and how all others stand."""
+    rows = [(one.name, one.id, phrases.say(f"standing.{one.standing.key}"), one.programme, one.choice, *one.kept)
+            for one in by_name(outcome.residents.values(), phrases, order)]
+    return members_table([*heads(phrases, "resident", "id", "standing", "programme", "choice"), *outcome.columns], rows, 1)
 
 
 def matches(outcome: Outcome) -> bytes:

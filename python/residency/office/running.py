@@ -1,7 +1,7 @@
 """A run: from a market to a folder with all that an office, an auditor and each member wants of its match."""
 from dataclasses import dataclass, field
 from datetime import date
-from typing import Any, Dict, List, Optional, Sequence
+from typing import Any, Dict, List, Mapping, Optional, Sequence
 
 from ..errors import DocketFault, KeyFault, MarketFault
 from ..key import read_key, write_key
@@ -11,9 +11,10 @@ from ..program import DEFAULT_TIMEOUT, run_program
 from . import folder, public, rosters, seal
 from .faults import OfficeError
 from .folder import Draft, Results, digest, file_names
-from .letters import LETTERS_PAGE, Letters
+from .letters import LETTERS_PAGE, Letters, Templates
 from .outcome import Details, Outcome, outcome_of
 from .page import About, Page
+from .phrases import Language
 from .tree import Roots
 from .who import the_one
 
@@ -28,14 +29,19 @@ class Wishes:
     title: str = TITLE
     day: date = field(default_factory=date.today)
     order: str = "name"
-    template: Optional[str] = None
+    template: Templates = None
     timeout: float = DEFAULT_TIMEOUT
     cut_offs: bool = False
     readable: bool = False
+    language: Language = Language()
+    texts: Mapping[str, str] = field(default_factory=dict)
 
     def settings(self) -> Dict[str, Any]:
         """What a manifest keeps of these, so that the folder can be made again."""
-        return {"order": self.order, "cut_offs": self.cut_offs, "template": self.template}
+        return {"order": self.order, "cut_offs": self.cut_offs, "template": self.template, **({"letter": self.texts} if self.texts else {})}
+
+    def about(self, digests: Dict[str, str], roots: Optional[Roots]) -> About:
+        return About(self.title, self.day, digests, roots, self.language.phrases())
 
 
 @dataclass(frozen=True)
@@ -75,7 +81,7 @@ def fill(draft: Draft, result: Matched, wishes: Wishes, manifest: Dict[str, Any]
     for name, data in ((folder.DOCKET, result.docket), (folder.KEY, write_key(result.market.names)), (folder.SHEET, result.sheet)):
         digests[name] = draft.write(name, data)
     roots = seal.write(draft, result.docket, secret, True, wishes.timeout, roots)
-    about = About(wishes.title, wishes.day, digests, roots)
+    about = wishes.about(digests, roots)
     if roots is not None:
         public.write(draft, outcome, roots, about, wishes.order, wishes.cut_offs)
     draft.write(folder.JOURNAL, result.journal)
@@ -83,12 +89,13 @@ def fill(draft: Draft, result: Matched, wishes: Wishes, manifest: Dict[str, Any]
     draft.write(folder.REPLAY, result.replay)
     draft.write(folder.PAGE, Page(outcome, about, wishes.order).text().encode("utf-8"))
     draft.write(folder.MATCHES, rosters.matches(outcome))
-    draft.write(folder.UNFILLED, rosters.unfilled(outcome))
+    draft.write(folder.RESULTS, rosters.results(outcome, about.phrases, wishes.order))
+    draft.write(folder.UNFILLED, rosters.unfilled(outcome, about.phrases))
     names = file_names((one.docket_name for one in outcome.programmes.values()), ".csv")
     for programme in outcome.programmes.values():
         ranks = result.market.programme_lists.get(programme.name, ())
-        draft.write(f"{folder.ROSTERS}/{names[programme.docket_name]}", rosters.roster(outcome, programme, ranks))
-    write_letters(draft, Letters(result.market, outcome, about, wishes.template, wishes.order))
+        draft.write(f"{folder.ROSTERS}/{names[programme.docket_name]}", rosters.roster(outcome, programme, ranks, about.phrases))
+    write_letters(draft, Letters(result.market, outcome, about, wishes.template, wishes.order, wishes.language.column, wishes.texts))
     details = ["family_name"] * any(one.family for one in outcome.residents.values()) + list(outcome.columns)
     draft.finish({**begun(wishes, result.program), **wishes.settings(), **manifest, **ended(result.market, details, roots)})
     return roots
@@ -96,7 +103,7 @@ def fill(draft: Draft, result: Matched, wishes: Wishes, manifest: Dict[str, Any]
 
 def begun(wishes: Wishes, program: str) -> Dict[str, Any]:
     """What each manifest begins with."""
-    return {"title": wishes.title, "date": wishes.day.isoformat(), "program": program}
+    return {"title": wishes.title, "date": wishes.day.isoformat(), "program": program, **wishes.language.entry()}
 
 
 def ended(market: Market, details: List[str], roots: Optional[Roots]) -> Dict[str, Any]:
@@ -113,7 +120,7 @@ def fill_sealed(draft: Draft, market: Market, details: Details, wishes: Wishes, 
     digests = {folder.DOCKET: draft.write(folder.DOCKET, docket), folder.KEY: draft.write(folder.KEY, write_key(market.names))}
     roots = seal.write(draft, docket, secret, False, wishes.timeout, known)
     assert roots is not None
-    public.write_check(draft, roots, About(wishes.title, wishes.day, digests, roots))
+    public.write_check(draft, roots, wishes.about(digests, roots))
     has = ["family_name"] * bool(details.families) + list(details.columns)
     if has:
         names = {name: market.names.docket_name(RESIDENT, name) for name in market.resident_lists}
@@ -206,6 +213,20 @@ class Kept:
             return date.fromisoformat(str(self.results.manifest.get("date")))
         except ValueError:
             raise OfficeError("folder.no-date", 3, self.at, folder.MANIFEST) from None
+
+    def language(self) -> Language:
+        try:
+            return Language.of(self.results.manifest)
+        except ValueError:
+            raise OfficeError("folder.no-manifest", 3, self.at, folder.MANIFEST) from None
+
+    def texts(self) -> Dict[str, str]:
+        """What the settings said of every letter."""
+        return found if isinstance(found := self.results.manifest.get("letter"), dict) else {}
+
+    def about(self) -> About:
+        """What its page says of itself."""
+        return About(self.title(), self.day(), self.digests(), self.roots(), self.language().phrases())
 
     def title(self) -> str:
         return str(self.results.manifest.get("title", TITLE))

@@ -2,6 +2,7 @@
 from typing import Dict, List, Mapping, Optional, Sequence, Tuple
 
 from ..market import Market
+from ..names import PROGRAMME, RESIDENT, Member, Names, docket_names
 from . import folder, running
 from . import seal as seals
 from .faults import Fault, OfficeError
@@ -24,10 +25,26 @@ def refuse_readable(is_readable: bool) -> None:
         raise OfficeError("out.readable", 2)
 
 
+def refuse_alike(names: Names) -> None:
+    """OfficeError where a docket's name tells a reader not whose it is: another's has the same letters, or the name has none."""
+    for side in (PROGRAMME, RESIDENT):
+        first: Dict[str, Member] = {}
+        for one in names.members(side):
+            (own,) = docket_names([one.name], side.lower()).values()
+            other = first.setdefault(own, one)
+            if not one.id and (other is not one or own == side.lower()):
+                raise OfficeError("seal.alike", 3, table=SIDES[side], name=one.name, made=one.docket_name, other=other.name, others=other.docket_name)
+
+
 def seal(out: str, market: Market, details: Details, wishes: Wishes, manifest: Dict[str, object]) -> Roots:
     """Seals a market into a new folder."""
+    if "from" not in manifest:
+        refuse_alike(market.names)
     with folder.new_folder(out, private=True) as draft:
         return running.fill_sealed(draft, market, details, wishes, manifest, seals.new_secret())
+
+
+SIDES = {PROGRAMME: "programme", RESIDENT: "resident"}
 
 
 class OtherTables(OfficeError):
@@ -46,7 +63,7 @@ def listed_otherwise(what: str, name: str, before: Sequence[str], now: Sequence[
 
 
 def differences(sealed: Market, now: Market) -> List[Fault]:
-    """What tables say otherwise than what was sealed; who is withdrawn stands in no table."""
+    """What tables say otherwise than what was sealed; who withdrew since may stand in a column."""
     found: List[Fault] = []
     sides: List[Tuple[str, List[Mapping[str, Sequence[str]]]]] = [
         ("programme", [{name: market.programme_lists.get(name, ()) for name in market.quotas} for market in (sealed, now)]),
@@ -56,6 +73,9 @@ def differences(sealed: Market, now: Market) -> List[Fault]:
         found += [Fault("sealed.new", f"{what}s", values={"what": what, "name": name}) for name in after if name not in before]
         found += [listed_otherwise(what, name, listed, after[name]) for name, listed in before.items()
                   if name in after and tuple(listed) != tuple(after[name])]
+    for what, gone, known in (("programme", now.withdrawn_programmes, sealed.withdrawn_programmes),
+                              ("resident", now.withdrawn_residents, sealed.withdrawn_residents)):
+        found += [Fault("sealed.withdrawn", f"{what}s", values={"what": what, "name": name}) for name in gone if name not in known]
     found += [Fault("sealed.places", "programmes", values={"name": name, "was": quota, "now": now.quotas[name]})
               for name, quota in sealed.quotas.items() if now.quotas.get(name, quota) != quota]
     return found

@@ -1,13 +1,14 @@
-"""The sentences of faults and notes, in English and with the names of the command's options: what the command shows of values."""
+"""The sentences of faults and notes, in English and with the names of the command's options: what the command shows of values. Most
+are in sentences.txt."""
 from typing import Any, Callable, Dict, List, Mapping, Sequence, Union
 
 from .. import naming
 from ..names import PROGRAMME, RESIDENT, Member
-from . import folder
 from .cells import DELIMITERS, Rows
 from .faults import (KINDS, MOST_KEPT, MOST_LETTERS, MOST_SHOWN, Fault, Faults, FaultsError, OfficeError, Values, column_letters,
                      counted, shown)
 from .headings import OTHER, TITLES
+from .languages import sections
 from .tables import Table
 
 # How many further cells a line names.
@@ -17,20 +18,11 @@ MOST_NOTED = 5
 # How many sheets or columns a line names.
 MOST_NAMED = 6
 SAVE = "save it as .xlsx or CSV"
-# What one and several faults of a kind are called.
-MANY = {
-    "file": ("fault in the files", "faults in the files"), "heading": ("fault in headings", "faults in headings"),
-    "row": ("fault in rows", "faults in rows"), "name": ("name at fault", "names at fault"),
-    "places": ("number of places at fault", "numbers of places at fault"), "rank": ("rank at fault", "ranks at fault"),
-    "unknown": ("name that no row has", "names that no row has"), "twice": ("name listed twice", "names listed twice"),
-    "limit": ("limit", "limits"),
-}
-# What the bytes of a file are that is no table.
-FILES = {
-    "xls": "an old .xls file, or a file with a password", "pdf": "a PDF", "rtf": "an RTF", "packed": "a packed file",
-    "picture": "a picture", "page": "a page of HTML or XML", "ods": "an .ods file", "xlsb": "an .xlsb file",
-    "no-xlsx": "a packed file, and no .xlsx",
-}
+# The sentences that are texts; those that depend on their values are made here. And what one and several faults of a kind are called,
+# and what the bytes of a file are that is no table.
+TEXTS = sections("sentences.txt")
+MANY = {kind: names.split(", ") for kind, names in TEXTS["MANY"].items()}
+FILES = TEXTS["FILES"]
 
 
 class Told:
@@ -63,7 +55,8 @@ def parted(rows: Rows) -> str:
 def how(table: Table) -> str:
     """How a table was read."""
     form = "a row for each rank" if table.is_long else f"a row for each {table.owners}"
-    return f"{table.name}: {shown(table.path)}, {table.text.title()}, {parted(table.rows)}, {form}"
+    language = "" if table.language == "English" else f"headings in {table.language}, "
+    return f"{table.name}: {shown(table.path)}, {table.text.title()}, {parted(table.rows)}, {language}{form}"
 
 
 def few(names: Sequence[str], most: int = 40) -> str:
@@ -140,184 +133,62 @@ def other_side(values: Values) -> str:
     return f"no {SIDES[side]} is named {Told(values['name'])}, but a {other} is (--{other}); nothing was written"
 
 
+MEANINGS = {"rank": "the rank", "places": "the number of places", "programme": "the programme"}
 SIDES = {PROGRAMME: "programme", RESIDENT: "resident"}
 Sentence = Union[str, Callable[[Values], str]]
-SCIENTIFIC = "IDs look like {id:20}: format the column as text, and write them anew"
-NATIONAL = "; a docket of up to {national} {things} is for {program}"
-AS_TEXT = "{text:30} is {meant:30} in the table of {owners}s; format the column as text"
 SENTENCES: Dict[str, Sentence] = {
-    "file.quotes": "{what}: it may swallow the rows below",
+    **TEXTS["SENTENCES"],
     "file.kind": lambda values: f"this is {FILES[values['what']]}: {SAVE}",
-    "file.broken": "the workbook is broken: {error}",
-    "file.broken-text": "the workbook is broken: row {row:d} names a text that it doesn't have",
-    "file.large": "the workbook has more than {megabytes:d} MB, which is no table",
-    "file.packed-files": "the workbook is made of {files} files, more than {most}, which is no table",
-    "file.entities": "the workbook declares entities, which no spreadsheet writes",
     "file.no-sheet": lambda values: f"no sheet is named {shown(values['sheet'])}; there is {few(values['sheets'])}",
     "file.sheets": sheets_with_cells,
-    "file.rows": "the sheet has a row {row}, more than {most}",
-    "file.columns": "the sheet has a column {column}, more than {most}",
-    "file.cells": "the sheet has more than {most} cells, which is no table",
-    "file.slow": "reading this table needs more than {seconds:d} s of a processor: save it as CSV",
-    "file.memory": "reading this table needs more than {megabytes} MB of memory: save it as CSV",
-    "file.set": "its character set isn't known: in {title} it has {words:30}; save the table as UTF-8, or name its set, as "
-                "--encoding {table}=windows-1250",
-    "file.no-text": "this is no text in {title}: {error}",
-    "file.cut": "the file ends in the middle of a letter of {title}: it was cut short",
-    "file.byte": "the byte {byte} is no letter in {title}; save the table as UTF-8, or name its character set by --encoding",
-    "file.empty": "the table is empty",
-    "file.no-rows": "no {owners} stands below the heading",
+    "file.set": lambda values: f"its character set isn't known: in {values['title']} it has {Told(values['words']):30}; save the table as UTF-8, or "
+                               f"name its set (--encoding {values['table']}=SET): " + "; ".join(
+                                   f"{name} has {Told(names):30}" for name, names in values["sets"]),
     "file.expected": lambda values: f"{counted(values['count'], values['owners'])}, where --expect-{values['table']} says "
                                     f"{values['expected']:,}",
     "file.some-ids": lambda values: (f"{values['count']:,} of {values['of']:,} {values['owners']}s have" if values["count"] > 1 else
                                      f"{Told(values['name'])} has") + " no ID; every row needs one once one has it",
-    "file.without-point": "{things} match without `.0`: " + AS_TEXT,
-    "file.with-point": "{things} match with `.0`: " + AS_TEXT,
-    "file.zeros": "{things} match but for zeros before them: " + AS_TEXT,
-    "file.scientific": SCIENTIFIC,
-    "file.another-year": "{unknown} of {named} {things} in these lists are unknown in the table of {owners}s: is this another year's table?",
-    "file.setting-line": "{text} is no setting, which is written as name = value",
-    "file.setting-section": "there is no section {section}; there are {sections}",
-    "file.setting-nowhere": "{name} stands above the first section; the sections are {sections}",
-    "file.setting-unknown": "there is no setting {name} in the section {section}; there are {settings}",
-    "file.setting-twice": "{name} stands twice in the section {section}",
-    "file.setting-value": "{name} is {value}, where {wanted:200} is wanted",
-    "heading.cells": "the heading has {cells} cells, more than {most}",
+    "file.phrase-values": lambda values: f"{Told(values['name'])} has " + (f"the values {', '.join(values['values'])}" if values["values"]
+                                         else "no value") + ", and no other brace",
+    "file.phrase-missing": lambda values: f"{counted(len(values['names']), 'phrase is', 'phrases are')} missing: {few(values['names'])}",
     "heading.none": no_heading,
-    "heading.exchanged": "this is headed as a table of {items}s; are the two tables exchanged?",
-    "heading.keep": "no column is headed {heading}, which --keep names",
-    "heading.kept-twice": "{heading} is read already: there is nothing to keep (--keep)",
-    "heading.beside": "no column is headed {title}, where cell {column:d} is headed {heading}",
-    "heading.twice": "two columns are headed {heading}: cells {first:d} and {second:d}",
-    "heading.missing": "no column is headed {title} (or {others}, or as --heading says)",
-    "heading.places": "a table of residents has no column of places",
-    "heading.unknown": "{heading} is no heading of this table; mend it, say what it is (--heading '{role}={heading}'), or leave the "
-                       "column out (--ignore '{heading}')",
-    "heading.long-and-wide": "a column headed Rank beside numbered ones: a table is long or wide, not both",
-    "heading.no-rank": "no column is headed Rank 1 (or Choice 1, 1st choice, First, 1)",
-    "heading.nothing": "{text} stands in a column without a heading",
-    "heading.members": "{heading} is no heading of this table, and {owners}s stand below it, as {name}; say what it is (--heading "
-                       "'rank={heading}'), or leave it out (--ignore '{heading}')",
-    "row.too-long": "{text:40} is too long for a name{quote:?; is a quote left open?}",
-    "row.line-end": "the cell goes on over a line's end after {text:40}{quote:?; is a quote left open?}",
-    "row.tab": "{text} has a tab in it",
-    "row.lost-letter": "{text}: a letter was lost when the table was saved",
-    "row.lost-letters": "{count:name} lost letters where ? or \ufffd stands, as {names:40}; save the table anew as UTF-8 or .xlsx "
-                        "(--allow-lost-letters takes them)",
-    "row.no-letter": "{text} has a character that is no letter",
+    "heading.several": lambda values: f"{Told(values['heading'])} may be " + " or ".join(
+        f"{MEANINGS[role]} (--heading '{role}={shown(values['heading'])}')" for role in values["roles"]) + ": say which",
     "row.other-mark": other_mark,
-    "row.no-name": "the row has no {owners}'s name",
-    "row.total": "{name} is no {owners}; leave the row out",
-    "row.formula": "{name} is what a formula leaves that fails; mend it, or save its result",
-    "row.heading": "the heading stands here again; leave the row out",
-    "row.kept": "{name} has {text:40} here and {before:40} before",
-    "row.short": "the row has {cells:cell}, where the heading has {width:d}; is it split in two? (--allow-short takes such rows)",
-    "row.remark": "{name} has no list, and nobody ranks it: is it a remark? Take it out (--allow-alone takes such rows)",
-    "name.no-id": "{name} has no ID",
-    "name.same-id": "the ID {id} is that of {name} in row {row:d}",
-    "name.id-again": "the ID {id} has a row before, row {row:d}",
-    "name.again": "{name} has a row before, row {row:d}; if these are two, a column headed ID tells them apart",
-    "name.alike": "{name} is {before} in row {row:d} but for capitals, blanks or accents; if these are two, a column headed ID tells them apart "
-                  "(or --allow-alike)",
-    "name.scientific": SCIENTIFIC,
-    "name.both-sides": "{name} is the {what} of a programme, too ({table}, row {row:d}); is the row shifted, or split in two?",
-    "places.none": "{name} has no number of places",
-    "places.in-no-row": "{name} has no number of places in any row",
-    "places.no-number": "{text:40} is no number of places",
-    "places.many": "{text:40} places are more than {most}",
-    "places.differ": "{name} has {places:d} places here and {before:d} before",
-    "rank.nobody": "nobody stands at rank {rank:20} of {name}",
-    "rank.two": "{name} ranks two at {rank:d}: {before} in row {row:d} and {item}",
-    "rank.no-number": "{rank:20} is no rank; ranks count from 1",
-    "rank.none": "{item} has no rank",
-    "rank.gap": "{name} has no rank {rank:d}; is a row lost, or the name misspelt there? (--allow-gaps takes the ranks in their order)",
-    "unknown.name": "no {owners} is named {name}",
-    "unknown.set": "no {owners} is named {name}; {meant} has one: one table is read in another character set than it is in (--encoding)",
-    "unknown.several": "no {owners} is named {name}; these are {count:d} names in one cell",
-    "unknown.near": "no {owners} is named {name}; is it {meant}?",
-    "twice.listed": "{name} is listed twice by {owner}, as in {what} {number:d}",
-    "twice.meant": "{count:d} {owners}s may be meant by {name}; write the ID, one of {ids:20}",
-    "limit.pairs": "{pairs} pairs rank one another, more than {most}" + NATIONAL,
-    "limit.members": "more than {most} {things}" + NATIONAL,
-    "note.set": "names in {title}, as {names:40}; if these are wrong, --encoding {table}=SET names another",
-    "note.hidden": lambda values: f"{counted(values['count'], 'hidden row is', 'hidden rows are')} read too; the first is row "
-                                  f"{values['row']}",
+    "note.withdrawn": lambda values: f"the column {Told(values['heading'])} says who withdrew: "
+                                     f"{few(values['names']) or 'nobody'}",
+    "note.titles": lambda values: f"{counted(len(values['texts']), 'row')} above the headings {'are' if len(values['texts']) > 1 else 'is'} left "
+                                  f"out: {Told(values['texts']):40}",
+    "note.blank-columns": lambda values: f"{counted(len(values['columns']), 'column')} without a heading "
+                                         f"{'are' if len(values['columns']) > 1 else 'is'} empty: {', '.join(map(column_letters, values['columns']))}",
+    "note.hidden": lambda values: f"{counted(len(values['rows']), 'hidden row is', 'hidden rows are')} read too: " + few(
+        [f"row {row}" + (f", {shown(name, 40)}" if name else "") for row, name in values["rows"]], 60),
+    "note.hidden-columns": lambda values: f"{counted(len(values['columns']), 'hidden column is', 'hidden columns are')} read too: " + few(
+        [f"{column_letters(column)}" + (f", {shown(heading, 40)}" if heading else "") for column, heading in values["columns"]], 60),
     "note.gaps": lambda values: f"{counted(values['count'], 'rank is', 'ranks are')} left out, and what follows moves up; the first is "
                                 f"in the list of {shown(values['name'])}, row {values['row']}",
     "note.unread": unread,
-    "note.alone": lambda values: f"{counted(values['count'], values['owners'])} without a list whom nobody ranks; the first is "
-                                 f"{shown(values['name'])}, row {values['row']}",
+    "note.alone": lambda values: f"{counted(len(values['names']), values['owners'])} without a list whom nobody ranks: " + few(
+        [f"{shown(name, 40)} (row {row})" for name, row in values["names"]], 60),
     "note.empty": empty,
     "note.shared": shared,
 }
 
 
 # What can't be done, by its code; `at` is the folder or file that it is about, and `table` the file in that folder.
-WRITTEN = "; nothing was written"
 ERRORS: Dict[str, Sentence] = {
-    "file.unread": "{at} can't be read: {cause:whole}",
-    "file.no-path": "{at} can't be read: it is no path",
-    "file.too-large": "{at} has more than {megabytes:d} MB, which is no table",
-    "setting.delimiter": "{text} parts no cells; comma, semicolon, tab and bar do",
-    "setting.encoding": "no character set is named {text}; utf-8, windows-1252, iso-8859-2 and utf-16 are some",
-    "setting.heading": "--heading {text}: it is ROLE=WORD, where ROLE is one of {roles}",
-    "setting.heading-row": "{text} is no row; rows count from 1",
-    "setting.title": "the title {text} has a character that is no letter",
-    "template.empty": "the template has no text, and all letters would have none",
+    **TEXTS["ERRORS"],
     "template.field": lambda values: f"the template, line {values['row']}: {Told(values['text'])} is none of ${', $'.join(values['fields'])}; "
                                      "write $$ for the sign itself",
-    "template.unsalted": "the template, line {row:d}: ${text} is a hash from which others' lists can be guessed, and this match is "
-                         "sealed; $lists_root and $result_root are the published roots",
-    "out.no-path": "'{at}' can't be written: it is no path",
-    "out.there": "{at} is there already" + WRITTEN,
-    "out.unwritten": "{at} can't be written: {cause:whole}; nothing was left there",
-    "out.no-room": "{at} can't be written: {cause:whole}",
-    "out.readable": "--readable is for a match that isn't sealed: of a sealed one others may read public/ alone",
-    "folder.none": "{at} is no folder",
-    "folder.missing": "{at}: {table} is missing",
-    "folder.no-file": "{at}: {table} is no file",
-    "folder.unread": "{at}: {table} can't be read: {cause:whole}",
-    "folder.fault": "{at}: {table}: {cause:whole}",
-    "folder.changed": "{at}: {table} was changed since it was written; " + folder.MANIFEST + " names another sha256",
-    "folder.other-key": "{at}: {table} was changed since it was written, and says something else now",
-    "folder.other-root": "{at}: {table} isn't that of its docket and secret" + WRITTEN,
-    "folder.other-sum": "{at}: {table} isn't as " + folder.SUMS + " has it" + WRITTEN,
-    "folder.other-tables": "the tables say otherwise than what {at} sealed" + WRITTEN,
-    "folder.no-manifest": "{at}: {table} isn't one that office wrote",
-    "folder.no-date": "{at}: {table} has no date",
-    "folder.no-match": "{at} has no match: it was sealed, and run comes next",
-    "folder.not-sealed": "{at} has no {table}: it is no folder that seal made",
-    "before.no-way": "{table}: no withdrawal leads here from the docket that it names",
-    "before.other-key": "{table}: the key of the folder before is another one",
-    "before.other-docket": "{table}: the docket that was sealed is another one",
-    "before.other-sheet": "{table}: the sheet of the folder before is another one",
-    "member.empty": "a name without a letter means nobody" + WRITTEN,
     "member.several": several,
     "member.nobody": nobody,
     "member.other-side": other_side,
-    "member.withdrawn": "{name} is withdrawn already" + WRITTEN,
-    "program.other-seal": "the program seal and the office's own trees differ" + WRITTEN,
-    "program.unchecked": "the result doesn't pass its own audit and replay" + WRITTEN,
-    "reader.ended": "the reader of the tables ended with status {ended:d}",
-    "reader.fault": "{cause:whole}",
-    "reader.silent": "the reader of the tables gave no answer",
-    "words.closed": "standard input is closed",
-    "words.no-text": "{text} is no text",
-    "words.nobody": "who withdraws? give a name",
-    "words.one-of-two": "only one table was given, {at}: check takes two, PROGRAMMES and RESIDENTS, or one docket",
-    "words.one-table": "only one table was given: PROGRAMMES and RESIDENTS are two, and one word alone is a folder that {makers:whole} made",
-    "words.one-twice": "only one table was given, {at}, twice: PROGRAMMES and RESIDENTS are two",
-    "words.seal-twice": "FOLDER and --seal are the same: give one of them",
-    "words.two-tables": "check takes two tables, PROGRAMMES and RESIDENTS, or one docket",
-    "words.wrong": "{text:300} ({program:whole} --help says more)",
 }
 # What tables say otherwise than what was sealed.
 OTHERWISE: Dict[str, Sentence] = {
-    "sealed.gone": "{what} {name} was sealed, and isn't in the table",
-    "sealed.new": "{what} {name} is in the table, and wasn't sealed",
+    **TEXTS["OTHERWISE"],
     "sealed.rank": lambda values: f"{values['what']} {Told(values['name'])}: rank {values['rank']} was sealed as "
                                   f"{Told(values['was'] or 'nobody')}, and the table has {Told(values['now'] or 'nobody')}",
-    "sealed.places": "programme {name}: {was:place} sealed, and the table has {now}",
 }
 
 
@@ -359,7 +230,7 @@ def place(fault: Fault) -> str:
     """Where a fault shows first."""
     if fault.row is None:
         return fault.table
-    if fault.code.startswith("file.setting"):
+    if fault.code.startswith(("file.setting", "file.phrase")):
         return f"{fault.table}, line {fault.row}"
     column = fault.column
     return f"{fault.table}, row {fault.row}" + (f", cell {column} ({column_letters(column)}{fault.row})" if column is not None else "")

@@ -36,8 +36,21 @@ class Settings:
     title: str = ""
     order: str = "name"
     cut_offs: bool = False
+    sender: str = ""
+    appeals: str = ""
+    signature: str = ""
+    language: str = ""
+    language_column: str = ""
     allow_lost_letters: bool = False
     allow_alike: bool = False
+
+    def texts(self) -> Dict[str, str]:
+        """What is said of every letter."""
+        return {name: one for name, one in (("sender", self.sender), ("appeals", self.appeals), ("signature", self.signature)) if one}
+
+    def kept(self) -> List[str]:
+        """The columns of residents to keep."""
+        return list(dict.fromkeys([*self.keep, *([self.language_column] if self.language_column else [])]))
 
 
 def yes_or_no(word: str) -> bool:
@@ -96,6 +109,11 @@ SETTINGS: Dict[str, Setting] = {
     "title": Setting(MATCH, str, TEXT, "the title of the page"),
     "order": Setting(MATCH, order, "name or table", "the order of names in the page"),
     "cut_offs": Setting(MATCH, yes_or_no, YES, "of a sealed match, publish the last rank that each programme took, too"),
+    "sender": Setting(MATCH, str, TEXT, "what stands above each letter; | begins a new line"),
+    "appeals": Setting(MATCH, str, TEXT, "a sentence on appeals below each letter"),
+    "signature": Setting(MATCH, str, TEXT, "who signs each letter"),
+    "language": Setting(MATCH, str, TEXT, "the language of letters, pages and tables: de, en, es, fr, pl, or a file of phrases of your own"),
+    "language_column": Setting(BOTH, str, TEXT, "a column of residents that says the language of each letter, which is kept"),
 }
 SECTIONS = (BOTH, *TABLES, MATCH)
 ALLOWED = tuple(name for name in SETTINGS if name.startswith("allow_"))

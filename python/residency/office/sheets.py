@@ -49,11 +49,12 @@ class BadBook(ValueError):
 
 @dataclass
 class Sheet:
-    """A sheet's rows with their numbers, and which of them are hidden."""
+    """A sheet's rows with their numbers, and which of them and of its columns are hidden."""
 
     name: str
     rows: List[Tuple[int, List[str]]] = field(default_factory=list)
     hidden: List[int] = field(default_factory=list)
+    hidden_columns: List[int] = field(default_factory=list)
     names: List[str] = field(default_factory=list)
 
 
@@ -300,6 +301,9 @@ class Cells:
                 raise BadBook("rows", {"row": self.number, "most": MOST_ROWS})
             if more.get("hidden") in ("1", "true"):
                 self.sheet.hidden.append(self.number)
+        elif element == "col" and more.get("hidden") in ("1", "true"):
+            first, last = (int(more.get(name, "0")) for name in ("min", "max"))
+            self.sheet.hidden_columns += range(max(first, 1), min(last, MOST_COLUMNS) + 1)
         elif element == "f":
             self.is_formula = True
         else:

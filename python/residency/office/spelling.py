@@ -4,12 +4,20 @@ A file doesn't say which of the many sets of one byte a letter it is in. Nearly 
 tells is whether the names that come out are written as names are: `Dvo\u00f8\u00e1k` isn't, since no language has `\u00f8` beside `\u00e1`.
 """
 import re
-from typing import Iterator, List, Set
+import unicodedata
+from typing import Callable, Dict, Iterator, List, Sequence, Set
 
 CELL = re.compile(r'[^,;|"\t\r\n]+')
 # Which letters beyond ASCII are usual in names of Western Europe. Not among them are Icelandic ones, which stand for Turkish
 # and Baltic ones of other sets, and those that stand for Hungarian ones.
 USUAL = set("áàâäåãæçéèêëíìîïñóòôöõøúùüßœšž")
+# What letters beyond ASCII are usual in names where a set is used; of a set that isn't here all letters are.
+OWN = {"windows-1250": "áâăäąçćčďéęëěíîłľĺńňóôőöŕřśšșşťțţúůűüýźżžß", "windows-1252": "áàâäåãæçéèêëíìîïñóòôöõøúùüßœ", "windows-1254": "âçğıöşüî\u0307",
+       "iso-8859-2": "áâăäąçćčďéęëěíîłľĺńňóôőöŕřśšşťţúůűüýźżžß", "windows-1257": "āčēģīķļņšūžąęėįųõäöü", "mac-roman": "", "cp852": "",
+       "windows-1251": "абвгдежзийклмнопрстуфхцчшщъыьэюяёіїєґ", "koi8-r": "абвгдежзийклмнопрстуфхцчшщъыьэюяё",
+       "windows-1253": "αβγδεζηθικλμνξοπρσςτυφχψωάέήίόύώϊϋ"}
+# So many names are looked at.
+MOST_LOOKED = 200
 EDGES = "“”„«»…‘’'\"()[]{}.,:!?*–—-&/+#"
 INSIDE = set("’‘´·–—ªº°" + "'`-.&/()+#:!?*_@=<>[]{}%$~^\\")
 NORDIC, GRAVE = set("åæø"), set("àèìòù")
@@ -17,7 +25,7 @@ NORDIC, GRAVE = set("åæø"), set("àèìòù")
 BESIDE_NORDIC, NOT_BESIDE_SLAVIC = set("åæøéöäü"), set("àèìòùïøæåñõãâêîœ")
 UNUSUAL = re.compile(
     "[àèòù][aeiouyáéíóú]|ì.|õ[^e]|õ$|ã[^oe]|œ[^ud]|œ$|iæ"
-    r"|[a-zß-ÿ][–—][a-zß-ÿ]|[a-zß-ÿ]{3}[’‘](?!s$)[a-zß-ÿ]|[^mdnsrº]º|[^mdnsrª]ª|[ªº].", re.IGNORECASE)
+    r"|[a-zß-ÿ][–—][a-zß-ÿ]|[a-zß-ÿ]{3}[’‘](?!s$)[a-zß-ÿ]|[^mdnsrº.0-9]º|[^mdnsrª.0-9]ª|[ªº].", re.IGNORECASE)
 # A letter beyond ASCII as UTF-7 packs it, and what turns ISO-2022 to another alphabet.
 PACKED = re.compile(r"[A-Za-z]{0,30}\+A[A-Z][A-Za-z0-9+/]{1,6}-[a-z]{0,30}|\x1b[$(][@-J][!-~]*")
 
@@ -62,13 +70,35 @@ def odd_words(text: str, most: int = 3) -> List[str]:
     return found
 
 
-def names_beyond_ascii(text: str, most: int = 3) -> List[str]:
-    """The first cells with letters that aren't ASCII."""
-    found: List[str] = []
-    for cell in CELL.finditer(text):
-        name = cell.group().strip()
-        if not name.isascii() and name not in found:
-            found.append(name)
-            if len(found) == most:
+def names_beyond_ascii(text: str, is_heading: Callable[[str], bool]) -> List[str]:
+    """The first cells below the first row with letters that aren't ASCII and that are no headings."""
+    cells = (cell.group().strip() for cell in CELL.finditer(text, text.find("\n") + 1))
+    names: Dict[str, None] = {}
+    for name in cells:
+        if not name.isascii() and name not in names and not is_heading(name):
+            names[name] = None
+            if len(names) == MOST_LOOKED:
                 break
-    return found
+    return list(names)
+
+
+def is_sound(name: str) -> bool:
+    """Whether each word of a name is written as names of Western Europe are."""
+    return not any(map(is_odd, words_beyond_ascii(name)))
+
+
+def likeness(names: Sequence[str], encoding: str) -> float:
+    """How many of the letters beyond ASCII in these names are usual where a set is used, less those that stand where none does: signs,
+    capitals within a word, words of accents alone, and letters of another script in a word of plain ones."""
+    words = [word for name in names for word in words_beyond_ascii(name)]
+    usual, good, count = OWN.get(encoding, ""), 0.0, 0
+    for word in words:
+        beyond = [c for c in word if not c.isascii()]
+        is_latin = ["LATIN" in unicodedata.name(c, "") for c in beyond]
+        count += len(beyond)
+        good += sum(c.lower() in usual if usual else 0.9 * c.isalpha() for c in beyond) - sum(not c.isalpha() for c in beyond)
+        good -= sum(before.islower() and after.isupper() for before, after in zip(word, word[1:]))
+        is_alone = len(beyond) == len([c for c in word if c.isalpha()])
+        is_wrong = is_alone and len(beyond) > 2 if all(is_latin) else any(is_latin) or not is_alone
+        good -= len(beyond) * is_wrong
+    return good / max(count, 1)

@@ -1,12 +1,16 @@
 """The office's steps as a library: bytes and settings in, values out.
 
-Nothing here prints, ends a process, or reads a path that isn't given. What strangers send, the two tables, is read in a process of
-its own, whose limits grow with the bytes. A step that may take long tells its progress by a call.
+Nothing here prints, ends a process, or reads a path that isn't given. What strangers send, the two tables, a docket, or a folder that
+is checked, is read in a process of its own, whose limits grow with the bytes. A step that may take long tells its progress by a call.
 """
+import tempfile
+from contextlib import ExitStack, closing, contextmanager
 from dataclasses import dataclass, field
 from datetime import date
 from itertools import chain, islice
-from typing import TYPE_CHECKING, Callable, Dict, Iterator, List, Optional, Sequence, Tuple
+from pathlib import Path
+from types import MappingProxyType
+from typing import TYPE_CHECKING, Callable, Dict, Iterator, List, Mapping, Optional, Sequence, Tuple
 
 from ..errors import DocketFault
 from ..market import Market
@@ -16,19 +20,21 @@ from ..program import DEFAULT_TIMEOUT
 from ..records import records
 from ..results import Why
 from . import compare as changes_of
-from . import folder, letters as written, running, sealing, seal as seals
-from .apart import Costly, Limits, Progress, apart
+from . import folder, leftover, letters as written, running, sealing, seal as seals, stopping
+from .apart import Costly, Limits, Progress, apart, told
 from .compare import Change
 from .faults import Fault, Faults, FaultsError, OfficeError
 from .headings import Words
 from .lists import market_of
 from .outcome import Details
 from .page import About
+from .phrases import Language, english
 from .running import Kept, Matched, Run, Wishes
 from .settings import TABLES, Settings, from_values
 from .tables import Given, Table, headed, heading_of, opened, read_table
 from .tree import Roots
 from .who import the_one
+from .writing import cause_of, draft_of
 
 if TYPE_CHECKING:
     from .verify import Checked, FromTables, Published, Verified
@@ -36,8 +42,8 @@ if TYPE_CHECKING:
 __all__ = ["Compared", "Given", "Kept", "Limits", "Look", "Matched", "Read", "Run", "Settings", "Wishes", "Withdrawn", "check", "compare",
            "details_of", "letters", "lint", "look", "match", "next", "seal", "sealed", "verify", "why", "withdraw", "write"]
 OWNERS = dict(zip(TABLES, ("programme", "resident")))
-# So many rows below the heading are shown of a table.
-MOST_PREVIEW = 10
+# So many rows below the heading are shown of a table, and so many faults of a docket are told together.
+MOST_PREVIEW, MOST_TOGETHER = 10, 1000
 
 
 def quietly(_: object) -> None:
@@ -83,11 +89,13 @@ class Look:
     meanings: Sequence[str] = ()
     preview: Sequence[Tuple[int, List[str]]] = ()
     faults: Faults = field(default_factory=Faults)
+    notes: Sequence[Fault] = ()
+    language: str = "English"
 
 
 def read(programmes: Given, residents: Given, settings: Settings, progress: Progress = quietly) -> Read:
     """Reads both tables in this process."""
-    faults, words, tables = Faults(), Words(settings.heading, settings.ignore, settings.keep), []
+    faults, words, tables = Faults(), Words(settings.heading, settings.ignore, settings.kept()), []
     for name, given in zip(TABLES, (programmes, residents)):
         progress(name)
         tables.append(read_table(given, name, OWNERS[name], words, settings, faults))
@@ -116,23 +124,24 @@ def check(programmes: Given, residents: Given, settings: Settings, progress: Pro
 def costly_at(costly: Costly) -> Faults:
     faults = Faults()
     values = {"seconds": costly.limits.seconds, "megabytes": costly.limits.megabytes}
-    faults.tell(costly.what, costly.at if costly.at in TABLES else TABLES[0], None, None, values)
+    faults.tell(f"file.{costly.what}", costly.at if costly.at in TABLES else TABLES[0], None, None, values)
     return faults
 
 
 def looked_at(given: Given, name: str, settings: Settings, progress: Progress = quietly) -> Look:
     """Looks at one table in this process."""
     progress(name)
-    look, words = Look(name), Words(settings.heading, settings.ignore, settings.keep)
+    look, words = Look(name), Words(settings.heading, settings.ignore, settings.kept())
     text, rows, _ = opened(given.data, name, words, settings, look.faults)
     look.encoding, look.delimiter, look.sheet = text.encoding, rows.delimiter, rows.sheet
     look.sheets = rows.sheets or [name for fault in look.faults.every() for name in fault.values.get("sheets", ())]
-    look.heading_row, look.headings = heading_of(rows, settings.heading_row.get(name, 1))
+    look.heading_row, look.headings, look.notes = heading_of(rows, settings.heading_row.get(name), name, words)
     look.preview = list(islice(rows.rows, MOST_PREVIEW))
     if look.heading_row:
         rows.rows = chain(look.preview, rows.rows)
         columns = headed(name, OWNERS[name], look.heading_row, list(look.headings), rows, words, look.faults)
-        look.meanings = columns.meanings(OWNERS[name]) if columns is not None else ()
+        if columns is not None:
+            look.meanings, look.language = columns.meanings(OWNERS[name]), columns.language
     return look
 
 
@@ -146,10 +155,35 @@ def look(given: Given, name: str, settings: Settings, progress: Progress = quiet
     return done
 
 
-def lint(docket: bytes, progress: Progress = quietly) -> Iterator[DocketFault]:
-    """Every fault of a docket, one at a time as they are found."""
+def linted(docket: bytes, progress: Callable[[List[DocketFault]], object]) -> None:
+    """Tells every fault of a docket in this process: the first alone, then more and more together."""
+    found, most = Passes().faults(records(docket)), 1
+    for part in iter(lambda: list(islice(found, most)), []):
+        progress(part)
+        most = min(2 * most, MOST_TOGETHER)
+
+
+def lint(docket: bytes, progress: Progress = quietly, limits: Optional[Limits] = None) -> Iterator[DocketFault]:
+    """Every fault of a docket, as they are found in a process of its own. OfficeError for what needs more than the limits."""
     progress("docket")
-    return Passes().faults(records(docket))
+    try:
+        with closing(told(limits or Limits.of(len(docket)), "linted", (docket,))) as parts:
+            for part in parts:
+                yield from part
+    except Costly as costly:
+        raise too_costly(costly) from None
+
+
+def limits_of(path: str) -> Limits:
+    """The limits for a folder that is checked: what is read of it isn't made into more than some times its bytes."""
+    size = folder.size_of(path)
+    return Limits(Limits.of(size).seconds, Limits.of(size // 5).megabytes)
+
+
+def too_costly(costly: Costly, at: str = "") -> OfficeError:
+    if costly.what == "slow":
+        return OfficeError("reader.slow", 3, at, seconds=costly.limits.seconds)
+    return OfficeError("reader.memory", 3, at, megabytes=costly.limits.megabytes)
 
 
 def details_of(residents: Table, market: Market) -> Details:
@@ -172,7 +206,7 @@ def write(out: str, matched: Matched, wishes: Wishes, manifest: Dict[str, object
     progress("folder")
     with folder.new_folder(out, private=bool(secret), readable=wishes.readable) as draft:
         if changes is not None:
-            draft.write(folder.CHANGES, changes_of.changes_table(changes))
+            draft.write(folder.CHANGES, changes_of.changes_table(changes, wishes.language.phrases()))
         roots = running.fill(draft, matched, wishes, manifest, secret)
         return roots if before is None else sealing.same_lists(before, roots)
 
@@ -228,17 +262,19 @@ class Compared:
 def compare(before: Run, now: Run, progress: Progress = quietly) -> Compared:
     """Compares two matches."""
     progress("compare")
-    pairs = zip(changes_of.figures_of(before.outcome), changes_of.figures_of(now.outcome))
+    pairs = zip(*(changes_of.figures_of(one.outcome, english()) for one in (before, now)))
     return Compared(before, now, [(what, was, is_now) for (what, was), (_, is_now) in pairs],
                     changes_of.changes(before.outcome, now.outcome))
 
 
-def letters(run: Run, template: Optional[str] = None, day: Optional[date] = None, title: str = "",
-            progress: Progress = quietly) -> written.Letters:
-    """The letters of a match: `all()` has each resident's, and `page()` all of them on one page."""
+def letters(run: Run, template: written.Templates = None, day: Optional[date] = None, title: str = "", language: Optional[Language] = None,
+            texts: Mapping[str, str] = MappingProxyType({}), progress: Progress = quietly) -> written.Letters:
+    """The letters of a match: `all()` has each resident's, and `page()` all of them on one page; in the folder's language, where no
+    other is named."""
     progress("letters")
-    about = About(title or run.title(), day or run.day(), run.digests(), run.roots())
-    return written.Letters(run.market, run.outcome, about, template)
+    spoken = language or run.language()
+    about = About(title or run.title(), day or run.day(), run.digests(), run.roots(), spoken.phrases())
+    return written.Letters(run.market, run.outcome, about, template, column=spoken.column, texts={**run.texts(), **texts})
 
 
 def why(run: Run, resident: str, programme: str = "", timeout: float = DEFAULT_TIMEOUT, progress: Progress = quietly) -> Tuple[Why, ...]:
@@ -260,10 +296,51 @@ def next(path: str, progress: Progress = quietly) -> Settings:
         raise OfficeError("folder.no-manifest", 3, path, folder.MANIFEST) from None
 
 
-def verify(path: str, timeout: float = DEFAULT_TIMEOUT, published: "Optional[Dict[str, Published]]" = None,
-           tables: "Optional[FromTables]" = None, progress: "Callable[[Checked], object]" = quietly) -> "Verified":
-    """Checks a folder of results, against the roots that were published where it was sealed and the tables where they are given;
-    `progress` is given each line as soon as it is known."""
+@contextmanager
+def room_for(what: str) -> Iterator[Path]:
+    """A folder for what a step's programs read as files, which is gone at the end, whatever ends the step. It has a name by which the
+    next command knows what a killed one left."""
+    at = tempfile.gettempdir()
+    with stopping.unfinished(draft_of(str(Path(at) / what))) as room, ExitStack() as held:
+        try:
+            held.enter_context(leftover.made(room))
+        except OSError as error:
+            raise OfficeError("out.no-room", 1, at, cause=cause_of(error)) from None
+        yield room
+
+
+def read_by(path: str, limits: Optional[Limits] = None) -> Settings:
+    """How the tables of a folder were read, by its manifest; nothing of it where that says nothing, or needs more than the limits."""
+    try:
+        found = apart(limits or limits_of(path), "manifest_read", (path,), quietly)
+    except Costly:
+        return Settings()
+    assert isinstance(found, Settings)
+    return found
+
+
+def manifest_read(path: str, progress: Progress) -> Settings:
+    from . import verify
+
+    return verify.read_by(path)
+
+
+def verified(path: str, timeout: float, published: "Dict[str, Published]", tables: "Optional[FromTables]", room: Path,
+             progress: "Callable[[Checked], object]") -> "Verified":
+    """Checks a folder of results in this process."""
     from .verify import Verifier
 
-    return Verifier(path, timeout, published or {}, tables, progress).verify()
+    return Verifier(path, timeout, published, tables, room, progress).verify()
+
+
+def verify(path: str, timeout: float = DEFAULT_TIMEOUT, published: "Optional[Dict[str, Published]]" = None, tables: "Optional[FromTables]" = None,
+           progress: "Callable[[Checked], object]" = quietly, limits: Optional[Limits] = None) -> "Verified":
+    """Checks a folder of results in a process of its own, against the roots that were published where it was sealed and the tables where
+    they are given; `progress` is given each line as soon as it is known. OfficeError for a folder that needs more than the limits, which
+    hold for each program that is asked, too."""
+    try:
+        with room_for("verify") as room:
+            done: Verified = apart(limits or limits_of(path), "verified", (path, timeout, published or {}, tables, room), progress)
+            return done
+    except Costly as costly:
+        raise too_costly(costly, path) from None

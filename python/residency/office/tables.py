@@ -2,7 +2,7 @@
 import hashlib
 import re
 from dataclasses import dataclass, field
-from itertools import islice
+from itertools import chain, islice
 from typing import Dict, List, NamedTuple, Optional, Sequence, Set, Tuple
 
 from ..docket import MOST_PLACES, MOST_PROGRAMMES, MOST_RESIDENTS
@@ -10,17 +10,20 @@ from . import national, sheets
 from .cells import Cells, Rows, other_mark, rows_of, tidied
 from .faults import Cell, Fault, Faults, Remedy, Values
 from .headings import Columns, Words, columns_of, plain
+from .languages import NO, YES
 from .settings import Settings
 from .text import Text, table_text
 
 NUMBER = re.compile(r"0*([0-9]{1,9})(?:\.0+)?")
 RANK = re.compile(r"0*([0-9]{1,7})(?:\.0+|\.|st|nd|rd|th)?", re.IGNORECASE)
+# A number that has a point or a comma where thousands have it.
+THOUSANDS = re.compile(r"[1-9][0-9]{0,2}(?:[.,][0-9]{3})+")
 # A long number as a spreadsheet writes it where its column is too narrow for it.
 SCIENTIFIC = re.compile(r"[0-9](?:[.,][0-9]+)?E\+[0-9]+", re.IGNORECASE)
 TOTALS = {
     "total", "totals", "sum", "subtotal", "grand total", "total places", "average", "count", "all", "gesamt", "gesamtsumme", "summe", "insgesamt",
     "zusammen", "zwischensumme", "totaux", "total general", "sous total", "somme", "ensemble", "totales", "suma", "suma total", "totale", "totali",
-    "totale generale", "somma", "ogołem", "razem", "łacznie", "toplam", "genel toplam", "ara toplam"}
+    "totale generale", "somma", "ogolem", "razem", "lacznie", "toplam", "genel toplam", "ara toplam"}
 # What may stand behind such a word in its cell: a number, and what was counted.
 COUNTED = re.compile("(?: (?:of|von|de|di|du|der|des))? (?:places|platze|stellen|plazas|posti|miejsc|miejsca|yer|postes)$|[ 0-9=]+$")
 MOST = {"programme": MOST_PROGRAMMES, "resident": MOST_RESIDENTS}
@@ -28,8 +31,9 @@ MOST = {"programme": MOST_PROGRAMMES, "resident": MOST_RESIDENTS}
 MOST_COMPARED = 100
 # So many gaps of blank rows part a table from remarks below it; more are its form.
 MOST_GAPS = 2
-# So many rows below one that is no heading are looked at for it.
-MOST_ABOVE = 20
+# So many rows below one that is no heading are looked at for it, and so many of one cell each are titles above it.
+MOST_ABOVE, MOST_TITLES = 20, 5
+NOTHING: Tuple[int, List[str]] = (0, [])
 # So many rows with too few cells are told by their places.
 MOST_SHORT = 1000
 
@@ -57,6 +61,7 @@ class Entry:
     given: str = ""
     kept: List[str] = field(default_factory=list)
     after_blank: bool = False
+    withdrawn: bool = False
 
 
 @dataclass(frozen=True)
@@ -86,6 +91,8 @@ class Table:
     kept_at: List[int] = field(default_factory=list)
     unread: Dict[int, Tuple[str, Set[str]]] = field(default_factory=dict)
     heading: int = 1
+    # The language of the headings.
+    language: str = "English"
 
 
 def number_of(text: str) -> Optional[int]:
@@ -118,6 +125,8 @@ class Members:
         self.last = table.heading
         # The rows that have no ID where a column is headed so.
         self.without_id: List[Item] = []
+        # The columns without a heading in which nothing stands.
+        self.blank = set(range(columns.width)) - columns.known
         # How many gaps of blank rows stand before a row.
         self.gaps_before = 0
         table.kept_at, table.kept = [cell for cell, _ in columns.kept], [heading for _, heading in columns.kept]
@@ -158,6 +167,8 @@ class Members:
             self.keep(number, entry, row)
         if self.columns.places is not None:
             self.places(number, entry, cell_of(row, self.columns.places))
+        if self.columns.withdrawn is not None:
+            self.withdraws(number, entry, cell_of(row, self.columns.withdrawn))
         if self.columns.is_long:
             self.ranked(number, entry, row)
         else:
@@ -192,6 +203,7 @@ class Members:
         """Tells cells in columns without a heading, and notes what stands in columns that aren't read."""
         for cell, text in enumerate(row):
             if text and cell not in self.columns.known:
+                self.blank.discard(cell)
                 self.tell("heading.nothing", number, cell, {"text": text}, (f"no heading {min(cell, self.columns.width)}",))
             elif text and cell in self.table.unread and len(self.table.unread[cell][1]) < MOST_COMPARED:
                 self.table.unread[cell][1].add(text)
@@ -248,6 +260,15 @@ class Members:
                 self.tell("row.kept", number, cell, {"name": entry.name, "text": text, "before": before})
             entry.kept[index] = before or text
 
+    def withdraws(self, number: int, entry: Entry, text: str) -> None:
+        """Notes who takes no part, as a column says; what is neither yes nor no is told."""
+        cell = self.columns.withdrawn or 0
+        if plain(text) in YES:
+            entry.withdrawn = True
+        elif plain(text) and plain(text) not in NO:
+            self.tell("row.withdrawn", number, cell, {"name": entry.name, "text": text, "heading": self.head[cell]}, ("withdrawn", text),
+                      (Remedy("ignore", self.head[cell]),))
+
     def places(self, number: int, entry: Entry, text: str) -> None:
         cell = self.columns.places or 0
         if not text:
@@ -255,7 +276,9 @@ class Members:
                 self.tell("places.none", number, cell, {"name": entry.name})
             return
         places = number_of(text)
-        if places is None:
+        if THOUSANDS.fullmatch(text):
+            self.tell("places.point", number, cell, {"text": text, "few": int(re.split("[.,]", text)[0]), "many": int(re.sub("[.,]", "", text))})
+        elif places is None:
             self.tell("places.no-number", number, cell, {"text": text})
         elif places > MOST_PLACES:
             self.tell("places.many", number, cell, {"text": text, "most": MOST_PLACES})
@@ -303,6 +326,9 @@ class Members:
         """What is known once all rows are read."""
         self.tell_short()
         self.tell_some_ids()
+        labels = {f"{entry.name} ({entry.id})": entry for entry in self.table.entries if entry.id}
+        for entry, other in ((entry, labels[entry.name]) for entry in self.table.entries if entry.name in labels):
+            self.tell("name.label", entry.row, entry.cell - 1, {"name": entry.name, "other": other.name, "row": other.row})
         for entry in self.table.entries:
             # Where there are many gaps, they say nothing of what stands below.
             entry.after_blank = entry.after_blank and self.gaps_before <= MOST_GAPS
@@ -319,10 +345,29 @@ class Members:
             self.note("note.gaps", [Cell(self.table.name, one.row, one.cell) for one in self.gaps], values)
         if not self.table.entries and not len(self.faults):
             self.tell("file.no-rows", self.table.heading + 1, self.columns.owner, {"owners": self.table.owners})
+        self.note_hidden()
+        if self.columns.withdrawn is not None:
+            gone = [entry for entry in self.table.entries if entry.withdrawn]
+            cells = [Cell(self.table.name, one.row, one.cell) for one in gone] or [Cell(self.table.name, self.table.heading, self.columns.withdrawn + 1)]
+            self.note("note.withdrawn", cells, {"heading": self.head[self.columns.withdrawn], "names": [one.name for one in gone]})
+        if self.blank:
+            columns = sorted(cell + 1 for cell in self.blank)
+            self.note("note.blank-columns", [Cell(self.table.name, self.table.heading, column) for column in columns], {"columns": columns})
         if self.table.unread:
-            columns = [(heading, cell + 1) for cell, (heading, _) in self.table.unread.items()]
-            self.note("note.unread", [Cell(self.table.name, self.table.heading, column) for _, column in columns],
-                      {"columns": columns, "keeps": self.table.owners == "resident"})
+            unread = [(heading, cell + 1) for cell, (heading, _) in self.table.unread.items()]
+            self.note("note.unread", [Cell(self.table.name, self.table.heading, column) for _, column in unread],
+                      {"columns": unread, "keeps": self.table.owners == "resident"})
+
+    def note_hidden(self) -> None:
+        """Notes hidden rows, each with its member, and hidden columns with something in them, each with its heading."""
+        rows, columns = self.table.rows.hidden, [one for one in self.table.rows.hidden_columns if one <= self.columns.width]
+        named = {entry.row: entry.name for entry in self.table.entries}
+        if rows:
+            self.note("note.hidden", [Cell(self.table.name, row, self.columns.owner + 1) for row in rows],
+                      {"rows": [(row, named.get(row, "")) for row in rows]})
+        if columns:
+            self.note("note.hidden-columns", [Cell(self.table.name, self.table.heading, one) for one in columns],
+                      {"columns": [(one, cell_of(self.head, one - 1)) for one in columns]})
 
     def note(self, code: str, cells: List[Cell], values: Values) -> None:
         self.table.notes.append(Fault(code, self.table.name, cells[0].row, cells[0].column, cells, values))
@@ -367,15 +412,13 @@ def opened(data: bytes, name: str, words: Words, options: Settings, faults: Faul
     try:
         if sheets.is_book(data):
             sheet = sheets.sheet_of(data, options.sheet.get(name))
-            rows = Rows(tidied(sheet.rows, Cells(name, "", faults)), "", False, sheet.name, sheet.names)
-            hidden = [Fault("note.hidden", name, sheet.hidden[0], None, [], {"count": len(sheet.hidden), "row": sheet.hidden[0]})
-                      ] if sheet.hidden else []
-            return Text("", "xlsx"), rows, hidden
+            rows = Rows(tidied(sheet.rows, Cells(name, "", faults)), "", False, sheet.name, sheet.names, sheet.hidden, sheet.hidden_columns)
+            return Text("", "xlsx"), rows, []
     except sheets.BadBook as fault:
         remedies = [Remedy("sheet", one, name) for one in fault.values.get("sheets", ())]
         faults.tell(fault.code, name, None, None, {**fault.values, "table": name}, remedies=remedies)
         return Text("", "utf-8"), Rows(iter(()), ",", False), []
-    text = table_text(data, name, options.encoding.get(name), faults)
+    text = table_text(data, name, options.encoding.get(name), faults, words.knows)
     if len(faults) > told:
         return text, Rows(iter(()), ",", False), []
     return text, rows_of(text.text, name, options.delimiter.get(name), words.is_heading, faults), text.notes
@@ -394,18 +437,33 @@ def headed(name: str, owners: str, number: int, heading: List[str], rows: Rows, 
     return columns
 
 
-def heading_of(rows: Rows, first: int) -> Tuple[int, List[str]]:
-    """The heading row and its number: the first row, or the first from this one on; 0 where there is none."""
-    nothing: Tuple[int, List[str]] = (0, [])
-    return next((one for one in rows.rows if one[0] >= first), nothing)
+def heading_of(rows: Rows, first: Optional[int], name: str, words: Words) -> Tuple[int, List[str], List[Fault]]:
+    """The heading row and its number: the first row, or the first from this one on; 0 where there is none. Rows of one cell above it,
+    where nobody says which it is, are titles, which are noted."""
+    number, heading = next((one for one in rows.rows if one[0] >= first), NOTHING) if first is not None else NOTHING
+    if first is not None:
+        return number, heading, []
+    above: List[Tuple[int, List[str]]] = []
+    for one in rows.rows:
+        above.append(one)
+        if len(above) > MOST_TITLES or len([text for text in one[1] if text]) > 1 or words.is_heading(one[1]):
+            break
+    titles = above[:-1] if above and words.is_heading(above[-1][1]) else []
+    rows.rows = chain(above[len(titles) + 1:], rows.rows)
+    cells = [Cell(name, number, 1 + next(place for place, text in enumerate(row) if text)) for number, row in titles]
+    texts = [row[cell.column - 1] for cell, (_, row) in zip(cells, titles)]
+    notes = [Fault("note.titles", name, cells[0].row, cells[0].column, cells, {"texts": texts})] if titles else []
+    number, heading = above[len(titles)] if above else NOTHING
+    return number, heading, notes
 
 
 def read_table(given: Given, name: str, owners: str, words: Words, options: Settings, faults: Faults) -> Table:
     """Reads a table; what is at fault is told, and then it isn't `whole`."""
     told = len(faults)
     text, rows, notes = opened(given.data, name, words, options, faults)
-    table = Table(name, owners, given.name, hashlib.sha256(given.data).hexdigest(), text, rows, notes=list(notes))
-    number, heading = heading_of(rows, options.heading_row.get(name, 1))
+    table = Table(name, owners, given.name, hashlib.sha256(given.data).hexdigest(), text, rows)
+    number, heading, titles = heading_of(rows, options.heading_row.get(name), name, words)
+    table.notes = [*notes, *titles]
     if not number:
         if len(faults) == told:
             faults.tell("file.empty", name, 1, 1)
@@ -413,7 +471,7 @@ def read_table(given: Given, name: str, owners: str, words: Words, options: Sett
     columns = headed(name, owners, number, heading, rows, words, faults)
     if columns is None:
         return table
-    table.is_long, table.heading = columns.is_long, number
+    table.is_long, table.heading, table.language = columns.is_long, number, columns.language
     members = Members(table, heading, columns, options, faults)
     for below, row in rows.rows:
         members.take(below, row)

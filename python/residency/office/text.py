@@ -2,11 +2,11 @@
 import codecs
 import re
 from dataclasses import dataclass, field
-from typing import List, Optional
+from typing import IO, Callable, List, Optional, Tuple
 
 from ..text import decode
 from .faults import Fault, Faults, OfficeError, Remedy
-from .spelling import names_beyond_ascii, odd_words
+from .spelling import is_sound, likeness, names_beyond_ascii, odd_words
 
 MOST_BYTES = 256 << 20
 # What people call a character set.
@@ -14,8 +14,10 @@ TITLES = {"utf-8": "UTF-8", "utf-8-sig": "UTF-8", "utf-16": "UTF-16", "utf-16-le
           "utf-32": "UTF-32", "cp1252": "Windows-1252", "iso8859-1": "ISO-8859-1", "latin-1": "ISO-8859-1", "ascii": "ASCII",
           "xlsx": ".xlsx"}
 OF_UTF8 = re.compile(rb"[\xc2-\xdf][\x80-\xbf]|[\xe0-\xef][\x80-\xbf]{2}|[\xf0-\xf4][\x80-\xbf]{3}")
-# The sets of one byte that tables are most often in, where they aren't found.
-OTHER_SETS = ("windows-1250", "windows-1252", "windows-1254", "windows-1251")
+# The sets that tables are most often in, where they aren't found; so many of them are told.
+OTHER_SETS = ("windows-1250", "windows-1252", "windows-1254", "windows-1251", "iso-8859-2", "windows-1253", "windows-1257", "mac-roman", "cp852",
+              "koi8-r", "shift-jis", "gb18030", "big5", "euc-kr", "utf-7", "iso-2022-jp")
+MOST_SETS = 4
 LINE_END = re.compile(r"\r\n|\r|\n")
 
 
@@ -39,13 +41,18 @@ def bytes_of(path: str) -> bytes:
     """A file's bytes. OfficeError where it can't be read, or is larger than any table."""
     try:
         with open(path, "rb") as file:
-            data = file.read(MOST_BYTES + 1)
+            return at_most(file, path)
     except OSError as error:
         raise OfficeError("file.unread", 1, path, cause=(error.strerror or str(error)).lower()) from None
     except ValueError:
         raise OfficeError("file.no-path", 1, path) from None
+
+
+def at_most(file: IO[bytes], at: str) -> bytes:
+    """All of an open file. OfficeError where that is larger than any table."""
+    data = file.read(MOST_BYTES + 1)
     if len(data) > MOST_BYTES:
-        raise OfficeError("file.too-large", 1, path, megabytes=MOST_BYTES >> 20)
+        raise OfficeError("file.too-large", 1, at, megabytes=MOST_BYTES >> 20)
     return data
 
 
@@ -58,7 +65,20 @@ def known_encoding(name: str) -> str:
         raise OfficeError("setting.encoding", 2, text=name) from None
 
 
-def table_text(data: bytes, table: str, encoding: Optional[str], faults: Faults) -> Text:
+def readings(data: bytes, is_heading: Callable[[str], bool]) -> List[Tuple[str, List[str]]]:
+    """The sets that read these bytes without a fault, each with three names as it reads them: the likeliest first."""
+    found = []
+    for order, name in enumerate(OTHER_SETS):
+        try:
+            names = names_beyond_ascii(data.decode(name), is_heading)
+        except UnicodeError:
+            continue
+        if names:
+            found.append((-likeness(names, name), order, name, names[:3]))
+    return [(name, names) for _, _, name, names in sorted(found)[:MOST_SETS]]
+
+
+def table_text(data: bytes, table: str, encoding: Optional[str], faults: Faults, is_heading: Callable[[str], bool] = lambda _: False) -> Text:
     """A table's bytes as text. Where they are neither UTF-8 nor UTF-16, the first names with letters that aren't ASCII are
     noted; and where these aren't written as names are, the set has to be named."""
     told = len(faults)
@@ -69,11 +89,12 @@ def table_text(data: bytes, table: str, encoding: Optional[str], faults: Faults)
     is_sure = text.title().startswith("UTF") and not text.text.isascii()
     odd = odd_words(text.text) if encoding is None and not is_sure else []
     if odd:
-        values = {"title": text.title(), "words": odd, "table": table}
-        faults.tell("file.set", table, None, None, values, remedies=[Remedy("encoding", one, table) for one in OTHER_SETS])
+        sets = readings(data, is_heading)
+        values = {"title": text.title(), "words": odd, "table": table, "sets": sets}
+        faults.tell("file.set", table, None, None, values, remedies=[Remedy("encoding", one, table) for one, _ in sets])
         return Text("", text.encoding)
-    names = names_beyond_ascii(text.text)
-    if names and not text.title().startswith("UTF"):
+    names = [] if text.title().startswith("UTF") or text.text.isascii() else sorted(names_beyond_ascii(text.text, is_heading), key=is_sound)[:3]
+    if names:
         text.notes.append(Fault("note.set", table, None, None, [], {"title": text.title(), "names": names, "table": table}))
     return text
 
@@ -110,4 +131,4 @@ def tell_broken(data: bytes, error: UnicodeDecodeError, table: str, faults: Faul
         faults.tell("file.cut", table, len(lines), cell, {"title": title})
     else:
         values = {"byte": error.object[error.start:error.start + 1].hex(), "title": title}
-        faults.tell("file.byte", table, len(lines), cell, values, remedies=[Remedy("encoding", one, table) for one in OTHER_SETS])
+        faults.tell("file.byte", table, len(lines), cell, values, remedies=[Remedy("encoding", one, table) for one in OTHER_SETS[:4]])

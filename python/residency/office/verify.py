@@ -8,7 +8,6 @@ import io
 import json
 import subprocess
 import sys
-import tempfile
 from collections import Counter, defaultdict
 from dataclasses import dataclass, field
 from pathlib import Path
@@ -19,14 +18,14 @@ from ..key import read_key, write_key
 from ..market import Market
 from ..names import RESIDENT
 from ..program import run_program
-from . import folder, leftover, remade, rosters, seal, stopping, tree
+from . import folder, remade, rosters, seal, tree
 from .faults import MOST_SHOWN, OfficeError, counted, shown
 from .outcome import Became, Details, Lists, outcome_of
 from .remade import Source
 from .sentences import said_by
 from .settings import Settings, from_values
 from .tree import Roots
-from .writing import cause_of, draft_of
+from .writing import cause_of
 
 # By the part that a file is read as: the letters of its records.
 PARTS = {folder.DOCKET: "VQPRW", folder.SHEET: "MUF", folder.JOURNAL: "CE"}
@@ -79,12 +78,13 @@ class Verified:
 
 
 class Verifier:
-    """The checks of one folder. `progress` is given each line as soon as it is known."""
+    """The checks of one folder, with an empty room for the program that reads files. `progress` is given each line as soon as it is
+    known."""
 
-    def __init__(self, path: str, timeout: float, published: Dict[str, Published], tables: Optional[FromTables],
+    def __init__(self, path: str, timeout: float, published: Dict[str, Published], tables: Optional[FromTables], room: Path,
                  progress: Callable[[Checked], object]) -> None:
         self.path, self.at, self.timeout = Path(path), path, timeout
-        self.published, self.tables, self.progress = published, tables, progress
+        self.published, self.tables, self.room, self.progress = published, tables, room, progress
         self.done = Verified()
         if not self.path.is_dir():
             raise OfficeError("folder.none", 1, path)
@@ -259,7 +259,8 @@ class Verifier:
         assert self.tables is not None
         made, docket = self.tables.market, market.in_docket_names()
         try:
-            gone = [[made.names.name(side, name) for name in names] for side, names in
+            already = {*made.withdrawn_programmes, *made.withdrawn_residents}
+            gone = [[name for name in (made.names.name(side, one) for one in names) if name not in already] for side, names in
                     (("P", docket.withdrawn_programmes), ("R", docket.withdrawn_residents))]
             made = made.withdraw(programmes=gone[0], residents=gone[1])
         except (KeyError, ResidencyError):
@@ -278,12 +279,9 @@ class Verifier:
         claimed = {name: folder.digest(self.bytes_of(name)) if name in self.there else one for name, one in sums.items()
                    if folder.needs(name, without)}
         try:
-            # Under a name by which the next command knows what a killed one left.
-            with stopping.unfinished(draft_of(str(Path(tempfile.gettempdir()) / "verify"))) as room:
-                with leftover.made(room):
-                    made = remade.remade(room, source, claimed)
+            made = remade.remade(self.room, source, claimed)
         except OSError as error:
-            raise OfficeError("out.no-room", 1, tempfile.gettempdir(), cause=cause_of(error)) from None
+            raise OfficeError("out.no-room", 1, str(self.room.parent), cause=cause_of(error)) from None
         except (ResidencyError, OfficeError, ValueError) as fault:
             self.tell("made again", shown(said_by(fault), 300), False)
             return

@@ -12,7 +12,9 @@ def the_one(names: Names, given: str, side: str = "") -> Member:
     text = name_of(given)
     if not text:
         raise OfficeError("member.empty", 2)
-    found = naming.meant(names.members(side or None), text)
+    members = list(names.members(side or None))
+    family, comma, first = text.partition(",")
+    found = naming.meant(members, text) or (naming.meant(members, f"{first.strip()} {family.strip()}") if comma else [])
     if not found:
         raise nobody(names, text, side)
     if len(found) > 1:

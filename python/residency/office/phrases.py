@@ -1,0 +1,205 @@
+"""The words of what the office hands out, in one language, from a file: a line for each phrase.
+
+The English file says which phrases there are and which values each has; one of another language, or of an office's own, has the same.
+"""
+import html
+import re
+import unicodedata
+from dataclasses import dataclass
+from datetime import date
+from functools import lru_cache
+from pathlib import Path
+from typing import Any, Callable, Dict, Iterable, Iterator, List, Mapping, Optional, Set, Tuple
+
+from .faults import Faults, FaultsError, OfficeError
+
+FOLDER = Path(__file__).with_name("phrases")
+ENGLISH = "en"
+REMARK, NEW_LINE = "#", " | "
+VALUE = re.compile(r"\{(\w+)(?::([^{}]*))?\}")
+# By its word each way in which a language counts: how many forms it has, and which one goes with a number.
+PLURALS: Dict[str, Tuple[int, Callable[[int], int]]] = {
+    "one": (2, lambda number: int(number != 1)),
+    "none-or-one": (2, lambda number: int(number > 1)),
+    "slavic": (3, lambda number: 0 if number == 1 else 1 if 2 <= number % 10 <= 4 and not 12 <= number % 100 <= 14 else 2),
+}
+THOUSANDS = {"comma": ",", "dot": ".", "blank": "\u00a0", "narrow-blank": "\u202f", "none": ""}
+ORDINALS, ORDINAL = "ordinals", re.compile(r"\*?[0-9]+|\*")
+PLAIN = str.maketrans({"ß": "ss", "æ": "ae", "œ": "oe", "ø": "o", "ł": "l", "đ": "d", "ð": "d", "þ": "th", "ı": "i"})
+# What sorts a letter behind all words with the one that it stands after.
+BEHIND = "\uffff"
+
+
+def parts(text: str, mark: str) -> List[str]:
+    return [one.strip() for one in text.split(mark) if one.strip()]
+
+
+def values_in(text: str) -> Set[str]:
+    return {found[1] for found in VALUE.finditer(text)}
+
+
+def pairs(text: str, mark: str) -> List[List[str]]:
+    """Parts of two words each. ValueError for another."""
+    found = [one.split(None, 1) for one in parts(text, mark)]
+    if any(len(one) != 2 for one in found):
+        raise ValueError(text)
+    return found
+
+
+class Phrases:
+    """The phrases of one language."""
+
+    def __init__(self, texts: Mapping[str, str]) -> None:
+        self.texts = texts
+        self.language, self.called = texts["language"], texts["called"]
+        self.form = PLURALS[texts["plurals"]][1]
+        self.months = parts(texts["months"], ",")
+        self.ordinals = pairs(texts[ORDINALS], ";")
+        after = pairs(texts["sorted-after"], ",")
+        self.after = str.maketrans({letter: other + BEHIND * [one for _, one in after[:place + 1]].count(other)
+                                    for place, (letter, other) in enumerate(after)})
+
+    def say(self, key: str, **values: Any) -> str:
+        """A phrase with its values; a number is written as the language does."""
+        return self.filled(self.texts[key], values)
+
+    def html(self, key: str, **values: Any) -> str:
+        """A phrase as a part of a page, whose values are parts of a page already."""
+        return self.filled(html.escape(self.texts[key], quote=False), values)
+
+    def filled(self, text: str, values: Mapping[str, Any]) -> str:
+        def value(found: "re.Match[str]") -> str:
+            one = values[found[1]]
+            if found[2] is not None:
+                return found[2].split("|")[self.form(one)]
+            return self.number(one) if isinstance(one, int) else str(one)
+
+        return VALUE.sub(value, text)
+
+    def number(self, number: int) -> str:
+        return f"{number:,}".replace(",", THOUSANDS[self.texts["thousands"]])
+
+    def percent(self, count: int, whole: int) -> str:
+        return self.say("percent", number=f"{100 * count / whole:.0f}")
+
+    def ordinal(self, number: int) -> str:
+        digits = str(number)
+        text = next(text for ending, text in self.ordinals if digits == ending or ending[0] == "*" and digits.endswith(ending[1:]))
+        return self.filled(text, {"number": number})
+
+    def day(self, day: date) -> str:
+        return self.say("first-day" if day.day == 1 else "day", day=str(day.day), month=self.months[day.month - 1], year=str(day.year))
+
+    def together(self, said: Iterable[str]) -> str:
+        """Several parts of a sentence as one: `a`, `a and b`, `a, b, and c`."""
+        *before, last = said
+        return last if not before else self.say("several-together" if len(before) > 1 else "together", before=", ".join(before), last=last)
+
+    def alphabetical(self, name: str) -> Tuple[str, str]:
+        """What names are sorted by: their letters without accents and capitals, then as they are."""
+        plain = unicodedata.normalize("NFKD", unicodedata.normalize("NFC", name.casefold()).translate(self.after).translate(PLAIN))
+        return "".join(c for c in plain if not unicodedata.combining(c)), name
+
+
+def lines_of(text: str, label: str, known: Optional[Mapping[str, str]], faults: Faults) -> Iterator[Tuple[int, str, str]]:
+    """Each phrase of a file with its line."""
+    seen: Set[str] = set()
+    for line, words in enumerate(text.lstrip("\ufeff").splitlines(), 1):
+        key, mark, said = (part.strip() for part in words.partition("="))
+        is_known = known is None or key in known
+        what = "file.phrase-line" if not mark else "file.phrase-unknown" if not is_known else "file.phrase-twice" if key in seen else ""
+        if words.strip() and not key.startswith(REMARK) and what:
+            faults.tell(what, label, line, None, {"name": key})
+        elif words.strip() and not key.startswith(REMARK):
+            yield line, key, said
+        seen.add(key)
+
+
+def is_value(key: str, said: str) -> bool:
+    """Whether a phrase that isn't a text says what it has to."""
+    holds: Dict[str, Callable[[], bool]] = {
+        "plurals": lambda: said in PLURALS,
+        "thousands": lambda: said in THOUSANDS,
+        "months": lambda: len(parts(said, ",")) == 12,
+        "sorted-after": lambda: all(len(part) == 1 for one in pairs(said, ",") for part in one),
+        ORDINALS: lambda: all(ORDINAL.fullmatch(one) for one, _ in pairs(said, ";")) and pairs(said, ";")[-1][0] == "*",
+    }
+    try:
+        return holds[key]() if key in holds else True
+    except (IndexError, ValueError):
+        return False
+
+
+def wrong(key: str, said: str, wanted: str, forms: int) -> str:
+    """The code of what is wrong with a phrase, or no text."""
+    if not is_value(key, said):
+        return "file.phrase-value"
+    if not said and wanted:
+        return "file.phrase-empty"
+    if values_in(said) != values_in(wanted) or re.search("[{}]", VALUE.sub("", said)):
+        return "file.phrase-values"
+    if any(found[2] is not None and len(found[2].split("|")) != forms for found in VALUE.finditer(said)):
+        return "file.phrase-forms"
+    return ""
+
+
+def read_phrases(text: str, label: str) -> Phrases:
+    """The phrases of a file's text. FaultsError with each that is missing, unknown or twice, or that has other values."""
+    known, faults = english().texts, Faults()
+    found = {key: (line, said) for line, key, said in lines_of(text, label, known, faults)}
+    forms = PLURALS.get(found.get("plurals", (0, ""))[1], (2,))[0]
+    for key, (line, said) in found.items():
+        code = wrong(key, said, known[key], forms)
+        if code:
+            values = {"name": key, "forms": forms, "values": [f"{{{one}}}" for one in sorted(values_in(known[key]))]}
+            faults.tell(code, label, line, None, values)
+    missing = [key for key in known if key not in found]
+    if missing:
+        faults.tell("file.phrase-missing", label, None, None, {"names": missing})
+    if len(faults):
+        raise FaultsError(faults)
+    return Phrases({key: said for key, (_, said) in found.items()})
+
+
+def languages() -> List[str]:
+    return sorted(one.stem for one in FOLDER.glob("*.txt"))
+
+
+@lru_cache(maxsize=None)
+def named(language: str) -> Phrases:
+    """The phrases of a language that comes with the command. OfficeError where none has this name."""
+    if language not in languages():
+        raise OfficeError("words.language", 2, text=language, languages=languages())
+    return read_phrases((FOLDER / f"{language}.txt").read_text(encoding="utf-8"), f"{language}.txt")
+
+
+@lru_cache(maxsize=None)
+def english() -> Phrases:
+    text = (FOLDER / f"{ENGLISH}.txt").read_text(encoding="utf-8")
+    return Phrases({key: said for _, key, said in lines_of(text, ENGLISH, None, Faults())})
+
+
+@dataclass(frozen=True)
+class Language:
+    """In which words an office writes: a language that comes with the command, or the text of an office's own file of phrases; and
+    the column, if any, that says it of each resident."""
+
+    name: str = ENGLISH
+    own: Optional[str] = None
+    column: str = ""
+
+    def phrases(self) -> Phrases:
+        return named(self.name) if self.own is None else read_phrases(self.own, "phrases")
+
+    def entry(self) -> Dict[str, Any]:
+        """What a manifest keeps of it; nothing of English for all."""
+        said = {"name": self.name, "own": self.own, "column": self.column}
+        return {} if self == Language() else {"language": {word: one for word, one in said.items() if one}}
+
+    @classmethod
+    def of(cls, manifest: Mapping[str, Any]) -> "Language":
+        """What a manifest kept. ValueError for what `entry` doesn't give."""
+        said = manifest.get("language", {})
+        if not isinstance(said, dict) or not set(said) <= {"name", "own", "column"} or not all(isinstance(one, str) for one in said.values()):
+            raise ValueError("language")
+        return cls(**said)
