@@ -341,7 +341,7 @@ class Verify(unittest.TestCase):
             self.assertEqual(steps.read_by(str(self.at)), wanted)
         (self.at / MANIFEST).write_text("[" * 100_000)
         self.assertEqual(steps.read_by(str(self.at)), Settings())
-        (self.at / MANIFEST).write_text(json.dumps({**good, "reading": {"match": {"title": "T"}}, "details": [], "more": "x" * (60 << 20)}))
+        (self.at / MANIFEST).write_text(json.dumps({**good, "reading": {"match": {"title": "T"}}, "details": [], "more": "x" * (160 << 20)}))
         for limits, wanted in ((None, Settings(title="T")), (Limits(60, 50), Settings())):
             self.assertEqual((steps.read_by(str(self.at), limits), children(os.getpid())), (wanted, set()))
 
