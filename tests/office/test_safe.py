@@ -16,6 +16,7 @@ from typing import List, Sequence, Tuple
 from unittest import mock
 
 import build_wheel
+from residency.errors import ResidencyError
 from residency.office import leftover, stopping, writing
 from residency.office.faults import OfficeError
 from residency.office.sentences import said_by
@@ -353,6 +354,16 @@ class Stops(OfficeTest):
         self.assertEqual((said.status, said.err), (0, "".join(
             f"office: a run that was killed left {name}, which was removed\n" for name in (part, file))))
         self.assertEqual(self.left(), sorted([*(name for name in before if name not in (part, file)), "a", "b"]))
+
+    def test_a_program_that_the_same_signal_ended(self) -> None:
+        """A signal that comes while a program starts comes again a moment later; if the program has ended by it before, it isn't at fault."""
+        def ended(*words: object) -> None:
+            signal.signal(signal.SIGALRM, stopping.stop)
+            raise ResidencyError("unknown status -2")
+
+        with mock.patch("residency.office.running.matched", ended):
+            said = office("run", *self.tables(), "--out", self.folder / "out")
+        self.assertEqual((said, self.left(), signal.getsignal(signal.SIGALRM)), ((1, "", "office: interrupted\n"), [], signal.SIG_DFL))
 
     def test_a_stop_when_all_is_done(self) -> None:
         """A stop while signals are given back to whoever had them changes nothing, and is no traceback."""

@@ -65,7 +65,7 @@ def ended(words: Optional[Sequence[str]]) -> int:
     except (DocketFault, MarketFault) as fault:
         return failed(str(fault), 3)
     except ResidencyError as error:
-        return failed(str(error), 1)
+        return failed("interrupted" if stopping.is_asked() else str(error), 1)
     except OSError as error:
         silence()
         return failed(f"the output could not be written: {(error.strerror or str(error)).lower()}", 1)
@@ -525,11 +525,9 @@ def why_command(given: argparse.Namespace) -> int:
     from . import counter
 
     lines = counter.answer(Run(given.folder), as_text(given.name), None if given.programme is None else as_text(given.programme), given.timeout)
-    if given.out is None:
-        say("\n".join(lines))
-    else:
+    if given.out is not None:
         writing.new_file(given.out, "\n".join([*lines, ""]).encode("utf-8"), writing.PRIVATE)
-        say(f"written to {shown(given.out)}")
+    say("\n".join(lines) if given.out is None else f"written to {shown(given.out)}")
     return 0
 
 

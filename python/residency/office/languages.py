@@ -4,8 +4,7 @@ from typing import Dict, Tuple
 
 
 def sections(name: str) -> Dict[str, Dict[str, str]]:
-    """By the heads of its sections, and by their names, the texts of a file beside this one, in which a line that begins with # says
-    nothing."""
+    """By the heads of its sections, and by their names, the texts of a file beside this one; a line that begins with # says nothing."""
     found: Dict[str, Dict[str, str]] = {}
     for line in Path(__file__).with_name(name).read_text(encoding="utf-8").splitlines():
         if line.startswith("["):

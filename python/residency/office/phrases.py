@@ -106,8 +106,7 @@ def lines_of(text: str, label: str, known: Optional[Mapping[str, str]], faults: 
     seen: Set[str] = set()
     for line, words in enumerate(text.lstrip("\ufeff").splitlines(), 1):
         key, mark, said = (part.strip() for part in words.partition("="))
-        is_known = known is None or key in known
-        what = "file.phrase-line" if not mark else "file.phrase-unknown" if not is_known else "file.phrase-twice" if key in seen else ""
+        what = ("file.phrase-line" if not mark else "file.phrase-unknown" if key not in (known or {key}) else "file.phrase-twice" if key in seen else "")
         if words.strip() and not key.startswith(REMARK) and what:
             faults.tell(what, label, line, None, {"name": key})
         elif words.strip() and not key.startswith(REMARK):
@@ -193,8 +192,7 @@ class Language:
 
     def entry(self) -> Dict[str, Any]:
         """What a manifest keeps of it; nothing of English for all."""
-        said = {"name": self.name, "own": self.own, "column": self.column}
-        return {} if self == Language() else {"language": {word: one for word, one in said.items() if one}}
+        return {} if self == Language() else {"language": {word: one for word, one in vars(self).items() if one}}
 
     @classmethod
     def of(cls, manifest: Mapping[str, Any]) -> "Language":

@@ -42,6 +42,11 @@ def stop(number: int, frame: Optional[FrameType]) -> None:
     raise Stopped(number)
 
 
+def is_asked() -> bool:
+    """Whether a stop is to come again in a moment. A program that the same signal ended isn't at fault."""
+    return signal.getsignal(signal.SIGALRM) is stop
+
+
 def lost(trouble: Any) -> None:
     """Ends the command where a stop came in the midst of what lets no exception through, as when an object is given up."""
     if isinstance(trouble.exc_value, Stopped):
@@ -53,7 +58,7 @@ def lost(trouble: Any) -> None:
 
 def give_back(hook: Any, before: List[Any]) -> None:
     """Makes signals and what nobody can raise what they were before."""
-    if signal.getsignal(signal.SIGALRM) is stop:
+    if is_asked():
         signal.setitimer(signal.ITIMER_REAL, 0)
         signal.signal(signal.SIGALRM, signal.SIG_DFL)
     sys.unraisablehook = hook
