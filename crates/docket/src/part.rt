@@ -1,11 +1,11 @@
 //! The parts of a market's files, and the kinds of record that belong to each part.
 ghost use Rattle.std.specs.Prelude.{◌≡◌};
 ghost use Rattle.csv.specs.Records.{fields_of};
-ghost use Rattle.docket.specs.Answers.{Answers};
+ghost use Rattle.docket.specs.Answers.{StopsAt};
 ghost use Rattle.docket.specs.Parts as parts;
 
-use crate::fault::DocketFault;
-use crate::records::kind_of;
+use crate::kinds::kind_of;
+use crate::records_fault::RecordsFault;
 use crate::vocabulary::{
     CAPACITY, EVENT, FILLED, MATCHED, PROGRAMME_LIST, QUOTA, RESIDENT_LIST, UNMATCHED, VERSION,
     WITHDRAWAL,
@@ -63,14 +63,14 @@ pub(crate) fn check_part(
     part: Option<Part>,
     row: &ByteRecord,
     place: u32,
-) -> Result<(), DocketFault>
-    ensures { Answers (parts.kind_fault part place (fields_of row.now)) result }
+) -> Result<(), RecordsFault>
+    ensures { StopsAt (parts.kind_fault part place (fields_of row.now)) result }
 {
     let Some(part) = part else {
         return Ok(());
     };
     if is_other(part, kind_of(row)) {
-        return Err(DocketFault::AnotherPart { place });
+        return Err(RecordsFault::AnotherPart { place });
     }
     Ok(())
 }

@@ -1,25 +1,15 @@
 -- When an answer fails because memory ran out, or because the key could not be read.
 use Rattle.std.proofs.Common.{Bor, ◌≡◌, List, ℕ, Option, Some, None, inl, inr, refl}
-use Rattle.std.specs.Prelude.{◌⊎◌, IfSome, IsSomeAnd, is_some, option_map}
-use Rattle.docket.specs.Answers.{Refuses}
+use Rattle.std.specs.Prelude.{◌⊎◌, IsSomeAnd, is_some, option_map}
 use Rattle.docket.specs.Contents.{Contents}
-use Rattle.docket.specs.Passes.{fault_within}
 use Rattle.match_model.specs.declared.limits.Limits.{Limits}
-use Rattle.docket.specs.declared.fault.DocketFault.{DocketFault}
 use Rattle.docket.specs.declared.fault.DocketFault.TheVariants as docket
-use Rattle.reasons_text.specs.Faults.{IsDocketFault, IsKeyFault}
+use Rattle.reasons_text.specs.Faults.{IsKeyFault}
 use Rattle.reasons_text.specs.Keys.{HasBadRow, unnamed}
 use Rattle.reasons_text.specs.Program.{IsFailed, IsUnreadKey}
 use Rattle.reasons_text.specs.declared.fault.WhyFault.{WhyFault}
 use Rattle.reasons_text.specs.declared.fault.WhyFault.TheVariants.{Docket}
 use Rattle.reasons_text.specs.declared.question.Question.{Question}
-
-memory_refused : (limits : Limits) (bytes : Option (List ℕ)) → IfSome bytes (λ b. Refuses (fault_within limits b) docket.Memory)
-memory_refused limits None = tt
-memory_refused limits (Some b) = inl refl
-
-pub memory : (limits : Limits) (bytes : Option (List ℕ)) → IsDocketFault limits bytes docket.Memory
-memory limits bytes = inr (memory_refused limits bytes)
 
 same_path : (path : Option (Bor (List ℕ))) → is_some (option_map (λ file. file.now) path) ≡ is_some path
 same_path None = refl

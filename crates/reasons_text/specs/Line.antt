@@ -2,7 +2,6 @@
 use Rattle.std.specs.Prelude.{◌≡◌, ◌≢◌, ◌⊎◌, true, false, codes, List, Option, Some, None, option_map}
 use Rattle.clap.specs.Words.{App, IsAmong, Row, Rule, Text, first_of, fault_of, matches_of, new_app, new_rule, with_rule}
 use Rattle.clap.specs.Simple.{on_top}
-use Rattle.clap.specs.declared.error.kind.ErrorKind.{ErrorKind}
 use Rattle.clap.specs.declared.error.kind.ErrorKind.TheVariants.{ArgumentConflict, MissingRequiredArgument}
 use Rattle.program_shell.specs.Faults.{IsErrorOf}
 use Rattle.program_shell.specs.Flags.{IsFlagged, IsUnflagged, flag_rule}

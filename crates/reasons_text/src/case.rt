@@ -13,7 +13,8 @@ ghost use Rattle.reasons_text.specs.Answers.{AreAnswers, AreOfRecord, AreTaken, 
 use crate::answers::Answers;
 use crate::fault::WhyFault;
 use docket::{
-    Docket, DocketFault, FileFault, read_docket_with_lists_within, read_parts_with_lists,
+    Docket, DocketFault, FileFault, RecordsFault, read_docket_with_lists_within,
+    read_parts_with_lists,
 };
 use match_model::{Assignment, Limits, ProgrammeNo, ResidentNo, WrittenLists};
 use match_reasons::{Listed, Taken, Why, places_taken, why};
@@ -139,7 +140,7 @@ fn in_its_file(there: FileFault) -> WhyFault
     ensures { result ≡ spec.in_its_file there }
 {
     match there.fault {
-        DocketFault::Memory => WhyFault::Docket(DocketFault::Memory),
+        RecordsFault::Docket(DocketFault::Memory) => WhyFault::Docket(DocketFault::Memory),
         fault => WhyFault::Records {
             file: there.file,
             fault,
@@ -164,7 +165,7 @@ impl Case {
     {
         match read_docket_with_lists_within(rt, alloc, limits, reader) {
             Ok((docket, lists)) => Case::of_docket(alloc, docket, lists, are_all_told),
-            Err(fault) => Err(WhyFault::Docket(fault)),
+            Err(fault) => Err(WhyFault::Reading(fault)),
         }
     }
 

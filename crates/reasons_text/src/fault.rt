@@ -3,7 +3,7 @@ ghost use Rattle.std.specs.Prelude.{◌≡◌};
 ghost use Rattle.docket.specs.declared.fault.DocketFault.TheVariants as docket_fault;
 ghost use Rattle.reasons_text.specs.declared.fault.WhyFault.TheVariants.{Docket};
 
-use docket::{DocketFault, Part};
+use docket::{DocketFault, Part, RecordsFault};
 use match_model::Limits;
 use std::alloc::AllocError;
 use std::fmt;
@@ -12,9 +12,12 @@ use thiserror::Error;
 /// Why a question was not answered.
 #[derive(Debug, PartialEq, Eq, Drop, Error)]
 pub enum WhyFault {
-    /// The docket could not be read, or the answer could not be written.
+    /// Memory ran out, or the answer could not be written.
     #[error(transparent)]
     Docket(DocketFault),
+    /// The docket could not be read.
+    #[error(transparent)]
+    Reading(RecordsFault),
     /// The docket has no sheet.
     #[error("no sheet in the docket")]
     NoSheet,
@@ -51,7 +54,7 @@ pub enum WhyFault {
         /// The file of the record: the docket's file or the sheet's file.
         file: Part,
         /// The fault of the record.
-        fault: DocketFault,
+        fault: RecordsFault,
     },
     /// The sheet's file has no record.
     #[error("no sheet")]
@@ -93,8 +96,9 @@ pub(crate) struct FaultWithin<'a> {
 impl fmt::Display for FaultWithin<'_> {
     fn fmt<W: fmt::Write>(&self, f: &mut fmt::Formatter<W>) -> fmt::Result {
         match self.fault {
-            WhyFault::Docket(fault) => write!(f, "{}", fault.within(self.limits)),
-            WhyFault::Records { fault, .. } => write!(f, "{}", fault.within(self.limits)),
+            WhyFault::Reading(fault) | WhyFault::Records { fault, .. } => {
+                write!(f, "{}", fault.within(self.limits))
+            }
             fault => write!(f, "{fault}"),
         }
     }

@@ -3,7 +3,7 @@ use Rattle.std.specs.Prelude.{◌≡◌, ◌⊎◌, ℕ, Option, Some, Result, L
 use Rattle.std.specs.Prelude.{String}
 use Rattle.std.specs.Global.{Vec}
 use Rattle.program_shell.specs.Ends.{EndsRefused, IsOrderOf}
-use Rattle.residency.specs.declared.fault.ServeFault.{ServeFault}
+use Rattle.residency.specs.declared.fault.LimitsFault.{LimitsFault}
 use Rattle.command_line.specs.declared.options.Order.{Order}
 use Rattle.residency.specs.declared.status.Status.{Status}
 use Rattle.command_line.specs.Line.{Orders, Refuses}
@@ -11,14 +11,14 @@ use Rattle.command_line.specs.Options.{IsOrder}
 use Rattle.match_model.specs.declared.limits.Limits.{Limits}
 use Rattle.match_model.specs.declared.limits.Limits.TheVariants.{Standard}
 use Rattle.residency.specs.Serving.{IsAnswerWithin}
-use Rattle.residency.specs.Status.{exit_status_of}
+use Rattle.residency.specs.Status.{exit_status_within_of}
 
 -- an order was served within these limits over an input of these bytes, if they are known, and the status is that of the
 -- answer
 pub record EndsServingWithin (limits : Limits) (order : Order) (input old new : Option (List ℕ)) (status : ℕ) : Type 0 where
-  pub answer : Result Status ServeFault
+  pub answer : Result Status LimitsFault
   pub answers : (bytes : List ℕ) → input ≡ Some bytes → IsAnswerWithin limits order bytes old new answer
-  pub tells : status ≡ exit_status_of answer
+  pub tells : status ≡ exit_status_within_of answer
 
 -- an order was served within the standard limits over an input of these bytes, if they are known, and the status is
 -- that of the answer

@@ -6,9 +6,8 @@ use Rattle.std.proofs.lemmas.List.{append_cancel_left, length-map, take-append-d
 use Rattle.std.proofs.lemmas.List.Elements.{All-cons, All-nil, All-append}
 use Rattle.std.proofs.Math.Seq.{take-append_seam}
 use Rattle.csv.specs.Records.{Row, field_at, fields_of}
-use Rattle.docket.specs.Fields.{field}
 use Rattle.records.specs.Lines.{line, lines}
-use Rattle.records.specs.Reading.{Fields}
+use Rattle.records.specs.Reading.{Fields, field}
 use Rattle.records.proofs.RoundFacts.{lines-append}
 use Rattle.seal_text.specs.Cut.{StartsAt}
 use Rattle.seal_text.specs.Receipt.{AreGoodRows, AreLists, IsGoodResultIf, IsListIf, IsWithdrawalIf, first_fields, letter_of}

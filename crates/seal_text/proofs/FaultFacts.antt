@@ -4,9 +4,8 @@ use Rattle.std.specs.Prelude.{All, Contains, IfNone, IfSome, MatchBool, MatchOpt
 use Rattle.std.proofs.lemmas.List.{length-map, drop_all}
 use Rattle.std.proofs.lemmas.List.Elements.{All-head}
 use Rattle.csv.specs.Records.{Row, field_at, fields_of}
-use Rattle.docket.specs.Fields.{field}
 use Rattle.docket_names.specs.Words.{number_of, is_number}
-use Rattle.records.specs.Reading.{Fields}
+use Rattle.records.specs.Reading.{Fields, field}
 use Rattle.seal_text.specs.Receipt.{AreAnswers, AreChoices, AreMembers, AreProgrammeRows, AreResidentRows, AreUpTo, HasLastBefore, HasNoPlaces, IsBare, IsLater, IsMember, IsPassedOver, IsReason, IsRowOf, placed_fields}
 use Rattle.seal_text.specs.Reasons.{AreLeft, CanStand, stand_of}
 use Rattle.seal_text.specs.Records.{rows_in}

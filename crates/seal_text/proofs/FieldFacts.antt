@@ -5,8 +5,7 @@ use Rattle.std.specs.Prelude.{bytes_eq}
 use Rattle.std.proofs.lemmas.List.{take_all}
 use Rattle.std.proofs.lemmas.Slice.Eq.{bytes_eq-Decides}
 use Rattle.csv.specs.Records.{Row, field_at}
-use Rattle.docket.specs.Fields.{field}
-use Rattle.records.specs.Reading.{Fields}
+use Rattle.records.specs.Reading.{Fields, field}
 
 -- what a test of two texts tells
 pub text_is : (a b : List ℕ) → bytes_eq a b ≡ true → a ≡ b

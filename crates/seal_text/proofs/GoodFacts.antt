@@ -4,8 +4,7 @@ use Rattle.std.specs.Prelude.{codes}
 use Rattle.std.proofs.lemmas.List.{length-map, take-map}
 use Rattle.std.proofs.Math.Seq.{take-append_seam, drop-append_seam}
 use Rattle.csv.specs.Records.{Row, fields_of}
-use Rattle.docket.specs.Fields.{field}
-use Rattle.records.specs.Reading.{Fields}
+use Rattle.records.specs.Reading.{Fields, field}
 use Rattle.seal_text.specs.Cut.{StartsAt}
 use Rattle.seal_text.specs.Receipt.{AreGoodRows, AreLists, IfWrong, IsGoodResult, IsGoodResultIf, Opens, TellsPlace, TellsRoot, first_fields, letter_of}
 use Rattle.seal_text.specs.Records.{rows_in}

@@ -2,8 +2,7 @@
 use Rattle.std.proofs.Common.{◌≡◌, ℕ, ◌⊎◌, List, [], ◌∷◌, ◌++◌, drop, Option, Some, None, refl, sym, ap, ◌∙◌, subst, inl, inr}
 use Rattle.std.specs.Prelude.{codes}
 use Rattle.csv.specs.Records.{Row, field_at, fields_of}
-use Rattle.docket.specs.Fields.{field}
-use Rattle.records.specs.Reading.{Fields}
+use Rattle.records.specs.Reading.{Fields, field}
 use Rattle.seal_text.specs.Receipt.{AreLists, AreProgrammeLists, AreResidentLists, AreResultRows, IsGoodResultIf, IsListIf, IsQuotaRow, IsRowOf, IsWithdrawalIf}
 use Rattle.seal_text.specs.Records.{rows_in}
 use Rattle.seal_text.specs.declared.points.Kind.{Kind}

@@ -6,8 +6,7 @@ use Rattle.std.proofs.lemmas.List.Elements.{All-head, All-tail, All-push, All-ni
 use Rattle.std.proofs.lemmas.Fmt.{decimal_nonempty}
 use Rattle.csv.specs.Records.{Row, field_at, fields_of}
 use Rattle.hex.specs.Hex.{encode_lower}
-use Rattle.docket.specs.Fields.{field}
-use Rattle.records.specs.Reading.{Fields}
+use Rattle.records.specs.Reading.{Fields, field}
 use Rattle.records.specs.Lines.{lines}
 use Rattle.seal.specs.Hashes.{leaf_hash}
 use Rattle.seal.specs.Tree.{climb}

@@ -5,9 +5,8 @@ use Rattle.std.specs.Prelude.{All, Contains, MatchBool, bytes_eq, codes, if◌th
 use Rattle.std.proofs.lemmas.List.{length-map, drop_all}
 use Rattle.std.proofs.lemmas.List.Elements.{All-cons, All-tail, All-from_get_or}
 use Rattle.csv.specs.Records.{Row, field_at, fields_of}
-use Rattle.docket.specs.Fields.{field}
 use Rattle.docket_names.specs.Words.{number_of}
-use Rattle.records.specs.Reading.{Fields}
+use Rattle.records.specs.Reading.{Fields, field}
 use Rattle.seal_text.proofs.FieldFacts.{four_are}
 use Rattle.seal_text.specs.Receipt.{AreAnswers, AreChoices, AreMembers, AreProgrammeRows, AreUpTo, IsBare, IsLater, IsMember, IsPassedOver, IsReason, IsRowOf}
 use Rattle.seal_text.specs.Reasons.{AreLeft, CanStand, is_past_after, stand_of}

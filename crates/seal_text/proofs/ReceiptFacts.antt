@@ -5,7 +5,7 @@ use Rattle.std.specs.Global.{Vec}
 use Rattle.std.proofs.lemmas.List.{length-map, get_or-map}
 use Rattle.records.specs.Lines.{Grows}
 use Rattle.records.proofs.LineFacts.{grows_both}
-use Rattle.row_writer.specs.RowText.{row}
+use Rattle.records.specs.RowText.{row}
 use Rattle.seal.specs.Tree.{root, path_of}
 use Rattle.seal_text.specs.Sealed.{hashes_of, opening_row, part_text, receipt_text, result_text_if, root_row, root_row_of, salt_of}
 use Rattle.seal_text.specs.Grown.{IsGrown, texts_in, texts_of}

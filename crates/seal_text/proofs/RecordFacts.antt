@@ -7,23 +7,22 @@ use Rattle.std.proofs.lemmas.Slice.Eq.{bytes_eq-Decides}
 use Rattle.std.proofs.lemmas.List.Elements.{filter-append}
 use Rattle.csv.specs.Records.{Row, fields_of}
 use Rattle.csv.specs.declared.reader.Reader.{Reader}
-use Rattle.docket.specs.Fields.{field}
-use Rattle.records.specs.Reading.{Fields}
+use Rattle.records.specs.Reading.{Fields, field}
 use Rattle.records.specs.Lines.{line, lines}
 use Rattle.records.proofs.RoundFacts.{lines-append}
-use Rattle.records.specs.Reading.{IsReading, IsSplit, GivesRow}
+use Rattle.records.specs.Reading.{IsSource, IsSplit, GivesRow}
 use Rattle.seal_text.specs.Records.{AreListsIn, AreListsOf, AreRowsIn, Keeps, rows_in}
 use Rattle.seal_text.specs.Texts.{records_of}
 use Rattle.seal_text.specs.declared.rows.ListRecords.{ListRecords}
 
 -- what holds after each record that was read
 pub record HasRows {R : Type 0} (all left : Option (List Fields)) (reader : Reader R) (records : List Row) : Type 0 where
-  pub reading : IsReading reader
+  pub reading : IsSource reader
   pub split : IsSplit all (rows_in records) left
 
 -- what holds after each record whose list was kept
 pub record HasLists {R : Type 0} (all left : Option (List Fields)) (reader : Reader R) (lists : ListRecords) : Type 0 where
-  pub reading : IsReading reader
+  pub reading : IsSource reader
   pub done : List Fields
   pub kept : AreListsOf done lists
   pub split : IsSplit all done left

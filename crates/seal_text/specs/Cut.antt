@@ -1,7 +1,6 @@
 -- Where the result begins among the rows of a receipt.
 use Rattle.std.specs.Prelude.{◌≡◌, ◌≢◌, ℕ, ◌<◌, ◌≤◌, List, [], codes, length, slice_index_or}
-use Rattle.docket.specs.Fields.{field}
-use Rattle.records.specs.Reading.{Fields}
+use Rattle.records.specs.Reading.{Fields, field}
 
 -- Among the rows after a receipt's first row, the result begins at this place. The first two rows are of the lists. No
 -- other row before the place is the first row of a result. The row at the place is, if there is one.

@@ -5,9 +5,8 @@ use Rattle.std.specs.List.{list_all}
 use Rattle.hex.specs.Hex.{encode_lower, IsBytes}
 use Rattle.seal.specs.Hashes.{leaf_hash}
 use Rattle.seal.specs.Tree.{climb}
-use Rattle.docket.specs.Fields.{field}
 use Rattle.docket_names.specs.Words.{is_name_byte, number_of}
-use Rattle.records.specs.Reading.{Fields, rows_of}
+use Rattle.records.specs.Reading.{Fields, rows_of, field}
 use Rattle.records.specs.Lines.{lines}
 use Rattle.seal_text.specs.declared.points.Kind.{Kind}
 use Rattle.seal_text.specs.declared.points.Kind.TheVariants.{Programme, Resident}

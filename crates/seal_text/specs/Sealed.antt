@@ -4,7 +4,7 @@ use Rattle.std.specs.Int.{w64, to_be_bytes}
 use Rattle.std.specs.List.{flat_map, range_with_len}
 use Rattle.sha2.specs.Sha256.{sha256}
 use Rattle.hex.specs.Hex.{encode_lower}
-use Rattle.row_writer.specs.RowText.{row}
+use Rattle.records.specs.RowText.{row}
 use Rattle.docket.specs.Contents.{Contents}
 use Rattle.docket.specs.Texts.{programme_name, resident_name}
 use Rattle.seal.specs.Hashes.{Leaf}

@@ -1,9 +1,8 @@
 //! What the rows of a member have to be: those of its list, and those of a programme's result.
 ghost use Rattle.std.specs.Prelude.{◌≡◌, ◌≢◌, ◌<◌, ◌≤◌, ℕ, List, ◌∷◌, [], All, AllPairs, Contains, IsSome, MatchBool, MatchOption, MatchResult, Option, codes, drop, length, option_map, slice_index_or};
 ghost use Rattle.csv.specs.Records.{fields_of};
-ghost use Rattle.docket.specs.Fields.{field as field_in};
 ghost use Rattle.docket_names.specs.Words as words;
-ghost use Rattle.records.specs.Reading.{Fields};
+ghost use Rattle.records.specs.Reading.{Fields, field as field_in};
 ghost use Rattle.seal_text.specs.Receipt.{AreLists, AreMembers, AreProgrammeLists, AreProgrammeRows, AreResidentLists, AreResultRows, IsListed, IsQuotaRow, IsRowOf, IsWithdrawalIf, letter_of};
 ghost use Rattle.seal_text.specs.Records.{rows_in};
 

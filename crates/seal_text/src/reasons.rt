@@ -1,7 +1,7 @@
 //! What the rows of a resident's result have to be: where it is placed, and the reason of each choice.
 ghost use Rattle.std.specs.Prelude.{◌≡◌, ◌≢◌, ◌⊎◌, ◌∷◌, [], ◌+◌, ◌<◌, ℕ, IfNone, IfSome, List, MatchBool, MatchOption, Option, Some, length, option_map};
 ghost use Rattle.csv.specs.Records.{fields_of};
-ghost use Rattle.docket.specs.Fields.{field as field_in};
+ghost use Rattle.records.specs.Reading.{field as field_in};
 ghost use Rattle.docket_names.specs.Words as words;
 ghost use Rattle.seal_text.specs.Receipt.{AreAnswers, AreChoices, AreResidentRows, HasLastBefore, HasNoPlaces, IsBare, IsLater, IsPassedOver, IsReason, placed_fields};
 ghost use Rattle.seal_text.specs.Reasons.{AreLeft, CanStand, is_past_after};

@@ -1,12 +1,12 @@
 //! The records of files, as they were written.
 ghost use Rattle.std.specs.Prelude.{◌≡◌, ◌≢◌, ℕ, List, [], ◌∷◌, IfOk, MatchBool, MatchOption, OnOk, Some, bytes_eq, find, map, option_map, slice_get, true, false};
 ghost use Rattle.csv.specs.Records.{fields_of};
-ghost use Rattle.docket.specs.Fields.{field as field_in};
-ghost use Rattle.records.specs.Reading.{rows_of};
-ghost use Rattle.records.specs.Reading.{IsReading, rows_left};
+ghost use Rattle.records.specs.Reading.{rows_of, field as field_in};
+ghost use Rattle.records.specs.Reading.{IsSource, rows_left};
 ghost use Rattle.seal_text.specs.Records.{AreListsIn, AreListsOf, AreRowsIn, Keeps, rows_in};
 
 use csv::{ByteRecord, Reader};
+pub(crate) use records::field;
 use records::{next_row, reader_over};
 use std::alloc::{AllocError, Global};
 use std::io::Read;
@@ -18,17 +18,6 @@ pub(crate) struct ListRecords {
     pub(crate) programmes: Vec<ByteRecord>,
     /// The `R` records, of which each resident has one.
     pub(crate) residents: Vec<ByteRecord>,
-}
-
-/// Field `i` of a record, from 0, which is empty past the end.
-#[tactic(auto, unfolding(docket::specs::Fields::field))]
-pub(crate) fn field(row: &ByteRecord, i: usize) -> &[u8]
-    ensures { result.now ≡ field_in (fields_of row.now) i }
-{
-    match row.get(i) {
-        Some(text) => text,
-        None => &[],
-    }
 }
 
 /// Whether field `i` of a record is this text.
@@ -61,7 +50,7 @@ pub(crate) fn is_triple(row: &ByteRecord, first: &[u8], second: &[u8], third: &[
 
 // The records that a reader has left.
 fn rows_from<R: Read>(alloc: Global, reader: &mut Reader<R>) -> Result<Vec<ByteRecord>, AllocError>
-    requires reading { IsReading reader.old }
+    requires reading { IsSource reader.old }
     ensures { IfOk result (λ rows. AreRowsIn (rows_left R.remaining reader.old) rows.items) }
 {
     let mut rows = Vec::new(alloc);
@@ -82,13 +71,13 @@ fn rows_from<R: Read>(alloc: Global, reader: &mut Reader<R>) -> Result<Vec<ByteR
 pub(crate) fn read_rows(alloc: Global, bytes: &[u8]) -> Result<Vec<ByteRecord>, AllocError>
     ensures { IfOk result (λ rows. rows_in rows.items ≡ rows_of bytes.now) }
 {
-    let mut reader = reader_over(alloc, bytes)?;
+    let mut reader = reader_over(alloc, b',', bytes)?;
     rows_from(alloc, &mut reader)
 }
 
 // The list records that a reader has left.
 fn lists_from<R: Read>(alloc: Global, reader: &mut Reader<R>) -> Result<ListRecords, AllocError>
-    requires reading { IsReading reader.old }
+    requires reading { IsSource reader.old }
     ensures { IfOk result (λ lists. AreListsIn (rows_left R.remaining reader.old) lists) }
 {
     let mut lists = ListRecords {
@@ -128,7 +117,7 @@ impl ListRecords {
     pub(crate) fn read(alloc: Global, docket: &[u8]) -> Result<ListRecords, AllocError>
         ensures { IfOk result (AreListsOf (rows_of docket.now)) }
     {
-        let mut reader = reader_over(alloc, docket)?;
+        let mut reader = reader_over(alloc, b',', docket)?;
         lists_from(alloc, &mut reader)
     }
 

@@ -3,12 +3,12 @@
 use crate::fault::SealFault;
 use crate::wrong::ReceiptFault;
 use audit_files::FilesFault;
-use program_shell::docket_status;
+use program_shell::records_status;
 
 // The exit status after files at fault.
 fn files_status(fault: &FilesFault) -> u8 {
     match fault {
-        FilesFault::Docket { fault, .. } => docket_status(fault),
+        FilesFault::Docket { fault, .. } => records_status(fault),
         FilesFault::Memory | FilesFault::Write => 1,
         FilesFault::NoSheet | FilesFault::NoJournal => 3,
     }

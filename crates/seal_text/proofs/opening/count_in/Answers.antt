@@ -1,6 +1,6 @@
 use Rattle.std.proofs.Common.{sym, ◌∙◌, ◌≡◌}
 use Rattle.csv.specs.Records.{fields_of}
-use Rattle.docket.specs.Fields.{field}
+use Rattle.records.specs.Reading.{field}
 use Rattle.seal_text.specs.Receipt.{IsPlain, IsDigest}
 use Rattle.seal_text.specs.Sealed.{word_of}
 use Rattle.seal_text.proofs.FieldFacts.{text_is, not_text, not_true, not_false}

@@ -1,6 +1,6 @@
 use Rattle.std.proofs.Common.{sym, ◌≤◌, ◌≢◌, ℕ, arith, below_more}
 use Rattle.csv.specs.Records.{fields_of}
-use Rattle.docket.specs.Fields.{field}
+use Rattle.records.specs.Reading.{field}
 use Rattle.seal_text.proofs.FaultFacts.{not_listed}
 use Rattle.seal_text.proofs.FieldFacts.{text_is, not_text}
 use Rattle.seal_text.proofs.PointFacts.{listed_at}

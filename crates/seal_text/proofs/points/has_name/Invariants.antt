@@ -1,6 +1,6 @@
 use Rattle.std.proofs.Common.{◌≢◌, ◌<◌, ◌≤◌, ℕ}
 use Rattle.csv.specs.Records.{fields_of}
-use Rattle.docket.specs.Fields.{field}
+use Rattle.records.specs.Reading.{field}
 use Rattle.seal_text.proofs.points.has_name.Given as goal
 
 abbrev pub invariant-loop-i : goal.invariant-loop-i

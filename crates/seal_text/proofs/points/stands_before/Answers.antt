@@ -1,7 +1,6 @@
 use Rattle.std.proofs.Common.{sym, ◌∙◌, ◌≡◌, ◌<◌, [], arith, ap, length, get_or, below_more}
 use Rattle.csv.specs.Records.{fields_of}
-use Rattle.docket.specs.Fields.{field}
-use Rattle.records.specs.Reading.{Fields}
+use Rattle.records.specs.Reading.{Fields, field}
 use Rattle.seal_text.specs.Records.{rows_in}
 use Rattle.seal_text.proofs.FieldFacts.{not_text, text_is}
 use Rattle.seal_text.proofs.RecordFacts.{row_there}

@@ -1,5 +1,5 @@
 use Rattle.std.proofs.Common.{◌≢◌, ◌<◌, ℕ, [], get_or}
-use Rattle.docket.specs.Fields.{field}
+use Rattle.records.specs.Reading.{field}
 use Rattle.seal_text.specs.Records.{rows_in}
 use Rattle.seal_text.proofs.points.stands_before.Given as goal
 

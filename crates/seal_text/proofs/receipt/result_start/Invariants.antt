@@ -1,6 +1,6 @@
 use Rattle.std.proofs.Common.{◌≢◌, ◌<◌, ◌≤◌, ℕ, [], get_or}
 use Rattle.std.specs.Prelude.{codes}
-use Rattle.docket.specs.Fields.{field}
+use Rattle.records.specs.Reading.{field}
 use Rattle.seal_text.specs.Records.{rows_in}
 use Rattle.seal_text.proofs.receipt.result_start.Given as goal
 
