@@ -104,7 +104,7 @@ class Sealed:
         trees = self.trees()
         made = []
         for index, member in enumerate(self.names):
-            text = text_of([("receipt", 1, *member)])
+            text = text_of([("receipt", 2, *member)])
             for word, tree in trees.items():
                 text += text_of([(word, len(self.names), tree.root), ("opens", word, index, tree.salt(index).hex(), *tree.path(index))])
                 text += tree.texts[index]
@@ -247,7 +247,7 @@ class Tree:
             below = self.levels[-1]
             pairs = [below[at:at + 2] for at in range(0, len(below), 2)]
             self.levels.append([pair[0] if len(pair) == 1 else sha(b"\1", *pair) for pair in pairs])
-        self.root = (self.levels[-1][0] if texts else sha()).hex()
+        self.root = counted(len(texts), self.levels[-1][0] if texts else sha())
 
     def salt(self, index: int) -> bytes:
         return sha(self.secret, self.tag, index.to_bytes(8, "big"))
@@ -263,6 +263,11 @@ class Tree:
 
 def sha(*parts: bytes) -> bytes:
     return hashlib.sha256(b"".join(parts)).digest()
+
+
+def counted(count: int, top: bytes) -> str:
+    """What is published of a tree with this many leaves."""
+    return sha(b"\2", count.to_bytes(8, "big"), top).hex()
 
 
 NAME = "[A-Za-z0-9_.-]"
@@ -315,18 +320,19 @@ def open_part(rows: List[List[str]], at: int, until: int, word: str, published: 
     top = sha(b"\0", bytes.fromhex(opens[3]), text_of(rows[at + 2:until]))
     for side, one in zip(sides, path):
         top = sha(b"\1", one, top) if side == "left" else sha(b"\1", top, one)
-    want(top.hex() == published[1], at + 2, "climb")
+    want(counted(int(head[1]), top) == published[1], at + 2, "climb")
     return int(opens[2])
 
 
 def fault(receipt: bytes, roots: Dict[str, Tuple[int, str]]) -> None:
     """Raises Wrong at the first thing that is wrong with a receipt, in the order in which it is read: rows, openings, list, result."""
+    receipt = (receipt[3:] if receipt.startswith(b"\xef\xbb\xbf") else receipt).replace(b"\r\n", b"\n")
     *lines, end = receipt.decode("latin-1").split("\n")
     for number, line in enumerate(lines, 1):
         want(re.fullmatch(f"{NAME}+(,{NAME}*)+", line), number, "fields" if re.fullmatch(f"({NAME}|,)+", line) else "form")
     want(not end and len(lines) > 3, len(lines) + 1, "cut", receipt)
     rows = [line.split(",") for line in lines]
-    want(len(rows[0]) == 4 and ",".join(rows[0][:3]) in ("receipt,1,P", "receipt,1,R"), 1, "head")
+    want(len(rows[0]) == 4 and ",".join(rows[0][:3]) in ("receipt,2,P", "receipt,2,R"), 1, "head")
     side, name = rows[0][2:]
     split = next((at for at, row in enumerate(rows) if at > 2 and row[0] == "result"), len(rows))
     index = open_part(rows, 1, split, "lists", roots["lists"])
@@ -340,15 +346,18 @@ def fault(receipt: bytes, roots: Dict[str, Tuple[int, str]]) -> None:
     want(heads in ([["R", name]] if side == "R" else [["Q", name]], [["Q", name], ["P", name]] if side == "P" else None)
          and (side == "R" or len(own[0]) == 3 and is_number(own[0][2])), 4, "list", name)
     listed = own[-1][2:] if own[-1][0] in "PR" else []
+    want(all(re.fullmatch(f"{NAME}{{1,32}}", one) for one in [name, *listed]) and len(set(listed)) == len(listed), 3 + len(own), "names")
+    is_gone = rows[split - 1] == ["W", side, name]
     if "result" in roots and side == "R":
-        fault_of_reasons(rows, split + 2, name, listed)
+        fault_of_reasons(rows, split + 2, name, listed, is_gone)
     elif "result" in roots:
-        fault_of_places(rows, split + 2, name, own[0][2], listed)
+        fault_of_places(rows, split + 2, name, own[0][2], listed, is_gone)
 
 
-def fault_of_reasons(rows: List[List[str]], at: int, name: str, listed: List[str]) -> None:
+def fault_of_reasons(rows: List[List[str]], at: int, name: str, listed: List[str], is_gone: bool) -> None:
     first = rows[at] if at < len(rows) else []
     want(first[:2] == ["U", name] and len(first) == 2 or first[:2] == ["M", name] and len(first) == 3, at + 1, "result", name)
+    want(not is_gone or first[0] == "U", at + 1, "gone")
     reasons = rows[at + 1:]
     want(len(reasons) == len(listed), at + 1, "reasons", len(reasons), len(listed))
     own = [choice for choice, row in enumerate(reasons, 1) if row[3:4] == ["matched"]]
@@ -357,17 +366,17 @@ def fault_of_reasons(rows: List[List[str]], at: int, name: str, listed: List[str
         number = at + 1 + choice
         want(row[:3] == [name, one, str(choice)] and len(row) == 7, number, "choice", choice, one)
         stand = "unmatched" if not own else "before" if choice < own[0] else "after" if choice > own[0] else "at"
-        want(row[3] in ANSWERS[stand] and (stand != "at" or one == first[2]), number, "answer", row[3])
+        want(row[3] in (("withdrawn",) if is_gone else ANSWERS[stand]) and (stand != "at" or one == first[2]), number, "answer", row[3])
         rank, last, quota = row[4:]
         want(row[3] == "full" or not rank + last + quota, number, "numbers", row[3], one)
         is_some = [is_number(text) and text != "0" for text in (rank, last, quota)]
-        is_right = is_some[0] and (last == "" and quota == "0" or is_some[1] and is_some[2] and int(last) < int(rank))
+        is_right = is_some[0] and (last == "" and quota == "0" or is_some[1] and is_some[2] and int(quota) <= int(last) < int(rank))
         want(row[3] != "full" or is_right, number, "full", one)
 
 
-def fault_of_places(rows: List[List[str]], at: int, name: str, places: str, listed: List[str]) -> None:
+def fault_of_places(rows: List[List[str]], at: int, name: str, places: str, listed: List[str], is_gone: bool) -> None:
     members = rows[at + 1:]
-    want(at < len(rows) and rows[at] == ["F", name, str(len(members)), places] and len(members) <= int(places), at + 1, "filled", name, places)
+    want(at < len(rows) and rows[at] == ["F", name, str(len(members)), places] and len(members) <= (0 if is_gone else int(places)), at + 1, "filled", name, places)
     for number, row in enumerate(members):
         is_right = len(row) == 3 and row[0] == "M" and row[2] == name and row[1] in listed and row not in members[:number]
         want(is_right, at + 2 + number, "resident")
@@ -376,7 +385,7 @@ def fault_of_places(rows: List[List[str]], at: int, name: str, places: str, list
 def said_by_script(wrong: Wrong) -> str:
     """How check-receipt.py tells what is wrong."""
     one, other = (*wrong.words, "", "")[:2]
-    says = {"form": "it is no row of a receipt", "cut": "the receipt is cut off here", "head": "no `receipt,1`, a side and a name",
+    says = {"form": "it is no row of a receipt", "cut": "the receipt is cut off here", "head": "no `receipt,2`, a side and a name",
             "root row": f"it is not `{one}`, a number of members and a root of 64 small digits",
             "root": f"it has {','.join(one[1:])}; {other[0]},{other[1]} was published" if wrong.cause in ("root", "count") else "",
             "opening": "it is no opening: an index, a salt and a path", "index": f"there is no member {one} among {other}, counted from 0",
@@ -388,7 +397,8 @@ def said_by_script(wrong: Wrong) -> str:
             "choice": f"it is not about choice {one}, {other}", "answer": f"`{one}` cannot be with this result",
             "numbers": f"`{one}` has no numbers", "full": "the last rank is not before yours",
             "filled": f"it is not `F,{one}`, the number of `M` rows, at most the places, and {other}",
-            "resident": "no one of your list, named once"}
+            "resident": "no one of your list, named once", "gone": "who is withdrawn has no programme",
+            "names": "a name that no docket has, or one that stands twice"}
     says.update(count=says["root"], fields=says["form"])
     return f"row {wrong.row}: {says[wrong.cause]}\n"
 
@@ -399,7 +409,7 @@ def said_by_page(wrong: Wrong) -> str:
     asked = ("the receipt has a result, and this page is from before the match. Take the page of after the match." if one is True else
              "the receipt has no result: it is from before the match. Ask the office for the one of after the match.")
     says = {**dict.fromkeys(("form", "fields"), "this is no row of a receipt."), "cut": "the receipt is cut off here." if one else "the receipt is empty.",
-            "head": "a receipt begins with receipt,1, then P or R, and a name.",
+            "head": "a receipt begins with receipt,2, then P or R, and a name.",
             "root row": f"here a row \u201c{one}\u201d is wanted, with the number of members and a root of 64 small digits.",
             "root": "its root is not the one that the office published.",
             "count": f"it tells of {one[1]} members, and the office published {other[0]}." if wrong.cause == "count" else "",
@@ -413,16 +423,152 @@ def said_by_page(wrong: Wrong) -> str:
             "numbers": f"here no numbers are wanted, since {other} is not told full.",
             "full": f"{one} is told full, and its last rank is not before yours.",
             "filled": f"here \u201cF,{one}\u201d is wanted, with the number of residents that follow, at most the places, and {other} places.",
-            "resident": "here a resident of your list is wanted, each once."}
+            "resident": "here a resident of your list is wanted, each once.", "gone": "who is withdrawn has no programme.",
+            "names": "here each name is one that a docket can have, and stands once."}
     return f"P Row {wrong.row}: {says[wrong.cause]}"
 
 
-# What the program tells of these causes; where it finds others, it reads in another order, and tells another row.
-PROGRAM = {"form": "not written as a receipt's rows are", "head": "not the first row of a receipt", "root row": "not the row of a root",
-           "root": "another root than the published one", "opening": "not the row of an opening",
-           **dict.fromkeys(("index", "short", "long", "climb"), "what follows doesn't open the published root"),
-           "result": "not a row of this member's result", "choice": "not the reason of this choice", "numbers": "a reason that can't stand here",
-           "full": "full, but not of residents who are ranked before"}
+AGAIN = ": this file was changed by a program; ask for it again or paste the text"
+# What the program tells of a row, in its own order: first the rows, then the openings, the list and the result.
+TELLS = {"header": "not the first row of a receipt" + AGAIN, "root row": "not the row of a root" + AGAIN, "opening row": "not the row of an opening" + AGAIN,
+         "age": "a receipt of an earlier form, whose root has no number of members: ask for a new one", "cut": "the receipt is cut off here: ask for it again",
+         "root": "another root than the published one", "count": "another count than that of the lists", "place": "another place than in the lists",
+         "opening": "what follows doesn't open the published root", "list": "not a row of this member's list", "result": "not a row of this member's result",
+         "unasked": "a result, and no root of a result was given", "name": "not a name of a docket", "twice": "a name that stands twice",
+         "not listed": "a name that isn't on the list", "numbers": "the numbers don't fit the rows", "gone": "a result of a member who is withdrawn",
+         "reason": "a reason that can't stand here", "full": "full, but not of residents who are ranked before"}
+CHANGED = ("header", "root row", "opening row", "age", "cut")
+
+
+class Content:
+    """What the rows of a receipt tell, whatever they are; and the receipt that tells it, printed again."""
+
+    def __init__(self, text: str, roots: Dict[str, Tuple[int, str]]) -> None:
+        self.rows = rows = [line.split(",") for line in text.split("\n")[:-1]]
+        self.text, self.roots = text, roots
+        self.side, self.name, self.count, self.index = "P" if self.cell(0, 2) == "P" else "R", self.cell(0, 3), self.cell(1, 1), self.cell(2, 2)
+        self.has_list = self.side == "P" and self.cell(4, 0) == "P"
+        at = 3 + self.has_list
+        self.listed = rows[at][2:] if at < len(rows) and (self.side == "R" or self.has_list) else []
+        self.quota, self.is_gone = self.cell(3, 2), self.cell(at + 1, 0) == "W"
+        self.end = end = at + 1 + self.is_gone
+        self.paths = {"lists": rows[2][3:] if len(rows) > 2 else [], "result": rows[end + 1][3:] if len(rows) > end + 1 else []}
+        self.own = self.cell(end + 2, 2) if self.cell(end + 2, 0) == "M" else None
+        self.after = rows[end + 3:]
+
+    def cell(self, row: int, place: int) -> str:
+        return (self.rows[row] + [""] * 9)[place] if row < len(self.rows) else ""
+
+    def leaf(self, word: str) -> List[List[str]]:
+        """The rows that were sealed of the member."""
+        side, name = self.side, self.name
+        if word == "lists":
+            lists = [["Q", name, self.quota]] + [["P", name, *self.listed]] * self.has_list if side == "P" else [["R", name, *self.listed]]
+            return lists + [["W", side, name]] * self.is_gone
+        if side == "P":
+            return [["F", name, str(len(self.after)), self.quota], *(["M", one, name] for one in self.members())]
+        answers = (self.after + [[]] * len(self.listed))[:len(self.listed)]
+        return [["U", name] if self.own is None else ["M", name, self.own],
+                *([name, one, str(choice), *row[3:]] for choice, (one, row) in enumerate(zip(self.listed, answers), 1))]
+
+    def members(self) -> List[str]:
+        return [row[1] if len(row) > 1 else "" for row in self.after]
+
+    def printed(self) -> str:
+        rows = [["receipt", "2", self.side, self.name]]
+        for word, (_, root) in self.roots.items():
+            rows += [[word, self.count, root], ["opens", word, self.index, *self.paths[word]], *self.leaf(word)]
+        return "".join(",".join(row) + "\n" for row in rows)
+
+
+def want_same(told: Content) -> None:
+    """The first row that is not as the receipt with this content has it."""
+    text, other, end = told.text, told.printed(), told.end
+    if text == other:
+        return
+    same = next((at for at, (one, two) in enumerate(zip(text, other)) if one != two), min(len(text), len(other)))
+    row = text[:same].count("\n")
+    if row >= len(told.rows):
+        raise Wrong(row + 1, "cut")
+    where = "lists" if row == 1 else "result"
+    if row == 0:
+        raise Wrong(1, "age" if told.rows[0][:2] == ["receipt", "1"] else "header")
+    if row == 1 or row == end and "result" in told.roots and told.cell(end, 0) == "result":
+        digits = told.cell(row, 2)
+        raise Wrong(row + 1, "root row" if len(digits) != 64 else "root" if digits != told.roots[where][1] else
+                    "root row" if told.cell(row, 1) == told.count else "count")
+    if row == 2:
+        raise Wrong(3, "opening row")
+    if row < end or "result" not in told.roots:
+        raise Wrong(row + 1, "unasked" if row >= end and told.cell(row, 0) == "result" else "list")
+    raise Wrong(row + 1, "list" if row == end else "result" if row > end + 1 else "opening row" if told.cell(row, 2) == told.index else "place")
+
+
+def want_open(told: Content, word: str, row: int) -> None:
+    """The opening climbs to the published root."""
+    digests, index, count = told.paths[word], int(told.index), int(told.count)
+    want(digests and all(map(is_digest, digests)), row, "opening row")
+    sides, path = siblings(index, count) if index < count else None, [bytes.fromhex(one) for one in digests[1:]]
+    want(sides is not None and len(sides) == len(path), row, "opening")
+    top = sha(b"\0", bytes.fromhex(digests[0]), "".join(",".join(line) + "\n" for line in told.leaf(word)).encode("latin-1"))
+    for side, one in zip(sides or [], path):
+        top = sha(b"\1", one, top) if side == "left" else sha(b"\1", top, one)
+    want(counted(count, top) == told.roots[word][1], row, "opening")
+
+
+def want_names(names: Sequence[str], row: Callable[[int], int], listed: Optional[Sequence[str]] = None) -> None:
+    seen = set()
+    for place, one in enumerate(names):
+        want(re.fullmatch(f"{NAME}{{1,32}}", one), row(place), "name")
+        want(listed is None or one in listed, row(place), "not listed")
+        want(one not in seen, row(place), "twice")
+        seen.add(one)
+
+
+def want_answer(told: Content, choice: int, row: int) -> None:
+    """The answer to a choice, from 0, can stand there."""
+    place = None if told.own is None else told.listed.index(told.own)
+    answer, *numbers = (told.after[choice] if choice < len(told.after) else [])[3:] or [""]
+    stand = "before" if place is None or choice < place else "at" if choice == place else "after"
+    is_bare = numbers == ["", "", ""]
+    rank, last, quota = [int(one) if is_number(one) else None for one in numbers] if len(numbers) == 3 else [None] * 3
+    is_full = rank is not None and quota is not None and (1 <= quota <= last < rank if last is not None else numbers[1] == "" and quota == 0 and rank >= 1)
+    right = is_bare and answer == "withdrawn" if told.is_gone else answer == "full" and is_full and stand == "before" or answer in ANSWERS[stand] and is_bare and answer != "full"
+    want(right, row, "full" if answer == "full" else "reason")
+
+
+def program_fault(receipt: bytes, roots: Dict[str, Tuple[int, str]]) -> Optional[Wrong]:
+    """The first thing that the program finds wrong with a receipt."""
+    receipt = (receipt[3:] if receipt.startswith(b"\xef\xbb\xbf") else receipt).replace(b"\r\n", b"\n")
+    told = Content(receipt.decode("latin-1"), roots)
+    try:
+        want_same(told)
+        want(is_number(told.count), 2, "root row")
+        want(is_number(told.index), 3, "opening row")
+        want_open(told, "lists", 3)
+        if "result" in roots:
+            want_open(told, "result", told.end + 2)
+        want_names([told.name], lambda _: 1)
+        want(told.side == "R" or is_number(told.quota), 4, "numbers")
+        want_names(told.listed, lambda _: 4 + told.has_list)
+        if "result" in roots:
+            want_result(told, told.end + 3)
+    except Wrong as wrong:
+        return wrong
+    return None
+
+
+def want_result(told: Content, first: int) -> None:
+    """The result fits the list; its first row has this number."""
+    if told.side == "P":
+        want(len(told.after) <= int(told.quota), first, "numbers")
+        want(not told.is_gone or not told.after, first, "gone")
+        want_names(told.members(), lambda place: first + 1 + place, told.listed)
+    else:
+        want(told.own is None or not told.is_gone, first, "gone")
+        want(told.own is None or told.own in told.listed, first, "not listed")
+        for choice in range(len(told.listed)):
+            want_answer(told, choice, first + 1 + choice)
 
 
 def read(docket: bytes) -> Market:

@@ -70,10 +70,10 @@ def checked(texts: Dict[str, str], lists: str, result: str) -> Iterator[End]:
     yield End(f"check --result={result} --lists={lists}", "receipt", Ended(0, texts["shown"], ""))
     yield End(f"check --lists {lists}", "early", Ended(0, texts["shown early"], ""))
     yield End(f"check --lists {lists}", "receipt", fault(4, "row 5: a result, and no root of a result was given"))
-    yield End(both, "early", fault(4, "row 5: a row is missing"))
+    yield End(both, "early", fault(3, "row 5: the receipt is cut off here: ask for it again"))
     yield End(f"check --lists {result} --result {result}", "receipt", fault(4, "row 2: another root than the published one"))
     yield End(f"check --lists {lists} --result {lists}", "receipt", fault(4, "row 5: another root than the published one"))
-    yield End(both, "empty", fault(4, "row 1: not the first row of a receipt"))
+    yield End(both, "empty", fault(3, "row 1: the receipt is cut off here: ask for it again"))
     yield End(both, "folder", fault(1, "standard input: could not be read"))
     for words, given in ((both, "receipt"), (f"check --lists {lists}", "early")):
         yield End(words, given, fault(1, "the output could not be written"), "/dev/full")

@@ -5,7 +5,3 @@ pub mod Sealed
 pub mod Grown
 pub mod Serving
 pub mod Laws
-pub mod Digits
-pub mod Receipt
-pub mod Cut
-pub mod Reasons

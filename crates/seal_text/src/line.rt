@@ -35,8 +35,9 @@ const CHECK_HELP: &str =
 digits each. They are never taken from the receipt.
 Writes what the receipt shows: the list as it was sealed, the result, and the reason of each choice.
 
-Exit status: 0 for a good receipt; 4 for another, and the first row with which something is wrong is
-named on standard error; 1 where memory, reading or writing failed; 2 for a wrong command line.
+Exit status: 0 for a receipt that holds; 3 for a file that isn't as it was given, and 4 for a wrong
+receipt: the first row with which something is wrong is named on standard error; 1 where memory,
+reading or writing failed; 2 for a wrong command line.
 
 Example: residency-seal check --lists ROOT --result ROOT < receipt.csv";
 

@@ -1,14 +1,13 @@
 //! The program, over any streams: it seals a docket or checks a receipt, and its exit status tells how that ended.
 
-use crate::digits::digest_of;
 use crate::fault::SealFault;
 use crate::line::{Files, Order, Roots, read_line};
 use crate::load::{Loaded, Unread, load, load_input};
-use crate::receipt::serve_receipt;
 use crate::serve::{serve_receipts, serve_seal};
 use crate::status::{receipt_status, seal_status};
 use docket::Part;
 use program_shell::{UsageFault, refuse, texts_of};
+use receipt_check::{digest_of, serve_receipt};
 use std::alloc::Global;
 use std::io::{Read, Write};
 use std::process::ExitCode;
@@ -108,7 +107,8 @@ fn refuse_root<T: Eprint>(told: &T, word: &str) -> ExitCode {
 }
 
 // Checks a receipt, and tells what is wrong with it.
-fn check_bytes<W: Write, T: Eprint>(
+fn check_bytes<W: Write, T: Eprint, H: RandomSource>(
+    rt: &H,
     alloc: Global,
     receipt: &[u8],
     lists: &[u8; 32],
@@ -116,7 +116,7 @@ fn check_bytes<W: Write, T: Eprint>(
     writer: &mut W,
     told: &T,
 ) -> ExitCode {
-    let answer = serve_receipt(alloc, receipt, lists, outcome, writer);
+    let answer = serve_receipt(rt, alloc, receipt, lists, outcome, writer);
     if let Err(fault) = &answer {
         let _ = eprintln!(told; "residency: {fault}");
     }
@@ -124,7 +124,8 @@ fn check_bytes<W: Write, T: Eprint>(
 }
 
 // Reads a receipt, and checks it against these roots.
-fn check_input<R: Read, W: Write, T: Eprint>(
+fn check_input<R: Read, W: Write, T: Eprint, H: RandomSource>(
+    rt: &H,
     alloc: Global,
     roots: &Roots,
     reader: &mut R,
@@ -146,6 +147,7 @@ fn check_input<R: Read, W: Write, T: Eprint>(
         Err(unread) => return tell_unread(told, &unread),
     };
     check_bytes(
+        rt,
         alloc,
         receipt.as_slice(),
         &lists,
@@ -156,7 +158,7 @@ fn check_input<R: Read, W: Write, T: Eprint>(
 }
 
 /// Seals a docket or checks a receipt, as the words order, and gives the exit status. It is 0 where all was written, and 4 for a
-/// receipt that isn't good. It is 1 where memory, reading or writing failed, 2 for a wrong command line, and 3 for a file at
+/// receipt that is wrong. It is 1 where memory, reading or writing failed, 2 for a wrong command line, and 3 for a file at
 /// fault.
 ///
 /// The words are those after the program's own name. What help and the version say goes to standard output, and why nothing
@@ -186,7 +188,7 @@ where
         Ok(Order::Receipts(files)) => {
             seal_files(rt, alloc, Wanted::Receipts, &files, reader, writer, told)
         }
-        Ok(Order::Check(roots)) => check_input(alloc, &roots, reader, writer, told),
+        Ok(Order::Check(roots)) => check_input(rt, alloc, &roots, reader, writer, told),
         Err(fault) => refuse(told, &UsageFault::Line(fault)),
     }
 }

@@ -3,7 +3,7 @@ ghost use Rattle.std.specs.Prelude.{◌≡◌, ◌≢◌, ℕ, List, [], ◌∷�
 ghost use Rattle.csv.specs.Records.{fields_of};
 ghost use Rattle.records.specs.Reading.{rows_of, field as field_in};
 ghost use Rattle.records.specs.Reading.{IsSource, rows_left};
-ghost use Rattle.seal_text.specs.Records.{AreListsIn, AreListsOf, AreRowsIn, Keeps, rows_in};
+ghost use Rattle.seal_text.specs.Records.{AreListsIn, AreListsOf, Keeps, rows_in};
 
 use csv::{ByteRecord, Reader};
 pub(crate) use records::field;
@@ -25,54 +25,6 @@ pub(crate) fn has(row: &ByteRecord, i: usize, text: &[u8]) -> bool
     ensures { result ≡ bytes_eq (field_in (fields_of row.now) i) text.now }
 {
     field(row, i) == text
-}
-
-/// Whether the record has just these three fields.
-pub(crate) fn is_triple(row: &ByteRecord, first: &[u8], second: &[u8], third: &[u8]) -> bool
-    ensures { MatchBool result
-        (fields_of row.now ≡ first.now ∷ second.now ∷ third.now ∷ [])
-        (fields_of row.now ≢ first.now ∷ second.now ∷ third.now ∷ []) }
-{
-    if row.len() != 3 {
-        return false;
-    }
-    if !has(row, 0, first) {
-        return false;
-    }
-    if !has(row, 1, second) {
-        return false;
-    }
-    if !has(row, 2, third) {
-        return false;
-    }
-    true
-}
-
-// The records that a reader has left.
-fn rows_from<R: Read>(alloc: Global, reader: &mut Reader<R>) -> Result<Vec<ByteRecord>, AllocError>
-    requires reading { IsSource reader.old }
-    ensures { IfOk result (λ rows. AreRowsIn (rows_left R.remaining reader.old) rows.items) }
-{
-    let mut rows = Vec::new(alloc);
-    for _n in 0..u64::MAX {
-        let mut row = ByteRecord::new(alloc);
-        let Ok(found) = next_row(reader, &mut row) else {
-            return Err(AllocError);
-        };
-        if !found {
-            return Ok(rows);
-        }
-        rows.push(row)?;
-    }
-    Err(AllocError)
-}
-
-/// All records of these bytes.
-pub(crate) fn read_rows(alloc: Global, bytes: &[u8]) -> Result<Vec<ByteRecord>, AllocError>
-    ensures { IfOk result (λ rows. rows_in rows.items ≡ rows_of bytes.now) }
-{
-    let mut reader = reader_over(alloc, b',', bytes)?;
-    rows_from(alloc, &mut reader)
 }
 
 // The list records that a reader has left.

@@ -1,9 +1,9 @@
 //! With which status the program ends.
 
 use crate::fault::SealFault;
-use crate::wrong::ReceiptFault;
 use audit_files::FilesFault;
 use program_shell::records_status;
+use receipt_check::ReceiptFault;
 
 // The exit status after files at fault.
 fn files_status(fault: &FilesFault) -> u8 {
@@ -24,11 +24,12 @@ pub fn seal_status(answer: &Result<(), SealFault>) -> u8 {
     }
 }
 
-/// The exit status after a check. It is 0 for a good receipt, 4 for another, and 1 where memory or writing failed.
+/// The exit status after a check. It is 0 for a good receipt, 3 for a file that isn't as it was given, 4 for a wrong receipt,
+/// and 1 where memory or writing failed.
 pub fn receipt_status(answer: &Result<(), ReceiptFault>) -> u8 {
     match answer {
         Ok(()) => 0,
-        Err(ReceiptFault::Wrong { .. }) => 4,
+        Err(ReceiptFault::Wrong(fault)) => { if fault.is_changed() { 3 } else { 4 } }
         Err(ReceiptFault::Memory | ReceiptFault::Write) => 1,
     }
 }

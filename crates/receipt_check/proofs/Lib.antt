@@ -1,0 +1,4 @@
+pub mod Steps
+mod Firsts
+mod TextFacts
+mod GoodFacts
