@@ -1,91 +1,135 @@
 """Checks a receipt of a sealed match against the roots that the office published, from docs/sealed.md alone: --lists ROOT
 [--result ROOT] RECEIPT. A ROOT is the 64 digits that were published, or the number of members, a comma and the digits. It says
-what the receipt shows, or the first thing that is wrong and its row; then the status is 4."""
+what the receipt shows; else the first row that is wrong and why, with status 3 where the file is not as it was given, or 4."""
 import os, sys
 # Nothing is run that lies beside this file or in the current folder.
 sys.path[:] = [folder for folder in sys.path if folder not in ("", os.getcwd(), os.path.dirname(os.path.realpath(__file__)))]
 import argparse, hashlib, re
 
-NUMBER, DIGEST, ROW = "(?:0|[1-9][0-9]{0,8})", "[0-9a-f]{64}", "[A-Za-z0-9_.-]+(?:,[A-Za-z0-9_.-]*)+"
-SAYS = {"withdrawn": "you or it withdrew.", "unranked": "it did not rank you.", "matched": "you are matched here.",
-        "better": "you have one that you ranked higher."}
+AGAIN = ": this file was changed by a program; ask for it again or paste the text"
+CHANGED = {"header": f"not the first row of a receipt{AGAIN}", "root row": f"not the row of a root{AGAIN}",
+           "opening row": f"not the row of an opening{AGAIN}", "missing": "the receipt is cut off here: ask for it again", "long": f"longer than any receipt{AGAIN}",
+           "age": "a receipt of an earlier form, whose root has no number of members: ask for a new one"}
+WRONG = {"root": "another root than the published one", "count": "another count than that of the lists",
+         "place": "another place than in the lists", "opening": "what follows doesn't open the published root",
+         "list": "not a row of this member's list", "result": "not a row of this member's result",
+         "unasked": "a result, and no root of a result was given", "name": "not a name of a docket", "twice": "a name that stands twice",
+         "not listed": "a name that isn't on the list", "numbers": "the numbers don't fit the rows",
+         "gone": "a result of a member who is withdrawn", "reason": "a reason that can't stand here",
+         "full": "full, but not of residents who are ranked before", "members": "another number of members than the published one"}
+SAYS = {"matched": "you are matched there", "withdrawn": "you or the programme is withdrawn", "unranked": "it did not rank you",
+        "better": "you have a programme that you ranked higher"}
 sha = lambda *parts: hashlib.sha256(b"".join(parts)).digest()
+printed = lambda those: "".join(",".join(row) + "\n" for row in those)
+number = lambda digits: int(digits) if re.fullmatch("0|[1-9][0-9]{0,8}", digits) else None
+names = lambda those: ", ".join(those) or "nobody"
+ranked = lambda digits: digits + ("th" if digits[-2:-1] == "1" else {"1": "st", "2": "nd", "3": "rd"}.get(digits[-1], "th"))
 
-def need(holds, row, why):
+def need(holds, row, cause):
+    """Ends at this row, from 0, unless the test holds."""
     if not holds:
-        print(f"row {row}: {why}")
-        sys.exit(4)
+        print(f"row {row + 1}: {CHANGED.get(cause) or WRONG[cause]}")
+        sys.exit(3 if cause in CHANGED else 4)
 
-def opened(rows, at, word, published):
-    """The index and the count of the part whose head is `rows[at]`; the leaf's text is all behind the opening."""
-    head = re.fullmatch(f"{word},({NUMBER}),({DIGEST})", ",".join(rows[at]))
-    need(head, at + 1, f"it is not `{word}`, a number of members and a root of 64 small digits")
-    need(published in (head[2], f"{head[1]},{head[2]}"), at + 1, f"it has {head[1]},{head[2]}; {published} was published")
-    opens = re.fullmatch(f"opens,{word},({NUMBER}),({DIGEST})((?:,{DIGEST})*)", ",".join(rows[at + 1]) if rows[at + 1:] else "")
-    need(opens, at + 2, "it is no opening: an index, a salt and a path")
-    place, width, path = int(opens[1]), int(head[1]), [bytes.fromhex(one) for one in opens[3].split(",")[1:]]
-    need(place < width, at + 2, f"there is no member {place} among {width}, counted from 0")
-    now = sha(b"\0", bytes.fromhex(opens[2]), "".join(",".join(row) + "\n" for row in rows[at + 2:]).encode())
+def unlike(row):
+    """Why the first row that is not as the receipt with this content has it is none of a receipt."""
+    if row >= len(rows):
+        return "missing"
+    if row == 0:
+        return "age" if rows[0][:2] == ["receipt", "1"] else "header"
+    if row == 1 or row == end and result and cell(row, 0) == "result":
+        digits = cell(row, 2)
+        return "root row" if len(digits) != 64 else "root" if digits != (lists if row == 1 else result) else "root row" if cell(row, 1) == count else "count"
+    if row == 2 or row == end + 1 and result:
+        return "opening row" if row == 2 or cell(row, 2) == index else "place"
+    return "result" if row > end and result else "unasked" if row >= end and not result and cell(row, 0) == "result" else "list"
+
+def opens(text, digests, root, row):
+    """The leaf with this text leads to the root, from the member's number and with the number of members."""
+    need(digests and all(re.fullmatch("[0-9a-f]{64}", one) for one in digests), row, "opening row")
+    salt, *path = map(bytes.fromhex, digests)
+    place, width, now = number(index), number(count), sha(b"\0", salt, text.encode("latin-1"))
+    need(place < width, row, "opening")
     while width > 1:
         if place % 2 or place + 1 < width:
-            need(path, at + 2, "the path is too short")
+            need(path, row, "opening")
             now = sha(b"\1", path.pop(0), now) if place % 2 else sha(b"\1", now, path.pop(0))
         place, width = place // 2, (width + 1) // 2
-    need(not path, at + 2, "the path is too long")
-    need(now.hex() == head[2], at + 2, "what follows is not what was sealed: it does not lead to the root")
-    return opens[1], head[1]
+    need(not path and sha(b"\2", number(count).to_bytes(8, "big"), now).hex() == root, row, "opening")
 
-def resident(rows, at, name, listed):
-    """What the result of a resident says; its first row is `rows[at]`."""
-    where, answers = (rows[at] + [""])[2], [(row + [""] * 3)[3] for row in rows[at + 1:]]
-    need(rows[at] in (["M", name, where], ["U", name]), at + 1, f"it is no result of {name}")
-    need(len(answers) == len(listed), at + 1, f"{len(answers)} reasons follow, and the list has {len(listed)} programmes")
-    need(answers.count("matched") == (rows[at][0] == "M"), at + 1, "the reasons tell another result")
-    mine = answers.index("matched") + 1 if where else len(listed) + 1
-    yield f"The result: {f'matched with {where}' if where else 'unmatched'}."
-    for choice, (row, one) in enumerate(zip(rows[at + 1:], listed), 1):
-        need(row[:3] == [name, one, str(choice)] and len(row) == 7, at + choice + 1, f"it is not about choice {choice}, {one}")
-        right = (where == one and "matched",) if choice == mine else ("better" if choice > mine else "full", "unranked", "withdrawn")
-        need(row[3] in right, at + choice + 1, f"`{row[3]}` cannot be with this result")
-        numbers = [int(cell) if re.fullmatch(NUMBER, cell) else None for cell in row[4:]]
-        is_before = numbers[0] and (row[5:] == ["", "0"] or numbers[1] and numbers[1] < numbers[0] and numbers[2])
-        need(row[3] == "full" or not any(row[4:]), at + choice + 1, f"`{row[3]}` has no numbers")
-        need(is_before or row[3] != "full", at + choice + 1, "the last rank is not before yours")
-        last = f", the last of them {row[5]}" if row[5] else ""
-        full = f"you have rank {row[4]} there, and its {row[6]} places went to others before you{last}."
-        yield f"{choice}. {one}: {SAYS.get(row[3], full)}"
+def named(those, rows_of, on=None):
+    """Each is a name of a docket, stands on the list, if it has to, and stands once."""
+    seen = set()
+    for place, one in enumerate(those):
+        need(re.fullmatch("[A-Za-z0-9_.-]{1,32}", one), rows_of(place), "name")
+        need(on is None or one in on, rows_of(place), "not listed")
+        need(one not in seen, rows_of(place), "twice")
+        seen.add(one)
 
-def programme(rows, at, name, places, listed):
-    """What the result of a programme says; its first row is `rows[at]`."""
-    members = [row[1] for row in rows[at + 1:]]
-    is_right = rows[at] == ["F", name, str(len(members)), places] and len(members) <= int(places)
-    need(is_right, at + 1, f"it is not `F,{name}`, the number of `M` rows, at most the places, and {places}")
-    for number, one in enumerate(members, at + 2):
-        need(rows[number - 1] == ["M", one, name] and one in listed and members.index(one) == number - at - 2, number, "no one of your list, named once")
-    yield f"The result: {len(members)} of {places} places are filled; {', '.join(members) or 'nobody'}."
+def right(answer, choice, mine):
+    """Whether the answer can be that to this choice, where the resident has the choice `mine`; choices are from 0."""
+    if answer[:1] == ["full"] and len(answer) == 4:
+        rank, last, quota = map(number, answer[1:])
+        is_before = last is not None and 1 <= quota <= last < rank if None not in (rank, quota) and answer[2] else answer[2] == "" and quota == 0 and rank
+        return not is_gone and choice < mine and is_before
+    stands = ("withdrawn",) if is_gone else ("matched",) if choice == mine else ("withdrawn", "unranked", "better")[:2 + (choice > mine)]
+    return len(answer) == 4 and answer[0] in stands and not any(answer[1:])
 
 words = argparse.ArgumentParser(description=__doc__)
-words.add_argument("--lists", metavar="ROOT", required=True, type=lambda text: re.fullmatch(f"(?:{NUMBER},)?{DIGEST}", text)[0])
-words.add_argument("--result", metavar="ROOT", type=lambda text: re.fullmatch(f"(?:{NUMBER},)?{DIGEST}", text)[0])
+published = lambda text: re.fullmatch("(?:(0|[1-9][0-9]{0,8}),)?([0-9a-f]{64})", text).groups()
+words.add_argument("--lists", metavar="ROOT", required=True, type=published)
+words.add_argument("--result", metavar="ROOT", type=published, default=(None, None))
 words.add_argument("receipt", metavar="RECEIPT", type=argparse.FileType("rb"))
 given = words.parse_args()
-lines = given.receipt.read().decode("latin-1").split("\n")
-bad = [number for number, line in enumerate(lines[:-1], 1) if not re.fullmatch(ROW, line)]
-need(not bad, bad and bad[0], "it is no row of a receipt")
-need(lines.pop() == "" and len(lines) > 3, len(lines) + 1, "the receipt is cut off here")
-rows = [line.split(",") for line in lines]
-need(len(rows[0]) == 4 and rows[0][:3] in (["receipt", "1", "P"], ["receipt", "1", "R"]), 1, "no `receipt,1`, a side and a name")
-(_, _, side, name), end = rows[0], next((at for at in range(3, len(rows)) if rows[at][0] == "result"), len(rows))
-where = opened(rows[:end], 1, "lists", given.lists)
-need((end < len(rows)) == (given.result is not None), end + 1, "a result and its published root go together, and one is missing")
-need(end == len(rows) or opened(rows, end, "result", given.result) == where, end + 1, "count or index is not that of the list")
-kind, has_list, is_gone = "QR"[side == "R"], rows[4:5] != [] and rows[4][:2] == ["P", name], rows[end - 1] == ["W", side, name]
-is_own = rows[3][:2] == [kind, name] and (kind == "R" or re.fullmatch(f"Q,{name},{NUMBER}", lines[3]))
-need(is_own and end == 4 + has_list + is_gone and (kind == "Q" or not has_list), 4, f"what is sealed is not one list of {name}")
-listed = rows[4][2:] if has_list else [] if kind == "Q" else rows[3][2:]
-told = [f"{name}: {'a resident' if kind == 'R' else f'a programme with {rows[3][2]} places'}{', withdrawn' if is_gone else ''}.",
-        f"The list that was sealed: {', '.join(listed) or 'nobody'}."]
-if end < len(rows):
-    need(len(rows) > end + 2, end + 2, "no result follows")
-    told += resident(rows, end + 2, name, listed) if kind == "R" else programme(rows, end + 2, name, rows[3][2], listed)
+data, lists, result = given.receipt.read(), given.lists[1], given.result[1]
+if len(data) > 2000000:
+    need(False, 0, "long")
+text = (data[3:] if data[:3] == b"\xef\xbb\xbf" else data).replace(b"\r\n", b"\n").decode("latin-1")
+rows = [line.split(",") for line in text.split("\n")[:-1]]
+rest = lambda row, first: rows[row][first:] if row < len(rows) else []
+cell = lambda row, place: (rest(row, place) or [""])[0]
+# What the rows tell, whatever they are.
+side, name, count, index = "P" if cell(0, 2) == "P" else "R", cell(0, 3), cell(1, 1), cell(2, 2)
+has_list, quota = side == "P" and cell(4, 0) == "P", cell(3, 2)
+listed, is_gone = rest(3 + has_list, 2) if side == "R" or has_list else [], cell(4 + has_list, 0) == "W"
+end = 4 + has_list + is_gone
+own, after = cell(end + 2, 2) if cell(end + 2, 0) == "M" else None, rows[end + 3:]
+members, answers = [(row + ["", ""])[1] for row in after], [rest(end + 3 + place, 3) for place in range(len(listed))]
+# What was sealed of a member with this content, and the receipt that tells it.
+sealed = ([["Q", name, quota]] + [["P", name, *listed]] * has_list if side == "P" else [["R", name, *listed]]) + [["W", side, name]] * is_gone
+placed = [["F", name, str(len(after)), quota]] + [["M", one, name] for one in members] if side == "P" else [
+    ["U", name] if own is None else ["M", name, own]] + [[name, one, str(place + 1), *answers[place]] for place, one in enumerate(listed)]
+whole = [["receipt", "2", side, name], ["lists", count, lists], ["opens", "lists", index, *rest(2, 3)], *sealed]
+whole = printed(whole + [["result", count, result], ["opens", "result", index, *rest(end + 1, 3)], *placed] * (result is not None))
+if text != whole:
+    row = os.path.commonprefix([text, whole]).count("\n")
+    need(False, row, unlike(row))
+need(number(count) is not None, 1, "root row")
+need(number(index) is not None, 2, "opening row")
+opens(printed(sealed), rest(2, 3), lists, 2)
+if result:
+    opens(printed(placed), rest(end + 1, 3), result, end + 1)
+named([name], lambda _: 0)
+need(side == "R" or number(quota) is not None, 3, "numbers")
+named(listed, lambda _: 3 + has_list)
+told = [f"{name}: the sealed lists have your {f'quota of {quota}, and your ' if side == 'P' else ''}list: {names(listed)}."]
+told += ["You are withdrawn."] * is_gone
+if result and side == "P":
+    need(len(after) <= int(quota), end + 2, "numbers")
+    need(not is_gone or not after, end + 2, "gone")
+    named(members, lambda place: end + 3 + place, set(listed))
+    told.append(f"The sealed result has {len(after)} of your places filled: {names(members)}.")
+elif result:
+    need(own is None or not is_gone, end + 2, "gone")
+    need(own is None or own in listed, end + 2, "not listed")
+    told.append(f"The sealed result has you {'unmatched' if own is None else f'matched with {own}'}.")
+    mine = len(listed) if own is None else listed.index(own)
+    for choice, (one, answer) in enumerate(zip(listed, answers)):
+        need(right(answer, choice, mine), end + 3 + choice, "full" if answer[:1] == ["full"] else "reason")
+        full = "" if answer[0] != "full" else f"it ranked you {ranked(answer[1])}" + (
+            ", and it has no places" if answer[3] == "0" else f". Its place went to a resident it ranked higher, {ranked(answer[2])}" if answer[3] == "1"
+            else f". Its {answer[3]} places went to residents it ranked higher, the last of them {ranked(answer[2])}")
+        told.append(f"{one}: {full or SAYS[answer[0]]}.")
+need(given.lists[0] in (None, count), 1, "members")
+need(given.result[0] in (None, count), end, "members")
 print("\n".join(told))

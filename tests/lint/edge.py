@@ -9,14 +9,14 @@ from typing import Dict, Iterator, List
 # Where the command meets a terminal. `apart` ends a process that it made itself, and `leftover` says what a killed command left,
 # whatever comes after.
 EDGE = {"__main__.py", "command.py", "line.py", "telling.py", "stopping.py"}
-# What the office hands out is written by these, in phrases; the page that checks a receipt is in English still, and so is what the
-# command says of two matches.
+# What the office hands out is written by these and by the page that checks a receipt, in phrases; what the command says of two
+# matches is in English still.
 WRITERS = {"compare.py", "letters.py", "page.py", "public.py", "rosters.py"}
 UNPHRASED = "a sentence that is no phrase"
 SENTENCE = re.compile(r"[A-Za-z]{2,},? [a-z]{2,}")
 # Markup, and the classes of a table's rows and cells.
 MARKUP = re.compile(r"<[^>]*>|<[^>]*$|^[^<]*>|[a-z-]+=\S*|^(?:stack|bar) [a-z]+$")
-STILL = {"compare.py": {UNPHRASED}, "public.py": {UNPHRASED}, "apart.py": {"_exit"}, "leftover.py": {"complain"}, "auditor.py": {"a word of the command line"},
+STILL = {"compare.py": {UNPHRASED}, "apart.py": {"_exit"}, "leftover.py": {"complain"}, "auditor.py": {"a word of the command line"},
          "verify.py": {"a word of the command line"}}
 # Where sentences are made, with the names of options, and what else is no sentence. An error is made of its code alone.
 TEXTS = {"command.py", "line.py", "sentences.py"}
@@ -77,6 +77,14 @@ def unphrased(text: str) -> Iterator[str]:
             yield UNPHRASED
 
 
+def unphrased_page(text: str) -> List[str]:
+    """Each word of a page that isn't a mark for a phrase, and each sentence in a text of its script."""
+    script = re.sub(r"^ *//.*$", "", "".join(re.findall(r"<script>(.*?)</script>", text, re.S)), flags=re.M)
+    texts = [one for one in re.findall(r'"[^"\n]*"|`[^`\n]*`', script) if SENTENCE.search(re.sub(r"\$\{[^}]*\}", "", one))]
+    shown = re.sub(r"<(style|script)>.*?</\1>|<[^>]*>|@[A-Za-z-]+@", " ", text, flags=re.S)
+    return re.findall(r"[^\W\d_]+", shown) + [one for one in texts if one != '"use strict"']
+
+
 def faults_of(modules: Dict[str, str]) -> List[str]:
     """What is found in these modules of the office, by their names; and what is let through and isn't there any more."""
     told: List[str] = []
@@ -97,6 +105,9 @@ def planted() -> List[str]:
               "letters.py": "told = f'{count} letters were written'\n", "page.py": "told = '<p class=\"a b\">No place left</p>'\n",
               "error.py": "OfficeError(f'{path} is no folder', 1)\n", "text.py": "OfficeError('it is no folder')\n"}
     unseen = [f"planted and not told: {name}" for name, text in plants.items() if len(faults_of({name: text})) != 1]
+    pages = ("<button>Check</button>", '<script>show("it had no places");</script>', "<script>show(`your ${mine} first choice`);</script>")
+    unseen += [f"planted and not told: {page}" for page in pages if not unphrased_page(page)]
     whole = {"rosters.py": "\"\"\"Writes some tables.\"\"\"\nmade = f'<td class=\"n short\">{phrases.say(\"head.id\")}</td>'\n", "whole.py": "def exits(words):\n    return words.exit()\n", "command.py": plants["print.py"],
              "coded.py": "'It tells of --key.'\nOfficeError('folder.none', at=path, words=['--sheet', '--version'])\n"}
+    unseen += unphrased_page('<style>p { color: red; }</style><p class="a b">@given@ 2</p><script>\n// What is shown.\nsay("no-places");\n</script>')
     return unseen + [f"told, and nothing is wrong: {one}" for one in faults_of(whole)]

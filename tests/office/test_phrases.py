@@ -164,6 +164,9 @@ class Handed(OfficeTest):
         self.assertEqual(rows(self.folder / "out" / "public" / "figures.csv")[:4], [
             ["Wskaźnik", "Liczba"], ["osoby biorące udział", "7"], ["z miejscem", "4 (57%)"], ["z pierwszym wyborem", "4 (57%)"]])
         for folder in ("sealed", "out"):
+            page = Tree((self.folder / folder / "public" / "check.html").read_text(encoding="utf-8")).root
+            self.assertEqual([(one.attributes["lang"], one.all("title")[0].text()) for one in page.all("html")],
+                             [("pl", "Sprawdź swoje pokwitowanie: Przydział")])
             self.assertEqual(office("verify", self.folder / folder).status, 0)
 
     def test_phrases_of_ones_own(self) -> None:

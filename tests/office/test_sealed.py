@@ -61,7 +61,7 @@ class Sealed(OfficeTest):
         found: Dict[str, bytes] = {}
         for path in (folder / "receipts").iterdir():
             found[path.read_bytes().split(b"\n")[0].decode()] = path.read_bytes()
-        return [found[f"receipt,1,{side},{name}"] for side, name in derivation.read((folder / "docket.csv").read_bytes()).members()]
+        return [found[f"receipt,2,{side},{name}"] for side, name in derivation.read((folder / "docket.csv").read_bytes()).members()]
 
 
 class Written(Sealed):

@@ -52,7 +52,7 @@ class Bare:
     def __init__(self, trial: Trial, root: roots.Root, release: str) -> None:
         self.trial, self.root, self.release, self.at = trial, root, release, f"{root.home}/work/clone"
         self.folder = root.path(self.at)
-        parts = ["residency", "why", "seal", "office", "python", "tools", "docs/help", "crates.txt", "crates", "examples"]
+        parts = ["residency", "why", "audit", "seal", "office", "python", "tools", "docs/help", "crates.txt", "crates", "examples"]
         copy_of(*parts, to=self.folder)
 
     def refused(self, line: str, wanted: bytes, first: str = "", **known: str) -> None:
@@ -119,12 +119,12 @@ def unbuilt(bare: Bare) -> None:
     root, at = bare.root, bare.at
     for path in sorted(os.listdir(f"{TOP}/docs/help")):
         *said, last = path[:-len(".txt")].split("-")
-        own = said[:1] in (["why"], ["seal"])
-        launcher, program = (f"./{said[0]}", f"residency-{said[0]}") if own else ("./residency", "residency")
-        line = " ".join([*said[own:], f"--{last}"])
+        own = {"why": "why", "seal": "seal", "auditor": "audit"}.get("".join(said[:1]), "")
+        launcher, program = (f"./{own}", f"residency-{own}") if own else ("./residency", "residency")
+        line = " ".join([*said[bool(own):], f"--{last}"])
         before, after = root.run(f"{launcher} {line}", at), root.run(f"{program} {line}", at)
         bare.trial.tell(before[0] == 0 and before == after, f"{launcher} {line} before the build: {before!r} is not {after!r}")
-    for launcher, program in (("./residency", "residency"), ("./why", "residency-why"), ("./seal", "residency-seal")):
+    for launcher, program in (("./residency", "residency"), ("./why", "residency-why"), ("./audit", "residency-audit"), ("./seal", "residency-seal")):
         before, after = root.run(f"{launcher} --version", at), root.run(f"{program} --version", at)
         bare.trial.tell(before[0] == 0 and before == after, f"{launcher} --version before the build: {before!r} is not {after!r}")
     if os.path.isdir(f"{bare.folder}/python"):

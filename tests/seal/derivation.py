@@ -3,7 +3,7 @@ from __future__ import annotations
 
 import hashlib
 import re
-from typing import Any, Callable, Dict, List, NamedTuple, Optional, Sequence, Tuple
+from typing import Callable, Dict, List, NamedTuple, Optional, Sequence, Tuple
 
 # The secret with which the page's roots of examples/nrmp.csv are made.
 SECRET = bytes(31) + b"\1"
@@ -104,7 +104,7 @@ class Sealed:
         trees = self.trees()
         made = []
         for index, member in enumerate(self.names):
-            text = text_of([("receipt", 1, *member)])
+            text = text_of([("receipt", 2, *member)])
             for word, tree in trees.items():
                 text += text_of([(word, len(self.names), tree.root), ("opens", word, index, tree.salt(index).hex(), *tree.path(index))])
                 text += tree.texts[index]
@@ -151,17 +151,18 @@ class Results:
         return (*row, "full", self.rank[programme][name], self.last[programme] or "", self.market.quotas[programme])
 
 
-class Shown:
+class Shown(NamedTuple):
     """What a member's receipt shows, and the words in which each checker says so."""
 
-    def __init__(self, market: Market, places: Optional[Places], side: str, name: str) -> None:
-        self.side, self.name, self.is_gone = side, name, (side, name) in set(market.gone)
-        self.quota = market.quotas[name] if side == "P" else 0
-        self.listed = market.programme_lists.get(name, []) if side == "P" else market.resident_lists[name]
-        self.has_result, self.where = places is not None, (places or {}).get(name) if side == "R" else None
-        told = Results(market, places or {})
-        self.filled = told.residents[name] if side == "P" else []
-        self.reasons = [told.reason(name, choice, one) for choice, one in enumerate(self.listed, 1)] if side == "R" and places is not None else []
+    side: str
+    name: str
+    is_gone: bool
+    quota: int
+    listed: Sequence[str]
+    has_result: bool
+    where: Optional[str]
+    filled: Sequence[str]
+    reasons: Sequence[Sequence[object]]
 
     def by_program(self) -> str:
         places = f"quota of {self.quota}, and your " if self.side == "P" else ""
@@ -177,20 +178,6 @@ class Shown:
             ends: Dict[object, str] = {0: ", and it has no places", 1: f". Its place went to a resident it ranked higher, {ordinal(last)}"}
             more = f". Its {quota} places went to residents it ranked higher, the last of them {ordinal(last)}"
             lines.append(f"{one}: {says[str(answer)] if answer != 'full' else f'it ranked you {ordinal(rank)}{ends.get(quota, more)}'}.")
-        return "".join(f"{line}\n" for line in lines)
-
-    def by_script(self) -> str:
-        who = "a resident" if self.side == "R" else f"a programme with {self.quota} places"
-        lines = [f"{self.name}: {who}{', withdrawn' * self.is_gone}.", f"The list that was sealed: {', '.join(self.listed) or 'nobody'}."]
-        if self.has_result and self.side == "P":
-            lines.append(f"The result: {len(self.filled)} of {self.quota} places are filled; {', '.join(self.filled) or 'nobody'}.")
-        elif self.has_result:
-            lines.append(f"The result: {f'matched with {self.where}' if self.where else 'unmatched'}.")
-        says = {"matched": "you are matched here.", "withdrawn": "you or it withdrew.", "unranked": "it did not rank you.",
-                "better": "you have one that you ranked higher."}
-        for _, one, choice, answer, rank, last, quota in self.reasons:
-            full = f"you have rank {rank} there, and its {quota} places went to others before you{f', the last of them {last}' if last else ''}."
-            lines.append(f"{choice}. {one}: {says.get(str(answer), full)}")
         return "".join(f"{line}\n" for line in lines)
 
     def by_page(self) -> List[object]:
@@ -230,6 +217,15 @@ class Shown:
                 "withdrawn": f"{'you' if self.is_gone else 'it'} withdrew from the match."}[str(answer)]
 
 
+def shown_in(market: Market, places: Optional[Places], side: str, name: str) -> Shown:
+    """What the receipt of a member shows, by the docket."""
+    is_programme, told = side == "P", Results(market, places or {})
+    listed = market.programme_lists.get(name, []) if is_programme else market.resident_lists[name]
+    reasons = [] if is_programme or places is None else [told.reason(name, choice, one) for choice, one in enumerate(listed, 1)]
+    return Shown(side, name, (side, name) in set(market.gone), market.quotas[name] if is_programme else 0, listed, places is not None,
+                 None if is_programme else (places or {}).get(name), told.residents[name] if is_programme else [], reasons)
+
+
 def ordinal(number: object) -> str:
     """1st, 2nd, 3rd, 4th, and 11th to 13th."""
     digits = str(number)
@@ -247,7 +243,7 @@ class Tree:
             below = self.levels[-1]
             pairs = [below[at:at + 2] for at in range(0, len(below), 2)]
             self.levels.append([pair[0] if len(pair) == 1 else sha(b"\1", *pair) for pair in pairs])
-        self.root = (self.levels[-1][0] if texts else sha()).hex()
+        self.root = counted(len(texts), self.levels[-1][0] if texts else sha())
 
     def salt(self, index: int) -> bytes:
         return sha(self.secret, self.tag, index.to_bytes(8, "big"))
@@ -265,22 +261,27 @@ def sha(*parts: bytes) -> bytes:
     return hashlib.sha256(b"".join(parts)).digest()
 
 
+def counted(count: int, top: bytes) -> str:
+    """What is published of a tree with this many leaves."""
+    return sha(b"\2", count.to_bytes(8, "big"), top).hex()
+
+
 NAME = "[A-Za-z0-9_.-]"
 ANSWERS = {"unmatched": ("withdrawn", "unranked", "full"), "before": ("withdrawn", "unranked", "full"), "at": ("matched",),
            "after": ("withdrawn", "unranked", "better")}
 
 
 class Wrong(Exception):
-    """The row of a receipt with which something is wrong, from 1, and what it is, with the words that tell it."""
+    """The row of a receipt with which something is wrong, from 1, and what it is."""
 
-    def __init__(self, row: int, cause: str, *words: Any) -> None:
-        super().__init__(row, cause, *words)
-        self.row, self.cause, self.words = row, cause, words
+    def __init__(self, row: int, cause: str) -> None:
+        super().__init__(row, cause)
+        self.row, self.cause = row, cause
 
 
-def want(holds: object, row: int, cause: str, *words: Any) -> None:
+def want(holds: object, row: int, cause: str) -> None:
     if not holds:
-        raise Wrong(row, cause, *words)
+        raise Wrong(row, cause)
 
 
 def is_number(text: str) -> bool:
@@ -300,129 +301,191 @@ def siblings(index: int, count: int) -> List[str]:
     return sides
 
 
-def open_part(rows: List[List[str]], at: int, until: int, word: str, published: Tuple[int, str]) -> int:
-    """The index of a part that begins at this row, from 0, and ends before another one."""
-    head = rows[at] if at < until else []
-    want(head[:1] == [word] and len(head) == 3 and is_number(head[1]) and is_digest(head[2]), at + 1, "root row", word)
-    want(head[2] == published[1], at + 1, "root", head, published)
-    want(int(head[1]) == published[0], at + 1, "count", head, published)
-    opens = rows[at + 1] if at + 1 < until else []
-    want(opens[:2] == ["opens", word] and len(opens) > 3 and is_number(opens[2]) and all(map(is_digest, opens[3:])), at + 2, "opening")
-    want(int(opens[2]) < published[0], at + 2, "index", opens[2], published[0])
-    sides, path = siblings(int(opens[2]), published[0]), [bytes.fromhex(one) for one in opens[4:]]
-    want(len(path) >= len(sides), at + 2, "short")
-    want(len(path) == len(sides), at + 2, "long")
-    top = sha(b"\0", bytes.fromhex(opens[3]), text_of(rows[at + 2:until]))
-    for side, one in zip(sides, path):
+AGAIN = ": this file was changed by a program; ask for it again or paste the text"
+# What the program and the Python check tell of a row, by its cause: the rows come first, then the openings, the list and the result.
+TELLS = {"header": "not the first row of a receipt" + AGAIN, "root row": "not the row of a root" + AGAIN, "opening row": "not the row of an opening" + AGAIN,
+         "age": "a receipt of an earlier form, whose root has no number of members: ask for a new one", "cut": "the receipt is cut off here: ask for it again",
+         "long": "longer than any receipt" + AGAIN,
+         "root": "another root than the published one", "count": "another count than that of the lists", "place": "another place than in the lists",
+         "opening": "what follows doesn't open the published root", "list": "not a row of this member's list", "result": "not a row of this member's result",
+         "unasked": "a result, and no root of a result was given", "name": "not a name of a docket", "twice": "a name that stands twice",
+         "not listed": "a name that isn't on the list", "numbers": "the numbers don't fit the rows", "gone": "a result of a member who is withdrawn",
+         "reason": "a reason that can't stand here", "full": "full, but not of residents who are ranked before"}
+# How the page tells it.
+SAYS = {"header": "this is not the first row of a receipt.", "root row": "this is not the row of a root.", "opening row": "this is not the row of an opening.",
+        "age": "this is a receipt of an earlier form, whose root has no number of members.",
+        "cut": "here rows are missing: the receipt is cut off, or it is one of before the match.", "long": "the file is longer than any receipt.",
+        "root": "its root is not the one that the office published.", "count": "it has another number of members than the row of the lists.",
+        "place": "it has another place than in the lists.",
+        "opening": "what follows is not what the office sealed: it does not lead to the published root.",
+        "list": "this is not a row of this member\u2019s list.", "result": "this is not a row of this member\u2019s result.",
+        "unasked": "here is a result, and this page is from before the match. Take the page of after the match.",
+        "name": "here is a name that no docket has.", "twice": "here is a name that stands twice.", "not listed": "here is a name that is not on the list.",
+        "numbers": "the numbers do not fit the rows.", "gone": "here is a result of a member who is withdrawn.",
+        "reason": "here is a reason that cannot stand here.", "full": "a programme is called full, and not of residents whom it ranked higher."}
+# With one of these the file is not as it was given; with another the receipt is wrong.
+CHANGED = ("header", "root row", "opening row", "age", "cut", "long")
+
+
+def by_words(wrong: Wrong) -> Tuple[int, str]:
+    """The status with which a check ends, and what it tells."""
+    return 3 if wrong.cause in CHANGED else 4, f"row {wrong.row}: {TELLS[wrong.cause]}\n"
+
+
+def by_page(wrong: Wrong) -> List[str]:
+    """The class of the page's answer, and its elements."""
+    kind, head, end = ("changed", "This file is not as it was given",
+                       "Ask the office for it again, or paste the text that it gave you. A program that opens such a file may change it.") \
+        if wrong.cause in CHANGED else ("bad", "This receipt is wrong", "Look whether it is yours, and of this match. If it is, tell the office, and whoever audits the match.")
+    return [kind, f"H3 {head}", f"P Row {wrong.row}: {SAYS[wrong.cause]}", f"P {end}"]
+
+
+class Content:
+    """What the rows of a receipt tell, whatever they are; and the receipt that tells it, printed again."""
+
+    def __init__(self, text: str, roots: Dict[str, Tuple[int, str]]) -> None:
+        self.rows = rows = [line.split(",") for line in text.split("\n")[:-1]]
+        self.text, self.roots = text, roots
+        self.side, self.name, self.count, self.index = "P" if self.cell(0, 2) == "P" else "R", self.cell(0, 3), self.cell(1, 1), self.cell(2, 2)
+        self.has_list = self.side == "P" and self.cell(4, 0) == "P"
+        at = 3 + self.has_list
+        self.listed = rows[at][2:] if at < len(rows) and (self.side == "R" or self.has_list) else []
+        self.quota, self.is_gone = self.cell(3, 2), self.cell(at + 1, 0) == "W"
+        self.end = end = at + 1 + self.is_gone
+        self.paths = {"lists": rows[2][3:] if len(rows) > 2 else [], "result": rows[end + 1][3:] if len(rows) > end + 1 else []}
+        self.own = self.cell(end + 2, 2) if self.cell(end + 2, 0) == "M" else None
+        self.after = rows[end + 3:]
+
+    def cell(self, row: int, place: int) -> str:
+        return (self.rows[row] + [""] * 9)[place] if row < len(self.rows) else ""
+
+    def leaf(self, word: str) -> List[List[str]]:
+        """The rows that were sealed of the member."""
+        side, name = self.side, self.name
+        if word == "lists":
+            lists = [["Q", name, self.quota]] + [["P", name, *self.listed]] * self.has_list if side == "P" else [["R", name, *self.listed]]
+            return lists + [["W", side, name]] * self.is_gone
+        if side == "P":
+            return [["F", name, str(len(self.after)), self.quota], *(["M", one, name] for one in self.members())]
+        answers = (self.after + [[]] * len(self.listed))[:len(self.listed)]
+        return [["U", name] if self.own is None else ["M", name, self.own],
+                *([name, one, str(choice), *row[3:]] for choice, (one, row) in enumerate(zip(self.listed, answers), 1))]
+
+    def members(self) -> List[str]:
+        return [row[1] if len(row) > 1 else "" for row in self.after]
+
+    def printed(self) -> str:
+        rows = [["receipt", "2", self.side, self.name]]
+        for word, (_, root) in self.roots.items():
+            rows += [[word, self.count, root], ["opens", word, self.index, *self.paths[word]], *self.leaf(word)]
+        return "".join(",".join(row) + "\n" for row in rows)
+
+
+def shown_by(receipt: bytes, roots: Dict[str, Tuple[int, str]]) -> Shown:
+    """What a receipt shows with which nothing is wrong, by its rows."""
+    told = Content(plain(receipt), roots)
+    is_programme, has_result = told.side == "P", "result" in roots
+    reasons = [] if is_programme or not has_result else [
+        (told.name, one, choice, row[3], *(int(digits) if digits else "" for digits in row[4:]))
+        for choice, (one, row) in enumerate(zip(told.listed, told.after), 1)]
+    return Shown(told.side, told.name, told.is_gone, int(told.quota) if is_programme else 0, told.listed, has_result, told.own,
+                 told.members() if is_programme and has_result else [], reasons)
+
+
+def plain(receipt: bytes) -> str:
+    """The text as it was printed: without a mark before it, and without the carriage returns at the ends of lines."""
+    return (receipt[3:] if receipt.startswith(b"\xef\xbb\xbf") else receipt).replace(b"\r\n", b"\n").decode("latin-1")
+
+
+def want_same(told: Content) -> None:
+    """The first row that is not as the receipt with this content has it."""
+    text, other, end = told.text, told.printed(), told.end
+    if text == other:
+        return
+    same = next((at for at, (one, two) in enumerate(zip(text, other)) if one != two), min(len(text), len(other)))
+    row = text[:same].count("\n")
+    if row >= len(told.rows):
+        raise Wrong(row + 1, "cut")
+    where = "lists" if row == 1 else "result"
+    if row == 0:
+        raise Wrong(1, "age" if told.rows[0][:2] == ["receipt", "1"] else "header")
+    if row == 1 or row == end and "result" in told.roots and told.cell(end, 0) == "result":
+        digits = told.cell(row, 2)
+        raise Wrong(row + 1, "root row" if len(digits) != 64 else "root" if digits != told.roots[where][1] else
+                    "root row" if told.cell(row, 1) == told.count else "count")
+    if row == 2:
+        raise Wrong(3, "opening row")
+    if row < end or "result" not in told.roots:
+        raise Wrong(row + 1, "unasked" if row >= end and told.cell(row, 0) == "result" else "list")
+    raise Wrong(row + 1, "list" if row == end else "result" if row > end + 1 else "opening row" if told.cell(row, 2) == told.index else "place")
+
+
+def want_open(told: Content, word: str, row: int) -> None:
+    """The opening climbs to the published root."""
+    digests, index, count = told.paths[word], int(told.index), int(told.count)
+    want(digests and all(map(is_digest, digests)), row, "opening row")
+    sides, path = siblings(index, count) if index < count else None, [bytes.fromhex(one) for one in digests[1:]]
+    want(sides is not None and len(sides) == len(path), row, "opening")
+    top = sha(b"\0", bytes.fromhex(digests[0]), "".join(",".join(line) + "\n" for line in told.leaf(word)).encode("latin-1"))
+    for side, one in zip(sides or [], path):
         top = sha(b"\1", one, top) if side == "left" else sha(b"\1", top, one)
-    want(top.hex() == published[1], at + 2, "climb")
-    return int(opens[2])
+    want(counted(count, top) == told.roots[word][1], row, "opening")
 
 
-def fault(receipt: bytes, roots: Dict[str, Tuple[int, str]]) -> None:
-    """Raises Wrong at the first thing that is wrong with a receipt, in the order in which it is read: rows, openings, list, result."""
-    *lines, end = receipt.decode("latin-1").split("\n")
-    for number, line in enumerate(lines, 1):
-        want(re.fullmatch(f"{NAME}+(,{NAME}*)+", line), number, "fields" if re.fullmatch(f"({NAME}|,)+", line) else "form")
-    want(not end and len(lines) > 3, len(lines) + 1, "cut", receipt)
-    rows = [line.split(",") for line in lines]
-    want(len(rows[0]) == 4 and ",".join(rows[0][:3]) in ("receipt,1,P", "receipt,1,R"), 1, "head")
-    side, name = rows[0][2:]
-    split = next((at for at, row in enumerate(rows) if at > 2 and row[0] == "result"), len(rows))
-    index = open_part(rows, 1, split, "lists", roots["lists"])
-    want((split < len(rows)) == ("result" in roots), split + 1, "asked", split < len(rows))
-    if "result" in roots:
-        other = open_part(rows, split, len(rows), "result", roots["result"])
-        want(other == index and roots["result"][0] == roots["lists"][0], split + 1, "member")
-    own = rows[3:split]
-    own = own[:-1] if own[-1:] == [["W", side, name]] else own
-    heads = [row[:2] for row in own]
-    want(heads in ([["R", name]] if side == "R" else [["Q", name]], [["Q", name], ["P", name]] if side == "P" else None)
-         and (side == "R" or len(own[0]) == 3 and is_number(own[0][2])), 4, "list", name)
-    listed = own[-1][2:] if own[-1][0] in "PR" else []
-    if "result" in roots and side == "R":
-        fault_of_reasons(rows, split + 2, name, listed)
-    elif "result" in roots:
-        fault_of_places(rows, split + 2, name, own[0][2], listed)
+def want_names(names: Sequence[str], row: Callable[[int], int], listed: Optional[Sequence[str]] = None) -> None:
+    seen = set()
+    for place, one in enumerate(names):
+        want(re.fullmatch(f"{NAME}{{1,32}}", one), row(place), "name")
+        want(listed is None or one in listed, row(place), "not listed")
+        want(one not in seen, row(place), "twice")
+        seen.add(one)
 
 
-def fault_of_reasons(rows: List[List[str]], at: int, name: str, listed: List[str]) -> None:
-    first = rows[at] if at < len(rows) else []
-    want(first[:2] == ["U", name] and len(first) == 2 or first[:2] == ["M", name] and len(first) == 3, at + 1, "result", name)
-    reasons = rows[at + 1:]
-    want(len(reasons) == len(listed), at + 1, "reasons", len(reasons), len(listed))
-    own = [choice for choice, row in enumerate(reasons, 1) if row[3:4] == ["matched"]]
-    want(len(own) == (first[0] == "M"), at + 1, "matches")
-    for choice, (row, one) in enumerate(zip(reasons, listed), 1):
-        number = at + 1 + choice
-        want(row[:3] == [name, one, str(choice)] and len(row) == 7, number, "choice", choice, one)
-        stand = "unmatched" if not own else "before" if choice < own[0] else "after" if choice > own[0] else "at"
-        want(row[3] in ANSWERS[stand] and (stand != "at" or one == first[2]), number, "answer", row[3])
-        rank, last, quota = row[4:]
-        want(row[3] == "full" or not rank + last + quota, number, "numbers", row[3], one)
-        is_some = [is_number(text) and text != "0" for text in (rank, last, quota)]
-        is_right = is_some[0] and (last == "" and quota == "0" or is_some[1] and is_some[2] and int(last) < int(rank))
-        want(row[3] != "full" or is_right, number, "full", one)
+def want_answer(told: Content, choice: int, row: int) -> None:
+    """The answer to a choice, from 0, can stand there."""
+    place = None if told.own is None else told.listed.index(told.own)
+    answer, *numbers = (told.after[choice] if choice < len(told.after) else [])[3:] or [""]
+    stand = "before" if place is None or choice < place else "at" if choice == place else "after"
+    is_bare = numbers == ["", "", ""]
+    rank, last, quota = [int(one) if is_number(one) else None for one in numbers] if len(numbers) == 3 else [None] * 3
+    is_full = rank is not None and quota is not None and (1 <= quota <= last < rank if last is not None else numbers[1] == "" and quota == 0 and rank >= 1)
+    right = is_bare and answer == "withdrawn" if told.is_gone else answer == "full" and is_full and stand == "before" or answer in ANSWERS[stand] and is_bare and answer != "full"
+    want(right, row, "full" if answer == "full" else "reason")
 
 
-def fault_of_places(rows: List[List[str]], at: int, name: str, places: str, listed: List[str]) -> None:
-    members = rows[at + 1:]
-    want(at < len(rows) and rows[at] == ["F", name, str(len(members)), places] and len(members) <= int(places), at + 1, "filled", name, places)
-    for number, row in enumerate(members):
-        is_right = len(row) == 3 and row[0] == "M" and row[2] == name and row[1] in listed and row not in members[:number]
-        want(is_right, at + 2 + number, "resident")
+def fault_of(receipt: bytes, roots: Dict[str, Tuple[int, str]]) -> Optional[Wrong]:
+    """The first thing that is wrong with a receipt, or None."""
+    if len(receipt) > 2_000_000:
+        return Wrong(1, "long")
+    told = Content(plain(receipt), roots)
+    try:
+        want_same(told)
+        want(is_number(told.count), 2, "root row")
+        want(is_number(told.index), 3, "opening row")
+        want_open(told, "lists", 3)
+        if "result" in roots:
+            want_open(told, "result", told.end + 2)
+        want_names([told.name], lambda _: 1)
+        want(told.side == "R" or is_number(told.quota), 4, "numbers")
+        want_names(told.listed, lambda _: 4 + told.has_list)
+        if "result" in roots:
+            want_result(told, told.end + 3)
+    except Wrong as wrong:
+        return wrong
+    return None
 
 
-def said_by_script(wrong: Wrong) -> str:
-    """How check-receipt.py tells what is wrong."""
-    one, other = (*wrong.words, "", "")[:2]
-    says = {"form": "it is no row of a receipt", "cut": "the receipt is cut off here", "head": "no `receipt,1`, a side and a name",
-            "root row": f"it is not `{one}`, a number of members and a root of 64 small digits",
-            "root": f"it has {','.join(one[1:])}; {other[0]},{other[1]} was published" if wrong.cause in ("root", "count") else "",
-            "opening": "it is no opening: an index, a salt and a path", "index": f"there is no member {one} among {other}, counted from 0",
-            "short": "the path is too short", "long": "the path is too long",
-            "climb": "what follows is not what was sealed: it does not lead to the root",
-            "asked": "a result and its published root go together, and one is missing", "member": "count or index is not that of the list",
-            "list": f"what is sealed is not one list of {one}", "result": f"it is no result of {one}",
-            "reasons": f"{one} reasons follow, and the list has {other} programmes", "matches": "the reasons tell another result",
-            "choice": f"it is not about choice {one}, {other}", "answer": f"`{one}` cannot be with this result",
-            "numbers": f"`{one}` has no numbers", "full": "the last rank is not before yours",
-            "filled": f"it is not `F,{one}`, the number of `M` rows, at most the places, and {other}",
-            "resident": "no one of your list, named once"}
-    says.update(count=says["root"], fields=says["form"])
-    return f"row {wrong.row}: {says[wrong.cause]}\n"
-
-
-def said_by_page(wrong: Wrong) -> str:
-    """How the page tells what is wrong."""
-    one, other = (*wrong.words, "", "")[:2]
-    asked = ("the receipt has a result, and this page is from before the match. Take the page of after the match." if one is True else
-             "the receipt has no result: it is from before the match. Ask the office for the one of after the match.")
-    says = {**dict.fromkeys(("form", "fields"), "this is no row of a receipt."), "cut": "the receipt is cut off here." if one else "the receipt is empty.",
-            "head": "a receipt begins with receipt,1, then P or R, and a name.",
-            "root row": f"here a row \u201c{one}\u201d is wanted, with the number of members and a root of 64 small digits.",
-            "root": "its root is not the one that the office published.",
-            "count": f"it tells of {one[1]} members, and the office published {other[0]}." if wrong.cause == "count" else "",
-            "opening": "here an opening is wanted: an index, a salt and a path.", "index": f"there is no member {one} among {other}, counted from 0.",
-            "short": "its path is too short.", "long": "its path is too long.",
-            "climb": "what follows is not what the office sealed: it does not lead to the published root.", "asked": asked,
-            "member": "list and result are not of one member.", "list": f"what was sealed is not one list of {one}.",
-            "result": f"here the result of {one} is wanted.", "reasons": f"{one} reasons follow, and your list has {other} programmes.",
-            "matches": "the reasons tell another result.", "answer": f"\u201c{one}\u201d cannot be with this result.",
-            "choice": f"here the reason of your {ordinal(one)} choice is wanted, {other}.",
-            "numbers": f"here no numbers are wanted, since {other} is not told full.",
-            "full": f"{one} is told full, and its last rank is not before yours.",
-            "filled": f"here \u201cF,{one}\u201d is wanted, with the number of residents that follow, at most the places, and {other} places.",
-            "resident": "here a resident of your list is wanted, each once."}
-    return f"P Row {wrong.row}: {says[wrong.cause]}"
-
-
-# What the program tells of these causes; where it finds others, it reads in another order, and tells another row.
-PROGRAM = {"form": "not written as a receipt's rows are", "head": "not the first row of a receipt", "root row": "not the row of a root",
-           "root": "another root than the published one", "opening": "not the row of an opening",
-           **dict.fromkeys(("index", "short", "long", "climb"), "what follows doesn't open the published root"),
-           "result": "not a row of this member's result", "choice": "not the reason of this choice", "numbers": "a reason that can't stand here",
-           "full": "full, but not of residents who are ranked before"}
+def want_result(told: Content, first: int) -> None:
+    """The result fits the list; its first row has this number."""
+    if told.side == "P":
+        want(len(told.after) <= int(told.quota), first, "numbers")
+        want(not told.is_gone or not told.after, first, "gone")
+        want_names(told.members(), lambda place: first + 1 + place, told.listed)
+    else:
+        want(told.own is None or not told.is_gone, first, "gone")
+        want(told.own is None or told.own in told.listed, first, "not listed")
+        for choice in range(len(told.listed)):
+            want_answer(told, choice, first + 1 + choice)
 
 
 def read(docket: bytes) -> Market:

@@ -24,8 +24,12 @@ const shownNow = () => {
 };
 for (const { published, receipt, altered } of CASES) {
   const bytes = bytesOf(atob(receipt));
-  tell(check(bytes, published));
-  told.push(shownNow());
+  try {
+    tell(check(bytes, published));
+    told.push(shownNow());
+  } catch (error) {
+    told.push(["thrown", String(error)]);
+  }
   const accepted = [];
   altered.forEach((byte, at) => {
     const other = bytes.slice();

@@ -40,7 +40,7 @@ RECIPES: Dict[str, Recipe] = {
         "First define what the words of the command order, and what the command writes. Then write the call that serves it, with its statuses.",
         "The statement takes the call by a line of `tools/statements/calls.txt`. The help of the command stands in `docs/help/` and is compared with the program.",
     ]),
-    "crate": Recipe("the crate `row_writer` in a list of crates", r"^row_writer:|`row_writer`|row_writer/README", [
+    "crate": Recipe("the crate `docket_names` in a list of crates", r"^docket_names:|`docket_names`|docket_names/README", [
         "First add the crate's line to `crates.txt`, above all crates that use it. Then write its README, with an example from a test.",
     ]),
     "program": Recipe("the program `residency-seal` with its crate", r"\bresidency[-_]seal\b", [

@@ -1,8 +1,8 @@
 -- How the program ends, from its words, its input and its output.
-use Rattle.std.specs.Prelude.{◌≡◌, ◌≢◌, ◌⊎◌, ℕ, Option, Result, List, MatchResult, String}
+use Rattle.std.specs.Prelude.{◌≡◌, ◌≢◌, ℕ, Option, Result, List, MatchResult, String}
 use Rattle.std.specs.Global.{Vec}
 use Rattle.std.specs.Io.KnownBytes.{Appends}
-use Rattle.program_shell.specs.Ends.{EndsAnswered, EndsAs, EndsUnread}
+use Rattle.program_shell.specs.Ends.{EndsAs, EndsServed}
 use Rattle.audit_files.specs.Answer.{AnswersFiles, IsServingFault}
 use Rattle.audit_files.specs.Line.{Orders, Refuses}
 use Rattle.audit_files.specs.Loading.{AreFiles, NamesInput}
@@ -25,7 +25,7 @@ pub record AnswersOrder (order : Order) (input old new : Option (List ℕ)) (ans
 -- A file was not read, or the order was answered. Standard input is left as it was, if no file is standard input.
 pub record Serves (input left old new : Option (List ℕ)) (status : ℕ) (order : Order) : Type 0 where
   pub kept : (NamesInput order → ⊥) → left ≡ input
-  pub ends : EndsUnread old new status ⊎ EndsAnswered (AnswersOrder order input old new) exit_status_of status
+  pub ends : EndsServed (AnswersOrder order input old new) exit_status_of old new status
 
 -- how the program ends
 abbrev pub Ends : {A E : Type 0} → Result (Vec (String A)) E → Option (List ℕ) → Option (List ℕ) → Option (List ℕ) → Option (List ℕ) → ℕ → Type 0

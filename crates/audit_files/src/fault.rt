@@ -2,7 +2,7 @@
 ghost use Rattle.std.specs.Prelude.{◌≡◌};
 ghost use Rattle.audit_files.specs.Place as spec;
 
-use docket::{DocketFault, FileFault, Part};
+use docket::{DocketFault, FileFault, Part, RecordsFault};
 use thiserror::Error;
 
 /// Why an audit over files gave no answer.
@@ -10,7 +10,7 @@ use thiserror::Error;
 pub enum FilesFault {
     /// The docket has this fault, in this file. The fault has the number of the record in the file.
     #[error("{fault}")]
-    Docket { file: Part, fault: DocketFault },
+    Docket { file: Part, fault: RecordsFault },
     /// The sheet's file has no record.
     #[error("no sheet")]
     NoSheet,
@@ -30,7 +30,7 @@ pub fn told(there: FileFault) -> FilesFault
     ensures { result ≡ spec.told there }
 {
     match there.fault {
-        DocketFault::Memory => FilesFault::Memory,
+        RecordsFault::Docket(DocketFault::Memory) => FilesFault::Memory,
         fault => FilesFault::Docket {
             file: there.file,
             fault,

@@ -4,14 +4,14 @@ ghost use Rattle.audit_files.specs.Status.{exit_status_of, fault_status_of};
 
 use crate::fault::FilesFault;
 use crate::serve::Verdict;
-use program_shell::docket_status;
+use program_shell::records_status;
 
 /// The exit status after files at fault. The status is 1 if memory, reading or writing failed, else 3.
 pub fn files_status(fault: &FilesFault) -> u8
     ensures { result ≡ fault_status_of fault.now }
 {
     match fault {
-        FilesFault::Docket { fault, .. } => docket_status(fault),
+        FilesFault::Docket { fault, .. } => records_status(fault),
         FilesFault::Memory | FilesFault::Write => 1,
         FilesFault::NoSheet | FilesFault::NoJournal => 3,
     }

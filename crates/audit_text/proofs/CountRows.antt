@@ -1,8 +1,8 @@
 -- The rows with the numbers of workers' events, written one after another.
 use Rattle.std.proofs.Common.{◌≡◌, ℕ, zero, suc, Option, ◌+◌, ◌<◌, List, [], ◌∷◌, ◌++◌, length, take, get_or, sym, ap, ◌∙◌, arith, append_assoc, append-nil}
-use Rattle.row_writer.specs.RowText.{Adds}
-use Rattle.row_writer.specs.declared.writer.RowWriter.{RowWriter}
-use Rattle.row_writer.proofs.RowTextFacts.{adds_none, adds_both}
+use Rattle.records.specs.RowText.{Adds}
+use Rattle.records.specs.declared.writer.RowWriter.{RowWriter}
+use Rattle.records.proofs.RowTextFacts.{adds_none, adds_both}
 use Rattle.audit_text.specs.Answer.{worker_row, worker_rows}
 
 -- the rows of the first k + 1 workers are the rows of the first k workers and the row of one more

@@ -3,9 +3,9 @@ use Rattle.std.proofs.Common.{◌≡◌, ℕ, ◌==◌, ◌&&◌, Bool, true, fa
 use Rattle.std.specs.List.{flat_map}
 use Rattle.std.proofs.lemmas.Bool.{eqb-true}
 use Rattle.docket.specs.Contents.{Contents}
-use Rattle.row_writer.specs.RowText.{row, Adds}
-use Rattle.row_writer.specs.declared.writer.RowWriter.{RowWriter}
-use Rattle.row_writer.proofs.RowTextFacts.{adds_both}
+use Rattle.records.specs.RowText.{row, Adds}
+use Rattle.records.specs.declared.writer.RowWriter.{RowWriter}
+use Rattle.records.proofs.RowTextFacts.{adds_both}
 use Rattle.match_audit.specs.declared.report.AuditReport.{AuditReport}
 use Rattle.audit_text.specs.Report.{finds_nothing, stability_row, pair_row, over_row, report_text}
 

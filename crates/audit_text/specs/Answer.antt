@@ -5,7 +5,7 @@ use Rattle.exchange_core.specs.declared.event.Pending.TheVariants.{Offers, Due, 
 use Rattle.exchange_core.specs.declared.event.Refused.{Refused}
 use Rattle.exchange_core.specs.declared.event.Refused.TheVariants.{Closed, NoSuchDesk, NoPlace, NotNext, AnswerDue, NothingWaiting, WrongFront, NotDue, MailboxFull, StillPending}
 use Rattle.docket.specs.Contents.{Contents, JournalParts}
-use Rattle.row_writer.specs.RowText.{row}
+use Rattle.records.specs.RowText.{row}
 use Rattle.docket.specs.Texts.{programme_name, resident_name}
 use Rattle.match_audit.specs.declared.replayer.Replayed.{Replayed}
 use Rattle.match_audit.specs.declared.replayer.ReplayFault.{ReplayFault}

@@ -3,7 +3,7 @@ use Rattle.std.specs.Prelude.{ℕ, ◌==◌, ◌&&◌, Bool, if◌then◌else◌
 use Rattle.std.specs.List.{flat_map}
 use Rattle.match_model.specs.Instance.{IsResident, IsProgramme}
 use Rattle.docket.specs.Contents.{Contents}
-use Rattle.row_writer.specs.RowText.{row}
+use Rattle.records.specs.RowText.{row}
 use Rattle.docket.specs.Texts.{programme_name, programme_row, resident_name}
 use Rattle.match_audit.specs.declared.report.AuditReport.{AuditReport}
 use Rattle.std.specs.List.{All}

@@ -1,6 +1,6 @@
 //! How the answer of a replay is written.
 ghost use Rattle.std.specs.Prelude.{◌≡◌, ◌≢◌, ◌++◌, ◌∷◌, [], ◌+◌, ◌<◌, ◌^◌, codes, decimal, option_copied, OnOk, IfErr};
-ghost use Rattle.row_writer.specs.RowText.{Adds, Writes, row};
+ghost use Rattle.records.specs.RowText.{Adds, Writes, row};
 ghost use Rattle.match_audit.specs.Replay.{NamesMember, RefusesMember, IsPendingMember};
 ghost use Rattle.audit_text.specs.Answer.{replay_text, answer_fields, worker_row, worker_rows, count_rows, refusal_word as word_of, pending_fields, refused_fields, pending_word as kind_of, pending_name as name_of, event_count as count_of, fault_fields, IsAnswerOf};
 ghost use Rattle.audit_text.specs.Serving.{IsWriteFault};

@@ -2,7 +2,7 @@
 ghost use Rattle.std.specs.Prelude.{◌≡◌, ◌≢◌, ◌++◌, OnOk, IfErr};
 ghost use Rattle.std.specs.List.{All, flat_map};
 ghost use Rattle.match_model.specs.Instance.{IsProgramme};
-ghost use Rattle.row_writer.specs.RowText.{Adds, Writes};
+ghost use Rattle.records.specs.RowText.{Adds, Writes};
 ghost use Rattle.audit_text.specs.Report.{report_text, stability_row, pair_row, over_row, IsPairOf, IsReportOf};
 ghost use Rattle.audit_text.specs.Serving.{IsWriteFault};
 

@@ -4,7 +4,7 @@ ghost use Rattle.exchange_core.specs.Shown.{is_capacity};
 ghost use Rattle.clap.specs.declared.error.kind.ErrorKind.TheVariants.{MissingSubcommand};
 ghost use Rattle.clap.specs.Words.{HasKind, app_of, fault_of, found_of, new_app, rows_of, rule_of, subcommand_of, subcommand_rows_of, with_subcommand};
 ghost use Rattle.program_shell.specs.declared.fault.LineFault.TheVariants.{BadCapacity};
-ghost use Rattle.program_shell.specs.Faults.{IsErrorOf, IsLineFault};
+ghost use Rattle.program_shell.specs.Faults.{IsErrorOf};
 ghost use Rattle.program_shell.specs.Flags.{flag_rule};
 ghost use Rattle.command_line.specs.Line.{GivesJournal, GivesOptions, GivesRoom, GivesWorkers, HasBadRoom, IsNamed, NamesNone, Orders, Refuses, commands_app, match_app, program_app, valued_rule, workers_rule};
 ghost use Rattle.command_line.specs.Options.{IsOrder, IsWithinLimits};
@@ -286,10 +286,11 @@ fn nothing_named(commands: &mut Command) -> LineFault
 }
 
 /// What the words ask the program to do. The words are those after the program's own name.
+// Inlined, its frame would stand on the stack of all that the program does afterwards.
+#[inline(never)]
 pub fn read_line<'a, S: AsStr>(alloc: Global, words: &'a [S]) -> Result<Order, LineFault>
     ensures order { IfOk result (Orders (map S.text words.entry.now)) }
     ensures limits { IfOk result IsOrder }
-    ensures fault { IfErr result IsLineFault }
     ensures refused { IfErr result (Refuses (map S.text words.entry.now)) }
 {
     let mut commands = commands(alloc)?;

@@ -1,15 +1,16 @@
 -- How many names the rank lists have together, after one more record.
 use Rattle.match_model.specs.declared.limits.Limits.{Limits}
-use Rattle.std.proofs.Common.{◌≡◌, ◌+◌, ℕ, List, [], ◌∷◌, ◌++◌, Bool, true, false, filter, ◌∙◌, refl, ap, arith, Some, None}
-use Rattle.std.specs.Prelude.{not, if◌then◌else◌}
+use Rattle.std.proofs.Common.{◌≡◌, ◌+◌, ℕ, List, [], ◌∷◌, ◌++◌, Bool, true, false, filter, ◌∙◌, refl, ap, arith, Option, Some, None}
+use Rattle.std.specs.Prelude.{if◌then◌else◌, option_map}
 use Rattle.std.specs.List.{sum_by}
 use Rattle.std.proofs.lemmas.List.Elements.{filter-append}
 use Rattle.std.proofs.lemmas.List.Sums.{sum_by-append}
-use Rattle.docket.specs.Fields.{Fields, unless}
+use Rattle.records.specs.Reading.{Fields}
 use Rattle.docket.specs.Limits.{most_listed, is_above}
 use Rattle.docket.specs.Contents.{is_list_row, names_listed, all_listed}
 use Rattle.docket.specs.Passes.{first_from, reading_fault, listed_fault, first_pass_fault, next_place}
-use Rattle.docket.specs.declared.fault.DocketFault.TheVariants.{TooManyListed}
+use Rattle.docket.specs.declared.fault.DocketFault.{DocketFault}
+use Rattle.docket.specs.declared.records_fault.RecordsFault.TheVariants.{Docket, TooManyListed}
 use Rattle.docket.proofs.SoundFacts.{both_none}
 
 -- how many names the rank lists have after one more record
@@ -28,18 +29,15 @@ unfolding all_listed
 none_listed = refl
 
 -- the test of the number of listed names, in the terms of the call that makes this test
-pub listed_asked : (lim : Limits) (before : List Fields) (row : Fields) (listed n : ℕ) → is_list_row row ≡ true → listed ≡ all_listed before → n ≡ next_place before
-    → listed_fault lim before row ≡ unless (not (is_above (most_listed lim) (listed + names_listed row))) (TooManyListed n)
+pub listed_asked : (lim : Limits) (rows : List Fields) (row : Fields) (listed n : ℕ) → listed ≡ all_listed (rows ++ row ∷ []) → n ≡ next_place rows
+    → listed_fault lim rows row ≡ (if is_above (most_listed lim) listed then Some (TooManyListed n) else None)
 unfolding listed_fault
-listed_asked lim before row listed n list e f = rw (list, e, f) (by (is_above (most_listed lim) (all_listed before + names_listed row)))
-  where
-    by : (b : Bool) → (if b then Some (TooManyListed (next_place before)) else None) ≡ unless (not b) (TooManyListed (next_place before))
-    by true = refl
-    by false = refl
+listed_asked lim rows row listed n e f = rw (e, f) refl
 
-pub listed_other : (lim : Limits) (before : List Fields) (row : Fields) → is_list_row row ≡ false → listed_fault lim before row ≡ None
-unfolding listed_fault
-listed_other lim before row other = rw other refl
+-- if a fault is none as another kind of fault, it is none
+pub unmapped : (o : Option DocketFault) → option_map Docket o ≡ None → o ≡ None
+unmapped None e = refl
+unmapped (Some f) e = absurd (cc e)
 
 -- if all records pass both tests, they pass the first
 pub reading_sound : (lim : Limits) (before rows : List Fields) → first_from (first_pass_fault lim) before rows ≡ None → first_from (reading_fault lim) before rows ≡ None
@@ -47,5 +45,5 @@ unfolding first_from
 reading_sound lim before [] h = refl
 reading_sound lim before (row ∷ rows) h =
     let parts = both_none (first_pass_fault lim before row) (first_from (first_pass_fault lim) (before ++ row ∷ []) rows) h in
-    let here = both_none (reading_fault lim before row) (listed_fault lim before row) parts.0 in
-    rw (here.0) (reading_sound lim (before ++ row ∷ []) rows parts.1)
+    let here = both_none (option_map Docket (reading_fault lim before row)) (listed_fault lim before row) parts.0 in
+    rw (unmapped (reading_fault lim before row) here.0) (reading_sound lim (before ++ row ∷ []) rows parts.1)

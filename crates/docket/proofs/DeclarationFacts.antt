@@ -16,8 +16,9 @@ use Rattle.match_model.specs.declared.fault.ModelFault.{ModelFault}
 use Rattle.match_model.specs.declared.fault.ModelFault.TheVariants as model
 use Rattle.docket.specs.Words.{capacity_of, workers_of}
 use Rattle.docket_names.specs.Words.{number_of}
-use Rattle.docket.specs.Fields.{Fields, field, kind_of, is_kind, is_row_of, unless}
-use Rattle.docket.specs.Contents.{rows_of, names_of, programmes_of, residents_of, quotas_of, workers_in, worker_in, who_of}
+use Rattle.docket.specs.Fields.{kind_of, is_kind, is_row_of, unless}
+use Rattle.records.specs.Reading.{Fields, field}
+use Rattle.docket.specs.Contents.{rows_of_kind, names_of, programmes_of, residents_of, quotas_of, workers_in, worker_in, who_of}
 use Rattle.docket_names.specs.Texts.{is_declared}
 use Rattle.docket.specs.Passes.{repeat_fault, limit_fault, next_place}
 use Rattle.docket.specs.Answers.{Refuses, at_record}
@@ -31,13 +32,13 @@ use Rattle.docket.proofs.WordFacts.{workers_within}
 
 -- the values of a function on the rows of one kind, after one more row
 pub images-if : {A : Type 0} (f : Fields → A) (kind : ℕ) (rows : List Fields) (row : Fields)
-    → map f (rows_of kind (rows ++ row ∷ [])) ≡ (if is_kind kind row then map f (rows_of kind rows) ++ f row ∷ [] else map f (rows_of kind rows))
+    → map f (rows_of_kind kind (rows ++ row ∷ [])) ≡ (if is_kind kind row then map f (rows_of_kind kind rows) ++ f row ∷ [] else map f (rows_of_kind kind rows))
 images-if f kind rows row =
-    ap (map f) (filter-append (is_kind kind) rows (row ∷ [])) ∙ map-append f (rows_of kind rows) (filter (is_kind kind) (row ∷ [])) ∙ by (is_kind kind row)
+    ap (map f) (filter-append (is_kind kind) rows (row ∷ [])) ∙ map-append f (rows_of_kind kind rows) (filter (is_kind kind) (row ∷ [])) ∙ by (is_kind kind row)
   where
-    by : (b : Bool) → map f (rows_of kind rows) ++ map f (if b then row ∷ [] else []) ≡ (if b then map f (rows_of kind rows) ++ f row ∷ [] else map f (rows_of kind rows))
+    by : (b : Bool) → map f (rows_of_kind kind rows) ++ map f (if b then row ∷ [] else []) ≡ (if b then map f (rows_of_kind kind rows) ++ f row ∷ [] else map f (rows_of_kind kind rows))
     by true = refl
-    by false = append-nil (map f (rows_of kind rows))
+    by false = append-nil (map f (rows_of_kind kind rows))
 
 pub names_of-if : (kind : ℕ) (rows : List Fields) (row : Fields)
     → names_of kind (rows ++ row ∷ []) ≡ (if is_kind kind row then names_of kind rows ++ field row 1 ∷ [] else names_of kind rows)
@@ -187,7 +188,7 @@ list_any-if p rows row = list_any-append p rows (row ∷ []) ∙ by (list_any p 
 
 -- a name is declared by rows of a kind exactly if some row of this kind has the name
 pub is_declared-rows : (kind : ℕ) (rows : List Fields) (name : List ℕ) → is_declared (names_of kind rows) name ≡ list_any (is_row_of kind name) rows
-is_declared-rows kind rows name = is_declared-map (λ (r : Fields). field r 1) (rows_of kind rows) name ∙ kept rows
+is_declared-rows kind rows name = is_declared-map (λ (r : Fields). field r 1) (rows_of_kind kind rows) name ∙ kept rows
   where
     kept : (rs : List Fields) → list_any (λ (r : Fields). bytes_eq name (field r 1)) (filter (is_kind kind) rs) ≡ list_any (is_row_of kind name) rs
     kept [] = refl
@@ -225,7 +226,7 @@ unfolding limit_fault quotas_of programmes_of
 limit_fault-quota d before row kind quotas = rw (kind, quotas, same_length) (by (nat_le (most_programmes d.limits) (length (programmes_of before))) (nat_lt MAX_QUOTA (unwrap_or (number_of (field row 2)) 0)))
   where
     same_length : length (quotas_of before) ≡ length (programmes_of before)
-    same_length = length-map (rows_of QUOTA before) (λ (r : Fields). unwrap_or (number_of (field r 2)) 0) ∙ sym (length-map (rows_of QUOTA before) (λ (r : Fields). field r 1))
+    same_length = length-map (rows_of_kind QUOTA before) (λ (r : Fields). unwrap_or (number_of (field r 2)) 0) ∙ sym (length-map (rows_of_kind QUOTA before) (λ (r : Fields). field r 1))
 
     by : (a b : Bool) → (if a then Some (Model (next_place before) model.TooManyProgrammes) else if b then Some (Model (next_place before) model.QuotaTooLarge) else None)
         ≡ option_map (at_record (next_place before)) (if a then Some model.TooManyProgrammes else (if b then Some model.QuotaTooLarge else None))
@@ -296,7 +297,7 @@ pub resident_limited : (d : Draft) (before : List Fields) (row : Fields) (n : �
 resident_limited d before row n kind e g = rw (limit_fault-resident d before row kind e, g) refl
 
 -- if neither of two tests has a fault, both together have no fault
-pub no_fault : (first second : Option DocketFault) → first ≡ None → second ≡ None → option_or first second ≡ None
+pub no_fault : {F : Type 0} (first second : Option F) → first ≡ None → second ≡ None → option_or first second ≡ None
 no_fault first second e f = rw (e, f) refl
 
 -- the rows declare a capacity exactly if they have a C row

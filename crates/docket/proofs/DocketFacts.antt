@@ -4,14 +4,15 @@ use Rattle.std.proofs.Common.{◌≡◌, ◌⊎◌, inl, inr, ℕ, List, [], ◌
 use Rattle.std.specs.Prelude.{◌&&◌, ◌||◌, not, if◌then◌else◌, nat_eq, option_map, IfSome}
 use Rattle.std.specs.List.{list_any}
 use Rattle.std.specs.Option.{option_or}
-use Rattle.docket.specs.Fields.{Fields, field, is_kind}
-use Rattle.docket.specs.Contents.{Contents, programmes_of, residents_of, rows_of, events_of, journal_of, JournalParts, ByWorkerParts, by_worker_of, has_sheet, declares_member}
-use Rattle.docket.specs.Passes.{first_from, first_pass_fault, later_fault, fault_within, rows_in, sheet_fault, mark_fault, missing_fault, filled_fault, ranking_fault, pairs_fault, event_fault}
-use Rattle.docket.specs.Answers.{Refuses}
+use Rattle.docket.specs.Fields.{is_kind}
+use Rattle.records.specs.Reading.{Fields, field, rows_of}
+use Rattle.docket.specs.Contents.{Contents, programmes_of, residents_of, rows_of_kind, events_of, journal_of, JournalParts, ByWorkerParts, by_worker_of, has_sheet, declares_member}
+use Rattle.docket.specs.Passes.{first_from, first_pass_fault, later_fault, fault_within, sheet_fault, mark_fault, missing_fault, filled_fault, ranking_fault, pairs_fault, event_fault}
+use Rattle.docket.specs.Answers.{Stops}
 use Rattle.docket.specs.Texts.{programme_name, resident_name}
 use Rattle.std.proofs.lemmas.Option.{get_or_from_slice_get}
 use Rattle.std.proofs.Common.{slice_get}
-use Rattle.docket.specs.Read.{Explains, IsReadFault}
+use Rattle.docket.specs.Read.{Explains, IsSourceFault}
 use Rattle.std.specs.Prelude.{find, unwrap_or}
 use Rattle.exchange_core.specs.declared.event.Capacity.{Capacity}
 use Rattle.exchange_core.specs.declared.event.Capacity.TheVariants.{Full}
@@ -21,7 +22,7 @@ use Rattle.docket.specs.Declarations.{AreByWorker, capacity_in}
 use Rattle.docket.specs.Whole.{AreWorkers}
 use Rattle.docket.specs.declared.vocabulary.TheConstants.{QUOTA, RESIDENT_LIST, CAPACITY}
 use Rattle.docket.specs.declared.fault.DocketFault.{DocketFault}
-use Rattle.docket.proofs.DeclarationFacts.{refuses_first}
+use Rattle.docket.specs.declared.records_fault.RecordsFault.{RecordsFault}
 
 -- a list with an item is not empty
 not_empty : {A : Type 0} (x : A) (xs : List A) → nat_eq (length (x ∷ xs)) 0 ≡ false
@@ -40,11 +41,11 @@ no_members (r ∷ rows) = by (is_kind QUOTA r) (is_kind RESIDENT_LIST r) (no_mem
     name : Fields → List ℕ
     name row = field row 1
 
-    by : (q m : Bool) → (nat_eq (length (map (λ (row : Fields). field row 1) (rows_of QUOTA rows))) 0 && nat_eq (length (map (λ (row : Fields). field row 1) (rows_of RESIDENT_LIST rows))) 0) ≡ not (list_any declares_member rows)
-        → (nat_eq (length (map (λ (row : Fields). field row 1) (if q then r ∷ rows_of QUOTA rows else rows_of QUOTA rows))) 0
-        && nat_eq (length (map (λ (row : Fields). field row 1) (if m then r ∷ rows_of RESIDENT_LIST rows else rows_of RESIDENT_LIST rows))) 0) ≡ not ((q || m) || list_any declares_member rows)
-    by true m more = rw (not_empty (field r 1) (map (λ (row : Fields). field row 1) (rows_of QUOTA rows))) refl
-    by false true more = rw (not_empty (field r 1) (map (λ (row : Fields). field row 1) (rows_of RESIDENT_LIST rows))) (and_false (nat_eq (length (map (λ (row : Fields). field row 1) (rows_of QUOTA rows))) 0))
+    by : (q m : Bool) → (nat_eq (length (map (λ (row : Fields). field row 1) (rows_of_kind QUOTA rows))) 0 && nat_eq (length (map (λ (row : Fields). field row 1) (rows_of_kind RESIDENT_LIST rows))) 0) ≡ not (list_any declares_member rows)
+        → (nat_eq (length (map (λ (row : Fields). field row 1) (if q then r ∷ rows_of_kind QUOTA rows else rows_of_kind QUOTA rows))) 0
+        && nat_eq (length (map (λ (row : Fields). field row 1) (if m then r ∷ rows_of_kind RESIDENT_LIST rows else rows_of_kind RESIDENT_LIST rows))) 0) ≡ not ((q || m) || list_any declares_member rows)
+    by true m more = rw (not_empty (field r 1) (map (λ (row : Fields). field row 1) (rows_of_kind QUOTA rows))) refl
+    by false true more = rw (not_empty (field r 1) (map (λ (row : Fields). field row 1) (rows_of_kind RESIDENT_LIST rows))) (and_false (nat_eq (length (map (λ (row : Fields). field row 1) (rows_of_kind QUOTA rows))) 0))
     by false false more = more
 
 -- the workers of the events that the first pass notes are the docket's workers of events
@@ -54,11 +55,12 @@ by_worker_is None who rows h = rw (← h.workers_are) (refl, tt)
 by_worker_is (Some n) who rows h = rw (← h.workers_are, ← h.who_are) (refl, h.within)
 
 -- if reading the records gives a fault and the bytes are known, the whole call reports this fault
-pub whole_reading : (lim : Limits) (known : Option (List ℕ)) (e : DocketFault) → IsReadFault e ⊎ Explains (option_map rows_in known) (first_from (first_pass_fault lim) []) e
-    → IsReadFault e ⊎ IfSome known (λ bytes. Refuses (fault_within lim bytes) e)
+pub whole_reading : (lim : Limits) (known : Option (List ℕ)) (e : RecordsFault) → IsSourceFault e ⊎ Explains (option_map rows_of known) (first_from (first_pass_fault lim) []) e
+    → IsSourceFault e ⊎ IfSome known (λ bytes. Stops (fault_within lim bytes) e)
 whole_reading lim known e (inl read) = inl read
 whole_reading lim None e (inr h) = inr tt
-whole_reading lim (Some bytes) e (inr h) = inr (refuses_first _ _ e h)
+whole_reading lim (Some bytes) e (inr (inl memory)) = inr (inl memory)
+whole_reading lim (Some bytes) e (inr (inr is)) = inr (inr (rw is refl))
 
 -- in a docket with a sheet, the fault of the sheet is the first fault of its three walks
 pub sheet_asked : (rows : List Fields) → has_sheet rows ≡ true

@@ -7,7 +7,8 @@ use Rattle.std.proofs.lemmas.List.{length-append, length-take, take_more, take_a
 use Rattle.match_model.specs.declared.limits.TheConstants.{NATIONAL_PROGRAMMES, NATIONAL_RESIDENTS, MAX_QUOTA}
 use Rattle.match_model.specs.declared.fault.ModelFault.TheVariants as model
 use Rattle.docket_names.specs.Words.{number_of}
-use Rattle.docket.specs.Fields.{Fields, field, kind_of, is_kind, row_fault}
+use Rattle.docket.specs.Fields.{kind_of, is_kind, row_fault}
+use Rattle.records.specs.Reading.{Fields, field}
 use Rattle.docket.specs.Rows.{row_at}
 use Rattle.docket.specs.Contents.{names_of, programmes_of, residents_of, workers_in}
 use Rattle.docket.specs.Passes.{first_from, reading_fault, repeat_fault, limit_fault, next_place}

@@ -1,7 +1,7 @@
 -- Facts about the fields of a record.
 use Rattle.std.proofs.Common.{◌≡◌, ℕ, zero, suc, [], ◌∷◌, get_or, refl}
 use Rattle.csv.specs.Records.{field_at}
-use Rattle.docket.specs.Fields.{Fields, field}
+use Rattle.records.specs.Reading.{Fields, field}
 
 -- field i of a record is item i of its list of fields, or an empty text
 pub field-get_or : (row : Fields) (i : ℕ) → field row i ≡ get_or row i []

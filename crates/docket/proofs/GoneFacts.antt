@@ -6,7 +6,8 @@ use Rattle.std.specs.List.{list_any}
 use Rattle.std.specs.Option.{option_or}
 use Rattle.std.proofs.lemmas.List.{length-map, take_more}
 use Rattle.std.proofs.lemmas.List.Folds.{list_any-append}
-use Rattle.docket.specs.Fields.{Fields, field, kind_of, is_row_of, unless, withdrawal_kind, withdrawal_row_fault}
+use Rattle.docket.specs.Fields.{kind_of, is_row_of, unless, withdrawal_kind, withdrawal_row_fault}
+use Rattle.records.specs.Reading.{Fields, field}
 use Rattle.docket.specs.Rows.{row_at}
 use Rattle.docket.specs.Contents.{programmes_of, residents_of, is_withdrawal_of, withdrawn_of, lists_of}
 use Rattle.docket_names.specs.Texts.{number_in}

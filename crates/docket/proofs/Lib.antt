@@ -1,6 +1,5 @@
 pub mod WordFacts
 pub mod FieldFacts
-pub mod ReadFacts
 pub mod WithdrawalFacts
 pub mod DeclarationFacts
 pub mod SoundFacts
@@ -17,6 +16,7 @@ pub mod WholeFacts
 pub mod WriteFacts
 pub mod WithListsFacts
 pub mod CountFacts
+pub mod StandardFacts
 pub mod PassedFacts
 pub mod ListFacts
 pub mod SheetRowFacts

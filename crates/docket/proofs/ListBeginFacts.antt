@@ -1,7 +1,7 @@
 -- The second pass begins with all entries of the store.
 use Rattle.std.proofs.Common.{◌⊎◌, ◌≤◌, ◌<◌, ℕ, List, [], map, sym, subst, inl, inr, refl}
 use Rattle.match_model.specs.Draft.{Draft}
-use Rattle.docket.specs.Fields.{Fields}
+use Rattle.records.specs.Reading.{Fields}
 use Rattle.docket.specs.Known.{AreKnown}
 use Rattle.docket.specs.Lists.{KeptLists, ListEntry, AreLists, named}
 use Rattle.docket.specs.Passes.{ranking_fault}

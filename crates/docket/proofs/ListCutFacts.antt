@@ -9,7 +9,8 @@ use Rattle.std.proofs.lemmas.List.{length-append}
 use Rattle.std.proofs.lemmas.Grind.{flat_map-append}
 use Rattle.std.proofs.lemmas.List.Folds.{list_any-append, list_all-append}
 use Rattle.docket.specs.Contents.{programmes_of, residents_of}
-use Rattle.docket.specs.Fields.{Fields, field, kind_of, unless}
+use Rattle.docket.specs.Fields.{kind_of, unless}
+use Rattle.records.specs.Reading.{Fields, field}
 use Rattle.docket.specs.Limits.{widest}
 use Rattle.docket.specs.ListPass.{ShowList, ShowsRow}
 use Rattle.docket.specs.Lists.{is_among, ListEntry, AreFront, is_ranking_row, entry_in, entries_from, entries_of, entry_names, names_in}

@@ -4,7 +4,8 @@ use Rattle.std.specs.Prelude.{◌||◌, bytes_eq, codes, not}
 use Rattle.std.specs.List.{list_any}
 use Rattle.std.specs.Option.{option_or}
 use Rattle.docket.specs.Contents.{is_withdrawal_of}
-use Rattle.docket.specs.Fields.{Fields, field, kind_of, is_kind, is_side, unless, withdrawal_kind, withdrawal_row_fault, counted}
+use Rattle.docket.specs.Fields.{kind_of, is_kind, is_side, unless, withdrawal_kind, withdrawal_row_fault, counted}
+use Rattle.records.specs.Reading.{Fields, field}
 use Rattle.docket.specs.Limits.{widest}
 use Rattle.docket.specs.ListPass.{ShowList, ShowsRow}
 use Rattle.docket.specs.Lists.{ListEntry, is_ranking_row, list_entry, gone_entry, entry_in}

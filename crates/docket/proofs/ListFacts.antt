@@ -7,7 +7,8 @@ use Rattle.std.proofs.lemmas.List.{length-append, map-append, take-append-drop}
 use Rattle.std.proofs.lemmas.List.Elements.{All-nil, All-push, All-weaker, All-head, All-tail}
 use Rattle.std.proofs.lemmas.List.Folds.{list_any-append}
 use Rattle.std.proofs.lemmas.Grind.{flat_map-append}
-use Rattle.docket.specs.Fields.{Fields, is_kind, withdrawal_kind}
+use Rattle.docket.specs.Fields.{is_kind, withdrawal_kind}
+use Rattle.records.specs.Reading.{Fields}
 use Rattle.docket.specs.Lists.{is_among, ListEntry, KeptEntry, KeptLists, AreLists, AreFront, IsCutFrom, IsWithin, HasEntry, AddsEntry, named, entry_names, names_in, entry_in, entries_from, entries_of, is_ranking_row}
 use Rattle.docket.specs.Passes.{next_place}
 use Rattle.docket.specs.declared.vocabulary.TheConstants.{PROGRAMME_LIST, RESIDENT_LIST, MOST_NAMES}

@@ -4,7 +4,8 @@ use Rattle.std.specs.Prelude.{◌||◌}
 use Rattle.std.proofs.lemmas.Bool.{or_parts}
 use Rattle.std.proofs.lemmas.List.{length-append, take-append-le, take_all, take_more}
 use Rattle.match_model.specs.Draft.{Draft}
-use Rattle.docket.specs.Fields.{Fields, is_kind, withdrawal_kind}
+use Rattle.docket.specs.Fields.{is_kind, withdrawal_kind}
+use Rattle.records.specs.Reading.{Fields}
 use Rattle.docket.specs.ListPass.{ShowsRow}
 use Rattle.docket.specs.Lists.{ListEntry, is_ranking_row}
 use Rattle.docket.specs.Passes.{first_from, ranking_fault}

@@ -12,7 +12,8 @@ use Rattle.match_model.specs.declared.fault.ModelFault.{ModelFault}
 use Rattle.match_model.specs.declared.fault.ModelFault.TheVariants as model
 use Rattle.docket.specs.Answers.{Refuses, at_record}
 use Rattle.docket.specs.Contents.{listed_in, member_in, programmes_of, residents_of}
-use Rattle.docket.specs.Fields.{Fields, field, unless}
+use Rattle.docket.specs.Fields.{unless}
+use Rattle.records.specs.Reading.{Fields, field}
 use Rattle.docket.specs.ListPass.{IsNext, ShowList, is_member, member_at}
 use Rattle.docket.specs.Lists.{KeptEntry}
 use Rattle.docket.specs.Passes.{ranking_fault, listing_fault, unknown_fault}

@@ -4,7 +4,7 @@ use Rattle.std.specs.Prelude.{slice_get}
 use Rattle.std.specs.List.{All}
 use Rattle.std.proofs.lemmas.List.Elements.{All-head, All-tail}
 use Rattle.match_model.specs.Draft.{Draft}
-use Rattle.docket.specs.Fields.{Fields}
+use Rattle.records.specs.Reading.{Fields}
 use Rattle.docket.specs.Known.{AreKnown}
 use Rattle.docket.specs.ListPass.{IsNext}
 use Rattle.docket.specs.Lists.{KeptEntry, IsWithin, named}

@@ -2,7 +2,8 @@
 use Rattle.std.proofs.Common.{◌≡◌, ◌≤◌, ℕ, List, [], ◌∷◌, Bool, true, false, length, drop, sym, refl, ap, arith, rules, Some, None}
 use Rattle.std.specs.Prelude.{◌&&◌, nat_lt, bytes_eq, codes, if◌then◌else◌}
 use Rattle.std.specs.List.{list_all}
-use Rattle.docket.specs.Fields.{Fields, field, kind_of, is_side, unless, lists_names, list_row_fault, withdrawal_row_fault, withdrawal_kind}
+use Rattle.docket.specs.Fields.{kind_of, is_side, unless, lists_names, list_row_fault, withdrawal_row_fault, withdrawal_kind}
+use Rattle.records.specs.Reading.{Fields, field}
 use Rattle.docket.specs.Lists.{list_letter, list_entry, gone_entry, entry_in}
 use Rattle.docket.specs.Words.{side_of}
 use Rattle.docket.specs.Rows.{side_text}

@@ -1,7 +1,7 @@
 -- Before the second pass, the entries of the store are enough for all records.
 use Rattle.std.proofs.Common.{◌≡◌, ◌≤◌, ◌+◌, ℕ, List, [], ◌∷◌, ◌++◌, Bool, true, false, length, sym, ◌∙◌, refl, ap, subst, None, append_assoc}
 use Rattle.std.proofs.lemmas.List.{length-append}
-use Rattle.docket.specs.Fields.{Fields}
+use Rattle.records.specs.Reading.{Fields}
 use Rattle.docket.specs.Limits.{widest}
 use Rattle.docket.specs.Lists.{ListEntry, is_ranking_row, entry_in, entries_from}
 use Rattle.docket.specs.Passes.{first_from, reading_fault}

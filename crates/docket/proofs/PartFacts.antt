@@ -2,14 +2,14 @@
 use Rattle.std.proofs.Common.{◌≡◌, ◌⊎◌, ◌<◌, ◌≤◌, ◌+◌, ◌∙◌, ◌++◌, ◌∷◌, ℕ, List, [], Bool, true, false, length, sym, refl, ap, subst, Option, Some, None, Result, Ok, Err, inl, inr, append_assoc, append-nil, arith, rules}
 use Rattle.std.specs.Prelude.{nat_le, if◌then◌else◌, IfErr, OnOk}
 use Rattle.std.specs.Option.{option_or}
-use Rattle.docket.specs.Answers.{Refuses, Answers}
-use Rattle.docket.specs.Fields.{Fields}
+use Rattle.docket.specs.Answers.{Refuses, Stops}
+use Rattle.records.specs.Reading.{Fields, GivesRow, IsSplit}
 use Rattle.docket.specs.FileFault.{located, there}
-use Rattle.docket.specs.Parts.{AreEnds, GoesOn, IsInFiles, IsInFilesWithLists, Tells, fault_of_files, files_fault, rows_of_all, file_fault, kind_fault, part_fault}
+use Rattle.docket.specs.Parts.{AreEnds, GoesOn, IsInFiles, IsInFilesWithLists, Tells, fault_of_files, files_fault, rows_of_all, file_fault, is_elsewhere, kind_fault, part_fault}
 use Rattle.docket.specs.Passed.{IsPassed, HasPassed}
-use Rattle.docket.specs.Limits.{most_records}
+use Rattle.docket.specs.Limits.{is_above, most_listed, most_records}
 use Rattle.docket.specs.Passes.{first_from, first_pass_fault, reading_fault, later_fault, next_place}
-use Rattle.docket.specs.Read.{GivesRow, IsSplit, IsReadFault, Explains}
+use Rattle.docket.specs.Read.{IsSourceFault, Explains}
 use Rattle.docket.specs.Reading.{IsReading}
 use Rattle.docket.specs.declared.part.Part.{Part}
 use Rattle.docket.specs.declared.file_fault.FileFault.{FileFault}
@@ -23,24 +23,30 @@ use Rattle.docket.specs.declared.reading.Reading.{Reading}
 use Rattle.match_model.specs.declared.limits.Limits.{Limits}
 use Rattle.docket.specs.declared.fault.DocketFault.{DocketFault}
 use Rattle.docket.specs.declared.fault.DocketFault.TheVariants.{TooManyRecords}
-use Rattle.docket.proofs.PassFacts.{first_from-append, first_from-none, split_more, split_end, split_start}
+use Rattle.docket.specs.declared.records_fault.RecordsFault.{RecordsFault}
+use Rattle.docket.specs.declared.records_fault.RecordsFault.TheVariants.{AnotherPart, Docket, TooManyListed}
+use Rattle.records.proofs.SplitFacts.{split_end, split_more, split_start}
+use Rattle.docket.proofs.PassFacts.{first_from-append, first_from-none}
+use Rattle.docket.proofs.CountFacts.{listed_asked}
+use Rattle.docket.proofs.SoundFacts.{both_none}
 use Rattle.docket.proofs.ReadRowsInvariant.{Goes}
 
 -- if these rows have no fault and the next row has none, the rows with the next row have none
-push_from : (f : List Fields → Fields → Option DocketFault) (kept rows : List Fields) (row : Fields)
+push_from : (f : List Fields → Fields → Option RecordsFault) (kept rows : List Fields) (row : Fields)
     → first_from f kept rows ≡ None → f (kept ++ rows) row ≡ None → first_from f kept (rows ++ row ∷ []) ≡ None
 unfolding first_from
 push_from f kept rows row none here = rw (first_from-append f kept rows (row ∷ []), none, here) refl
 
-found_from : (f : List Fields → Fields → Option DocketFault) (kept rows rest : List Fields) (row : Fields) (e : DocketFault)
+found_from : (f : List Fields → Fields → Option RecordsFault) (kept rows rest : List Fields) (row : Fields) (e : RecordsFault)
     → first_from f kept rows ≡ None → f (kept ++ rows) row ≡ Some e → first_from f kept (rows ++ row ∷ rest) ≡ Some e
 unfolding first_from
 found_from f kept rows rest row e none here = rw (first_from-append f kept rows (row ∷ rest), none, here) refl
 
 -- if the next row has a fault and no earlier row of the file has one, this is the file's first fault
-pub fault_from : (f : List Fields → Fields → Option DocketFault) (all : Option (List Fields)) (kept rows : List Fields) (left after : Option (List Fields)) (row : Fields) (e : DocketFault)
-    → IsSplit all rows left → GivesRow left after true row → first_from f kept rows ≡ None → Refuses (f (kept ++ rows) row) e → Explains all (first_from f kept) e
-fault_from f None kept rows left after row e s g none here = tt
+pub fault_from : (f : List Fields → Fields → Option RecordsFault) (all : Option (List Fields)) (kept rows : List Fields) (left after : Option (List Fields)) (row : Fields) (e : RecordsFault)
+    → IsSplit all rows left → GivesRow left after true row → first_from f kept rows ≡ None → Stops (f (kept ++ rows) row) e → Explains all (first_from f kept) e
+fault_from f None kept rows left after row e s g none (inl memory) = ([], inl memory)
+fault_from f None kept rows left after row e s g none (inr here) = (rows ++ row ∷ [], inr (found_from f kept rows [] row e none here))
 fault_from f (Some all) kept rows None after row e s g none here = cc s.1
 fault_from f (Some all) kept rows (Some l) after row e s g none (inl memory) = inl memory
 fault_from f (Some all) kept rows (Some l) after row e s g none (inr here) =
@@ -55,45 +61,38 @@ unfolding part_fault
 part_few part lim before row few = by (nat_le (most_records lim) (length before)) refl
   where
     by : (b : Bool) → nat_le (most_records lim) (length before) ≡ b
-        → (if b then Some (TooManyRecords (next_place before)) else option_or (kind_fault part (next_place before) row) (first_pass_fault lim before row))
+        → (if b then Some (Docket (TooManyRecords (next_place before))) else option_or (kind_fault part (next_place before) row) (first_pass_fault lim before row))
         ≡ option_or (kind_fault part (next_place before) row) (first_pass_fault lim before row)
     by true e = absurd (search (rules, few, e))
     by false e = refl
 
 pub part_many : (part : Option Part) (lim : Limits) (before : List Fields) (row : Fields) → length before ≡ most_records lim
-    → part_fault part lim before row ≡ Some (TooManyRecords (most_records lim + 1))
+    → part_fault part lim before row ≡ Some (Docket (TooManyRecords (most_records lim + 1)))
 unfolding part_fault
 part_many part lim before row many = by (nat_le (most_records lim) (length before)) refl
   where
     by : (b : Bool) → nat_le (most_records lim) (length before) ≡ b
-        → (if b then Some (TooManyRecords (next_place before)) else option_or (kind_fault part (next_place before) row) (first_pass_fault lim before row))
-        ≡ Some (TooManyRecords (most_records lim + 1))
+        → (if b then Some (Docket (TooManyRecords (next_place before))) else option_or (kind_fault part (next_place before) row) (first_pass_fault lim before row))
+        ≡ Some (Docket (TooManyRecords (most_records lim + 1)))
     by true e = rw many refl
     by false e = let less : length before < most_records lim = search (rules, e) in absurd (omega (arith, less, many))
-
-later_none : (first second : Option DocketFault) → option_or first second ≡ None → second ≡ None
-later_none None second e = e
-later_none (Some f) second e = absurd (cc e)
-
-first_none : (first second : Option DocketFault) → option_or first second ≡ None → first ≡ None
-first_none None second e = refl
-first_none (Some f) second e = absurd (cc e)
 
 -- a record that is right in its file has no fault in the first pass
 part_sound : (part : Option Part) (lim : Limits) (before : List Fields) (row : Fields) → part_fault part lim before row ≡ None → first_pass_fault lim before row ≡ None
 unfolding part_fault
 part_sound part lim before row none = by (nat_le (most_records lim) (length before)) none
   where
-    by : (b : Bool) → (if b then Some (TooManyRecords (next_place before)) else option_or (kind_fault part (next_place before) row) (first_pass_fault lim before row)) ≡ None
+    by : (b : Bool) → (if b then Some (Docket (TooManyRecords (next_place before))) else option_or (kind_fault part (next_place before) row) (first_pass_fault lim before row)) ≡ None
         → first_pass_fault lim before row ≡ None
     by true e = absurd (cc e)
-    by false e = later_none (kind_fault part (next_place before) row) (first_pass_fault lim before row) e
+    by false e = (both_none (kind_fault part (next_place before) row) (first_pass_fault lim before row) e).1
 
 pub from_sound : (part : Option Part) (lim : Limits) (before rows : List Fields) → first_from (part_fault part lim) before rows ≡ None → first_from (first_pass_fault lim) before rows ≡ None
 unfolding first_from
 from_sound part lim before [] none = refl
 from_sound part lim before (row ∷ rest) none =
-    rw (part_sound part lim before row (first_none _ _ none)) (from_sound part lim (before ++ row ∷ []) rest (later_none _ _ none))
+    let parts = both_none (part_fault part lim before row) (first_from (part_fault part lim) (before ++ row ∷ []) rest) none in
+    rw (part_sound part lim before row parts.0) (from_sound part lim (before ++ row ∷ []) rest parts.1)
 
 -- without a part the fault is the first pass's
 one_fault : (lim : Limits) (before : List Fields) (row : Fields) → part_fault None lim before row ≡ first_pass_fault lim before row
@@ -109,7 +108,7 @@ unfolding first_from
 one_stream lim before [] = refl
 one_stream lim before (row ∷ rest) = rw (one_fault lim before row, one_stream lim (before ++ row ∷ []) rest) refl
 
-none_from : (f : List Fields → Fields → Option DocketFault) (kept : List Fields) → first_from f kept [] ≡ None
+none_from : (f : List Fields → Fields → Option RecordsFault) (kept : List Fields) → first_from f kept [] ≡ None
 unfolding first_from
 none_from f kept = refl
 
@@ -165,14 +164,14 @@ own_on part lim kept rows reading same g = rw (← same, g.all_are) g.own
 pub one_passed : (all : Option (List Fields)) (old new : Reading) → IsReading old [] → ((kept : List Fields) → IsPassed old kept → GoesOn None kept all new) → HasPassed all new
 one_passed all old new is on = let g = on [] (passed_empty old is) in record { rows = g.rows; all_are = g.all_are; passed = g.passed }
 
-pub one_told : (all : Option (List Fields)) (lim : Limits) (old : Reading) (e : DocketFault) → IsReading old []
-    → ((kept : List Fields) → IsPassed old kept → IsReadFault e ⊎ Explains all (first_from (part_fault None lim) kept) e)
-    → IsReadFault e ⊎ Explains all (first_from (first_pass_fault lim) []) e
+pub one_told : (all : Option (List Fields)) (lim : Limits) (old : Reading) (e : RecordsFault) → IsReading old []
+    → ((kept : List Fields) → IsPassed old kept → IsSourceFault e ⊎ Explains all (first_from (part_fault None lim) kept) e)
+    → IsSourceFault e ⊎ Explains all (first_from (first_pass_fault lim) []) e
 one_told all lim old e is on = by all (on [] (passed_empty old is))
   where
-    by : (all : Option (List Fields)) → IsReadFault e ⊎ Explains all (first_from (part_fault None lim) []) e → IsReadFault e ⊎ Explains all (first_from (first_pass_fault lim) []) e
+    by : (all : Option (List Fields)) → IsSourceFault e ⊎ Explains all (first_from (part_fault None lim) []) e → IsSourceFault e ⊎ Explains all (first_from (first_pass_fault lim) []) e
     by all (inl read) = inl read
-    by None (inr h) = inr tt
+    by None (inr h) = inr (h.0, rw (← one_stream lim [] h.0) h.1)
     by (Some rows) (inr h) = inr (rw (← one_stream lim [] rows) h)
 
 -- the next record's number
@@ -183,33 +182,40 @@ pub few_rows : (reading : Reading) (rows : List Fields) → reading.records < mo
 few_rows reading rows few is = rw is.records at few
 
 -- a record of another part is refused at once
-pub part_refused : (part : Option Part) (reading : Reading) (rows : List Fields) (row : Fields) (place : ℕ) {e : DocketFault} → reading.records < most_records reading.declared.builder.limits → IsReading reading rows
-    → place ≡ reading.records + 1 → Refuses (kind_fault part place row) e → Refuses (part_fault part reading.declared.builder.limits rows row) e
-part_refused part reading rows row place few is at (inl memory) = inl memory
-part_refused part reading rows row place few is at (inr here) =
-    let there = rw (next_is reading rows place is at) at here in
-    inr (part_few part reading.declared.builder.limits rows row (few_rows reading rows few is) ∙ rw there refl)
+pub part_refused : (part : Option Part) (reading : Reading) (rows : List Fields) (row : Fields) (place : ℕ) → reading.records < most_records reading.declared.builder.limits → IsReading reading rows
+    → place ≡ reading.records + 1 → is_elsewhere part row ≡ true → Stops (part_fault part reading.declared.builder.limits rows row) (AnotherPart place)
+part_refused part reading rows row place few is at other =
+    inr (part_few part reading.declared.builder.limits rows row (few_rows reading rows few is) ∙ rw (other, next_is reading rows place is at) refl)
 
--- a record of the file's part has the faults of the first pass
-pub part_passed : (part : Option Part) (reading : Reading) (rows : List Fields) (row : Fields) (place : ℕ) {T : Type 0} (result : Result T DocketFault) → reading.records < most_records reading.declared.builder.limits → IsReading reading rows
-    → place ≡ reading.records + 1 → kind_fault part place row ≡ None → Answers (first_pass_fault reading.declared.builder.limits rows row) result → Answers (part_fault part reading.declared.builder.limits rows row) result
-part_passed part reading rows row place result few is at own answers =
-    let there = rw (next_is reading rows place is at) at own in
-    rw (part_few part reading.declared.builder.limits rows row (few_rows reading rows few is), there) answers
+-- a record of the file's part that the first pass refuses
+pub part_stopped : (part : Option Part) (reading : Reading) (rows : List Fields) (row : Fields) (e : DocketFault) → reading.records < most_records reading.declared.builder.limits → IsReading reading rows
+    → is_elsewhere part row ≡ false → Refuses (reading_fault reading.declared.builder.limits rows row) e → Stops (part_fault part reading.declared.builder.limits rows row) (Docket e)
+part_stopped part reading rows row e few is own (inl memory) = inl (ap Docket memory)
+part_stopped part reading rows row e few is own (inr here) =
+    inr (part_few part reading.declared.builder.limits rows row (few_rows reading rows few is) ∙ rw (own, here) refl)
+
+-- a record of the file's part that the first pass accepts: the test of the number of listed names is left
+pub part_passed : (part : Option Part) (reading new : Reading) (rows : List Fields) (row : Fields) (place : ℕ) → reading.records < most_records reading.declared.builder.limits → IsReading reading rows
+    → place ≡ reading.records + 1 → is_elsewhere part row ≡ false → reading_fault reading.declared.builder.limits rows row ≡ None
+    → new.declared.builder.limits ≡ reading.declared.builder.limits → IsReading new (rows ++ row ∷ [])
+    → part_fault part reading.declared.builder.limits rows row ≡ (if is_above (most_listed new.declared.builder.limits) new.declared.listed then Some (TooManyListed place) else None)
+part_passed part reading new rows row place few is at own none same next =
+    rw (same, part_few part reading.declared.builder.limits rows row (few_rows reading rows few is), own, none)
+    (listed_asked reading.declared.builder.limits rows row new.declared.listed place next.declared.listed (next_is reading rows place is at))
 
 -- the fault of one record too many
 pub one_too_many : (part : Option Part) (lim : Limits) (before : List Fields) (row : Fields) (most : ℕ) → length before ≡ most_records lim → most ≡ most_records lim
-    → Refuses (part_fault part lim before row) (TooManyRecords (most + 1))
-one_too_many part lim before row most many is = inr (part_many part lim before row many ∙ ap (λ n. Some (TooManyRecords (n + 1))) (sym is))
+    → Stops (part_fault part lim before row) (Docket (TooManyRecords (most + 1)))
+one_too_many part lim before row most many is = inr (part_many part lim before row many ∙ ap (λ n. Some (Docket (TooManyRecords (n + 1)))) (sym is))
 
-pub one_all : (all : Option (List Fields)) (old new : Reading) {T : Type 0} (result : Result T DocketFault) → IsReading old []
+pub one_all : (all : Option (List Fields)) (old new : Reading) {T : Type 0} (result : Result T RecordsFault) → IsReading old []
     → OnOk result ((kept : List Fields) → IsPassed old kept → GoesOn None kept all new) → OnOk result (HasPassed all new)
 one_all all old new (Ok value) is on = one_passed all old new is on
 one_all all old new (Err e) is on = tt
 
-pub one_refused : (all : Option (List Fields)) (lim : Limits) (old : Reading) {T : Type 0} (result : Result T DocketFault) → IsReading old []
-    → IfErr result (λ e. (kept : List Fields) → IsPassed old kept → IsReadFault e ⊎ Explains all (first_from (part_fault None lim) kept) e)
-    → IfErr result (λ e. IsReadFault e ⊎ Explains all (first_from (first_pass_fault lim) []) e)
+pub one_refused : (all : Option (List Fields)) (lim : Limits) (old : Reading) {T : Type 0} (result : Result T RecordsFault) → IsReading old []
+    → IfErr result (λ e. (kept : List Fields) → IsPassed old kept → IsSourceFault e ⊎ Explains all (first_from (part_fault None lim) kept) e)
+    → IfErr result (λ e. IsSourceFault e ⊎ Explains all (first_from (first_pass_fault lim) []) e)
 one_refused all lim old (Ok value) is on = tt
 one_refused all lim old (Err e) is on = one_told all lim old e is on
 
@@ -217,8 +223,8 @@ pub within : (reading : Reading) (rows : List Fields) → IsPassed reading rows 
 within reading rows p = let count = p.reading_is.records in let few = p.few in omega (arith, count, few)
 
 -- the fault of a file, told with its file
-pub file_told : (file : Part) (lim : Limits) (kept rows : List Fields) (old : Reading) (before : ℕ) (e : DocketFault) → IsPassed old kept → before ≡ old.records
-    → IsReadFault e ⊎ Explains (Some rows) (first_from (part_fault (Some file) lim) kept) e → Tells (file_fault file lim kept rows) (there file before e)
+pub file_told : (file : Part) (lim : Limits) (kept rows : List Fields) (old : Reading) (before : ℕ) (e : RecordsFault) → IsPassed old kept → before ≡ old.records
+    → IsSourceFault e ⊎ Explains (Some rows) (first_from (part_fault (Some file) lim) kept) e → Tells (file_fault file lim kept rows) (there file before e)
 file_told file lim kept rows old before e p is (inl read) = inl (inr (read.0, rw read.1 refl))
 file_told file lim kept rows old before e p is (inr (inl memory)) = inl (inl (rw memory refl))
 file_told file lim kept rows old before e p is (inr (inr first)) =

@@ -5,22 +5,24 @@ use Rattle.std.proofs.Common.{◌≡◌, ◌⊎◌, ◌<◌, ◌+◌, ℕ, List,
 use Rattle.std.specs.Prelude.{nat_le, if◌then◌else◌}
 use Rattle.std.proofs.lemmas.List.{take_more, take-append-drop, length-append}
 use Rattle.std.specs.Option.{option_or}
-use Rattle.docket.specs.Fields.{Fields, row_fault}
+use Rattle.docket.specs.Fields.{row_fault}
+use Rattle.records.specs.Reading.{Fields}
 use Rattle.docket.specs.Contents.{workers_in}
 use Rattle.docket.specs.Rows.{row_at}
 use Rattle.docket.specs.Answers.{Refuses}
-use Rattle.docket.specs.Read.{GivesRow, IsSplit, IsOutside, IsReadFault, Explains, AreAll}
+use Rattle.docket.specs.Read.{IsOutside, IsSourceFault, Explains}
 use Rattle.docket.specs.Passes.{first_from, reading_fault, repeat_fault, limit_fault, next_place}
 use Rattle.docket.specs.declared.fault.DocketFault.{DocketFault}
+use Rattle.docket.specs.declared.records_fault.RecordsFault.{RecordsFault}
 use Rattle.docket.specs.declared.fault.DocketFault.TheVariants.{TooManyRecords}
 
 -- three tests in a row give the same first fault, whichever two are taken together
-pub option_or-assoc : (a b c : Option DocketFault) → option_or a (option_or b c) ≡ option_or (option_or a b) c
+pub option_or-assoc : {F : Type 0} (a b c : Option F) → option_or a (option_or b c) ≡ option_or (option_or a b) c
 option_or-assoc None b c = refl
 option_or-assoc (Some f) b c = refl
 
 -- the first fault of two lists of rows, one after the other
-pub first_from-append : (f : List Fields → Fields → Option DocketFault) (before xs ys : List Fields)
+pub first_from-append : {F : Type 0} (f : List Fields → Fields → Option F) (before xs ys : List Fields)
     → first_from f before (xs ++ ys) ≡ option_or (first_from f before xs) (first_from f (before ++ xs) ys)
 unfolding first_from
 first_from-append f before [] ys = rw (append-nil before) refl
@@ -30,57 +32,23 @@ first_from-append f before (x ∷ xs) ys =
     ∙ ap (λ (b : List Fields). option_or (option_or (f before x) (first_from f (before ++ x ∷ []) xs)) (first_from f b ys)) (append_assoc before (x ∷ []) xs)
 
 -- if the rows so far have no fault and the next row has none, the rows with the next row have none
-pub first_from-push : (f : List Fields → Fields → Option DocketFault) (kept : List Fields) (row : Fields)
+pub first_from-push : {F : Type 0} (f : List Fields → Fields → Option F) (kept : List Fields) (row : Fields)
     → first_from f [] kept ≡ None → f kept row ≡ None → first_from f [] (kept ++ row ∷ []) ≡ None
 unfolding first_from
 first_from-push f kept row none here = rw (first_from-append f [] kept (row ∷ []), none, here) refl
 
 -- if the rows so far have no fault and the next row has one, this fault is the first, whatever rows follow
-pub first_from-found : (f : List Fields → Fields → Option DocketFault) (kept rest : List Fields) (row : Fields) (e : DocketFault)
+pub first_from-found : {F : Type 0} (f : List Fields → Fields → Option F) (kept rest : List Fields) (row : Fields) (e : F)
     → first_from f [] kept ≡ None → f kept row ≡ Some e → first_from f [] (kept ++ row ∷ rest) ≡ Some e
 unfolding first_from
 first_from-found f kept rest row e none here = rw (first_from-append f [] kept (row ∷ rest), none, here) refl
 
--- the rows of the docket, after the next row was read
-pub split_more : (all : Option (List Fields)) (kept : List Fields) (left after : Option (List Fields)) (row : Fields)
-    → IsSplit all kept left → GivesRow left after true row → IsSplit all (kept ++ row ∷ []) after
-split_more None kept left after row s g = tt
-split_more (Some rows) kept None after row s g = cc s.1
-split_more (Some rows) kept (Some l) after row s g =
-    let same : l ≡ s.0 = cc s.1 in
-    (g.0, g.1, s.2 ∙ ap (λ (r : List Fields). kept ++ r) (sym same ∙ g.2) ∙ sym (append_assoc kept (row ∷ []) g.0))
-
--- at the end of the records, the rows read are all rows of the docket
-pub split_end : (all : Option (List Fields)) (kept : List Fields) (left after : Option (List Fields)) (row : Fields)
-    → IsSplit all kept left → GivesRow left after false row → AreAll all kept
-split_end None kept left after row s g = tt
-split_end (Some rows) kept None after row s g = cc s.1
-split_end (Some rows) kept (Some l) after row s g =
-    let same : l ≡ s.0 = cc s.1 in
-    s.2 ∙ ap (λ (r : List Fields). kept ++ r) (sym same ∙ g) ∙ append-nil kept
-
--- if the next row has a fault and no earlier row has one, this is the docket's first fault
-pub split_fault : (f : List Fields → Fields → Option DocketFault) (all : Option (List Fields)) (kept : List Fields) (left after : Option (List Fields)) (row : Fields) (e : DocketFault)
-    → IsSplit all kept left → GivesRow left after true row → first_from f [] kept ≡ None → Refuses (f kept row) e → Explains all (first_from f []) e
-split_fault f None kept left after row e s g none here = tt
-split_fault f (Some rows) kept None after row e s g none here = cc s.1
-split_fault f (Some rows) kept (Some l) after row e s g none (inl memory) = inl memory
-split_fault f (Some rows) kept (Some l) after row e s g none (inr here) =
-    let same : l ≡ s.0 = cc s.1 in
-    let all : rows ≡ kept ++ row ∷ g.0 = s.2 ∙ ap (λ (r : List Fields). kept ++ r) (sym same ∙ g.2) in
-    inr (rw all (first_from-found f kept g.0 row e none here))
-
 -- a fault of the reader or of memory needs no reason in the docket's rows
-pub outside_fault : (all : Option (List Fields)) (f : List Fields → Option DocketFault) (place : ℕ) (e : DocketFault)
-    → IsOutside place e → IsReadFault e ⊎ Explains all f e
-outside_fault None f place e (inl memory) = inr tt
+pub outside_fault : (all : Option (List Fields)) (f : List Fields → Option RecordsFault) (place : ℕ) (e : RecordsFault)
+    → IsOutside place e → IsSourceFault e ⊎ Explains all f e
+outside_fault None f place e (inl memory) = inr ([], inl memory)
 outside_fault (Some rows) f place e (inl memory) = inr (inl memory)
 outside_fault all f place e (inr read) = inl (place, read)
-
--- before the first record is read, all rows remain
-pub split_start : (all : Option (List Fields)) → IsSplit all [] all
-split_start None = tt
-split_start (Some rows) = (rows, refl, refl)
 
 -- below the limit on records, the first pass's test of a row, and the rows after this row
 pub reading_fault-few : (lim : Limits) (before : List Fields) (row : Fields) → length before < most_records lim
@@ -105,7 +73,7 @@ reading_fault-many lim before row many = by (nat_le (most_records lim) (length b
     by false e = let less : length before < most_records lim = search (rules, e) in absurd (omega (arith, less, many))
 
 -- an empty list of rows has no fault
-pub first_from-none : (f : List Fields → Fields → Option DocketFault) → first_from f [] [] ≡ None
+pub first_from-none : {F : Type 0} (f : List Fields → Fields → Option F) → first_from f [] [] ≡ None
 unfolding first_from
 first_from-none f = refl
 

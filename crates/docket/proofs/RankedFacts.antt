@@ -7,7 +7,8 @@ use Rattle.std.proofs.lemmas.List.{take_more}
 use Rattle.match_model.specs.Draft.{Draft, with_programme_list, with_resident_list, list_fault, has_no_repeats, instance_of, IsFinishFault}
 use Rattle.match_model.specs.declared.fault.ModelFault.{ModelFault}
 use Rattle.match_model.specs.declared.fault.ModelFault.TheVariants as model
-use Rattle.docket.specs.Fields.{Fields, field, kind_of, is_kind, withdrawal_kind}
+use Rattle.docket.specs.Fields.{kind_of, is_kind, withdrawal_kind}
+use Rattle.records.specs.Reading.{Fields, field}
 use Rattle.docket.specs.Rows.{row_at}
 use Rattle.docket.specs.Contents.{listed_in, programmes_of, residents_of, lists_of, withdrawn_of, draft_of}
 use Rattle.docket_names.specs.Texts.{number_in, is_declared}

@@ -10,9 +10,10 @@ use Rattle.match_model.specs.Draft.{AnswersOrWantsMemory, owner_fault, list_faul
 use Rattle.match_model.specs.declared.fault.ModelFault.{ModelFault}
 use Rattle.match_model.specs.declared.fault.ModelFault.TheVariants as model
 use Rattle.std.proofs.lemmas.Bool.{and_from, and_parts, or_parts}
-use Rattle.docket.specs.Fields.{Fields, field, kind_of, is_kind, is_row_of, unless, row_fault, withdrawal_kind}
+use Rattle.docket.specs.Fields.{kind_of, is_kind, is_row_of, unless, row_fault, withdrawal_kind}
+use Rattle.records.specs.Reading.{Fields, field}
 use Rattle.docket.specs.Rows.{row_at}
-use Rattle.docket.specs.Contents.{member_in, listed_in, names_of, rows_of, quotas_of, programmes_of, residents_of, lists_of, workers_in}
+use Rattle.docket.specs.Contents.{member_in, listed_in, names_of, rows_of_kind, quotas_of, programmes_of, residents_of, lists_of, workers_in}
 use Rattle.docket_names.specs.Texts.{number_in, is_declared}
 use Rattle.docket_names.specs.Words.{number_of}
 use Rattle.docket.specs.Passes.{first_from, reading_fault, repeat_fault, limit_fault, next_place, listing_fault, ranking_fault}
@@ -44,7 +45,7 @@ clean_at f rows k none lt =
 -- there is one quota for each programme
 pub length-quotas_of : (rows : List Fields) → length (quotas_of rows) ≡ length (programmes_of rows)
 unfolding quotas_of programmes_of
-length-quotas_of rows = length-map (rows_of QUOTA rows) (λ (r : Fields). unwrap_or (number_of (field r 2)) 0) ∙ sym (length-map (rows_of QUOTA rows) (λ (r : Fields). field r 1))
+length-quotas_of rows = length-map (rows_of_kind QUOTA rows) (λ (r : Fields). unwrap_or (number_of (field r 2)) 0) ∙ sym (length-map (rows_of_kind QUOTA rows) (λ (r : Fields). field r 1))
 
 -- what the first pass says about row k, if it accepted all rows
 pub sound_row : (rows : List Fields) (k : ℕ) → first_from (reading_fault widest) [] rows ≡ None → length rows ≤ MAX_RECORDS → k < length rows

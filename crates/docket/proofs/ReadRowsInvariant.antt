@@ -2,8 +2,7 @@
 use Rattle.std.proofs.Common.{◌≡◌, ◌≤◌, ◌+◌, ◌++◌, ℕ, List, Option, None}
 use Rattle.std.specs.Prelude.{IfSome}
 use Rattle.csv.specs.declared.reader.Reader.{Reader as Source}
-use Rattle.docket.specs.Fields.{Fields}
-use Rattle.docket.specs.Read.{IsReading as IsSource, IsSplit}
+use Rattle.records.specs.Reading.{Fields, IsSource, IsSplit}
 use Rattle.docket.specs.Reading.{IsReading}
 use Rattle.docket.specs.Parts.{part_fault}
 use Rattle.docket.specs.Passed.{IsPassed}

@@ -7,7 +7,8 @@ use Rattle.std.proofs.lemmas.Bool.{and_parts}
 use Rattle.std.proofs.lemmas.List.{length-map}
 use Rattle.std.proofs.lemmas.List.Folds.{list_any-append}
 use Rattle.std.proofs.lemmas.List.Sums.{length-filter}
-use Rattle.docket.specs.Fields.{Fields, field, kind_of, is_kind, is_row_of, unless}
+use Rattle.docket.specs.Fields.{kind_of, is_kind, is_row_of, unless}
+use Rattle.records.specs.Reading.{Fields, field}
 use Rattle.docket.specs.Contents.{programmes_of, residents_of, is_sheet_row, is_mark_of}
 use Rattle.docket_names.specs.Texts.{is_declared}
 use Rattle.docket.specs.Passes.{first_from, mark_fault, next_place}

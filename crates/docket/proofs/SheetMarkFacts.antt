@@ -7,7 +7,8 @@ use Rattle.std.proofs.lemmas.List.{length-append}
 use Rattle.std.proofs.lemmas.List.Sums.{count_by-le-length, sum_by-append}
 use Rattle.docket.specs.Known.{AreKnown}
 use Rattle.docket.specs.SheetRows.{IsText}
-use Rattle.docket.specs.Fields.{Fields, field, kind_of, is_kind, is_row_of, unless}
+use Rattle.docket.specs.Fields.{kind_of, is_kind, is_row_of, unless}
+use Rattle.records.specs.Reading.{Fields, field}
 use Rattle.docket.specs.Contents.{programmes_of, residents_of, is_mark_of, is_matched_with, placement_of, quotas_of}
 use Rattle.docket.specs.SheetMarks.{IsMarked, IsBlank, StandsAfter, placed_in}
 use Rattle.docket.specs.Passes.{first_from, mark_fault, missing_fault, filled_fault, next_place}

@@ -4,7 +4,7 @@ use Rattle.std.specs.Prelude.{nat_le, if◌then◌else◌, None}
 use Rattle.docket_names.specs.Words.{is_number, number_of, digits_worth}
 use Rattle.std.proofs.lemmas.List.{get_or-take}
 use Rattle.std.proofs.lemmas.Option.{slice_get-get_or, get_or_from_slice_get, slice_get_within}
-use Rattle.docket.specs.Fields.{Fields, field}
+use Rattle.records.specs.Reading.{Fields, field}
 use Rattle.docket.specs.Contents.{is_sheet_row}
 use Rattle.docket.specs.Passes.{next_place}
 use Rattle.docket.specs.SheetRows.{IsText, MarkSays, AreKeptFrom, AreSheetRows}

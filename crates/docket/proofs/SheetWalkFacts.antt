@@ -4,7 +4,8 @@ use Rattle.std.specs.Prelude.{◌||◌, if◌then◌else◌, Option}
 use Rattle.std.proofs.lemmas.Bool.{or_parts}
 use Rattle.std.proofs.lemmas.List.{drop_more}
 use Rattle.std.proofs.lemmas.List.Sums.{sum_by-append}
-use Rattle.docket.specs.Fields.{Fields, is_kind}
+use Rattle.docket.specs.Fields.{is_kind}
+use Rattle.records.specs.Reading.{Fields}
 use Rattle.docket.specs.Contents.{is_sheet_row}
 use Rattle.docket.specs.Answers.{Refuses}
 use Rattle.docket.specs.Known.{AreKnown}

@@ -5,7 +5,8 @@ use Rattle.std.specs.Prelude.{◌==◌, nat_lt}
 use Rattle.std.specs.List.{list_all}
 use Rattle.docket_names.specs.Words.{is_name}
 use Rattle.std.specs.Option.{option_or}
-use Rattle.docket.specs.Fields.{Fields, field, kind_of, unless, list_row_fault, lists_names, version_kind, withdrawal_kind}
+use Rattle.docket.specs.Fields.{kind_of, unless, list_row_fault, lists_names, version_kind, withdrawal_kind}
+use Rattle.records.specs.Reading.{Fields, field}
 use Rattle.docket.specs.declared.vocabulary.TheConstants.{QUOTA, PROGRAMME_LIST, RESIDENT_LIST, CAPACITY, EVENT}
 use Rattle.docket.specs.declared.fault.DocketFault.{DocketFault}
 use Rattle.docket.specs.declared.fault.DocketFault.TheVariants.{FieldCount, BadName}
@@ -14,7 +15,7 @@ use Rattle.docket_names.proofs.WordFacts.{list_all_true_at}
 use Rattle.docket.proofs.FieldFacts.{field-get_or}
 
 -- if two tests together have no fault, neither test has a fault
-pub both_none : (first second : Option DocketFault) → option_or first second ≡ None → (first ≡ None) × (second ≡ None)
+pub both_none : {F : Type 0} (first second : Option F) → option_or first second ≡ None → (first ≡ None) × (second ≡ None)
 both_none None second e = (refl, e)
 both_none (Some f) second e = absurd (cc e)
 

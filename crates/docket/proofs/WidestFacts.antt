@@ -8,7 +8,8 @@ use Rattle.match_model.specs.declared.limits.Limits.TheVariants.{Standard, Natio
 use Rattle.match_model.specs.declared.limits.TheConstants.{MAX_QUOTA}
 use Rattle.match_model.specs.declared.fault.ModelFault.TheVariants as model
 use Rattle.docket_names.specs.Words.{number_of}
-use Rattle.docket.specs.Fields.{Fields, field, is_kind, row_fault}
+use Rattle.docket.specs.Fields.{is_kind, row_fault}
+use Rattle.records.specs.Reading.{Fields, field}
 use Rattle.docket.specs.Contents.{programmes_of, residents_of, workers_in}
 use Rattle.docket.specs.Limits.{most_records, widest}
 use Rattle.docket.specs.Passes.{first_from, reading_fault, repeat_fault, limit_fault, next_place}

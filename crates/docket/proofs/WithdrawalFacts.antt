@@ -5,7 +5,8 @@ use Rattle.std.specs.List.{list_any}
 use Rattle.std.proofs.lemmas.List.{map-append}
 use Rattle.std.proofs.lemmas.List.Elements.{filter-append}
 use Rattle.std.proofs.lemmas.List.Folds.{list_any-append}
-use Rattle.docket.specs.Fields.{Fields, field, is_kind, is_row_of, version_kind, withdrawal_kind}
+use Rattle.docket.specs.Fields.{is_kind, is_row_of, version_kind, withdrawal_kind}
+use Rattle.records.specs.Reading.{Fields, field}
 use Rattle.docket.specs.Contents.{is_withdrawal_of, withdrawn_of}
 use Rattle.docket_names.specs.Texts.{is_declared}
 use Rattle.docket.specs.Passes.{is_version_2}

@@ -2,6 +2,8 @@
 use Rattle.std.specs.Prelude.{ℕ, Option, Result}
 use Rattle.docket.specs.declared.fault.DocketFault.{DocketFault}
 use Rattle.docket.specs.declared.fault.DocketFault.TheVariants.{Memory, Model}
+use Rattle.docket.specs.declared.records_fault.RecordsFault.{RecordsFault}
+use Rattle.docket.specs.declared.records_fault.RecordsFault.TheVariants.{Docket}
 use Rattle.match_model.specs.Fault as answers
 use Rattle.match_model.specs.declared.fault.ModelFault.{ModelFault}
 use Rattle.match_model.specs.declared.fault.ModelFault.TheVariants as model
@@ -13,6 +15,13 @@ Refuses fault e = answers.Refuses Memory fault e
 -- the answer is Ok only if there is no fault; an error is that fault, or out of memory
 abbrev pub Answers : {T : Type 0} → Option DocketFault → Result T DocketFault → Type 0
 Answers fault r = answers.Answers Memory fault r
+
+-- the same, where a fault of national limits or of files can come too
+abbrev pub Stops : Option RecordsFault → RecordsFault → Type 0
+Stops fault e = answers.Refuses (Docket Memory) fault e
+
+abbrev pub StopsAt : {T : Type 0} → Option RecordsFault → Result T RecordsFault → Type 0
+StopsAt fault r = answers.Answers (Docket Memory) fault r
 
 -- a fault of the builder, with the record at which it was found
 abbrev pub at_record : ℕ → ModelFault → DocketFault

@@ -2,7 +2,7 @@
 use Rattle.std.specs.Prelude.{List, Option}
 use Rattle.std.specs.Option.{option_or}
 use Rattle.match_model.specs.declared.limits.Limits.{Limits}
-use Rattle.docket.specs.Fields.{Fields}
+use Rattle.records.specs.Reading.{Fields}
 use Rattle.docket.specs.Passes.{repeat_fault, limit_fault}
 use Rattle.docket.specs.declared.fault.DocketFault.{DocketFault}
 

@@ -3,15 +3,14 @@ use Rattle.std.specs.Prelude.{◌≡◌, ℕ, List, map, filter, find, Option, N
 use Rattle.exchange_core.specs.declared.event.Capacity.{Capacity}
 use Rattle.exchange_core.specs.declared.event.Capacity.TheVariants.{Full}
 use Rattle.docket.specs.Words.{capacity_of}
-use Rattle.docket.specs.Fields.{Fields, field, is_kind, is_row_of, withdrawal_kind, unless, version_row_fault}
+use Rattle.docket.specs.Fields.{is_kind, is_row_of, withdrawal_kind, unless, version_row_fault}
+use Rattle.records.specs.Reading.{Fields, field}
 use Rattle.docket.specs.Contents.{workers_in, who_of, names_of, programmes_of, residents_of, quotas_of, all_listed, is_sheet_row}
 use Rattle.docket.specs.Whole.{AreWorkers}
 use Rattle.docket.specs.declared.vocabulary.TheConstants.{CAPACITY, PROGRAMME_LIST, EVENT}
 use Rattle.std.specs.List.{list_any}
 use Rattle.std.specs.Option.{option_or}
-use Rattle.match_model.specs.declared.limits.Limits.{Limits}
-use Rattle.docket.specs.Context.{context_fault}
-use Rattle.docket.specs.Passes.{is_version_2, listed_fault, next_place}
+use Rattle.docket.specs.Passes.{is_version_2, next_place}
 use Rattle.docket_names.specs.Texts.{AreNames, AreNoted}
 use Rattle.docket.specs.declared.declarations.Declarations.{Declarations}
 use Rattle.docket.specs.declared.fault.DocketFault.{DocketFault}
@@ -65,10 +64,6 @@ pub record Declares (old new : Declarations) (texts : Fields) (place : ℕ) (row
   pub limits : new.builder.limits ≡ old.builder.limits
   pub workers : AreFew old.workers → AreFew new.workers
   pub declared : (rows : List Fields) → place ≡ next_place rows → IsDeclared old texts rows → IsDeclared new texts (rows ++ row ∷ [])
-
--- the fault of a record that shows only from the records before it: a repetition, a limit, or too many listed names
-abbrev pub declared_fault : Limits → List Fields → Fields → Option DocketFault
-declared_fault limits before row = option_or (context_fault limits before row) (listed_fault limits before row)
 
 -- the fault of a V row as record n, which may only be the first record
 abbrev pub version_fault : ℕ → Fields → Option DocketFault

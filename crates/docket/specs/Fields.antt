@@ -1,8 +1,8 @@
 -- One record: its fields, and the faults that need no other record.
-use Rattle.std.specs.Prelude.{ℕ, nat_lt, ◌&&◌, ◌||◌, ◌==◌, Bool, if◌then◌else◌, Option, Some, None, is_some, List, [], ◌∷◌, length, drop, codes, bytes_eq, unwrap_or, ◌+◌}
+use Rattle.std.specs.Prelude.{ℕ, nat_lt, ◌&&◌, ◌||◌, ◌==◌, Bool, if◌then◌else◌, Option, Some, None, is_some, List, [], ◌∷◌, length, drop, codes, bytes_eq, ◌+◌}
 use Rattle.std.specs.Option.{option_or}
 use Rattle.std.specs.List.{list_all}
-use Rattle.csv.specs.Records.{field_at}
+use Rattle.records.specs.Reading.{Fields, field}
 use Rattle.docket.specs.Words.{capacity_of, workers_of, worker_of, answer_of}
 use Rattle.docket_names.specs.Words.{is_name, is_number, number_of}
 use Rattle.docket.specs.declared.vocabulary.TheConstants.{QUOTA, PROGRAMME_LIST, RESIDENT_LIST, MATCHED, UNMATCHED, FILLED, CAPACITY, EVENT}
@@ -10,14 +10,6 @@ use Rattle.docket.specs.declared.vocabulary.EventWord.{EventWord}
 use Rattle.docket.specs.declared.vocabulary.EventWord.TheVariants.{Offer, Take, Answer, Hear, Close}
 use Rattle.docket.specs.declared.fault.DocketFault.{DocketFault}
 use Rattle.docket.specs.declared.fault.DocketFault.TheVariants.{UnknownKind, FieldCount, BadName, BadQuota, BadEvent, BadSheet, BadVersion, BadWithdrawal}
-
--- a record is the list of its fields
-abbrev pub Fields : Type 0
-Fields = List (List ℕ)
-
--- field i of a record, from 0; an empty field past the end
-unfoldable pub field : Fields → ℕ → List ℕ
-field row i = unwrap_or (field_at row i) []
 
 -- the byte, if the text is one byte long; else 0
 abbrev pub lone_byte : List ℕ → ℕ

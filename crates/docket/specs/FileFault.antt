@@ -4,13 +4,14 @@ use Rattle.docket.specs.declared.part.Part.{Part}
 use Rattle.docket.specs.declared.part.Part.TheVariants as part
 use Rattle.docket.specs.declared.file_fault.FileFault.{FileFault}
 use Rattle.docket.specs.declared.fault.DocketFault.{DocketFault}
-use Rattle.docket.specs.declared.fault.DocketFault.TheVariants.{Read, TooManyRecords, TooManyListed, UnknownKind, FieldCount, BadName, BadQuota, DeclaredTwice, UnknownName, Model, BadEvent, BadSheet, Memory, Write, BadVersion, BadWithdrawal, AnotherPart}
+use Rattle.docket.specs.declared.records_fault.RecordsFault.{RecordsFault}
+use Rattle.docket.specs.declared.records_fault.RecordsFault.TheVariants as records
+use Rattle.docket.specs.declared.fault.DocketFault.TheVariants.{Read, TooManyRecords, UnknownKind, FieldCount, BadName, BadQuota, DeclaredTwice, UnknownName, Model, BadEvent, BadSheet, Memory, Write, BadVersion, BadWithdrawal}
 
 -- the number of the record at fault, or 0 if the fault names none
 abbrev pub number_of : DocketFault → ℕ
 number_of (Read place) = place
 number_of (TooManyRecords place) = place
-number_of (TooManyListed place) = place
 number_of (UnknownKind place) = place
 number_of (FieldCount place) = place
 number_of (BadName place) = place
@@ -24,13 +25,11 @@ number_of Memory = zero
 number_of Write = zero
 number_of (BadVersion place) = place
 number_of (BadWithdrawal place) = place
-number_of (AnotherPart place) = place
 
 -- this kind of fault, at the record with this number; a fault of a reader has its file's number already
 abbrev pub at_place : ℕ → DocketFault → DocketFault
 at_place place (Read other) = Read other
 at_place place (TooManyRecords other) = TooManyRecords place
-at_place place (TooManyListed other) = TooManyListed place
 at_place place (UnknownKind other) = UnknownKind place
 at_place place (FieldCount other) = FieldCount place
 at_place place (BadName other) = BadName place
@@ -44,11 +43,16 @@ at_place place Memory = Memory
 at_place place Write = Write
 at_place place (BadVersion other) = BadVersion place
 at_place place (BadWithdrawal other) = BadWithdrawal place
-at_place place (AnotherPart other) = AnotherPart place
+
+-- the fault at a record of a file, where so many records of other files come before the file
+abbrev pub there_is : ℕ → RecordsFault → RecordsFault
+there_is before (records.Docket fault) = records.Docket (at_place (number_of fault - before) fault)
+there_is before (records.TooManyListed place) = records.TooManyListed (place - before)
+there_is before (records.AnotherPart place) = records.AnotherPart (place - before)
 
 -- a fault of a file's record, where so many records of other files come before the file
-abbrev pub there : Part → ℕ → DocketFault → FileFault
-there file before fault = record { file = file; fault = at_place (number_of fault - before) fault }
+abbrev pub there : Part → ℕ → RecordsFault → FileFault
+there file before fault = record { file = file; fault = there_is before fault }
 
 -- the last file that can have such a fault: the docket for a fault of a list, the sheet for a fault of the sheet
 abbrev pub last_file : DocketFault → Part
@@ -80,7 +84,7 @@ in_file docket sheet last place =
 
 -- this kind of fault, at this record of this file
 abbrev pub fault_there : DocketFault → Part × ℕ → FileFault
-fault_there fault at = record { file = at.0; fault = at_place at.1 fault }
+fault_there fault at = record { file = at.0; fault = records.Docket (at_place at.1 fault) }
 
 -- a fault that a later pass finds in the records of all files, with its file
 abbrev pub located : ℕ → ℕ → DocketFault → FileFault

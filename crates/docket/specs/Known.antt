@@ -1,7 +1,7 @@
 -- What every later pass relies on after the first pass.
 use Rattle.std.specs.Prelude.{◌≡◌, ◌≤◌, ℕ, List, [], length, None, bytes_eq}
 use Rattle.std.specs.List.{IsDistinct}
-use Rattle.docket.specs.Fields.{Fields}
+use Rattle.records.specs.Reading.{Fields}
 use Rattle.docket.specs.Contents.{programmes_of, residents_of}
 use Rattle.docket.specs.Limits.{widest}
 use Rattle.docket_names.specs.Texts.{AreNames}

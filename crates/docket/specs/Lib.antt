@@ -11,7 +11,6 @@ pub mod Passes
 pub mod Contents
 pub mod Rows
 pub mod Read
-pub mod Retrying
 pub mod Declarations
 pub mod Ranking
 pub mod Answers

@@ -3,7 +3,8 @@ use Rattle.std.specs.Prelude.{◌≡◌, ◌<◌, ◌+◌, ℕ, Bool, true, List
 use Rattle.std.specs.List.{list_all}
 use Rattle.match_model.specs.Draft.{Draft}
 use Rattle.docket.specs.Contents.{programmes_of, residents_of}
-use Rattle.docket.specs.Fields.{Fields, field, kind_of, withdrawal_kind}
+use Rattle.docket.specs.Fields.{kind_of, withdrawal_kind}
+use Rattle.records.specs.Reading.{Fields, field}
 use Rattle.docket.specs.Known.{AreKnown}
 use Rattle.docket.specs.Lists.{KeptEntry, IsWithin}
 use Rattle.docket.specs.Ranking.{IsRanked}

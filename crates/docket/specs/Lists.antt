@@ -1,7 +1,8 @@
 -- What is kept of the rank lists and the withdrawals for the second pass.
 use Rattle.std.specs.Prelude.{◌≡◌, ◌≤◌, ◌<◌, ◌-◌, ◌+◌, ◌||◌, ℕ, Bool, if◌then◌else◌, List, [], ◌∷◌, ◌++◌, length, take, drop, map, count_by, slice_index_or, unwrap_or, bytes_eq, true, ⊤}
 use Rattle.std.specs.List.{All, flat_map, list_all, list_any}
-use Rattle.docket.specs.Fields.{Fields, field, is_kind, withdrawal_kind}
+use Rattle.docket.specs.Fields.{is_kind, withdrawal_kind}
+use Rattle.records.specs.Reading.{Fields, field}
 use Rattle.docket.specs.Words.{side_of}
 use Rattle.docket_names.specs.Texts.{AreNumbersOf, texts_at}
 use Rattle.docket.specs.declared.store.lists.ListKind.{ListKind}

@@ -4,53 +4,59 @@ use Rattle.std.specs.Prelude.{◌≡◌, ◌⊎◌, option_map, ℕ, nat_le, ◌
 use Rattle.std.specs.Option.{option_or}
 use Rattle.match_model.specs.declared.limits.Limits.{Limits}
 use Rattle.match_model.specs.Written.{Written, written_of}
-use Rattle.docket.specs.Fields.{Fields, kind_of, version_kind, withdrawal_kind}
+use Rattle.docket.specs.Fields.{kind_of, version_kind, withdrawal_kind}
+use Rattle.records.specs.Reading.{Fields, rows_of, AreAll}
 use Rattle.docket.specs.Limits.{most_records}
 use Rattle.docket.specs.Contents.{Contents, contents_of, draft_of}
 use Rattle.docket.specs.WithLists.{IsReadWithin}
-use Rattle.docket.specs.Passes.{fault_in, first_from, first_pass_fault, later_fault, next_place, rows_in}
+use Rattle.docket.specs.Passes.{fault_in, first_from, first_pass_fault, later_fault, next_place}
 use Rattle.docket.specs.Passed.{IsPassed}
-use Rattle.docket.specs.Read.{AreAll, IsReadFault}
+use Rattle.docket.specs.Read.{IsSourceFault}
 use Rattle.docket.specs.FileFault.{located, there}
 use Rattle.docket.specs.declared.file_fault.FileFault.{FileFault}
 use Rattle.docket.specs.declared.file_fault.Ends.{Ends}
 use Rattle.docket.specs.declared.reading.Reading.{Reading}
 use Rattle.docket.specs.declared.vocabulary.TheConstants.{QUOTA, PROGRAMME_LIST, RESIDENT_LIST, MATCHED, UNMATCHED, FILLED, CAPACITY, EVENT}
 use Rattle.docket.specs.declared.part.Part.{Part}
-use Rattle.docket.specs.declared.part.Part.TheVariants.{Docket, Sheet, Journal}
-use Rattle.docket.specs.declared.fault.DocketFault.{DocketFault}
-use Rattle.docket.specs.declared.fault.DocketFault.TheVariants.{AnotherPart, TooManyRecords, Memory}
+use Rattle.docket.specs.declared.part.Part.TheVariants as of
+use Rattle.docket.specs.declared.fault.DocketFault.TheVariants.{TooManyRecords, Memory}
+use Rattle.docket.specs.declared.records_fault.RecordsFault.{RecordsFault}
+use Rattle.docket.specs.declared.records_fault.RecordsFault.TheVariants.{AnotherPart, Docket}
 
 -- the part to which a kind of record belongs, or none for an unknown kind
 unfoldable pub part_of : ℕ → Option Part
 part_of kind =
-    if (kind == EVENT) || (kind == CAPACITY) then Some Journal
-    else if (((kind == QUOTA) || (kind == PROGRAMME_LIST)) || (kind == RESIDENT_LIST)) || (kind == version_kind) || (kind == withdrawal_kind) then Some Docket
-    else if ((kind == MATCHED) || (kind == UNMATCHED)) || (kind == FILLED) then Some Sheet
+    if (kind == EVENT) || (kind == CAPACITY) then Some of.Journal
+    else if (((kind == QUOTA) || (kind == PROGRAMME_LIST)) || (kind == RESIDENT_LIST)) || (kind == version_kind) || (kind == withdrawal_kind) then Some of.Docket
+    else if ((kind == MATCHED) || (kind == UNMATCHED)) || (kind == FILLED) then Some of.Sheet
     else None
 
 -- whether this is a part, and another one
 abbrev pub is_other : Part → Option Part → Bool
 is_other part None = false
-is_other Docket (Some Docket) = false
-is_other Docket (Some Sheet) = true
-is_other Docket (Some Journal) = true
-is_other Sheet (Some Docket) = true
-is_other Sheet (Some Sheet) = false
-is_other Sheet (Some Journal) = true
-is_other Journal (Some Docket) = true
-is_other Journal (Some Sheet) = true
-is_other Journal (Some Journal) = false
+is_other of.Docket (Some of.Docket) = false
+is_other of.Docket (Some of.Sheet) = true
+is_other of.Docket (Some of.Journal) = true
+is_other of.Sheet (Some of.Docket) = true
+is_other of.Sheet (Some of.Sheet) = false
+is_other of.Sheet (Some of.Journal) = true
+is_other of.Journal (Some of.Docket) = true
+is_other of.Journal (Some of.Sheet) = true
+is_other of.Journal (Some of.Journal) = false
 
--- the fault of a record of another part than the file's; without a part no record has this fault
-abbrev pub kind_fault : Option Part → ℕ → Fields → Option DocketFault
-kind_fault None n row = None
-kind_fault (Some part) n row = if is_other part (part_of (kind_of row)) then Some (AnotherPart n) else None
+-- whether a record is of another part than the file's; without a part no record is
+abbrev pub is_elsewhere : Option Part → Fields → Bool
+is_elsewhere None row = false
+is_elsewhere (Some part) row = is_other part (part_of (kind_of row))
+
+-- the fault of a record of another part than the file's
+abbrev pub kind_fault : Option Part → ℕ → Fields → Option RecordsFault
+kind_fault part n row = if is_elsewhere part row then Some (AnotherPart n) else None
 
 -- the fault of a record as a file of this part is read, after these records
-unfoldable pub part_fault : Option Part → Limits → List Fields → Fields → Option DocketFault
+unfoldable pub part_fault : Option Part → Limits → List Fields → Fields → Option RecordsFault
 part_fault part limits before row =
-    if nat_le (most_records limits) (length before) then Some (TooManyRecords (next_place before))
+    if nat_le (most_records limits) (length before) then Some (Docket (TooManyRecords (next_place before)))
     else option_or (kind_fault part (next_place before) row) (first_pass_fault limits before row)
 
 -- The reading went on over the records of one more file of this part, after these records. If the file's records are
@@ -63,7 +69,7 @@ pub record GoesOn (part : Option Part) (kept : List Fields) (left : Option (List
 
 -- the records of three files, one file after another
 abbrev pub rows_of_all : List ℕ → List ℕ → List ℕ → List Fields
-rows_of_all docket sheet journal = (rows_in docket ++ rows_in sheet) ++ rows_in journal
+rows_of_all docket sheet journal = (rows_of docket ++ rows_of sheet) ++ rows_of journal
 
 -- the first fault that the first pass finds in a file, after these records of other files
 abbrev pub file_fault : Part → Limits → List Fields → List Fields → Option FileFault
@@ -72,13 +78,13 @@ file_fault file limits kept rows = option_map (there file (length kept)) (first_
 -- the first fault that the first pass finds in three files, with its file
 abbrev pub files_fault : Limits → List ℕ → List ℕ → List ℕ → Option FileFault
 files_fault limits docket sheet journal =
-    option_or (file_fault Docket limits [] (rows_in docket))
-    (option_or (file_fault Sheet limits (rows_in docket) (rows_in sheet))
-    (file_fault Journal limits (rows_in docket ++ rows_in sheet) (rows_in journal)))
+    option_or (file_fault of.Docket limits [] (rows_of docket))
+    (option_or (file_fault of.Sheet limits (rows_of docket) (rows_of sheet))
+    (file_fault of.Journal limits (rows_of docket ++ rows_of sheet) (rows_of journal)))
 
 -- memory ran out, or the reader failed
 abbrev pub IsOutsideFile : FileFault → Type 0
-IsOutsideFile e = (e.fault ≡ Memory) ⊎ IsReadFault e.fault
+IsOutsideFile e = (e.fault ≡ Docket Memory) ⊎ IsSourceFault e.fault
 
 -- the error is this fault, or came from outside
 abbrev pub Tells : Option FileFault → FileFault → Type 0
@@ -86,15 +92,15 @@ Tells first e = IsOutsideFile e ⊎ (first ≡ Some e)
 
 -- where the files end
 pub record AreEnds (docket sheet : List ℕ) (ends : Ends) : Type 0 where
-  pub docket_end : ends.docket ≡ length (rows_in docket)
-  pub sheet_end : ends.sheet ≡ length (rows_in docket ++ rows_in sheet)
+  pub docket_end : ends.docket ≡ length (rows_of docket)
+  pub sheet_end : ends.sheet ≡ length (rows_of docket ++ rows_of sheet)
 
 -- the first fault of three files, with its file: that of the first pass, else that of the later passes over the records
 -- of all files
 abbrev pub fault_of_files : Limits → List ℕ → List ℕ → List ℕ → Option FileFault
 fault_of_files limits docket sheet journal =
     option_or (files_fault limits docket sheet journal)
-    (option_map (located (length (rows_in docket)) (length (rows_in docket ++ rows_in sheet))) (later_fault limits (rows_of_all docket sheet journal)))
+    (option_map (located (length (rows_of docket)) (length (rows_of docket ++ rows_of sheet))) (later_fault limits (rows_of_all docket sheet journal)))
 
 -- the three files have no fault, and the docket is that of their records, one file after another
 pub record IsInFiles (limits : Limits) (docket sheet journal : List ℕ) (d : Contents) : Type 0 where

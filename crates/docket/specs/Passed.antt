@@ -1,9 +1,8 @@
 -- What the first pass hands on to the later ones.
 use Rattle.std.specs.Prelude.{◌≡◌, ◌≤◌, List, [], length, Option, None}
-use Rattle.docket.specs.Fields.{Fields}
+use Rattle.records.specs.Reading.{Fields, AreAll}
 use Rattle.docket.specs.Limits.{most_records}
 use Rattle.docket.specs.Passes.{first_from, first_pass_fault}
-use Rattle.docket.specs.Read.{AreAll}
 use Rattle.docket.specs.Reading.{IsReading}
 use Rattle.docket.specs.declared.reading.Reading.{Reading}
 

@@ -1,7 +1,7 @@
 -- What the builder keeps during the second pass over the records, while the lists are added.
 use Rattle.std.specs.Prelude.{◌≡◌, List, codes}
 use Rattle.match_model.specs.Draft.{Draft}
-use Rattle.docket.specs.Fields.{Fields}
+use Rattle.records.specs.Reading.{Fields}
 use Rattle.docket.specs.Contents.{programmes_of, residents_of, quotas_of, lists_of, withdrawn_of}
 use Rattle.docket.specs.declared.vocabulary.TheConstants.{PROGRAMME_LIST, RESIDENT_LIST}
 

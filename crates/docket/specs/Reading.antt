@@ -1,6 +1,6 @@
 -- What the first pass has of the records read so far.
 use Rattle.std.specs.Prelude.{◌≡◌, ◌++◌, ◌∷◌, List, [], length}
-use Rattle.docket.specs.Fields.{Fields}
+use Rattle.records.specs.Reading.{Fields}
 use Rattle.docket.specs.Declarations.{IsDeclared, AreFew}
 use Rattle.docket.specs.Lists.{AreLists}
 use Rattle.docket.specs.SheetRows.{AreSheetRows}

@@ -1,7 +1,8 @@
 -- What the code keeps during the first walk of the third pass, which checks the sheet.
 use Rattle.std.specs.Prelude.{◌≡◌, ℕ, List, ◌∷◌, ◌++◌, false, None, length, replicate, map, find, count_by, Option, option_and_then}
 use Rattle.std.specs.List.{list_any}
-use Rattle.docket.specs.Fields.{Fields, field, is_row_of}
+use Rattle.docket.specs.Fields.{is_row_of}
+use Rattle.records.specs.Reading.{Fields, field}
 use Rattle.docket.specs.Contents.{programmes_of, residents_of, is_mark_of, is_matched_with}
 use Rattle.docket.specs.Known.{AreKnown}
 use Rattle.docket.specs.Passes.{next_place}

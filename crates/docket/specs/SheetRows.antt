@@ -1,6 +1,7 @@
 -- What the code keeps of the rows of a sheet.
 use Rattle.std.specs.Prelude.{◌≡◌, ◌≤◌, ◌⊎◌, ℕ, ◌+◌, Some, false, List, [], ◌∷◌, ◌++◌, length, slice_get}
-use Rattle.docket.specs.Fields.{Fields, field, kind_of}
+use Rattle.docket.specs.Fields.{kind_of}
+use Rattle.records.specs.Reading.{Fields, field}
 use Rattle.docket.specs.Contents.{is_sheet_row}
 use Rattle.docket_names.specs.Words.{number_of}
 use Rattle.docket.specs.declared.store.sheet_rows.Mark.{Mark}

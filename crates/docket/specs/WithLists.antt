@@ -5,10 +5,10 @@ use Rattle.match_model.specs.declared.limits.Limits.{Limits}
 use Rattle.match_model.specs.declared.limits.Limits.TheVariants.{Standard}
 use Rattle.match_model.specs.Instance.{list_at}
 use Rattle.match_model.specs.Written.{Written, written_of}
-use Rattle.docket.specs.Fields.{Fields, is_row_of}
+use Rattle.docket.specs.Fields.{is_row_of}
+use Rattle.records.specs.Reading.{Fields, rows_of, AreAll}
 use Rattle.docket.specs.Contents.{Contents, contents_of, draft_of}
-use Rattle.docket.specs.Passes.{rows_in, fault_in}
-use Rattle.docket.specs.Read.{AreAll}
+use Rattle.docket.specs.Passes.{fault_in}
 use Rattle.docket.specs.Texts.{programme_name, resident_name}
 use Rattle.docket.specs.declared.vocabulary.TheConstants.{RESIDENT_LIST}
 
@@ -25,7 +25,7 @@ lists_if false rows = None
 -- are known, the records are all records in the bytes.
 pub record IsReadAs (limits : Limits) (bytes : Option (List ℕ)) (keeps : Bool) (docket : Contents) (written : Option Written) : Type 0 where
   pub rows : List Fields
-  pub all : AreAll (option_map rows_in bytes) rows
+  pub all : AreAll (option_map rows_of bytes) rows
   pub faultless : fault_in limits rows ≡ None
   pub docket_is : docket ≡ contents_of rows
   pub lists_are : written ≡ lists_if keeps rows
@@ -35,7 +35,7 @@ pub record IsReadAs (limits : Limits) (bytes : Option (List ℕ)) (keeps : Bool)
 -- that resident's R record.
 pub record IsReadWithin (limits : Limits) (bytes : Option (List ℕ)) (docket : Contents) (written : Written) : Type 0 where
   pub rows : List Fields
-  pub all : AreAll (option_map rows_in bytes) rows
+  pub all : AreAll (option_map rows_of bytes) rows
   pub faultless : fault_in limits rows ≡ None
   pub docket_is : docket ≡ contents_of rows
   pub written_is : written ≡ written_of (draft_of rows)

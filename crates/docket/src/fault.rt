@@ -2,9 +2,10 @@
 ghost use Rattle.std.specs.Prelude.{◌≡◌};
 ghost use Rattle.docket.specs.declared.fault.DocketFault.TheVariants.{Memory, Write};
 
-use crate::vocabulary::{most_listed, most_records};
+use crate::records_fault::{FaultWithin, RecordsFault};
+use crate::vocabulary::most_records;
 use match_model::{Limits, ModelFault};
-use row_writer::WriteFailed;
+use records::WriteFailed;
 use std::alloc::{AllocError, AllocFailed};
 use std::fmt;
 use thiserror::Error;
@@ -16,8 +17,6 @@ pub enum DocketFault {
     Read { place: u32 },
     /// The docket has more records than the limits allow.
     TooManyRecords { place: u32 },
-    /// The rank lists have more names than the limits allow, from this list on.
-    TooManyListed { place: u32 },
     /// The first field is no known kind of row.
     UnknownKind { place: u32 },
     /// The number of fields in the row is wrong for a row of its kind.
@@ -45,52 +44,25 @@ pub enum DocketFault {
     BadVersion { place: u32 },
     /// A withdrawal is neither for a programme nor for a resident.
     BadWithdrawal { place: u32 },
-    /// The record belongs to another part than its file.
-    AnotherPart { place: u32 },
 }
 
 impl DocketFault {
     /// The fault as a text. The text names the limits under which the docket was read.
     pub fn within(self, limits: Limits) -> FaultWithin {
-        FaultWithin {
-            fault: self,
-            limits,
-        }
-    }
-
-    // The record at fault, if there is one.
-    fn place(&self) -> Option<u32> {
-        match *self {
-            DocketFault::Read { place }
-            | DocketFault::TooManyRecords { place }
-            | DocketFault::TooManyListed { place }
-            | DocketFault::UnknownKind { place }
-            | DocketFault::FieldCount { place }
-            | DocketFault::BadName { place }
-            | DocketFault::BadQuota { place }
-            | DocketFault::DeclaredTwice { place }
-            | DocketFault::UnknownName { place }
-            | DocketFault::Model { place, fault: _ }
-            | DocketFault::BadEvent { place }
-            | DocketFault::BadSheet { place }
-            | DocketFault::BadVersion { place }
-            | DocketFault::BadWithdrawal { place }
-            | DocketFault::AnotherPart { place } => Some(place),
-            DocketFault::Memory | DocketFault::Write => None,
-        }
+        RecordsFault::Docket(self).within(limits)
     }
 
     // Writes what is wrong, without the number of the record. The text names these limits.
-    fn write_cause<W: fmt::Write>(&self, limits: Limits, f: &mut fmt::Formatter<W>) -> fmt::Result {
+    pub(crate) fn write_cause<W: fmt::Write>(
+        &self,
+        limits: Limits,
+        f: &mut fmt::Formatter<W>,
+    ) -> fmt::Result {
         f.write_str(match self {
             DocketFault::Read { .. } => "the input could not be read",
             DocketFault::TooManyRecords { .. } => {
                 return write!(f, "more than {} records", most_records(limits));
             }
-            DocketFault::TooManyListed { .. } => match most_listed(limits) {
-                Some(most) => return write!(f, "more than {most} listed names"),
-                None => "too many listed names",
-            },
             DocketFault::UnknownKind { .. } => "unknown kind of row",
             DocketFault::FieldCount { .. } => "wrong number of fields",
             DocketFault::BadName { .. } => "bad name",
@@ -104,7 +76,6 @@ impl DocketFault {
             DocketFault::Write => "the output could not be written",
             DocketFault::BadVersion { .. } => "unknown version",
             DocketFault::BadWithdrawal { .. } => "bad withdrawal row",
-            DocketFault::AnotherPart { .. } => "belongs to another part",
         })
     }
 }
@@ -113,22 +84,6 @@ impl DocketFault {
 impl fmt::Display for DocketFault {
     fn fmt<W: fmt::Write>(&self, f: &mut fmt::Formatter<W>) -> fmt::Result {
         write!(f, "{}", self.within(Limits::Standard))
-    }
-}
-
-/// A fault of a docket that was read within these limits. Where a limit was exceeded, the text names this limit.
-#[derive(Clone, Copy, Debug)]
-pub struct FaultWithin {
-    fault: DocketFault,
-    limits: Limits,
-}
-
-impl fmt::Display for FaultWithin {
-    fn fmt<W: fmt::Write>(&self, f: &mut fmt::Formatter<W>) -> fmt::Result {
-        if let Some(place) = self.fault.place() {
-            write!(f, "record {place}: ")?;
-        }
-        self.fault.write_cause(self.limits, f)
     }
 }
 

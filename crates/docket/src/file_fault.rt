@@ -4,6 +4,7 @@ ghost use Rattle.docket.specs.FileFault as spec;
 
 use crate::fault::DocketFault;
 use crate::part::Part;
+use crate::records_fault::{RecordsFault, there_is};
 
 /// A fault of files that are read as parts, with the file in which it is.
 #[derive(Clone, Copy, Debug, PartialEq, Eq)]
@@ -11,7 +12,7 @@ pub struct FileFault {
     /// The file in which the fault is.
     pub file: Part,
     /// The fault. The number in the fault is the record's number in the file.
-    pub fault: DocketFault,
+    pub fault: RecordsFault,
 }
 
 /// Where files end: how many records there are up to the end of the docket's file, and up to the end of the sheet's.
@@ -21,14 +22,13 @@ pub(crate) struct Ends {
     pub(crate) sheet: u32,
 }
 
-// The number of the record at fault, or 0 if the fault names no record.
-fn number_of(fault: DocketFault) -> u32
+/// The number of the record at fault, or 0 if the fault names no record.
+pub(crate) fn number_of(fault: DocketFault) -> u32
     ensures { result ≡ spec.number_of fault }
 {
     match fault {
         DocketFault::Read { place }
         | DocketFault::TooManyRecords { place }
-        | DocketFault::TooManyListed { place }
         | DocketFault::UnknownKind { place }
         | DocketFault::FieldCount { place }
         | DocketFault::BadName { place }
@@ -39,20 +39,18 @@ fn number_of(fault: DocketFault) -> u32
         | DocketFault::BadEvent { place }
         | DocketFault::BadSheet { place }
         | DocketFault::BadVersion { place }
-        | DocketFault::BadWithdrawal { place }
-        | DocketFault::AnotherPart { place } => place,
+        | DocketFault::BadWithdrawal { place } => place,
         DocketFault::Memory | DocketFault::Write => 0,
     }
 }
 
-// The same fault, at the record with this number. A fault of a reader keeps its number, which the reader counts from the
-// start of its file.
-fn at_place(place: u32, fault: DocketFault) -> DocketFault
+/// The same fault, at the record with this number. A fault of a reader keeps its number, which the reader counts from
+/// the start of its file.
+pub(crate) fn at_place(place: u32, fault: DocketFault) -> DocketFault
     ensures { result ≡ spec.at_place place fault }
 {
     match fault {
         DocketFault::TooManyRecords { .. } => DocketFault::TooManyRecords { place },
-        DocketFault::TooManyListed { .. } => DocketFault::TooManyListed { place },
         DocketFault::UnknownKind { .. } => DocketFault::UnknownKind { place },
         DocketFault::FieldCount { .. } => DocketFault::FieldCount { place },
         DocketFault::BadName { .. } => DocketFault::BadName { place },
@@ -64,7 +62,6 @@ fn at_place(place: u32, fault: DocketFault) -> DocketFault
         DocketFault::BadSheet { .. } => DocketFault::BadSheet { place },
         DocketFault::BadVersion { .. } => DocketFault::BadVersion { place },
         DocketFault::BadWithdrawal { .. } => DocketFault::BadWithdrawal { place },
-        DocketFault::AnotherPart { .. } => DocketFault::AnotherPart { place },
         DocketFault::Read { place } => DocketFault::Read { place },
         DocketFault::Memory => DocketFault::Memory,
         DocketFault::Write => DocketFault::Write,
@@ -72,14 +69,12 @@ fn at_place(place: u32, fault: DocketFault) -> DocketFault
 }
 
 /// A fault of a file's record. So many records of other files come before the file.
-pub(crate) fn there(file: Part, before: u32, fault: DocketFault) -> FileFault
+pub(crate) fn there(file: Part, before: u32, fault: RecordsFault) -> FileFault
     ensures { result ≡ spec.there file before fault }
 {
-    let again = fault;
-    let place = number_of(fault).saturating_sub(before);
     FileFault {
         file,
-        fault: at_place(place, again),
+        fault: there_is(before, fault),
     }
 }
 
@@ -123,6 +118,6 @@ pub(crate) fn located(ends: &Ends, fault: DocketFault) -> FileFault
     let (file, place) = in_file(ends, last, number_of(fault));
     FileFault {
         file,
-        fault: at_place(place, again),
+        fault: RecordsFault::Docket(at_place(place, again)),
     }
 }

@@ -13,28 +13,28 @@ mod declarations;
 mod docket;
 mod fault;
 mod file_fault;
+mod kinds;
 mod part;
 mod parts;
 mod passes;
 mod read;
 mod reading;
-mod records;
-mod retrying;
-mod row;
+mod records_fault;
 mod store;
 mod vocabulary;
 mod words;
 mod write;
 
 pub use crate::docket::{ByWorker, Docket, Journal};
-pub use fault::{DocketFault, FaultWithin};
+pub use fault::DocketFault;
 pub use file_fault::FileFault;
 pub use part::Part;
 pub use parts::{read_parts, read_parts_with_lists};
 pub use read::{
     read_docket, read_docket_with_lists, read_docket_with_lists_within, read_docket_within,
 };
-pub use row_writer::{RowWriter, WriteFailed};
+pub use records::{RowWriter, WriteFailed};
+pub use records_fault::{FaultWithin, RecordsFault};
 pub use vocabulary::{capacity_of, law_constants, most_listed, most_records};
 pub use write::journal::{push_journal, write_journal};
 pub use write::room_for_rows;

@@ -1,11 +1,9 @@
 //! The parts of a market's files, and the kinds of record that belong to each part.
 ghost use Rattle.std.specs.Prelude.{◌≡◌};
 ghost use Rattle.csv.specs.Records.{fields_of};
-ghost use Rattle.docket.specs.Answers.{Answers};
 ghost use Rattle.docket.specs.Parts as parts;
 
-use crate::fault::DocketFault;
-use crate::records::kind_of;
+use crate::kinds::kind_of;
 use crate::vocabulary::{
     CAPACITY, EVENT, FILLED, MATCHED, PROGRAMME_LIST, QUOTA, RESIDENT_LIST, UNMATCHED, VERSION,
     WITHDRAWAL,
@@ -57,20 +55,13 @@ fn is_other(part: Part, kind: u8) -> bool
     }
 }
 
-/// Tests that a record does not belong to a part other than this one. Without a part each record may stand anywhere.
+/// Whether a record belongs to a part other than this one. Without a part each record may stand anywhere.
 #[inline(always)]
-pub(crate) fn check_part(
-    part: Option<Part>,
-    row: &ByteRecord,
-    place: u32,
-) -> Result<(), DocketFault>
-    ensures { Answers (parts.kind_fault part place (fields_of row.now)) result }
+pub(crate) fn is_elsewhere(part: Option<Part>, row: &ByteRecord) -> bool
+    ensures { result ≡ parts.is_elsewhere part (fields_of row.now) }
 {
-    let Some(part) = part else {
-        return Ok(());
-    };
-    if is_other(part, kind_of(row)) {
-        return Err(DocketFault::AnotherPart { place });
+    match part {
+        Some(part) => is_other(part, kind_of(row)),
+        None => false,
     }
-    Ok(())
 }

@@ -1,10 +1,9 @@
 //! How a docket is read from the files of a market, each read as its own part.
 ghost use Rattle.std.specs.Prelude.{List, [], ◌≡◌, ◌≤◌, None, Some, IfErr, IfOk, IfSome, OnOk};
-ghost use Rattle.docket.specs.Fields.{Fields};
+ghost use Rattle.records.specs.Reading.{Fields, rows_of};
 ghost use Rattle.docket.specs.Limits.{most_records as most_in};
 ghost use Rattle.docket.specs.Parts.{AreEnds, GoesOn, IsInFiles, IsInFilesWithLists, Tells, fault_of_files, file_fault, files_fault, rows_of_all};
 ghost use Rattle.docket.specs.Passed.{HasPassed, IsPassed};
-ghost use Rattle.docket.specs.Passes.{rows_in};
 ghost use Rattle.docket.specs.Reading.{IsReading};
 ghost use Rattle.docket.specs.WithLists.{lists_if};
 
@@ -14,6 +13,7 @@ use crate::file_fault::{Ends, FileFault, located, there};
 use crate::part::Part;
 use crate::read::{docket_from, read_part};
 use crate::reading::Reading;
+use crate::records_fault::RecordsFault;
 use match_model::{Limits, WrittenLists};
 use std::alloc::Global;
 use std::hash::RandomState;
@@ -30,11 +30,11 @@ fn read_file(
     requires workers { IfSome reading.old.declared.workers (λ n. n ≤ 8) }
     ensures workers { OnOk result (IfSome reading.new.declared.workers (λ n. n ≤ 8)) }
     ensures passed { OnOk result ((kept : List Fields) → IsPassed reading.old kept
-        → GoesOn (Some file) kept (Some (rows_in bytes.now)) reading.new) }
+        → GoesOn (Some file) kept (Some (rows_of bytes.now)) reading.new) }
     ensures limits { OnOk result
         (reading.new.declared.builder.limits ≡ reading.old.declared.builder.limits) }
     ensures fault { IfErr result (λ e. (kept : List Fields) → IsPassed reading.old kept → Tells
-        (file_fault file reading.old.declared.builder.limits kept (rows_in bytes.now)) e) }
+        (file_fault file reading.old.declared.builder.limits kept (rows_of bytes.now)) e) }
 {
     let before = reading.records;
     match read_part(alloc, Some(file), bytes, reading) {
@@ -94,7 +94,7 @@ fn parts_as<H: RandomSource>(
     let Ok(keys) = RandomState::new(rt) else {
         return Err(FileFault {
             file: Part::Docket,
-            fault: DocketFault::Read { place: 1 },
+            fault: RecordsFault::Docket(DocketFault::Read { place: 1 }),
         });
     };
     let mut reading = Reading::new(alloc, keys, limits);

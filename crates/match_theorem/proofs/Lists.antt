@@ -13,13 +13,13 @@ use Rattle.match_model.specs.declared.limits.Limits.TheVariants.{Standard}
 use Rattle.match_model.proofs.LimitFacts.{pairs_bounded}
 use Rattle.match_model.specs.declared.fault.ModelFault.TheVariants as model
 use Rattle.match_model.proofs.Kept.{IsWithin-instance_of, IsWellFormed-instance_of}
-use Rattle.docket.specs.Fields.{Fields, field, is_kind, is_row_of, unless, withdrawal_kind}
+use Rattle.docket.specs.Fields.{is_kind, is_row_of, unless, withdrawal_kind}
+use Rattle.records.specs.Reading.{Fields, field, rows_of}
 use Rattle.docket_names.specs.Texts.{is_declared}
 use Rattle.docket.specs.Contents.{programmes_of, residents_of, quotas_of, listed_in, lists_of, draft_of, withdrawn_of, is_withdrawal_of}
-use Rattle.docket.specs.Passes.{first_from, reading_fault, first_pass_fault, ranking_fault, listing_fault, unknown_fault, pairs_fault, sheet_fault, event_fault, later_fault, fault_of, next_place, names_on, rows_in, first_fault}
+use Rattle.docket.specs.Passes.{first_from, reading_fault, ranking_fault, listing_fault, unknown_fault, pairs_fault, sheet_fault, event_fault, later_fault, fault_of, next_place, names_on, first_fault}
 use Rattle.docket.specs.declared.fault.DocketFault.{DocketFault}
 use Rattle.docket.specs.declared.fault.DocketFault.TheVariants.{UnknownName, Model}
-use Rattle.docket.proofs.CountFacts.{reading_sound}
 use Rattle.docket.proofs.SoundFacts.{both_none, unless_none}
 use Rattle.docket.proofs.RankingFacts.{length-quotas_of, length-lists_of, items_below}
 use Rattle.match_theorem.proofs.Limits.{programme_letter, resident_letter, one_kind, programmes_within, residents_within, quotas_within}
@@ -141,14 +141,14 @@ unfolding pairs_fault
 pairs_within rows none = search (rules, unless_none (nat_le (pair_count (instance_of (draft_of rows))) (most_pairs Standard)) (Model (length rows) model.TooManyPairs) none)
 
 -- the instance of a docket without a fault is strict and mutual, and within the standard limits
-pub docket_instance : (bytes : List ℕ) → first_fault bytes ≡ None → IsInstance (instance_of (draft_of (rows_in bytes))) × IsWithin Standard (instance_of (draft_of (rows_in bytes)))
+pub docket_instance : (bytes : List ℕ) → first_fault bytes ≡ None → IsInstance (instance_of (draft_of (rows_of bytes))) × IsWithin Standard (instance_of (draft_of (rows_of bytes)))
 unfolding later_fault
 docket_instance bytes none =
-    let rows = rows_in bytes in
-    let passes = both_none (first_from (first_pass_fault Standard) [] rows) (later_fault Standard rows) none in
+    let rows = rows_of bytes in
+    let passes = both_none (first_from (reading_fault Standard) [] rows) (later_fault Standard rows) none in
     let ranked = both_none (first_from (ranking_fault rows) [] rows) (option_or (pairs_fault Standard rows) (option_or (sheet_fault rows) (first_from (event_fault rows) [] rows))) passes.1 in
     let paired = both_none (pairs_fault Standard rows) (option_or (sheet_fault rows) (first_from (event_fault rows) [] rows)) ranked.1 in
-    let kept = draft_kept rows (reading_sound Standard [] rows passes.0) ranked.0 in
+    let kept = draft_kept rows passes.0 ranked.0 in
     let few = pairs_within rows paired.0 in (
       (IsWellFormed-instance_of (draft_of rows) (pair_count (instance_of (draft_of rows))) kept (omega (arith, few, pairs_bounded Standard)) refl).is_instance,
       IsWithin-instance_of (draft_of rows) kept few,

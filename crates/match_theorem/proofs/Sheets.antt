@@ -4,7 +4,8 @@ use Rattle.std.specs.Prelude.{length}
 use Rattle.std.specs.List.{flat_map, range_with_len}
 use Rattle.match_model.specs.Placement.{programme_of}
 use Rattle.docket.specs.Contents.{residents_of}
-use Rattle.docket.specs.Passes.{docket_of, rows_in}
+use Rattle.docket.specs.Passes.{docket_of}
+use Rattle.records.specs.Reading.{rows_of}
 use Rattle.docket.specs.Texts.{programme_name, resident_name, mark_row, programme_row, resident_row, filled_rows, sheet_text}
 use Rattle.match_theorem.specs.Theorem.{market_of, place_row, market_sheet}
 
@@ -24,5 +25,5 @@ pub same_sheet : (bytes : List ℕ) (m : List (Option ℕ)) → sheet_text (dock
 unfolding sheet_text programme_row programme_name
 same_sheet bytes m =
     ap (λ (t : List ℕ). t ++ filled_rows (docket_of bytes) m)
-    (flat_map_same (resident_row (docket_of bytes) m) (λ r. place_row (market_of bytes) r (programme_of m r)) (range_with_len 0 (length (residents_of (rows_in bytes))))
+    (flat_map_same (resident_row (docket_of bytes) m) (λ r. place_row (market_of bytes) r (programme_of m r)) (range_with_len 0 (length (residents_of (rows_of bytes))))
     (λ r. same_row bytes r (programme_of m r)))

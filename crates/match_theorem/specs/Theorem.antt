@@ -6,9 +6,9 @@ use Rattle.match_model.specs.Instance.{Instance, IsInstance, pair_count, quota}
 use Rattle.match_model.specs.Draft.{instance_of}
 use Rattle.match_model.specs.Placement.{programme_of, member_count}
 use Rattle.settle_law.specs.Stable.{IsStable, IsSettled}
-use Rattle.row_writer.specs.RowText.{row}
+use Rattle.records.specs.RowText.{row}
 use Rattle.docket.specs.Contents.{programmes_of, residents_of, draft_of}
-use Rattle.docket.specs.Passes.{rows_in}
+use Rattle.records.specs.Reading.{rows_of}
 
 -- the members' names in the order of their numbers, and the instance
 pub record Market : Type 0 where
@@ -19,9 +19,9 @@ pub record Market : Type 0 where
 -- the market that the bytes of a docket describe
 abbrev pub market_of : List ℕ → Market
 market_of bytes = record {
-  programmes = programmes_of (rows_in bytes);
-  residents = residents_of (rows_in bytes);
-  instance = instance_of (draft_of (rows_in bytes));
+  programmes = programmes_of (rows_of bytes);
+  residents = residents_of (rows_of bytes);
+  instance = instance_of (draft_of (rows_of bytes));
 }
 
 -- the row of a resident: `M,resident,programme` with a programme, `U,resident` without

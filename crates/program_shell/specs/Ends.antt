@@ -48,6 +48,10 @@ pub record EndsAnswered {Answer : Type 0} (Appends : Answer → Type 0) (status_
   pub appends : Appends answer
   pub tells : status ≡ status_of answer
 
+-- a file of the order was not read, or the order was answered
+abbrev pub EndsServed : {Answer : Type 0} → (Answer → Type 0) → (Answer → ℕ) → Option (List ℕ) → Option (List ℕ) → ℕ → Type 0
+EndsServed Appends status_of old new status = EndsUnread old new status ⊎ EndsAnswered Appends status_of status
+
 -- the words give no order, or the program served the order that they give
 abbrev pub EndsAs : {A E O : Type 0} → (List Text → LineFault → Type 0) → (List Text → O → Type 0) → (O → Type 0) → Result (Vec (String A)) E
     → Option (List ℕ) → Option (List ℕ) → ℕ → Type 0

@@ -5,6 +5,8 @@ use Rattle.clap.specs.declared.error.kind.ErrorKind.{ErrorKind}
 use Rattle.clap.specs.declared.error.kind.ErrorKind.TheVariants.{DisplayHelp, DisplayVersion}
 use Rattle.docket.specs.declared.fault.DocketFault.{DocketFault}
 use Rattle.docket.specs.declared.fault.DocketFault.TheVariants as docket
+use Rattle.docket.specs.declared.records_fault.RecordsFault.{RecordsFault}
+use Rattle.docket.specs.declared.records_fault.RecordsFault.TheVariants as records
 use Rattle.program_shell.specs.declared.fault.LineFault.{LineFault}
 use Rattle.program_shell.specs.declared.fault.LineFault.TheVariants as line
 use Rattle.program_shell.specs.declared.fault.UsageFault.{UsageFault}
@@ -16,7 +18,6 @@ docket_status_of (docket.Read place) = 1
 docket_status_of docket.Memory = 1
 docket_status_of docket.Write = 1
 docket_status_of (docket.TooManyRecords place) = 3
-docket_status_of (docket.TooManyListed place) = 3
 docket_status_of (docket.UnknownKind place) = 3
 docket_status_of (docket.FieldCount place) = 3
 docket_status_of (docket.BadName place) = 3
@@ -28,7 +29,12 @@ docket_status_of (docket.BadEvent place) = 3
 docket_status_of (docket.BadSheet place) = 3
 docket_status_of (docket.BadVersion place) = 3
 docket_status_of (docket.BadWithdrawal place) = 3
-docket_status_of (docket.AnotherPart place) = 3
+
+-- the same; 3 too if the lists have too many names, or if a record belongs to another part
+abbrev pub records_status_of : RecordsFault → ℕ
+records_status_of (records.Docket fault) = docket_status_of fault
+records_status_of (records.TooManyListed place) = 3
+records_status_of (records.AnotherPart place) = 3
 
 -- 0 if help or the version was asked for; 2 for any other fault in the words
 abbrev pub words_status_of : ErrorKind → ℕ

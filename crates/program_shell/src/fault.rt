@@ -1,7 +1,7 @@
 //! Why a command line's words do not say what the program has to do.
 ghost use Rattle.std.specs.Prelude.{◌≡◌};
 ghost use Rattle.clap.specs.Values.{kind_of};
-ghost use Rattle.program_shell.specs.Faults.{IsErrorOf, IsLineFault};
+ghost use Rattle.program_shell.specs.Faults.{IsErrorOf, told_by_kind};
 ghost use Rattle.program_shell.specs.declared.fault.LineFault.TheVariants.{Memory};
 
 use clap::error::ErrorKind;
@@ -46,7 +46,7 @@ pub enum UsageFault {
 
 /// The parser's error as a fault of the command line.
 pub fn line_fault(error: clap::Error) -> LineFault
-    ensures fault { IsLineFault result }
+    ensures exact { result ≡ told_by_kind (kind_of error) error }
     ensures kind { IsErrorOf (λ kind. kind ≡ kind_of error) result }
 {
     match error.kind() {

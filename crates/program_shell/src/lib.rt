@@ -9,6 +9,8 @@ mod status;
 mod words;
 
 pub use fault::{LineFault, UsageFault, line_fault};
-pub use load::{Unread, is_input, lent, load_file, load_if, load_input, load_path, refuse_unread};
-pub use status::{docket_status, line_status, usage_status};
+pub use load::{
+    Unread, is_input, lent, load_file, load_if, load_input, load_path, load_path_if, refuse_unread,
+};
+pub use status::{docket_status, line_status, records_status, usage_status};
 pub use words::{refuse, texts_of};

@@ -1,5 +1,5 @@
 //! The bytes of standard input, and of the files that a program's words name.
-ghost use Rattle.std.specs.Prelude.{◌≡◌, ◌≢◌, IfOk, Some, codes, option_copied, option_map};
+ghost use Rattle.std.specs.Prelude.{◌≡◌, ◌≢◌, IfOk, Some, codes, is_some, option_copied, option_map};
 ghost use Rattle.std.specs.Bool.{OnFalse, OnTrue};
 ghost use Rattle.std.specs.Process.{exit_status as exit_status_in};
 ghost use Rattle.program_shell.specs.Loading.{AreBytesIf, AreBytesOf, AreInput, KeepsInput};
@@ -58,6 +58,23 @@ pub fn load_path<'a, H: Files + AllocGlobal>(rt: &H, path: &'a str) -> Result<Ve
     match fs::read(rt, path) {
         Ok(bytes) => Ok(bytes),
         Err(error) => Err(not_read(path, error)),
+    }
+}
+
+/// The bytes of the file with this path, which is never standard input. None if there is no path.
+pub fn load_path_if<'a, H: Files + AllocGlobal>(
+    rt: &H,
+    path: Option<&'a str>,
+) -> Result<Option<Vec<u8>>, Unread<'a>>
+    ensures { IfOk result (λ loaded.
+        is_some (option_map (λ bytes. bytes.items) loaded) ≡ is_some path.entry) }
+{
+    let Some(path) = path else {
+        return Ok(None);
+    };
+    match load_path(rt, path) {
+        Ok(bytes) => Ok(Some(bytes)),
+        Err(unread) => Err(unread),
     }
 }
 

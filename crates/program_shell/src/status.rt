@@ -1,10 +1,10 @@
 //! The exit status of a program.
 ghost use Rattle.std.specs.Prelude.{◌≡◌};
-ghost use Rattle.program_shell.specs.Status.{docket_status_of, line_status_of, usage_status_of};
+ghost use Rattle.program_shell.specs.Status.{docket_status_of, line_status_of, records_status_of, usage_status_of};
 
 use crate::fault::{LineFault, UsageFault};
 use clap::error::ErrorKind;
-use docket::DocketFault;
+use docket::{DocketFault, RecordsFault};
 
 /// The exit status after a docket at fault: 1 if memory, the reader or the writer failed, else 3.
 pub fn docket_status(fault: &DocketFault) -> u8
@@ -13,6 +13,16 @@ pub fn docket_status(fault: &DocketFault) -> u8
     match fault {
         DocketFault::Read { .. } | DocketFault::Memory | DocketFault::Write => 1,
         _ => 3,
+    }
+}
+
+/// The exit status after files, or a docket within chosen limits, at fault.
+pub fn records_status(fault: &RecordsFault) -> u8
+    ensures { result ≡ records_status_of fault.now }
+{
+    match fault {
+        RecordsFault::Docket(fault) => docket_status(fault),
+        RecordsFault::TooManyListed { .. } | RecordsFault::AnotherPart { .. } => 3,
     }
 }
 

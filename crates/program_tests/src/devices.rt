@@ -7,6 +7,7 @@ use broken::{CutReader, CutWriter, InterruptedReader};
 use docket::DocketFault;
 use residency::{Order, ServeFault, Status, exit_status, serve_audit};
 use std::alloc::Global;
+use std::io;
 use std::random::RandomSource;
 use std::sync::Wait;
 use std::test::Fail;
@@ -125,6 +126,23 @@ fn tells_of_broken_writers(rt: HostRuntime) -> Result<(), Fail> {
             );
         }
         assert!(rt; writes_all(rt, alloc, order, input.as_str(), text, status, calls));
+    }
+    Ok(())
+}
+
+// A reader without bytes to give at once has failed. The read is not made again, which would last for ever.
+#[test]
+fn tells_of_a_reader_that_would_block(rt: HostRuntime) -> Result<(), Fail> {
+    let alloc = rt.alloc();
+    let stable = joined(alloc, &[SMALL, SMALL_SHEET])?;
+    for (cut, place) in [(0, 1), (stable.len(), 11)] {
+        let reader = CutReader::failing(stable.as_bytes(), cut, io::ErrorKind::WouldBlock);
+        let mut output = Vec::new(alloc);
+        let answer = serve_audit(&OneByte(7), alloc, reader, &mut output);
+        assert!(rt;
+            answer == Err(ServeFault::Docket(DocketFault::Read { place })) && output.is_empty(),
+            "{cut}"
+        );
     }
     Ok(())
 }

@@ -1,6 +1,6 @@
 -- The answers that a resident gets, after the answer about one more programme.
 use Rattle.std.proofs.Common.{◌≡◌, ℕ, ◌<◌, inl, inr, List, [], ◌∷◌, ◌++◌, length, Option, Some, None, true, refl, sym, ap, ◌∙◌, subst, arith, rules}
-use Rattle.std.specs.Prelude.{IfSome, nat_lt, slice_get}
+use Rattle.std.specs.Prelude.{nat_lt, slice_get}
 use Rattle.std.specs.List.{list_all}
 use Rattle.std.proofs.lemmas.Option.{same_Some, get_or_from_slice_get}
 use Rattle.docket_names.proofs.WordFacts.{list_all_true_at}
@@ -15,11 +15,9 @@ use Rattle.docket.specs.Whole.{IsWhole}
 use Rattle.docket.specs.WithLists.{IsReadWithin}
 use Rattle.match_model.specs.declared.limits.Limits.{Limits}
 use Rattle.reasons_text.specs.Answers.{AreFirst, AreOfRecord, AreTaken, CaseParts, IsAnswer, IsCase}
-use Rattle.docket.specs.Answers.{Refuses}
-use Rattle.docket.specs.Passes.{fault_within}
 use Rattle.reasons_text.specs.Faults.{IsCaseFaultWithin, IsOfNoCase}
 use Rattle.reasons_text.specs.declared.fault.WhyFault.{WhyFault}
-use Rattle.reasons_text.specs.declared.fault.WhyFault.TheVariants.{Docket, NoSheet, KeyUnread, BadKey, DoubledKey, NoResident, NoProgramme, ManyResidents, ManyProgrammes, Records, EmptySheet, SheetUnread, InputUnread}
+use Rattle.reasons_text.specs.declared.fault.WhyFault.TheVariants.{Docket, Reading, NoSheet, BadKey, DoubledKey, NoResident, NoProgramme, ManyResidents, ManyProgrammes, Records, EmptySheet}
 use Rattle.reasons_text.specs.Naming.{Naming, SideNames, no_names, own_names}
 
 -- how the places of the first n + 1 programmes are taken, after programme n is counted
@@ -62,13 +60,9 @@ read_of limits bytes d written h = record {
 -- a docket that was read and gives no case is the reason that there is no case
 pub no_case : (limits : Limits) (bytes : Option (List ℕ)) (d : Contents) (written : Written) (fault : WhyFault) → IsReadWithin limits bytes d written
     → IsOfNoCase d fault → IsCaseFaultWithin limits bytes fault
-no_case limits bytes d written (Docket e) read memory = inr (by bytes)
-  where
-    by : (known : Option (List ℕ)) → IfSome known (λ b. Refuses (fault_within limits b) e)
-    by None = tt
-    by (Some b) = inl memory
+no_case limits bytes d written (Docket e) read memory = inr memory
+no_case limits bytes d written (Reading e) read h = absurd h
 no_case limits bytes d written NoSheet read none = record { docket = d; written = written; read = read; none = none }
-no_case limits bytes d written KeyUnread read h = h
 no_case limits bytes d written (BadKey place) read h = h
 no_case limits bytes d written (DoubledKey place) read h = h
 no_case limits bytes d written (NoResident told) read h = h
@@ -77,8 +71,6 @@ no_case limits bytes d written (ManyResidents told) read h = h
 no_case limits bytes d written (ManyProgrammes told) read h = h
 no_case limits bytes d written (Records file fault) read h = h
 no_case limits bytes d written EmptySheet read h = h
-no_case limits bytes d written SheetUnread read h = h
-no_case limits bytes d written InputUnread read h = h
 
 -- the sheet has one entry for each resident
 pub places_of : (c : CaseParts) → IsCase c → IsWhole c.docket → length c.sheet ≡ length c.docket.instance.resident_lists

@@ -1,5 +1,4 @@
 -- Without a key, a name means the docket's member of this name.
-use Rattle.std.proofs.Common.{◌≡◌}
 use Rattle.reasons_text.specs.Naming.{IsKeyless, Naming}
 use Rattle.reasons_text.specs.Texts.{Asks, AsksByDocket}
 use Rattle.reasons_text.specs.declared.answering.Told.{Told}

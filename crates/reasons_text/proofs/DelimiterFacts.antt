@@ -1,5 +1,5 @@
 -- How often each mark stands in a key's bytes, counted one byte after another.
-use Rattle.std.proofs.Common.{◌≡◌, ◌∙◌, ◌<◌, ◌≤◌, ◌+◌, ℕ, List, [], ◌∷◌, length, drop, get_or, true, false, refl, ap, add-one, drop-cons, drop_of_length-le}
+use Rattle.std.proofs.Common.{◌≡◌, ◌∙◌, ◌<◌, ◌≤◌, ◌+◌, ℕ, List, length, drop, get_or, true, false, refl, ap, add-one, drop-cons, drop_of_length-le}
 use Rattle.reasons_text.specs.Delimiter.{counted, ends_line, marks_of}
 use Rattle.reasons_text.specs.declared.delimiter.Marks.{Marks}
 

@@ -3,7 +3,7 @@ use Rattle.std.proofs.Common.{add-one, ◌≡◌, ◌+◌, ◌∙◌, ℕ, List,
 use Rattle.std.specs.Prelude.{◌==◌, ◌&&◌}
 use Rattle.std.specs.Option.{option_or}
 use Rattle.docket.specs.Contents.{Contents}
-use Rattle.docket.specs.Fields.{Fields, field}
+use Rattle.records.specs.Reading.{Fields, field}
 use Rattle.reasons_text.specs.Keys.{added, all_added, fault_from, is_blank_below, row_fault}
 use Rattle.reasons_text.specs.Naming.{KeyNames}
 use Rattle.reasons_text.specs.declared.fault.WhyFault.{WhyFault}

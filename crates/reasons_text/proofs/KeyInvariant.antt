@@ -1,11 +1,10 @@
 -- What is true after each row of a key has been added.
 use Rattle.std.proofs.Common.{Bor, ◌≡◌, ℕ, List, length, Option, Some, None}
-use Rattle.csv.specs.Reading.{Reached, Ready, reader_config, reader_state, reader_trim, source_of, strip_bom}
+use Rattle.csv.specs.Reading.{Reached, reader_config, reader_state, source_of, strip_bom}
 use Rattle.csv.specs.declared.reader.Reader.{Reader}
 use Rattle.csv.specs.declared.parser.State.TheVariants as st
-use Rattle.csv.specs.declared.reader.Trim.TheVariants as trim
 use Rattle.docket.specs.Contents.{Contents}
-use Rattle.docket.specs.Fields.{Fields}
+use Rattle.records.specs.Reading.{Fields, IsSource}
 use Rattle.reasons_text.specs.Keys.{all_added, fault_from, key_config}
 use Rattle.reasons_text.specs.Naming.{KeyNames}
 
@@ -15,8 +14,7 @@ bytes_left slice = Some slice.now
 
 pub record HasAdded (d : Contents) (bytes : List ℕ) (old now : KeyNames) (reader : Reader (Bor (List ℕ))) (count : ℕ) : Type 0 where
   pub config : reader_config reader ≡ key_config bytes
-  pub trim : reader_trim reader ≡ trim.None
-  pub ready : Ready reader
+  pub source_is : IsSource reader
   pub done : List Fields
   pub left : List ℕ
   pub source : source_of bytes_left reader ≡ Some left

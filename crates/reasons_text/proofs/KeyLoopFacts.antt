@@ -1,15 +1,14 @@
 -- The key's names after one more row, and after the last row.
-use Rattle.std.proofs.Common.{Bor, ◌≡◌, ◌+◌, ◌∙◌, ℕ, List, [], ◌∷◌, ◌++◌, length, Option, Some, None, true, false, inl, inr, refl, ap}
+use Rattle.std.proofs.Common.{Bor, ◌≡◌, ◌+◌, ◌∙◌, ℕ, List, [], ◌∷◌, ◌++◌, Some, None, true, false, inl, inr, refl, ap}
 use Rattle.std.specs.Prelude.{◌⊎◌}
 use Rattle.std.proofs.lemmas.List.{length-append}
-use Rattle.csv.specs.Reading.{ReadRecord, Reached, Ready, reader_config, reader_state, reader_trim, source_of, strip_bom}
+use Rattle.csv.specs.Reading.{ReadRecord, Reached, reader_config, reader_state, source_of, strip_bom}
 use Rattle.csv.specs.declared.reader.Reader.{Reader}
 use Rattle.csv.specs.declared.parser.State.TheVariants as st
-use Rattle.csv.specs.declared.reader.Trim.TheVariants as trim
 use Rattle.csv.proofs.ReadFacts.{rows-end, rows-more}
 use Rattle.docket.specs.Contents.{Contents}
-use Rattle.docket.specs.Fields.{Fields}
-use Rattle.reasons_text.specs.Keys.{AddsAll, HasBadRow, added, fault_from, key_config, row_fault}
+use Rattle.records.specs.Reading.{Fields, IsSource}
+use Rattle.reasons_text.specs.Keys.{AddsAll, HasBadRow, added, key_config, row_fault}
 use Rattle.reasons_text.specs.Naming.{KeyNames}
 use Rattle.reasons_text.specs.Faults.{IsFaultOrMemory}
 use Rattle.reasons_text.specs.declared.fault.WhyFault.{WhyFault}
@@ -20,13 +19,12 @@ use Rattle.reasons_text.proofs.KeyInvariant.{HasAdded, bytes_left}
 
 module _ (d : Contents) (bytes : List ℕ) (old : KeyNames) where
   -- before the first row no name was added
-  pub rows_start : (reader : Reader (Bor (List ℕ))) → reader_config reader ≡ key_config bytes → reader_trim reader ≡ trim.None → Ready reader
+  pub rows_start : (reader : Reader (Bor (List ℕ))) → reader_config reader ≡ key_config bytes → IsSource reader
       → reader_state reader ≡ st.StartRecord → source_of bytes_left reader ≡ Some (strip_bom bytes) → HasAdded d bytes old old reader 0
   unfolding Reached
-  rows_start reader config trim ready start source = record {
+  rows_start reader config is start source = record {
     config = config;
-    trim = trim;
-    ready = ready;
+    source_is = is;
     done = [];
     left = strip_bom bytes;
     source = source;
@@ -42,13 +40,12 @@ module _ (d : Contents) (bytes : List ℕ) (old : KeyNames) where
         → (left : List ℕ) × (source_of bytes_left after ≡ Some left) × Reached (key_config bytes) st.StartRecord (strip_bom bytes) (was.done ++ row ∷ []) (reader_state after) left
     reached_next read = rows-more bytes_left reader after row (key_config bytes) st.StartRecord (strip_bom bytes) was.left was.done was.config was.source was.reached read
 
-    pub row_more : (new : KeyNames) → ReadRecord bytes_left reader after true row → Ready after → row_fault d now (count + 1) row ≡ None
+    pub row_more : (new : KeyNames) → ReadRecord bytes_left reader after true row → IsSource after → row_fault d now (count + 1) row ≡ None
         → new ≡ added d now row → HasAdded d bytes old new after (count + 1)
     row_more new read ready good is =
         let next = reached_next read in record {
           config = read.2 ∙ was.config;
-          trim = read.3 ∙ was.trim;
-          ready = ready;
+          source_is = ready;
           done = was.done ++ row ∷ [];
           left = next.0;
           source = next.1;

@@ -9,11 +9,11 @@ use Rattle.std.proofs.lemmas.Slice.Zip.{length-zip, get_or-zip}
 use Rattle.match_model.proofs.Prefixes.{slice_get_push_parts}
 use Rattle.match_reasons.specs.declared.reason.Why.{Why}
 use Rattle.std.specs.Io.KnownBytes.{Appends}
-use Rattle.row_writer.specs.RowText.{Adds, Writes}
-use Rattle.row_writer.specs.declared.writer.RowWriter.{RowWriter}
-use Rattle.row_writer.proofs.RowTextFacts.{adds_both, adds_none, sent}
-use Rattle.reasons_text.specs.Answers.{CaseParts, ranked_back, withdrew}
-use Rattle.reasons_text.specs.Lines.{ended, first_line, has_withdrawn, lines, ranked, text_on}
+use Rattle.records.specs.RowText.{Adds, Writes}
+use Rattle.records.specs.declared.writer.RowWriter.{RowWriter}
+use Rattle.records.proofs.RowTextFacts.{adds_both, adds_none, sent}
+use Rattle.reasons_text.specs.Answers.{CaseParts}
+use Rattle.reasons_text.specs.Lines.{first_line, lines, text_on}
 use Rattle.reasons_text.specs.Naming.{Naming}
 use Rattle.reasons_text.specs.Texts.{AddsRows, AppendsText, AreRowsOn}
 

@@ -1,5 +1,5 @@
 -- The number of the first member with a name, after one more member.
-use Rattle.std.proofs.Common.{add-one, ◌≡◌, ◌∙◌, ◌+◌, inl, inr, ℕ, Bool, true, false, List, Option, Some, None, refl, sym, ap}
+use Rattle.std.proofs.Common.{add-one, ◌≡◌, ◌∙◌, ◌+◌, inl, inr, ℕ, true, false, List, Option, Some, None, refl, sym}
 use Rattle.std.specs.Prelude.{if◌then◌else◌, is_some}
 use Rattle.std.specs.Option.{option_or}
 use Rattle.std.specs.Str.{bytes_eq}

@@ -1,7 +1,7 @@
 -- The form in which a text is shown, made character by character.
-use Rattle.std.proofs.Common.{◌≡◌, ◌++◌, ℕ, IsUtf8, List, [], chars, length, encode_utf8}
+use Rattle.std.proofs.Common.{◌≡◌, ◌++◌, ℕ, IsUtf8, List, [], length, encode_utf8}
 use Rattle.std.proofs.StrCases.{chars_of_empty}
-use Rattle.std.proofs.lemmas.Str.{chars_past_char, encodes-append}
+use Rattle.std.proofs.lemmas.Str.{chars_past_char}
 use Rattle.reasons_text.specs.Shown.{shown_char, shown_text}
 
 pub shown_text_empty : (text : List ℕ) → length text ≡ 0 → shown_text text ≡ []

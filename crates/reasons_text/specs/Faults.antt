@@ -1,11 +1,11 @@
 -- Why an answer was not written, or not all of it.
-use Rattle.std.specs.Prelude.{◌≡◌, ◌≢◌, ◌⊎◌, ℕ, Option, Some, None, List, IfSome, IsSomeAnd}
-use Rattle.docket.specs.Answers.{Refuses}
+use Rattle.std.specs.Prelude.{◌≡◌, ◌⊎◌, ℕ, Option, Some, None, List, IfSome, IsSomeAnd}
+use Rattle.docket.specs.Answers.{Stops}
 use Rattle.docket.specs.Contents.{Contents}
 use Rattle.docket.specs.Passes.{fault_within}
-use Rattle.docket.specs.Read.{IsReadFault}
+use Rattle.docket.specs.Read.{IsReadFault, IsSourceFault}
 use Rattle.docket.specs.WithLists.{IsReadWithin}
-use Rattle.docket.specs.declared.fault.DocketFault.{DocketFault}
+use Rattle.docket.specs.declared.records_fault.RecordsFault.{RecordsFault}
 use Rattle.docket.specs.declared.fault.DocketFault.TheVariants as docket
 use Rattle.match_model.specs.Written.{Written}
 use Rattle.match_model.specs.declared.limits.Limits.{Limits}
@@ -14,7 +14,7 @@ use Rattle.reasons_text.specs.Answers.{CaseParts}
 use Rattle.reasons_text.specs.Keys.{AreNames, HasBadRow, unnamed}
 use Rattle.reasons_text.specs.Naming.{MeansNoMember, MeansTwo, Naming}
 use Rattle.reasons_text.specs.declared.fault.WhyFault.{WhyFault}
-use Rattle.reasons_text.specs.declared.fault.WhyFault.TheVariants.{Docket, NoSheet, BadKey, DoubledKey, NoResident, NoProgramme, ManyResidents, ManyProgrammes}
+use Rattle.reasons_text.specs.declared.fault.WhyFault.TheVariants.{Docket, Reading, NoSheet, NoResident, NoProgramme, ManyResidents, ManyProgrammes}
 use Rattle.reasons_text.specs.declared.question.Asked.{Asked}
 use Rattle.reasons_text.specs.declared.question.Asked.TheVariants as asked
 use Rattle.reasons_text.specs.declared.side.Side.{Side}
@@ -22,8 +22,8 @@ use Rattle.reasons_text.specs.declared.side.Side.TheVariants.{Programmes, Reside
 
 -- a fault of the reader, or want of memory, or, if the bytes are known, the first fault of the bytes within these
 -- limits
-abbrev pub IsDocketFault : Limits → Option (List ℕ) → DocketFault → Type 0
-IsDocketFault limits bytes e = IsReadFault e ⊎ IfSome bytes (λ b. Refuses (fault_within limits b) e)
+abbrev pub IsDocketFault : Limits → Option (List ℕ) → RecordsFault → Type 0
+IsDocketFault limits bytes e = IsSourceFault e ⊎ IfSome bytes (λ b. Stops (fault_within limits b) e)
 
 -- the bytes are a docket without a sheet within these limits
 pub record HasNoSheetWithin (limits : Limits) (bytes : Option (List ℕ)) : Type 0 where
@@ -38,9 +38,11 @@ IsOfNoCase d NoSheet = d.sheet ≡ None
 IsOfNoCase d (Docket e) = e ≡ docket.Memory
 IsOfNoCase d fault = ⊥
 
--- why no docket with a sheet was read within these limits
+-- Why no docket with a sheet was read within these limits. Without random bytes of the machine, the fault is that of a
+-- reader.
 abbrev pub IsCaseFaultWithin : Limits → Option (List ℕ) → WhyFault → Type 0
-IsCaseFaultWithin limits bytes (Docket e) = IsDocketFault limits bytes e
+IsCaseFaultWithin limits bytes (Docket e) = IsReadFault e ⊎ (e ≡ docket.Memory)
+IsCaseFaultWithin limits bytes (Reading e) = IsDocketFault limits bytes e
 IsCaseFaultWithin limits bytes NoSheet = HasNoSheetWithin limits bytes
 IsCaseFaultWithin limits bytes fault = ⊥
 

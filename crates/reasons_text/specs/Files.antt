@@ -4,7 +4,8 @@ use Rattle.docket.specs.Contents.{Contents}
 use Rattle.docket.specs.Parts.{IsInFilesWithLists, Tells, fault_of_files}
 use Rattle.docket.specs.declared.part.Part.{Part}
 use Rattle.docket.specs.declared.file_fault.FileFault.{FileFault}
-use Rattle.docket.specs.declared.fault.DocketFault.{DocketFault}
+use Rattle.docket.specs.declared.records_fault.RecordsFault.{RecordsFault}
+use Rattle.docket.specs.declared.records_fault.RecordsFault.TheVariants as rf
 use Rattle.docket.specs.declared.fault.DocketFault.TheVariants as df
 use Rattle.match_model.specs.Written.{Written}
 use Rattle.match_model.specs.declared.limits.Limits.{Limits}
@@ -33,8 +34,8 @@ abbrev pub AnswersFiles : List ℕ → List ℕ → Option (List ℕ) → Asked 
 AnswersFiles docket sheet key question without_ranks text = AnswersFilesWithin Standard docket sheet key question without_ranks text
 
 -- a fault in this file; memory that ran out has no file
-abbrev pub told_in : Part → DocketFault → WhyFault
-told_in file df.Memory = Docket df.Memory
+abbrev pub told_in : Part → RecordsFault → WhyFault
+told_in file (rf.Docket df.Memory) = Docket df.Memory
 told_in file fault = Records file fault
 
 -- a fault of the files, with its file

@@ -1,6 +1,5 @@
 -- Which names the bytes of a key give, and to which members.
-use Rattle.std.specs.Prelude.{◌≡◌, ◌≢◌, ℕ, zero, suc, ◌+◌, ◌<◌, ◌==◌, ◌&&◌, ◌||◌, nat_lt, not, is_none, Bool, true, false, if◌then◌else◌, Option, Some, None, unwrap_or, List, [], ◌∷◌, ◌++◌, bytes_eq, codes, length, slice_get, slice_set, replicate}
-use Rattle.std.specs.List.{list_all}
+use Rattle.std.specs.Prelude.{◌≡◌, ◌≢◌, ℕ, zero, suc, ◌+◌, ◌==◌, ◌&&◌, ◌||◌, nat_lt, not, is_none, Bool, true, false, if◌then◌else◌, Option, Some, None, unwrap_or, List, [], ◌∷◌, ◌++◌, bytes_eq, codes, length, slice_get, slice_set, replicate}
 use Rattle.std.specs.Option.{option_or}
 use Rattle.std.specs.Str.{is_utf8}
 use Rattle.csv.specs.Reading.{AreRecords, Reached, default_config, strip_bom}
@@ -8,7 +7,7 @@ use Rattle.csv.specs.declared.parser.Config.{Config}
 use Rattle.csv.specs.declared.parser.State.{State}
 use Rattle.csv.specs.declared.parser.State.TheVariants as st
 use Rattle.docket.specs.Contents.{Contents}
-use Rattle.docket.specs.Fields.{Fields, field}
+use Rattle.records.specs.Reading.{Fields, field}
 use Rattle.reasons_text.specs.Delimiter.{delimiter_of}
 use Rattle.reasons_text.specs.Naming.{IsKeyless, KeyNames, Naming, SideNames, docket_name, label_of, member_count, text_at}
 use Rattle.reasons_text.specs.Shown.{shown_text}

@@ -1,22 +1,14 @@
 -- Which question the words of a command line ask.
 use Rattle.std.specs.Prelude.{◌≡◌, ◌≢◌, ◌⊎◌, true, false, codes, List, Option, Some, None, option_map}
-use Rattle.clap.specs.Words.{App, IsAmong, Row, Rule, Text, first_of, fault_of, matches_of, new_app, new_rule, with_rule}
+use Rattle.clap.specs.Words.{App, IsAmong, Row, Text, first_of, fault_of, matches_of, new_app, with_rule}
 use Rattle.clap.specs.Simple.{on_top}
-use Rattle.clap.specs.declared.error.kind.ErrorKind.{ErrorKind}
 use Rattle.clap.specs.declared.error.kind.ErrorKind.TheVariants.{ArgumentConflict, MissingRequiredArgument}
 use Rattle.program_shell.specs.Faults.{IsErrorOf}
-use Rattle.program_shell.specs.Flags.{IsFlagged, IsUnflagged, flag_rule}
+use Rattle.program_shell.specs.Flags.{IsFlagged, IsUnflagged, flag_rule, value_rule, word_rule}
 use Rattle.program_shell.specs.declared.fault.LineFault.{LineFault}
 use Rattle.reasons_text.specs.declared.question.Asked.{Asked}
 use Rattle.reasons_text.specs.declared.question.Asked.TheVariants as asked
 use Rattle.reasons_text.specs.declared.question.Question.{Question}
-
--- the rule for a word at its place, and for an option with a value
-abbrev pub word_rule : Text → Rule
-word_rule id = record (new_rule id) { value_names = 1 }
-
-abbrev pub value_rule : Text → Rule
-value_rule id = record (new_rule id) { long = Some id; value_names = 1 }
 
 -- the program's command line; the program's own name isn't among the words
 abbrev pub program_app : App

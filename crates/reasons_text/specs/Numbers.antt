@@ -1,5 +1,5 @@
 -- What the code keeps while it reads a key: each member's number by name, and who has each name.
-use Rattle.std.specs.Prelude.{◌≡◌, ℕ, ◌<◌, ◌==◌, Bool, true, if◌then◌else◌, unwrap_or, Option, Some, None, List, [], bytes_eq}
+use Rattle.std.specs.Prelude.{◌≡◌, ℕ, ◌<◌, ◌==◌, true, if◌then◌else◌, unwrap_or, Option, Some, None, List, [], bytes_eq}
 use Rattle.std.specs.Borrow.{Bor}
 use Rattle.std.specs.HashMap.{HashMap, get_by}
 use Rattle.docket.specs.Contents.{Contents}

@@ -3,7 +3,7 @@ use Rattle.std.specs.Prelude.{ℕ, Bool, if◌then◌else◌, Option, Some, None
 use Rattle.std.specs.List.{enumerate_from, flat_map, zip}
 use Rattle.match_reasons.specs.declared.reason.Why.{Why}
 use Rattle.match_reasons.specs.declared.reason.Why.TheVariants.{Withdrawn, NotListed, NotRanked, Matched, PrefersOwn, Full, Blocking}
-use Rattle.row_writer.specs.RowText.{row}
+use Rattle.records.specs.RowText.{row}
 use Rattle.reasons_text.specs.Lines.{from_one}
 use Rattle.reasons_text.specs.Naming.{Naming, shown_programme, shown_resident}
 

@@ -1,5 +1,5 @@
 -- The text that answers a question.
-use Rattle.std.specs.Prelude.{◌≡◌, ℕ, Bool, false, Option, Some, None, List, [], ◌++◌, length, slice_get}
+use Rattle.std.specs.Prelude.{◌≡◌, ℕ, Bool, false, Option, Some, None, List, ◌++◌, length, slice_get}
 use Rattle.std.specs.List.{flat_map}
 use Rattle.match_model.specs.Placement.{programme_of}
 use Rattle.match_model.specs.declared.limits.Limits.{Limits}
@@ -7,10 +7,10 @@ use Rattle.match_model.specs.declared.limits.Limits.TheVariants.{Standard}
 use Rattle.match_reasons.specs.declared.reason.Why.{Why}
 use Rattle.std.specs.Io.KnownBytes.{Appends}
 use Rattle.docket.specs.Contents.{Contents}
-use Rattle.row_writer.specs.RowText.{Adds, row}
+use Rattle.records.specs.RowText.{Adds, row}
 use Rattle.docket.specs.Texts.{programme_name, resident_name}
 use Rattle.docket.specs.WithLists.{IsReadWithin}
-use Rattle.row_writer.specs.declared.writer.RowWriter.{RowWriter}
+use Rattle.records.specs.declared.writer.RowWriter.{RowWriter}
 use Rattle.reasons_text.specs.Answers.{AreAnswers, AreOfRecord, CaseParts, IsAnswer}
 use Rattle.reasons_text.specs.Lines.{line, text_on}
 use Rattle.reasons_text.specs.Keys.{AreNames}

@@ -2,7 +2,7 @@
 ghost use Rattle.std.specs.Prelude.{◌≡◌, ◌≢◌, ◌++◌, length, IfErr, IfOk, IfSome, IsSomeAnd, None, OnOk, Some, option_copied, string_bytes};
 ghost use Rattle.reasons_text.specs.Keys.{IsKeyOf};
 ghost use Rattle.match_model.specs.Instance.{IsProgramme, IsResident};
-ghost use Rattle.row_writer.specs.RowText.{Adds};
+ghost use Rattle.records.specs.RowText.{Adds};
 ghost use Rattle.reasons_text.specs.Lines.{lines};
 ghost use Rattle.reasons_text.specs.Faults.{IsAskedFault, IsKeyFault, IsNameFault, IsServeFault, IsServeFaultWithin, IsTellFault, IsTextFault};
 ghost use Rattle.reasons_text.specs.Naming.{HasNoNames, MeansAlone, both_of, naming_of};

@@ -13,7 +13,8 @@ ghost use Rattle.reasons_text.specs.Answers.{AreAnswers, AreOfRecord, AreTaken, 
 use crate::answers::Answers;
 use crate::fault::WhyFault;
 use docket::{
-    Docket, DocketFault, FileFault, read_docket_with_lists_within, read_parts_with_lists,
+    Docket, DocketFault, FileFault, RecordsFault, read_docket_with_lists_within,
+    read_parts_with_lists,
 };
 use match_model::{Assignment, Limits, ProgrammeNo, ResidentNo, WrittenLists};
 use match_reasons::{Listed, Taken, Why, places_taken, why};
@@ -139,7 +140,7 @@ fn in_its_file(there: FileFault) -> WhyFault
     ensures { result ≡ spec.in_its_file there }
 {
     match there.fault {
-        DocketFault::Memory => WhyFault::Docket(DocketFault::Memory),
+        RecordsFault::Docket(DocketFault::Memory) => WhyFault::Docket(DocketFault::Memory),
         fault => WhyFault::Records {
             file: there.file,
             fault,
@@ -150,6 +151,8 @@ fn in_its_file(there: FileFault) -> WhyFault
 impl Case {
     /// Reads a docket that has a sheet, with its lists, within these limits. If all residents get answers, the call counts
     /// at once how each programme's places are taken.
+    // Its frame holds the reader's buffers: inlined they would stand on the stack of all that comes after.
+    #[inline(never)]
     pub fn read_within<R: Read + Drop, H: RandomSource>(
         rt: &H,
         alloc: Global,
@@ -164,12 +167,13 @@ impl Case {
     {
         match read_docket_with_lists_within(rt, alloc, limits, reader) {
             Ok((docket, lists)) => Case::of_docket(alloc, docket, lists, are_all_told),
-            Err(fault) => Err(WhyFault::Docket(fault)),
+            Err(fault) => Err(WhyFault::Reading(fault)),
         }
     }
 
     /// Does what `read_within` does, but over a docket's file and a sheet's file, each read as its own part. A fault
     /// of the files is told with its file.
+    #[inline(never)]
     pub(crate) fn read_files<H: RandomSource>(
         rt: &H,
         alloc: Global,

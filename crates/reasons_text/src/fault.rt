@@ -3,7 +3,7 @@ ghost use Rattle.std.specs.Prelude.{◌≡◌};
 ghost use Rattle.docket.specs.declared.fault.DocketFault.TheVariants as docket_fault;
 ghost use Rattle.reasons_text.specs.declared.fault.WhyFault.TheVariants.{Docket};
 
-use docket::{DocketFault, Part};
+use docket::{DocketFault, Part, RecordsFault};
 use match_model::Limits;
 use std::alloc::AllocError;
 use std::fmt;
@@ -12,15 +12,15 @@ use thiserror::Error;
 /// Why a question was not answered.
 #[derive(Debug, PartialEq, Eq, Drop, Error)]
 pub enum WhyFault {
-    /// The docket could not be read, or the answer could not be written.
+    /// Memory ran out, or the answer could not be written.
     #[error(transparent)]
     Docket(DocketFault),
+    /// The docket could not be read.
+    #[error(transparent)]
+    Reading(RecordsFault),
     /// The docket has no sheet.
     #[error("no sheet in the docket")]
     NoSheet,
-    /// The file with the real names could not be read.
-    #[error("the key could not be read")]
-    KeyUnread,
     /// A row of the key does not begin with a side, a name and a real name.
     #[error("record {place} of the key: not a side, a name and a real name")]
     BadKey {
@@ -51,17 +51,11 @@ pub enum WhyFault {
         /// The file of the record: the docket's file or the sheet's file.
         file: Part,
         /// The fault of the record.
-        fault: DocketFault,
+        fault: RecordsFault,
     },
     /// The sheet's file has no record.
     #[error("no sheet")]
     EmptySheet,
-    /// The sheet's file could not be read.
-    #[error("the sheet could not be read")]
-    SheetUnread,
-    /// The docket could not be read. The sheet is in its own file.
-    #[error("the input could not be read")]
-    InputUnread,
 }
 
 impl WhyFault {
@@ -93,8 +87,9 @@ pub(crate) struct FaultWithin<'a> {
 impl fmt::Display for FaultWithin<'_> {
     fn fmt<W: fmt::Write>(&self, f: &mut fmt::Formatter<W>) -> fmt::Result {
         match self.fault {
-            WhyFault::Docket(fault) => write!(f, "{}", fault.within(self.limits)),
-            WhyFault::Records { fault, .. } => write!(f, "{}", fault.within(self.limits)),
+            WhyFault::Reading(fault) | WhyFault::Records { fault, .. } => {
+                write!(f, "{}", fault.within(self.limits))
+            }
             fault => write!(f, "{fault}"),
         }
     }

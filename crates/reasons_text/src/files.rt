@@ -7,7 +7,7 @@ use crate::answering::text_of;
 use crate::case::Case;
 use crate::fault::WhyFault;
 use crate::question::Asked;
-use docket::{DocketFault, Part};
+use docket::{DocketFault, Part, RecordsFault};
 use match_model::Limits;
 use std::alloc::Global;
 use std::hash::RandomState;
@@ -33,7 +33,7 @@ fn read_files_and_tell<H: RandomSource>(
     let Ok(keys) = RandomState::new(rt) else {
         return Err(WhyFault::Records {
             file: Part::Docket,
-            fault: DocketFault::Read { place: 1 },
+            fault: RecordsFault::Docket(DocketFault::Read { place: 1 }),
         });
     };
     let case = Case::read_files(rt, alloc, limits, docket, sheet, asked == Asked::All)?;

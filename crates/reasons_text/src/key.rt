@@ -1,13 +1,9 @@
 //! The members' real names, as people know them, from the office's key.
 ghost use Rattle.std.specs.Prelude.{◌≡◌, ◌⊎◌, ◌==◌, ◌&&◌, if◌then◌else◌, [], IfErr, IfOk, None, OnOk, Some, length, map, true, option_copied, option_map, replicate, slice_set, string_bytes};
 ghost use Rattle.std.specs.Str.{is_utf8};
-ghost use Rattle.csv.specs.Reading.{ReadRecord, Ready, reader_config, reader_state, reader_trim, source_of, strip_bom};
 ghost use Rattle.csv.specs.Records.{fields_of};
-ghost use Rattle.csv.specs.declared.parser.State.TheVariants as st;
-ghost use Rattle.csv.specs.declared.reader.Trim.TheVariants as trim;
-ghost use Rattle.docket.specs.Fields.{field as field_in};
 ghost use Rattle.reasons_text.specs.Faults.{IsFaultOrMemory, IsKeyFault};
-ghost use Rattle.reasons_text.specs.Keys.{AddsAll, HasBadRow, IsKeyOf, added, is_free, key_config, noted, row_fault, row_side, side_fault, sign_in, unnamed, unnamed_side, with_row};
+ghost use Rattle.reasons_text.specs.Keys.{AddsAll, HasBadRow, IsKeyOf, added, is_free, noted, row_fault, row_side, side_fault, sign_in, unnamed, unnamed_side, with_row};
 ghost use Rattle.reasons_text.specs.Keys.{is_blank as is_blank_row};
 ghost use Rattle.reasons_text.specs.Naming.{HasNoNames, both_of, label_of, side_of, text_at};
 ghost use Rattle.reasons_text.specs.Numbers.{AreNumbers};
@@ -19,8 +15,9 @@ use crate::labels::labels;
 use crate::naming::MemberNumbers;
 use crate::shown::push_shown;
 use crate::side::{Side, member_count};
-use csv::{ByteRecord, Reader, ReaderBuilder};
+use csv::ByteRecord;
 use docket::{Docket, DocketFault};
+use records::{ReadFailed, field, next_row, reader_over};
 use std::alloc::{AllocError, Global};
 use std::hash::RandomState;
 
@@ -42,17 +39,6 @@ pub(crate) struct SideKey {
 pub(crate) struct Key {
     pub(crate) residents: SideKey,
     pub(crate) programmes: SideKey,
-}
-
-// Field `i` of a row, counted from 0, or an empty field past the row's end.
-#[tactic(auto, unfolding(docket::specs::Fields::field))]
-fn field(row: &ByteRecord, i: usize) -> &[u8]
-    ensures { result.now ≡ field_in (fields_of row.now) i }
-{
-    match row.get(i) {
-        Some(text) => text,
-        None => &[],
-    }
 }
 
 // A vector of `count` empty texts.
@@ -108,7 +94,7 @@ fn sign(row: &ByteRecord) -> &[u8]
 }
 
 // The side of a row, from its first field.
-#[tactic(auto, unfolding(docket::specs::Fields::field))]
+#[tactic(auto, unfolding(records::specs::Reading::field))]
 fn side_of_row(row: &ByteRecord) -> Option<Side>
     ensures { result ≡ row_side (fields_of row.now) }
 {
@@ -231,38 +217,15 @@ impl SideKey {
     }
 }
 
-// A reader of the rows of a key. Its header row is empty, so that the first row is read like any other, and not copied.
-fn rows_of(alloc: Global, bytes: &[u8]) -> Result<Reader<&[u8]>, AllocError>
-    ensures config { IfOk result (λ reader. reader_config reader ≡ key_config bytes.entry.now) }
-    ensures trim { IfOk result (λ reader. reader_trim reader ≡ trim.None) }
-    ensures ready { IfOk result Ready }
-    ensures state { IfOk result (λ reader. reader_state reader ≡ st.StartRecord) }
-    ensures source { IfOk result (λ reader.
-        source_of (λ s. Some s.now) reader ≡ Some (strip_bom bytes.entry.now)) }
-{
-    let mut reader = ReaderBuilder::new()
-        .delimiter(delimiter_of(bytes))
-        .flexible(true)
-        .from_reader(alloc, bytes);
-    let Ok(()) = reader.set_byte_headers(ByteRecord::new(alloc)) else {
-        return Err(AllocError);
-    };
-    Ok(reader)
-}
+// Bytes in memory can be read to their end, unless memory runs out.
+impl From<ReadFailed> for WhyFault {
+    ghost use Rattle.docket.specs.declared.fault.DocketFault.TheVariants as docket_fault;
+    ghost use Rattle.reasons_text.specs.declared.fault.WhyFault.TheVariants.{Docket};
 
-// Reads the next row, and says whether there was a row. A reader of bytes in memory can only fail if memory runs out.
-fn next_row(reader: &mut Reader<&[u8]>, row: &mut ByteRecord) -> Result<bool, WhyFault>
-    requires plain { reader_trim reader.old ≡ trim.None }
-    requires ready { Ready reader.old }
-    ensures reads { IfOk result (λ found.
-        ReadRecord (λ s. Some s.now) reader.old reader.new found (fields_of row.new)) }
-    ensures ready { IfOk result (λ found. found ≡ true → Ready reader.new) }
-    ensures memory { IfErr result (λ fault. fault ≡ WhyFault.Docket DocketFault.Memory) }
-{
-    let read = reader.read_byte_record(row);
-    match &read {
-        Ok(found) => Ok(*found),
-        Err(_) => Err(WhyFault::Docket(DocketFault::Memory)),
+    ghost from_gives = { λ _ fault. fault ≡ Docket docket_fault.Memory };
+
+    fn from(_failed: ReadFailed) -> WhyFault {
+        WhyFault::Docket(DocketFault::Memory)
     }
 }
 
@@ -290,6 +253,7 @@ impl Key {
     /// The names in a key's rows: `P,programme,name` and `R,resident,name`, with an optional ID. Rows with only empty
     /// fields are skipped. If the member of a row is not in the docket, the name of this row is still a name that
     /// another member may share.
+    #[inline(never)]
     pub(crate) fn read(
         alloc: Global,
         keys: RandomState,
@@ -322,7 +286,7 @@ impl Key {
         ensures fault { IfErr result (λ fault. (fault ≡ WhyFault.Docket DocketFault.Memory)
             ⊎ HasBadRow numbers.now.docket.now (both_of self.old) bytes.now fault) }
     {
-        let mut reader = rows_of(alloc, bytes)?;
+        let mut reader = reader_over(alloc, delimiter_of(bytes), bytes)?;
         let mut row = ByteRecord::new(alloc);
         for before in 0..u64::MAX {
             if !next_row(&mut reader, &mut row)? {

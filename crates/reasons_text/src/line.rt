@@ -2,8 +2,8 @@
 ghost use Rattle.std.specs.Prelude.{◌≡◌, ◌⊎◌, IfErr, IfOk, IfSome, None, codes, false, map};
 ghost use Rattle.clap.specs.Words.{HasKind, app_of, fault_of, first_of, found_of, matches_of as rows_in, rows_of, rule_of};
 ghost use Rattle.program_shell.specs.Faults.{IsErrorOf};
-ghost use Rattle.program_shell.specs.Flags.{IsFlagged, IsUnflagged, flag_rule};
-ghost use Rattle.reasons_text.specs.Line.{Asks, AsksNone, IsAskedBy, Refuses, program_app, value_rule, why_app, word_rule};
+ghost use Rattle.program_shell.specs.Flags.{IsFlagged, IsUnflagged, flag_rule, value_rule, word_rule};
+ghost use Rattle.reasons_text.specs.Line.{Asks, AsksNone, IsAskedBy, Refuses, program_app, why_app};
 
 use crate::question::{Asked, Question};
 use clap::error::ErrorKind;
@@ -189,6 +189,8 @@ fn nobody_asked(command: &mut Command, is_all: bool) -> LineFault
 }
 
 /// The question that the command line's words ask. The words are those after the program's own name.
+// Inlined, its frame would stand on the stack of all that the program does afterwards.
+#[inline(never)]
 pub fn read_line<'a, S: AsStr>(alloc: Global, words: &'a [S]) -> Result<Question<'a>, LineFault>
     ensures question { IfOk result (Asks (map S.text words.entry.now)) }
     ensures refused { IfErr result (Refuses (map S.text words.entry.now)) }

@@ -1,6 +1,6 @@
 //! The rows of the table about all residents.
 ghost use Rattle.std.specs.Prelude.{◌≡◌, ◌∷◌, [], OnOk, Some};
-ghost use Rattle.row_writer.specs.RowText.{Adds, row};
+ghost use Rattle.records.specs.RowText.{Adds, row};
 ghost use Rattle.reasons_text.specs.Lines as said;
 ghost use Rattle.reasons_text.specs.Naming.{naming_of};
 ghost use Rattle.reasons_text.specs.Table as table;

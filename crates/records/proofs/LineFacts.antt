@@ -2,11 +2,11 @@
 use Rattle.std.proofs.Common.{◌≡◌, ◌≢◌, ◌<◌, zero, suc, ◌+◌, ◌∷◌, [], ℕ, List, length, take, get_or, ◌++◌, refl, sym, ap, ◌∙◌, subst, append_assoc, append-nil}
 use Rattle.std.proofs.lemmas.Bool.{ne_eqb}
 use Rattle.std.specs.Global.{Vec}
-use Rattle.std.specs.Prelude.{Some, None}
 use Rattle.csv.specs.Records.{field_at}
 use Rattle.csv.specs.Writing.{escaped, field_text, next_sep, row_body, quote_mark, default_writer}
 use Rattle.csv.proofs.WriteFacts.{quoted-step, row-step}
 use Rattle.records.specs.Lines.{Grows}
+use Rattle.records.specs.Reading.{field}
 
 -- the text after nothing was added
 pub grows_none : (a : Vec ℕ) → Grows a a []
@@ -40,14 +40,8 @@ fields_next a b c d fields field i lt h k l e =
     (grows_both a b d _ _ h (grows_both b c d _ _ k (rw e at l)))
 
 -- field i of a record is item i of its list of fields
-pub field_there : (fields : List (List ℕ)) (i : ℕ) (field : List ℕ) → field_at fields i ≡ Some field → field ≡ get_or fields i []
-unfolding field_at
-field_there [] i field h = cc h
-field_there (f ∷ fs) zero field h = cc h
-field_there (f ∷ fs) (suc i) field h = field_there fs i field h
-
-pub field_past : (fields : List (List ℕ)) (i : ℕ) → field_at fields i ≡ None → [] ≡ get_or fields i []
-unfolding field_at
-field_past [] i h = refl
-field_past (f ∷ fs) zero h = cc h
-field_past (f ∷ fs) (suc i) h = field_past fs i h
+pub field_is : (fields : List (List ℕ)) (i : ℕ) → field fields i ≡ get_or fields i []
+unfolding field field_at
+field_is [] i = refl
+field_is (f ∷ fs) zero = refl
+field_is (f ∷ fs) (suc i) = field_is fs i

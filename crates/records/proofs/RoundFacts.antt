@@ -4,11 +4,11 @@ use Rattle.std.specs.Prelude.{⊤}
 use Rattle.std.proofs.lemmas.Bool.{cases_Bool, eqb-true, ne_eqb}
 use Rattle.csv.specs.Machine.{next_record}
 use Rattle.csv.specs.Reading.{default_config, strip_bom}
-use Rattle.csv.specs.Writing.{default_writer, is_blank, needs_quotes, row_text}
+use Rattle.csv.specs.Writing.{comma, default_writer, is_blank, needs_quotes, row_text}
 use Rattle.csv.specs.declared.parser.State.TheVariants as st
 use Rattle.csv.proofs.RoundTrip.{read-write}
 use Rattle.records.specs.Lines.{line, lines}
-use Rattle.records.specs.Reading.{Fields, rows_from, rows_of}
+use Rattle.records.specs.Reading.{Fields, rows_by, rows_from, rows_of}
 use Rattle.records.proofs.ReadFacts.{rows_from-next, rows_from-none, no_bytes}
 
 -- the record's first field is one byte long, and this byte does not begin a byte order mark
@@ -52,11 +52,11 @@ line_reads row tail h =
     rw (← line_is row h) (read-write row tail ∙ rw l.is refl)
 
 -- the lines of several records are read back as these records
-lines_read : (rows : List Fields) → AreLettered rows → rows_from st.StartRecord (lines rows) ≡ rows
+lines_read : (rows : List Fields) → AreLettered rows → rows_from comma st.StartRecord (lines rows) ≡ rows
 unfolding lines AreLettered
-lines_read [] h = rows_from-none st.StartRecord [] (no_bytes st.StartRecord refl)
+lines_read [] h = rows_from-none comma st.StartRecord [] (no_bytes comma st.StartRecord refl)
 lines_read (row ∷ rest) h =
-    rows_from-next st.StartRecord (line row ++ lines rest) (row, st.StartRecord, lines rest) refl (line_reads row (lines rest) h.0)
+    rows_from-next comma st.StartRecord (line row ++ lines rest) (row, st.StartRecord, lines rest) refl (line_reads row (lines rest) h.0)
     ∙ ap (λ (t : List Fields). row ∷ t) (lines_read rest h.1)
 
 strip_plain : (a : ℕ) (rest : List ℕ) → (a == 239) ≡ false → strip_bom (a ∷ rest) ≡ a ∷ rest
@@ -80,7 +80,7 @@ strip_lines (row ∷ rest) h = let l = h.0 in rw l.is (strip_line l.letter l.res
 
 -- the records that are written line by line are the records that are read
 pub lines_round : (rows : List Fields) → AreLettered rows → rows_of (lines rows) ≡ rows
-unfolding rows_of
+unfolding rows_by
 lines_round rows h = rw (strip_lines rows h) (lines_read rows h)
 
 pub lines-append : (a b : List Fields) → lines (a ++ b) ≡ lines a ++ lines b

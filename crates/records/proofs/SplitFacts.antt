@@ -1,6 +1,6 @@
 -- How the known records are those that were read and those that are left.
-use Rattle.std.proofs.Common.{◌≡◌, ◌∷◌, [], ℕ, List, ◌++◌, true, refl, sym, ap, ◌∙◌, append_assoc, Option, Some, None}
-use Rattle.records.specs.Reading.{Fields, GivesRow, IsSplit}
+use Rattle.std.proofs.Common.{◌≡◌, ◌∷◌, [], ℕ, List, ◌++◌, true, false, refl, sym, ap, ◌∙◌, append_assoc, append-nil, Option, Some, None}
+use Rattle.records.specs.Reading.{AreAll, Fields, GivesRow, IsSplit}
 
 -- before the first record is read, all records remain
 pub split_start : (all : Option (List Fields)) → IsSplit all [] all
@@ -15,3 +15,12 @@ split_more (Some rows) done None after row s g = cc s.1
 split_more (Some rows) done (Some l) after row s g =
     let same : l ≡ s.0 = cc s.1 in
     (g.0, g.1, s.2 ∙ ap (λ (r : List Fields). done ++ r) (sym same ∙ g.2) ∙ sym (append_assoc done (row ∷ []) g.0))
+
+-- at the end, the records read are all records
+pub split_end : (all : Option (List Fields)) (done : List Fields) (left after : Option (List Fields)) (row : Fields)
+    → IsSplit all done left → GivesRow left after false row → AreAll all done
+split_end None done left after row s g = tt
+split_end (Some rows) done None after row s g = cc s.1
+split_end (Some rows) done (Some l) after row s g =
+    let same : l ≡ s.0 = cc s.1 in
+    s.2 ∙ ap (λ (r : List Fields). done ++ r) (sym same ∙ g) ∙ append-nil done

@@ -1,2 +1,4 @@
 pub mod Reading
 pub mod Lines
+pub mod RowText
+pub mod Retrying

@@ -1,9 +1,10 @@
 //! How records are written one after another, each on its own line.
-ghost use Rattle.std.specs.Prelude.{◌≡◌, ◌<◌, ◌∷◌, [], OnOk, get_or, length};
+ghost use Rattle.std.specs.Prelude.{◌≡◌, ◌∷◌, [], OnOk};
 ghost use Rattle.csv.specs.Records.{fields_of};
 ghost use Rattle.csv.specs.Writing.{needs_byte, needs_quotes, escaped, quoted, field_text, next_sep, default_writer};
 ghost use Rattle.records.specs.Lines.{Grows, line};
 
+use crate::reading::field;
 use csv::ByteRecord;
 use std::alloc::AllocError;
 
@@ -73,17 +74,6 @@ fn put_comma(text: &mut Vec<u8>, place: usize) -> Result<(), AllocError>
     match place {
         0 => Ok(()),
         _ => put(text, b","),
-    }
-}
-
-// Field `i` of a record, counted from 0.
-fn field(row: &ByteRecord, i: usize) -> &[u8]
-    requires { i < length (fields_of row.now) }
-    ensures { result.now ≡ get_or (fields_of row.now) i [] }
-{
-    match row.get(i) {
-        Some(field) => field,
-        None => &[],
     }
 }
 

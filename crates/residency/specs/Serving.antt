@@ -13,14 +13,17 @@ use Rattle.docket.specs.Contents.{Contents, ByWorkerParts}
 use Rattle.docket.specs.Whole.{IsByWorker}
 use Rattle.match_model.specs.declared.limits.Limits.{Limits}
 use Rattle.match_model.specs.declared.limits.Limits.TheVariants.{Standard}
-use Rattle.docket.specs.Passes.{fault_within, docket_of}
+use Rattle.docket.specs.Passes.{fault_within, first_fault, docket_of}
 use Rattle.docket.specs.Texts.{sheet_text, journal_text}
 use Rattle.docket.specs.declared.fault.DocketFault.TheVariants as docket
+use Rattle.docket.specs.declared.records_fault.RecordsFault.TheVariants as records
 use Rattle.audit_text.specs.Serving.{IsWriteFault, WritesReport as TellsReport, WritesReplay as TellsReplay, IsAuditFault as IsReportFault, IsReplayFault as IsAnswerFault}
 use Rattle.audit_text.specs.declared.fault.AnswerFault.{AnswerFault}
 use Rattle.audit_text.specs.declared.status.Status.{Status as Told}
 use Rattle.residency.specs.declared.fault.ServeFault.{ServeFault}
 use Rattle.residency.specs.declared.fault.ServeFault.TheVariants.{Docket, Run}
+use Rattle.residency.specs.declared.fault.LimitsFault.{LimitsFault}
+use Rattle.residency.specs.declared.fault.LimitsFault.TheVariants.{Reading, Serving}
 use Rattle.residency.specs.declared.status.Status.{Status}
 use Rattle.residency.specs.declared.status.Status.TheVariants.{Closed}
 use Rattle.command_line.specs.Options.{IsWithinLimits}
@@ -90,28 +93,35 @@ AreDocketWithin limits P bytes = (fault_within limits bytes ≡ None) × P (dock
 
 -- the bytes are a docket within the standard limits, of which P holds
 abbrev pub AreDocket : (Contents → Type 0) → List ℕ → Type 0
-AreDocket P bytes = AreDocketWithin Standard P bytes
+AreDocket P bytes = (first_fault bytes ≡ None) × P (docket_of bytes)
 
--- the fault is want of memory, a fault of the reader, or the first fault of the bytes within these limits
-abbrev pub IsReadFault : Limits → List ℕ → ServeFault → Type 0
-IsReadFault limits bytes (Docket fault) =
-    (fault ≡ docket.Memory) ⊎ (((place : ℕ) × (fault ≡ docket.Read place)) ⊎ (fault_within limits bytes ≡ Some fault))
-IsReadFault limits bytes fault = ⊥
-
--- the fault came up in reading the bytes within these limits, or the bytes are a docket and this is a fault of the
--- order over it
-abbrev pub IsFaultWithin : Limits → (Contents → ServeFault → Type 0) → List ℕ → ServeFault → Type 0
-IsFaultWithin limits IsFault bytes fault = IsReadFault limits bytes fault ⊎ AreDocketWithin limits (λ d. IsFault d fault) bytes
+-- the fault is want of memory, a fault of the reader, or the first fault of the bytes
+abbrev pub IsReadFault : List ℕ → ServeFault → Type 0
+IsReadFault bytes (Docket fault) =
+    (fault ≡ docket.Memory) ⊎ (((place : ℕ) × (fault ≡ docket.Read place)) ⊎ (first_fault bytes ≡ Some fault))
+IsReadFault bytes fault = ⊥
 
 -- the fault came up in reading the bytes within the standard limits, or the bytes are a docket and this is a fault of
 -- the order over it
 abbrev pub IsFaultOf : (Contents → ServeFault → Type 0) → List ℕ → ServeFault → Type 0
-IsFaultOf IsFault bytes fault = IsFaultWithin Standard IsFault bytes fault
+IsFaultOf IsFault bytes fault = IsReadFault bytes fault ⊎ AreDocket (λ d. IsFault d fault) bytes
+
+-- the fault came up in reading the bytes within these limits, or the bytes are a docket and this is a fault of the order
+-- over it
+abbrev pub IsFaultWithin : Limits → (Contents → ServeFault → Type 0) → List ℕ → LimitsFault → Type 0
+IsFaultWithin limits IsFault bytes (Reading fault) =
+    (fault ≡ records.Docket docket.Memory) ⊎ (((place : ℕ) × (fault ≡ records.Docket (docket.Read place))) ⊎ (fault_within limits bytes ≡ Some fault))
+IsFaultWithin limits IsFault bytes (Serving fault) = AreDocketWithin limits (λ d. IsFault d fault) bytes
 
 -- a fault before which nothing was written: any fault but the writer's
 abbrev pub IsBeforeWriting : ServeFault → Type 0
 IsBeforeWriting (Docket fault) = fault ≢ docket.Write
 IsBeforeWriting fault = Unit {0}
+
+-- the same, of a call within limits
+abbrev pub IsBeforeWritingWithin : LimitsFault → Type 0
+IsBeforeWritingWithin (Reading fault) = Unit {0}
+IsBeforeWritingWithin (Serving fault) = IsBeforeWriting fault
 
 -- an order over a docket was served with this status, and this text was appended
 abbrev pub Serves : Order → Contents → Status → Option (List ℕ) → Option (List ℕ) → Type 0
@@ -127,10 +137,10 @@ IsOrderFault Replay = IsReplayFault
 
 -- The answer to an order over these bytes within these limits. Either the order was served over their docket, or the
 -- answer is the fault. With a fault, nothing was written, unless the writer failed.
-abbrev pub IsAnswerWithin : Limits → Order → List ℕ → Option (List ℕ) → Option (List ℕ) → Result Status ServeFault → Type 0
+abbrev pub IsAnswerWithin : Limits → Order → List ℕ → Option (List ℕ) → Option (List ℕ) → Result Status LimitsFault → Type 0
 IsAnswerWithin limits order bytes old new (Ok status) = AreDocketWithin limits (λ d. Serves order d status old new) bytes
-IsAnswerWithin limits order bytes old new (Err fault) = IsFaultWithin limits (IsOrderFault order) bytes fault × (IsBeforeWriting fault → new ≡ old)
+IsAnswerWithin limits order bytes old new (Err fault) = IsFaultWithin limits (IsOrderFault order) bytes fault × (IsBeforeWritingWithin fault → new ≡ old)
 
 -- the answer to an order over these bytes within the standard limits
-abbrev pub IsAnswerTo : Order → List ℕ → Option (List ℕ) → Option (List ℕ) → Result Status ServeFault → Type 0
+abbrev pub IsAnswerTo : Order → List ℕ → Option (List ℕ) → Option (List ℕ) → Result Status LimitsFault → Type 0
 IsAnswerTo order bytes old new answer = IsAnswerWithin Standard order bytes old new answer

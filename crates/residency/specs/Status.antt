@@ -1,8 +1,10 @@
 -- The exit status of the program.
 use Rattle.std.specs.Prelude.{ℕ, Result, Ok, Err}
-use Rattle.program_shell.specs.Status.{docket_status_of}
+use Rattle.program_shell.specs.Status.{docket_status_of, records_status_of}
 use Rattle.residency.specs.declared.fault.ServeFault.{ServeFault}
 use Rattle.residency.specs.declared.fault.ServeFault.TheVariants.{Docket, NoSheet, NoJournal, Run, Memory}
+use Rattle.residency.specs.declared.fault.LimitsFault.{LimitsFault}
+use Rattle.residency.specs.declared.fault.LimitsFault.TheVariants.{Reading, Serving}
 use Rattle.residency.specs.declared.status.Status.{Status}
 use Rattle.residency.specs.declared.status.Status.TheVariants.{Closed, Stable, Unstable, ReplayGood, ReplayBad}
 
@@ -26,3 +28,9 @@ fault_status_of Memory = 1
 abbrev pub exit_status_of : Result Status ServeFault → ℕ
 exit_status_of (Ok status) = status_of status
 exit_status_of (Err fault) = fault_status_of fault
+
+-- the status after a call within limits
+abbrev pub exit_status_within_of : Result Status LimitsFault → ℕ
+exit_status_within_of (Ok status) = status_of status
+exit_status_within_of (Err (Reading fault)) = records_status_of fault
+exit_status_within_of (Err (Serving fault)) = fault_status_of fault

@@ -1,7 +1,7 @@
 //! Why no answer was written, or only a part of the answer.
 
 use audit_text::AnswerFault;
-use docket::DocketFault;
+use docket::{DocketFault, RecordsFault};
 use match_pool::RunFault;
 use thiserror::Error;
 
@@ -23,6 +23,17 @@ pub enum ServeFault {
     /// The memory could not grow in an audit or a replay.
     #[error("out of memory")]
     Memory,
+}
+
+/// Why the answer about a docket within limits that the caller chose was not written.
+#[derive(Debug, Drop, PartialEq, Eq, Error)]
+pub enum LimitsFault {
+    /// The docket could not be read within the limits.
+    #[error(transparent)]
+    Reading(RecordsFault),
+    /// The docket was read, but not served.
+    #[error(transparent)]
+    Serving(ServeFault),
 }
 
 impl From<AnswerFault> for ServeFault {

@@ -14,11 +14,8 @@ mod status;
 
 pub use audit_text::{write_replay, write_report};
 pub use command_line::{JournalForm, MatchOptions, Order, read_line};
-pub use fault::ServeFault;
+pub use fault::{LimitsFault, ServeFault};
 pub use program::{serve_words, serve_words_within};
 pub use program_shell::{LineFault, line_status};
-pub use serve::{
-    serve_audit, serve_audit_within, serve_match, serve_match_within, serve_replay,
-    serve_replay_within,
-};
+pub use serve::{serve_audit, serve_match, serve_replay, serve_within};
 pub use status::{Status, exit_status};

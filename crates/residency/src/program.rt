@@ -3,9 +3,9 @@
 ghost use Rattle.std.specs.Process.{exit_status as exit_status_in};
 ghost use Rattle.residency.specs.Program.{Ends, EndsWithin, EndsServingWithin};
 
-use crate::fault::ServeFault;
+use crate::fault::LimitsFault;
 use crate::serve::serve_within;
-use crate::status::exit_status;
+use crate::status::exit_status_within;
 use command_line::{Order, read_line};
 use match_model::Limits;
 use match_pool::OpenGate;
@@ -20,10 +20,10 @@ use std::thread::Threads;
 
 // Writes why there is no answer, or only a part of it. The text names these limits. No exit status depends on whether
 // this text could be written.
-fn tell<T: Eprint>(told: &T, limits: Limits, fault: &ServeFault) {
+fn tell<T: Eprint>(told: &T, limits: Limits, fault: &LimitsFault) {
     let _ = match fault {
-        ServeFault::Docket(fault) => eprintln!(told; "residency: {}", fault.within(limits)),
-        fault => eprintln!(told; "residency: {fault}"),
+        LimitsFault::Reading(fault) => eprintln!(told; "residency: {}", fault.within(limits)),
+        LimitsFault::Serving(fault) => eprintln!(told; "residency: {fault}"),
     };
 }
 
@@ -33,14 +33,14 @@ fn serve_and_tell<R, W, T, H>(
     alloc: Global,
     limits: Limits,
     order: &Order,
+    told: &T,
     reader: R,
     writer: &mut W,
-    told: &T,
 ) -> ExitCode
 where
+    T: Eprint,
     R: Read + Drop,
     W: Write,
-    T: Eprint,
     H: Threads + Wait + RandomSource + Sync + Send + Copy,
     ensures { EndsServingWithin limits order.now (R.remaining reader)
         (W.contents writer.old) (W.contents writer.new) (exit_status_in result) }
@@ -49,7 +49,7 @@ where
     if let Err(fault) = &answer {
         tell(told, limits, fault);
     }
-    ExitCode::from(exit_status(&answer))
+    ExitCode::from(exit_status_within(&answer))
 }
 
 /// Does what the words ask within the standard limits, over a reader and a writer, and returns the exit status.
@@ -99,7 +99,7 @@ where
         Err(fault) => return refuse(told, &fault),
     };
     match read_line(alloc, texts.as_slice()) {
-        Ok(order) => serve_and_tell(rt, alloc, limits, &order, reader, writer, told),
+        Ok(order) => serve_and_tell(rt, alloc, limits, &order, told, reader, writer),
         Err(fault) => refuse(told, &UsageFault::Line(fault)),
     }
 }

@@ -1,18 +1,18 @@
 //! The calls that read a docket's bytes and write an answer's bytes.
 ghost use Rattle.std.specs.Prelude.{◌≡◌, ◌≢◌, ℕ, List, Some, false, IfOk, IfErr, OnOk};
 ghost use Rattle.std.specs.List.{All};
-ghost use Rattle.row_writer.specs.RowText.{Adds, Writes};
+ghost use Rattle.records.specs.RowText.{Adds, Writes};
 ghost use Rattle.docket.specs.Whole.{IsSheetOf, NamesMembers, IsByWorker};
 ghost use Rattle.audit_text.specs.Serving.{IsWriteFault};
-ghost use Rattle.residency.specs.Serving.{WritesMatch, wanted_match, wanted_journal, WritesReport, WritesReplay, IsMatchFault, IsAuditFault, IsReplayFault, AreDocket, AreDocketWithin, IsFaultOf, IsFaultWithin, IsBeforeWriting, IsAnswerWithin};
+ghost use Rattle.residency.specs.Serving.{WritesMatch, wanted_match, wanted_journal, WritesReport, WritesReplay, IsMatchFault, IsAuditFault, IsReplayFault, AreDocket, IsFaultOf, IsBeforeWriting, IsAnswerWithin, IsOrderFault, Serves};
 
-use crate::fault::ServeFault;
+use crate::fault::{LimitsFault, ServeFault};
 use crate::spent::Spent;
 use crate::status::Status;
 use audit_text::{audit_docket, replay_docket};
 use command_line::{JournalForm, MatchOptions, Order};
 use docket::{
-    ByWorker, Docket, DocketFault, RowWriter, WriteFailed, push_journal, push_sheet,
+    ByWorker, Docket, DocketFault, RowWriter, WriteFailed, push_journal, push_sheet, read_docket,
     read_docket_within, room_for_rows,
 };
 use exchange_core::Event;
@@ -160,41 +160,6 @@ fn write_answer<W: Write>(
     }
 }
 
-// Does what `serve_match_within` promises. `spent` says what happens to the memory of the docket, the mailboxes and the
-// agents: it is freed, or left to the operating system.
-fn match_read<R, W, G, H>(
-    rt: H,
-    alloc: Global,
-    limits: Limits,
-    reader: R,
-    writer: &mut W,
-    options: &MatchOptions,
-    gate: &G,
-    spent: Spent,
-) -> Result<Status, ServeFault>
-where
-    R: Read + Drop,
-    W: Write,
-    G: Gate + Sync,
-    H: Threads + Wait + RandomSource + Sync + Send + Copy,
-    requires { G.MAY_STOP ≡ false }
-    ensures status { IfOk result (λ status. status ≡ Status.Closed) }
-    ensures text { OnOk result ((bytes : List ℕ)
-        → R.remaining reader ≡ Some bytes → AreDocketWithin limits (λ d.
-        WritesMatch d options.now (W.contents writer.old) (W.contents writer.new)) bytes) }
-    ensures fault { IfErr result (λ fault. (bytes : List ℕ) → R.remaining reader ≡ Some bytes
-        → IsFaultWithin limits (IsMatchFault options.now) bytes fault) }
-    ensures before { IfErr result (λ fault. IsBeforeWriting fault → writer.new ≡ writer.old) }
-{
-    let docket = match read_docket_within(&rt, alloc, limits, reader) {
-        Ok(docket) => docket,
-        Err(fault) => return Err(ServeFault::Docket(fault)),
-    };
-    let answer = match_docket(rt, alloc, &docket, writer, options, gate, spent);
-    spent.let_go(docket);
-    answer
-}
-
 /// Reads a docket within the standard limits, runs its exchange to the close by threads, and writes its sheet. If the
 /// options ask for the journal, the journal of this very run follows. The gate never stops a run.
 ///
@@ -221,43 +186,10 @@ where
         → R.remaining reader ≡ Some bytes → IsFaultOf (IsMatchFault options.now) bytes fault) }
     ensures before { IfErr result (λ fault. IsBeforeWriting fault → writer.new ≡ writer.old) }
 {
-    serve_match_within(rt, alloc, Limits::Standard, reader, writer, options, gate)
-}
-
-/// Does what `serve_match` does, but within these limits.
-pub fn serve_match_within<R, W, G, H>(
-    rt: H,
-    alloc: Global,
-    limits: Limits,
-    reader: R,
-    writer: &mut W,
-    options: &MatchOptions,
-    gate: &G,
-) -> Result<Status, ServeFault>
-where
-    R: Read + Drop,
-    W: Write,
-    G: Gate + Sync,
-    H: Threads + Wait + RandomSource + Sync + Send + Copy,
-    requires { G.MAY_STOP ≡ false }
-    ensures status { IfOk result (λ status. status ≡ Status.Closed) }
-    ensures text { OnOk result ((bytes : List ℕ)
-        → R.remaining reader ≡ Some bytes → AreDocketWithin limits (λ d.
-        WritesMatch d options.now (W.contents writer.old) (W.contents writer.new)) bytes) }
-    ensures fault { IfErr result (λ fault. (bytes : List ℕ) → R.remaining reader ≡ Some bytes
-        → IsFaultWithin limits (IsMatchFault options.now) bytes fault) }
-    ensures before { IfErr result (λ fault. IsBeforeWriting fault → writer.new ≡ writer.old) }
-{
-    match_read(
-        rt,
-        alloc,
-        limits,
-        reader,
-        writer,
-        options,
-        gate,
-        Spent::GivenBack,
-    )
+    match read_docket(&rt, alloc, reader) {
+        Ok(docket) => match_docket(rt, alloc, &docket, writer, options, gate, Spent::GivenBack),
+        Err(fault) => Err(ServeFault::Docket(fault)),
+    }
 }
 
 /// Reads a docket within the standard limits, and writes what keeps its sheet from being stable.
@@ -276,25 +208,7 @@ pub fn serve_audit<R: Read + Drop, W: Write, H: RandomSource>(
         → R.remaining reader ≡ Some bytes → IsFaultOf IsAuditFault bytes fault) }
     ensures before { IfErr result (λ fault. IsBeforeWriting fault → writer.new ≡ writer.old) }
 {
-    serve_audit_within(rt, alloc, Limits::Standard, reader, writer)
-}
-
-/// Does what `serve_audit` does, but within these limits.
-pub fn serve_audit_within<R: Read + Drop, W: Write, H: RandomSource>(
-    rt: &H,
-    alloc: Global,
-    limits: Limits,
-    reader: R,
-    writer: &mut W,
-) -> Result<Status, ServeFault>
-    ensures report { IfOk result (λ status. (bytes : List ℕ)
-        → R.remaining reader ≡ Some bytes → AreDocketWithin limits (λ d.
-        WritesReport d status (W.contents writer.old) (W.contents writer.new)) bytes) }
-    ensures fault { IfErr result (λ fault. (bytes : List ℕ)
-        → R.remaining reader ≡ Some bytes → IsFaultWithin limits IsAuditFault bytes fault) }
-    ensures before { IfErr result (λ fault. IsBeforeWriting fault → writer.new ≡ writer.old) }
-{
-    match read_docket_within(rt, alloc, limits, reader) {
+    match read_docket(rt, alloc, reader) {
         Ok(docket) => write_audit(alloc, &docket, writer),
         Err(fault) => Err(ServeFault::Docket(fault)),
     }
@@ -315,33 +229,54 @@ pub fn serve_replay<R: Read + Drop, W: Write, H: RandomSource>(
         → R.remaining reader ≡ Some bytes → IsFaultOf IsReplayFault bytes fault) }
     ensures before { IfErr result (λ fault. IsBeforeWriting fault → writer.new ≡ writer.old) }
 {
-    serve_replay_within(rt, alloc, Limits::Standard, reader, writer)
-}
-
-/// Does what `serve_replay` does, but within these limits.
-pub fn serve_replay_within<R: Read + Drop, W: Write, H: RandomSource>(
-    rt: &H,
-    alloc: Global,
-    limits: Limits,
-    reader: R,
-    writer: &mut W,
-) -> Result<Status, ServeFault>
-    ensures answer { IfOk result (λ status. (bytes : List ℕ)
-        → R.remaining reader ≡ Some bytes → AreDocketWithin limits (λ d.
-        WritesReplay d status (W.contents writer.old) (W.contents writer.new)) bytes) }
-    ensures fault { IfErr result (λ fault. (bytes : List ℕ)
-        → R.remaining reader ≡ Some bytes → IsFaultWithin limits IsReplayFault bytes fault) }
-    ensures before { IfErr result (λ fault. IsBeforeWriting fault → writer.new ≡ writer.old) }
-{
-    match read_docket_within(rt, alloc, limits, reader) {
+    match read_docket(rt, alloc, reader) {
         Ok(docket) => write_answer(alloc, &docket, writer),
         Err(fault) => Err(ServeFault::Docket(fault)),
     }
 }
 
-/// Does what a command line asks, within these limits, for a program that ends right afterwards. A match leaves its
-/// memory to the operating system instead of freeing it piece by piece, since that is faster. The gate never stops a
-/// run.
+// Does over a docket what a command line asks. A match leaves the memory of the mailboxes and the agents to the operating
+// system.
+fn serve_docket<W, G, H>(
+    rt: H,
+    alloc: Global,
+    order: &Order,
+    docket: &Docket,
+    writer: &mut W,
+    gate: &G,
+) -> Result<Status, ServeFault>
+where
+    H: Threads + Wait + Sync + Send + Copy,
+    G: Gate + Sync,
+    W: Write,
+    requires { G.MAY_STOP ≡ false }
+    ensures served { IfOk result (λ status. Serves order.now docket.now status
+        (W.contents writer.old) (W.contents writer.new)) }
+    ensures fault { IfErr result (IsOrderFault order.now docket.now) }
+    ensures before { IfErr result (λ fault. IsBeforeWriting fault → writer.new ≡ writer.old) }
+{
+    match order {
+        Order::Match(options) => {
+            let spent = Spent::LeftToTheSystem;
+            match_docket(rt, alloc, docket, writer, options, gate, spent)
+        }
+        Order::Audit => write_audit(alloc, docket, writer),
+        Order::Replay => write_answer(alloc, docket, writer),
+    }
+}
+
+// What becomes of the memory that an order took.
+fn spent_by(order: &Order) -> Spent {
+    match order {
+        Order::Match(_) => Spent::LeftToTheSystem,
+        Order::Audit | Order::Replay => Spent::GivenBack,
+    }
+}
+
+/// Does what a command line asks, within these limits, for a program that ends right afterwards. A match leaves its memory
+/// to the operating system instead of freeing it piece by piece, since that is faster. The gate never stops a run.
+// Its frame holds the reader's buffers: inlined they would stand on the stack of all that comes after.
+#[inline(never)]
 pub fn serve_within<R, W, G, H>(
     rt: H,
     alloc: Global,
@@ -350,7 +285,7 @@ pub fn serve_within<R, W, G, H>(
     reader: R,
     writer: &mut W,
     gate: &G,
-) -> Result<Status, ServeFault>
+) -> Result<Status, LimitsFault>
 where
     R: Read + Drop,
     W: Write,
@@ -361,20 +296,14 @@ where
         → R.remaining reader ≡ Some bytes → IsAnswerWithin limits order.now bytes
         (W.contents writer.old) (W.contents writer.new) result }
 {
-    match order {
-        Order::Match(options) => {
-            match_read(
-                rt,
-                alloc,
-                limits,
-                reader,
-                writer,
-                options,
-                gate,
-                Spent::LeftToTheSystem,
-            )
-        }
-        Order::Audit => serve_audit_within(&rt, alloc, limits, reader, writer),
-        Order::Replay => serve_replay_within(&rt, alloc, limits, reader, writer),
+    let docket = match read_docket_within(&rt, alloc, limits, reader) {
+        Ok(docket) => docket,
+        Err(fault) => return Err(LimitsFault::Reading(fault)),
+    };
+    let answer = serve_docket(rt, alloc, order, &docket, writer, gate);
+    spent_by(order).let_go(docket);
+    match answer {
+        Ok(status) => Ok(status),
+        Err(fault) => Err(LimitsFault::Serving(fault)),
     }
 }

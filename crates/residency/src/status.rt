@@ -1,9 +1,9 @@
 //! How a call ended, and the program's exit status for it.
 ghost use Rattle.std.specs.Prelude.{◌≡◌};
-ghost use Rattle.residency.specs.Status.{exit_status_of};
+ghost use Rattle.residency.specs.Status.{exit_status_of, exit_status_within_of, fault_status_of, status_of};
 
-use crate::fault::ServeFault;
-use program_shell::docket_status;
+use crate::fault::{LimitsFault, ServeFault};
+use program_shell::{docket_status, records_status};
 
 /// What a call found that wrote its whole answer.
 #[derive(Clone, Copy, Debug, PartialEq, Eq)]
@@ -35,15 +35,44 @@ impl From<audit_text::Status> for Status {
     }
 }
 
+// The exit status after an answer.
+fn status_code(status: Status) -> u8
+    ensures { result ≡ status_of status }
+{
+    match status {
+        Status::Closed | Status::Stable | Status::ReplayGood => 0,
+        Status::Unstable | Status::ReplayBad => 4,
+    }
+}
+
+// The exit status after a fault.
+fn fault_status(fault: &ServeFault) -> u8
+    ensures { result ≡ fault_status_of fault.now }
+{
+    match fault {
+        ServeFault::Docket(fault) => docket_status(fault),
+        ServeFault::Run(_) | ServeFault::Memory => 1,
+        ServeFault::NoSheet | ServeFault::NoJournal => 3,
+    }
+}
+
 /// The exit status of the program after a call.
 pub fn exit_status(answer: &Result<Status, ServeFault>) -> u8
     ensures { result ≡ exit_status_of answer.now }
 {
     match answer {
-        Ok(Status::Closed | Status::Stable | Status::ReplayGood) => 0,
-        Ok(Status::Unstable | Status::ReplayBad) => 4,
-        Err(ServeFault::Docket(fault)) => docket_status(fault),
-        Err(ServeFault::Run(_) | ServeFault::Memory) => 1,
-        Err(ServeFault::NoSheet | ServeFault::NoJournal) => 3,
+        Ok(status) => status_code(*status),
+        Err(fault) => fault_status(fault),
+    }
+}
+
+/// The exit status of the program after a call within limits.
+pub(crate) fn exit_status_within(answer: &Result<Status, LimitsFault>) -> u8
+    ensures { result ≡ exit_status_within_of answer.now }
+{
+    match answer {
+        Ok(status) => status_code(*status),
+        Err(LimitsFault::Reading(fault)) => records_status(fault),
+        Err(LimitsFault::Serving(fault)) => fault_status(fault),
     }
 }

@@ -16,7 +16,7 @@ fn main(rt: HostRuntime) -> ExitCode {
         rt,
         rt.alloc(),
         words(&rt),
-        rt.reader(),
+        &mut rt.reader(),
         &mut io::writer(&rt),
         &rt,
     )

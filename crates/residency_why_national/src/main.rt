@@ -18,7 +18,7 @@ fn main(rt: HostRuntime) -> ExitCode {
         rt.alloc(),
         Limits::National,
         words(&rt),
-        rt.reader(),
+        &mut rt.reader(),
         &mut io::writer(&rt),
         &rt,
     )

@@ -8,3 +8,4 @@ pub mod AllLevels
 pub mod Pushes
 pub mod Openings
 pub mod HashedBytes
+pub mod Counted

@@ -1,11 +1,11 @@
 //! The climb from a leaf to the root.
 
 ghost use Rattle.std.specs.Prelude.{◌≡◌, ◌↔◌, Some, IsTrue};
-ghost use Rattle.seal.specs.Tree.{climb};
+ghost use Rattle.seal.specs.Tree.{opened};
 
-use crate::hashes::node_of;
+use crate::hashes::{node_of, published};
 
-/// Whether the hash of a leaf climbs to this root by this path. The leaf stands at place `index` of a tree with `count`
+/// Whether the hash of a leaf opens this published root by this path. The leaf stands at place `index` of a tree with `count`
 /// leaves. The answer is false if the place is past the count, or if the path has a wrong length.
 pub fn opens(
     root: &[u8; 32],
@@ -14,7 +14,7 @@ pub fn opens(
     leaf: &[u8; 32],
     path: &[[u8; 32]],
 ) -> bool
-    ensures { IsTrue result ↔ (climb index count leaf.now path.now ≡ Some root.now) }
+    ensures { IsTrue result ↔ (opened index count leaf.now path.now ≡ Some root.now) }
 {
     if index >= count {
         return false;
@@ -40,5 +40,5 @@ pub fn opens(
         place /= 2;
         nodes = nodes / 2 + nodes % 2;
     }
-    used == path.len() && hash == *root
+    used == path.len() && published(count as u64, &hash) == *root
 }

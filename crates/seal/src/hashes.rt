@@ -6,6 +6,7 @@ ghost use Rattle.std.specs.Int.{w64, to_be_bytes};
 ghost use Rattle.sha2.specs.Sha256.{sha256};
 ghost use Rattle.seal.specs.Hashes.{node};
 ghost use Rattle.seal.specs.Hashes as hashes;
+ghost use Rattle.seal.specs.Tree.{seal_hash};
 
 use sha2::{Digest, Sha256};
 
@@ -39,5 +40,16 @@ pub(crate) fn node_of(left: &[u8; 32], right: &[u8; 32]) -> [u8; 32]
     hasher.update(&[1u8][..]);
     hasher.update(&left[..]);
     hasher.update(&right[..]);
+    hasher.finalize()
+}
+
+/// The published root of a tree with this many leaves: the digest of the byte 2, the count and the top of the tree.
+pub fn published(count: u64, top: &[u8; 32]) -> [u8; 32]
+    ensures { result ≡ seal_hash count top.now }
+{
+    let mut hasher = Sha256::new();
+    hasher.update(&[2u8][..]);
+    hasher.update(&count.to_be_bytes()[..]);
+    hasher.update(&top[..]);
     hasher.finalize()
 }

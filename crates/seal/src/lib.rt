@@ -8,7 +8,7 @@ mod levels;
 mod tree;
 
 pub use climb::opens;
-pub use hashes::{leaf_hash, salt};
+pub use hashes::{leaf_hash, published, salt};
 pub use laws::{law_complete, law_hashed_bytes, law_one_docket, law_one_leaf, law_receipt};
 pub use levels::root;
 pub use tree::Tree;

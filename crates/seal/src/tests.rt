@@ -1,7 +1,7 @@
 //! Tests with the published roots of RFC 9162's tree, with openings of small trees, and with a sealed docket whose
 //! roots were made by another program.
 
-use crate::{Tree, leaf_hash, opens, root, salt};
+use crate::{Tree, leaf_hash, opens, published, root, salt};
 use sha2::{Digest, Sha256};
 use std::alloc::Global;
 use std::process::Abort;
@@ -112,17 +112,18 @@ fn opens_each<R: Abort>(
 ) -> Result<(), Fail> {
     let top = root(alloc, hashes)?;
     assert_eq!(rt; shown(alloc, &top)?.as_str(), wanted);
+    let sealed = published(hashes.len() as u64, &top);
     let tree = Tree::new(alloc, hashes)?;
     assert_eq!(rt; tree.root(), top);
     for (index, hash) in hashes.iter().enumerate() {
         let mut path = tree.opening(alloc, index)?;
-        assert!(rt; opens(&top, hashes.len(), index, hash, &path));
-        assert!(rt; !opens(&top, hashes.len(), index + 1, hash, &path));
-        assert!(rt; !opens(&top, hashes.len(), index, &top, &path) || hashes.len() == 1);
+        assert!(rt; opens(&sealed, hashes.len(), index, hash, &path));
+        assert!(rt; !opens(&sealed, hashes.len(), index + 1, hash, &path));
+        assert!(rt; !opens(&sealed, hashes.len(), index, &top, &path) || hashes.len() == 1);
         path.push(top)?;
-        assert!(rt; !opens(&top, hashes.len(), index, hash, &path));
+        assert!(rt; !opens(&sealed, hashes.len(), index, hash, &path));
         if path.len() > 1 {
-            assert!(rt; !opens(&top, hashes.len(), index, hash, &path[1..]));
+            assert!(rt; !opens(&sealed, hashes.len(), index, hash, &path[1..]));
         }
     }
     Ok(())

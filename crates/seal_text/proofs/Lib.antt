@@ -7,12 +7,3 @@ pub mod ServeFacts
 pub mod ReadingFacts
 pub mod OpenFacts
 pub mod TextLaw
-pub mod FieldFacts
-pub mod DigitFacts
-pub mod OpeningFacts
-pub mod PointFacts
-pub mod CheckFacts
-pub mod FaultFacts
-pub mod ListFacts
-pub mod CutFacts
-pub mod GoodFacts

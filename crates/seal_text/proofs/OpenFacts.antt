@@ -1,9 +1,9 @@
 -- Why the opening in a receipt climbs to the receipt's root: it is the path that the tree makes for that leaf.
-use Rattle.std.proofs.Common.{◌≡◌, ℕ, zero, suc, ◌+◌, List, [], ◌∷◌, Some, slice_get, ap, ◌∙◌, subst, arith, zero-add}
+use Rattle.std.proofs.Common.{◌≡◌, ℕ, zero, suc, ◌+◌, List, [], ◌∷◌, Some, length, slice_get, ap, ◌∙◌, subst, arith, zero-add}
 use Rattle.std.specs.Prelude.{option_map}
 use Rattle.std.proofs.lemmas.Option.{slice_get-map}
 use Rattle.seal.specs.Hashes.{leaf_hash}
-use Rattle.seal.specs.Tree.{root, climb, path_of}
+use Rattle.seal.specs.Tree.{root, climb, path_of, seal_hash}
 use Rattle.seal.proofs.Climbs.{complete}
 use Rattle.seal_text.specs.Laws.{ReceiptOpensLaw}
 use Rattle.seal_text.specs.Sealed.{leaf_of, leaves_from, hashes_of}
@@ -28,4 +28,5 @@ receipt_opens secret section texts i text e =
     let leaf : slice_get leaves i ≡ Some (leaf_of secret section i text) = leaf_there secret section 0 texts i text e ∙ ap (λ k. Some (leaf_of secret section k text)) (zero-add i) in
     let hash : slice_get (hashes_of secret section texts) i ≡ Some (leaf_hash (leaf_of secret section i text)) = slice_get-map leaf_hash leaves i ∙ ap (option_map leaf_hash) leaf in
     let P : ℕ → Type 0 = λ n. climb i n (leaf_hash (leaf_of secret section i text)) (path_of i (hashes_of secret section texts)) ≡ Some (root (hashes_of secret section texts)) in
-    subst P (length-hashes_of secret section texts) (complete (hashes_of secret section texts) i (leaf_hash (leaf_of secret section i text)) hash)
+    ap (option_map (seal_hash (length texts)))
+    (subst P (length-hashes_of secret section texts) (complete (hashes_of secret section texts) i (leaf_hash (leaf_of secret section i text)) hash))

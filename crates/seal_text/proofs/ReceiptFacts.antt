@@ -5,8 +5,8 @@ use Rattle.std.specs.Global.{Vec}
 use Rattle.std.proofs.lemmas.List.{length-map, get_or-map}
 use Rattle.records.specs.Lines.{Grows}
 use Rattle.records.proofs.LineFacts.{grows_both}
-use Rattle.row_writer.specs.RowText.{row}
-use Rattle.seal.specs.Tree.{root, path_of}
+use Rattle.records.specs.RowText.{row}
+use Rattle.seal.specs.Tree.{root, path_of, seal_hash}
 use Rattle.seal_text.specs.Sealed.{hashes_of, opening_row, part_text, receipt_text, result_text_if, root_row, root_row_of, salt_of}
 use Rattle.seal_text.specs.Grown.{IsGrown, texts_in, texts_of}
 use Rattle.seal_text.specs.declared.grown.Grown.{Grown}
@@ -21,10 +21,11 @@ grows_six a b c d e f g u v w x y z h k l m n o = grows_three a b c g u v _ h k 
 
 -- the row of a tree's root is that over its texts
 pub root_row_same : (secret : List ℕ) (grown : Grown) → IsGrown secret grown
-    → root_row grown.section (length grown.texts.items) (root grown.tree) ≡ root_row_of secret grown.section (texts_in grown)
+    → root_row grown.section (length grown.texts.items) (seal_hash (length grown.texts.items) (root grown.tree)) ≡ root_row_of secret grown.section (texts_in grown)
 root_row_same secret grown h =
     let many : length (texts_in grown) ≡ length grown.texts.items = length-map grown.texts.items (λ (text : Vec ℕ). text.items) in
-    ap (root_row grown.section (length grown.texts.items)) (ap root h) ∙ ap (λ n. root_row grown.section n (root (hashes_of secret grown.section (texts_in grown)))) (sym many)
+    ap (λ (top : List ℕ). root_row grown.section (length grown.texts.items) (seal_hash (length grown.texts.items) top)) (ap root h)
+    ∙ ap (λ n. root_row grown.section n (seal_hash n (root (hashes_of secret grown.section (texts_in grown))))) (sym many)
 
 -- one leaf for each text
 pub leaves_counted : (secret : List ℕ) (grown : Grown) → IsGrown secret grown → length grown.tree ≡ length grown.texts.items
@@ -34,7 +35,7 @@ leaves_counted secret grown h =
 -- what a receipt has of a tree: its root's row, the opening's row and the leaf's text
 pub part_made : (secret : List ℕ) (grown : Grown) (i : ℕ) (salt text : List ℕ) (path : List (List ℕ)) (a b c d : Vec ℕ) → IsGrown secret grown
     → salt ≡ salt_of secret grown.section i → path ≡ path_of i grown.tree → text ≡ get_or (texts_in grown) i []
-    → Grows a b (root_row grown.section (length grown.texts.items) (root grown.tree)) → Grows b c (opening_row grown.section i salt path) → Grows c d text
+    → Grows a b (root_row grown.section (length grown.texts.items) (seal_hash (length grown.texts.items) (root grown.tree))) → Grows b c (opening_row grown.section i salt path) → Grows c d text
     → Grows a d (part_text secret grown.section (texts_in grown) i)
 unfolding part_text
 part_made secret grown i salt text path a b c d h s p t first second third =
@@ -47,7 +48,7 @@ text_there texts i text within here = ap (λ (v : Vec ℕ). v.items) here ∙ sy
 
 -- a receipt: the row that names the member, the first row, and what it has of each tree
 pub receipt_made : (secret kind name : List ℕ) (lists : List (List ℕ)) (results : Option (List (List ℕ))) (i : ℕ) (a b c d e : Vec ℕ)
-    → Grows a b (row (codes "member" ∷ kind ∷ name ∷ [])) → Grows b c (row (codes "receipt" ∷ codes "1" ∷ kind ∷ name ∷ []))
+    → Grows a b (row (codes "member" ∷ kind ∷ name ∷ [])) → Grows b c (row (codes "receipt" ∷ codes "2" ∷ kind ∷ name ∷ []))
     → Grows c d (part_text secret Lists lists i) → Grows d e (result_text_if secret results i) → Grows a e (receipt_text secret kind name lists results i)
 unfolding receipt_text
 receipt_made secret kind name lists results i a b c d e h k l m = grows_both a b e _ _ h (grows_three b c d e _ _ _ k l m)

@@ -1,29 +1,21 @@
 -- Records that are kept one after another.
-use Rattle.std.proofs.Common.{◌≡◌, ℕ, ◌+◌, ◌<◌, List, [], ◌∷◌, ◌++◌, Bool, true, false, length, find, take, drop, drop-cons, get_or, refl, sym, ap, ◌∙◌, append-nil, append_assoc, arith, Option, Some, None}
+use Rattle.std.proofs.Common.{◌≡◌, ℕ, ◌+◌, ◌<◌, List, [], ◌∷◌, ◌++◌, Bool, true, false, length, find, take, drop, drop-cons, get_or, refl, sym, ap, ◌∙◌, append-nil, Option, Some, None}
 use Rattle.std.specs.Prelude.{codes, bytes_eq}
-use Rattle.std.proofs.lemmas.List.{map_push, length-map, get_or-map, take_more, take-append-drop}
+use Rattle.std.proofs.lemmas.List.{map_push, get_or-map, take_more, take-append-drop}
 use Rattle.std.proofs.lemmas.List.Folds.{find-append}
 use Rattle.std.proofs.lemmas.Slice.Eq.{bytes_eq-Decides}
 use Rattle.std.proofs.lemmas.List.Elements.{filter-append}
 use Rattle.csv.specs.Records.{Row, fields_of}
 use Rattle.csv.specs.declared.reader.Reader.{Reader}
-use Rattle.docket.specs.Fields.{field}
-use Rattle.records.specs.Reading.{Fields}
-use Rattle.records.specs.Lines.{line, lines}
-use Rattle.records.proofs.RoundFacts.{lines-append}
-use Rattle.records.specs.Reading.{IsReading, IsSplit, GivesRow}
-use Rattle.seal_text.specs.Records.{AreListsIn, AreListsOf, AreRowsIn, Keeps, rows_in}
+use Rattle.records.specs.Reading.{Fields, field}
+use Rattle.records.specs.Reading.{IsSource, IsSplit, GivesRow}
+use Rattle.seal_text.specs.Records.{AreListsIn, AreListsOf, Keeps, rows_in}
 use Rattle.seal_text.specs.Texts.{records_of}
 use Rattle.seal_text.specs.declared.rows.ListRecords.{ListRecords}
 
--- what holds after each record that was read
-pub record HasRows {R : Type 0} (all left : Option (List Fields)) (reader : Reader R) (records : List Row) : Type 0 where
-  pub reading : IsReading reader
-  pub split : IsSplit all (rows_in records) left
-
 -- what holds after each record whose list was kept
 pub record HasLists {R : Type 0} (all left : Option (List Fields)) (reader : Reader R) (lists : ListRecords) : Type 0 where
-  pub reading : IsReading reader
+  pub reading : IsSource reader
   pub done : List Fields
   pub kept : AreListsOf done lists
   pub split : IsSplit all done left
@@ -37,11 +29,6 @@ all_rows (Some all) done (Some l) after row s g rows e =
     let same : l ≡ s.0 = cc s.1 in
     let it : rows ≡ all = cc e in
     it ∙ s.2 ∙ ap (λ (r : List Fields). done ++ r) (sym same ∙ g) ∙ append-nil done
-
-pub rows_ended : (all : Option (List Fields)) (records : List Row) (left after : Option (List Fields)) (row : Fields) → IsSplit all (rows_in records) left
-    → GivesRow left after false row → AreRowsIn all records
-rows_ended None records left after row s g = tt
-rows_ended (Some rows) records left after row s g = sym (all_rows (Some rows) (rows_in records) left after row s g rows refl)
 
 pub lists_ended : (all : Option (List Fields)) (done : List Fields) (lists : ListRecords) (left after : Option (List Fields)) (row : Fields) → IsSplit all done left
     → GivesRow left after false row → AreListsOf done lists → AreListsIn all lists
@@ -80,25 +67,6 @@ find_here p rows k d l none is_so =
 -- the fields of the record at a place
 pub row_there : (records : List Row) (k : ℕ) (r : Row) (d : Fields) → k < length records → r ≡ get_or records k r → get_or (rows_in records) k d ≡ fields_of r
 row_there records k r d l here = get_or-map fields_of records k r d l ∙ ap fields_of (sym here)
-
--- the lines of the first records, and of one more
-pub lines_next : (rows : List Fields) (k : ℕ) (d : Fields) → k < length rows → lines (take (k + 1) rows) ≡ lines (take k rows) ++ line (get_or rows k d)
-unfolding lines
-lines_next rows k d l =
-    ap lines (take_more rows k d l) ∙ lines-append (take k rows) (get_or rows k d ∷ []) ∙ ap (λ (t : List ℕ). lines (take k rows) ++ t) (append-nil (line (get_or rows k d)))
-
-pub no_lines : lines [] ≡ []
-unfolding lines
-no_lines = refl
-
--- a text grew by the lines of the first records, and of one more
-pub lines_more_of : (records : List Row) (k : ℕ) (r : Row) (start old new : List ℕ) → k < length records → r ≡ get_or records k r
-    → old ≡ start ++ lines (take k (rows_in records)) → new ≡ old ++ line (fields_of r) → new ≡ start ++ lines (take (k + 1) (rows_in records))
-lines_more_of records k r start old new l here o n =
-    let within : k < length (rows_in records) = omega (arith, l, length-map records fields_of) in
-    let there : get_or (rows_in records) k (fields_of r) ≡ fields_of r = row_there records k r (fields_of r) l here in
-    n ∙ ap (λ (t : List ℕ). t ++ line (fields_of r)) o ∙ append_assoc start (lines (take k (rows_in records))) (line (fields_of r))
-    ∙ ap (λ (t : List ℕ). start ++ t) (ap (λ (x : Fields). lines (take k (rows_in records)) ++ line x) (sym there) ∙ sym (lines_next (rows_in records) k (fields_of r) within))
 
 -- a record of a programme's list was kept
 pub kept_programme : (old new : ListRecords) (row : Row) → bytes_eq (field (fields_of row) 0) (codes "P") ≡ true → new.programmes.items ≡ old.programmes.items ++ row ∷ []

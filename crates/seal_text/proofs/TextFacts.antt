@@ -5,15 +5,14 @@ use Rattle.std.specs.Global.{Vec}
 use Rattle.std.specs.Io.KnownBytes.{Appends}
 use Rattle.std.proofs.lemmas.List.{length_push}
 use Rattle.match_model.proofs.Prefixes.{slice_get_push_parts}
-use Rattle.row_writer.specs.RowText.{Adds, Writes}
-use Rattle.row_writer.specs.declared.writer.RowWriter.{RowWriter}
-use Rattle.row_writer.proofs.RowTextFacts.{adds_both, adds_none, sent}
+use Rattle.records.specs.RowText.{Adds, Writes}
+use Rattle.records.specs.declared.writer.RowWriter.{RowWriter}
+use Rattle.records.proofs.RowTextFacts.{adds_both, adds_none, sent}
 use Rattle.match_model.specs.Placement.{holds, member_count, programme_of}
 use Rattle.docket.specs.Contents.{Contents}
-use Rattle.docket.specs.Fields.{field}
 use Rattle.docket.specs.Texts.{mark_row, programme_name, programme_row, resident_name}
 use Rattle.records.specs.Lines.{Grows}
-use Rattle.records.specs.Reading.{Fields}
+use Rattle.records.specs.Reading.{Fields, field}
 use Rattle.records.proofs.LineFacts.{grows_both}
 use Rattle.match_model.specs.Instance.{is_withdrawn, quota}
 use Rattle.reasons_text.specs.Texts.{AppendsText}

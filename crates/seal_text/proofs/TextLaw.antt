@@ -8,12 +8,11 @@ use Rattle.std.proofs.lemmas.Slice.Eq.{bytes_eq-Decides}
 use Rattle.std.specs.Prelude.{if◌then◌else◌, codes, decimal, bytes_eq}
 use Rattle.csv.specs.Records.{field_at}
 use Rattle.csv.specs.Writing.{default_writer, escaped, field_text, fields_text, is_blank}
-use Rattle.row_writer.specs.RowText.{row, row_setup}
+use Rattle.records.specs.RowText.{row, row_setup}
 use Rattle.docket.specs.Contents.{Contents}
-use Rattle.docket.specs.Fields.{field}
 use Rattle.docket.specs.Texts.{programme_name, resident_name}
 use Rattle.match_model.specs.Instance.{is_withdrawn, quota}
-use Rattle.records.specs.Reading.{Fields, rows_of}
+use Rattle.records.specs.Reading.{Fields, rows_of, field}
 use Rattle.records.specs.Lines.{line, lines}
 use Rattle.records.proofs.RoundFacts.{AreLettered, IsLettered, both_lettered, lines_round, lines-append}
 use Rattle.seal_text.specs.Laws.{SameTextsLaw, IsOneProgramme, IsOneResident}

@@ -6,7 +6,7 @@ use Rattle.docket.specs.Texts.{programme_name}
 use Rattle.records.specs.Reading.{Fields}
 use Rattle.seal_text.specs.Texts.{list_of_programme, lists_texts, records_of}
 use Rattle.seal.specs.Hashes.{leaf_hash}
-use Rattle.seal.specs.Tree.{root, climb, path_of}
+use Rattle.seal.specs.Tree.{root, opened, path_of, seal_hash}
 use Rattle.seal_text.specs.Sealed.{leaf_of, hashes_of}
 use Rattle.seal_text.specs.declared.leaves.Section.{Section}
 
@@ -14,7 +14,8 @@ use Rattle.seal_text.specs.declared.leaves.Section.{Section}
 abbrev pub ReceiptOpensLaw : Type 0
 ReceiptOpensLaw =
     (secret : List ℕ) (section : Section) (texts : List (List ℕ)) (i : ℕ) (text : List ℕ) → slice_get texts i ≡ Some text →
-    climb i (length texts) (leaf_hash (leaf_of secret section i text)) (path_of i (hashes_of secret section texts)) ≡ Some (root (hashes_of secret section texts))
+    opened i (length texts) (leaf_hash (leaf_of secret section i text)) (path_of i (hashes_of secret section texts))
+    ≡ Some (seal_hash (length texts) (root (hashes_of secret section texts)))
 
 -- programme p has one name, quota and list in two dockets, and is withdrawn from both or neither
 pub record IsOneProgramme (d d' : Contents) (rows rows' : List Fields) (p : ℕ) : Type 0 where

@@ -5,7 +5,6 @@ pub mod Sealed
 pub mod Grown
 pub mod Serving
 pub mod Laws
-pub mod Digits
-pub mod Receipt
-pub mod Cut
-pub mod Reasons
+pub mod Status
+pub mod Line
+pub mod Program

@@ -19,11 +19,6 @@ abbrev pub AreListsIn : Option (List Fields) → ListRecords → Type 0
 AreListsIn None lists = ⊤
 AreListsIn (Some rows) lists = AreListsOf rows lists
 
--- if the rows are known, these are the records
-abbrev pub AreRowsIn : Option (List Fields) → List Row → Type 0
-AreRowsIn None records = ⊤
-AreRowsIn (Some rows) records = rows_in records ≡ rows
-
 -- a record was kept, if the record is a rank list
 pub record Keeps (old new : ListRecords) (row : Fields) : Type 0 where
   pub programmes : rows_in new.programmes.items ≡ rows_in old.programmes.items ++ records_of (codes "P") (row ∷ [])

@@ -4,11 +4,11 @@ use Rattle.std.specs.Int.{w64, to_be_bytes}
 use Rattle.std.specs.List.{flat_map, range_with_len}
 use Rattle.sha2.specs.Sha256.{sha256}
 use Rattle.hex.specs.Hex.{encode_lower}
-use Rattle.row_writer.specs.RowText.{row}
+use Rattle.records.specs.RowText.{row}
 use Rattle.docket.specs.Contents.{Contents}
 use Rattle.docket.specs.Texts.{programme_name, resident_name}
 use Rattle.seal.specs.Hashes.{Leaf}
-use Rattle.seal.specs.Tree.{root, path_of, leaf_hashes}
+use Rattle.seal.specs.Tree.{root, path_of, leaf_hashes, seal_hash}
 use Rattle.seal_text.specs.declared.leaves.Section.{Section}
 use Rattle.seal_text.specs.declared.leaves.Section.TheVariants.{Lists, Outcome}
 
@@ -39,13 +39,13 @@ leaves_from secret section i (text ∷ texts) = leaf_of secret section i text �
 abbrev pub hashes_of : List ℕ → Section → List (List ℕ) → List (List ℕ)
 hashes_of secret section texts = leaf_hashes (leaves_from secret section 0 texts)
 
--- the row of a root: the tree, how many leaves it has, and the root's digits
+-- the row of a published root: the tree, how many leaves it has, and the root's digits
 abbrev pub root_row : Section → ℕ → List ℕ → List ℕ
 root_row section count top = row (word_of section ∷ decimal count ∷ encode_lower top ∷ [])
 
 -- the row of the root over these texts
 abbrev pub root_row_of : List ℕ → Section → List (List ℕ) → List ℕ
-root_row_of secret section texts = root_row section (length texts) (root (hashes_of secret section texts))
+root_row_of secret section texts = root_row section (length texts) (seal_hash (length texts) (root (hashes_of secret section texts)))
 
 -- a comma and a digest's digits
 abbrev pub digest_field : List ℕ → List ℕ
@@ -76,7 +76,7 @@ result_text_if secret (Some texts) i = part_text secret Outcome texts i
 unfoldable pub receipt_text : List ℕ → List ℕ → List ℕ → List (List ℕ) → Option (List (List ℕ)) → ℕ → List ℕ
 receipt_text secret kind name lists results i =
     row (codes "member" ∷ kind ∷ name ∷ [])
-    ++ (row (codes "receipt" ∷ codes "1" ∷ kind ∷ name ∷ [])
+    ++ (row (codes "receipt" ∷ codes "2" ∷ kind ∷ name ∷ [])
     ++ (part_text secret Lists lists i ++ result_text_if secret results i))
 
 -- the receipt of programme p, which stands at its number in the trees

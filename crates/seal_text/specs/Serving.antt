@@ -1,6 +1,7 @@
 -- What the program writes about a docket, a sheet and a secret.
-use Rattle.std.specs.Prelude.{◌≡◌, ◌⊎◌, ℕ, Option, Some, None, Ok, Err, List, []}
+use Rattle.std.specs.Prelude.{◌≡◌, ◌⊎◌, ℕ, Bool, true, false, Option, Some, None, Ok, Err, List, []}
 use Rattle.match_model.specs.Written.{written_of}
+use Rattle.settle_law.specs.Stable.{IsStable}
 use Rattle.docket.specs.Contents.{draft_of}
 use Rattle.docket.specs.Parts.{rows_of_all}
 use Rattle.records.specs.Reading.{rows_of}
@@ -13,7 +14,7 @@ use Rattle.seal_text.specs.Secret.{secret_of}
 use Rattle.seal_text.specs.Texts.{lists_texts, AreResultTexts}
 use Rattle.seal_text.specs.Sealed.{roots_text, receipts_text}
 use Rattle.seal_text.specs.declared.fault.SealFault.{SealFault}
-use Rattle.seal_text.specs.declared.fault.SealFault.TheVariants.{Secret, Files}
+use Rattle.seal_text.specs.declared.fault.SealFault.TheVariants.{Secret, Files, Unstable}
 use Rattle.seal_text.specs.declared.serve.Wanted.{Wanted}
 use Rattle.seal_text.specs.declared.serve.Wanted.TheVariants.{Roots, Receipts}
 
@@ -34,10 +35,27 @@ pub record IsEarlyText (wanted : Wanted) (docket secret text : List ℕ) : Type 
   pub read : IsDocketIn docket [] [] d
   pub text_is : text ≡ text_of wanted secret d (lists_texts d (rows_of docket)) None
 
--- the text to write for a docket and its sheet
+-- whether what is wanted is told of the case: receipts are told of a stable sheet alone
+abbrev pub IsTold : Wanted → CaseParts → Bool → Type 0
+IsTold wanted c true = wanted ≡ Receipts → IsStable c.docket.instance c.sheet
+IsTold wanted c false = (wanted ≡ Receipts) × ¬ IsStable c.docket.instance c.sheet
+
+-- receipts are wanted, and the files give a docket and a sheet that isn't stable
+pub record IsUnstable (wanted : Wanted) (docket sheet : List ℕ) : Type 0 where
+  pub c : CaseParts
+  pub read : IsCaseIn docket sheet c
+  pub untold : IsTold wanted c false
+
+-- receipts are wanted, and the sheet, if there is one, isn't stable
+abbrev pub IsUnfit : Wanted → List ℕ → Option (List ℕ) → Type 0
+IsUnfit wanted docket None = ⊥
+IsUnfit wanted docket (Some sheet) = IsUnstable wanted docket sheet
+
+-- the text to write for a docket and its sheet, which is stable if receipts are wanted
 pub record IsFullText (wanted : Wanted) (docket sheet secret text : List ℕ) : Type 0 where
   pub c : CaseParts
   pub read : IsCaseIn docket sheet c
+  pub stable : wanted ≡ Receipts → IsStable c.docket.instance c.sheet
   pub results : List (List ℕ)
   pub are_results : AreResultTexts c results
   pub text_is : text ≡ text_of wanted secret c.docket (lists_texts c.docket (rows_of docket)) (Some results)
@@ -68,7 +86,9 @@ abbrev pub IsFilesFault : List ℕ → Option (List ℕ) → FilesFault → Type
 IsFilesFault docket None fault = IsReadingFault docket [] [] fault
 IsFilesFault docket (Some sheet) fault = IsCaseFault docket sheet fault
 
--- why nothing was written: the first file has no secret, the files are at fault, or the writer failed
-abbrev pub IsSealFault : List ℕ → Option (List ℕ) → List ℕ → SealFault → Type 0
-IsSealFault docket sheet secret_text (Secret fault) = secret_of secret_text ≡ Err fault
-IsSealFault docket sheet secret_text (Files fault) = (fault ≡ files.Write) ⊎ IsFilesFault docket sheet fault
+-- why nothing was written: the first file has no secret, the files are at fault, the writer failed, or receipts are wanted
+-- of a sheet that isn't stable
+abbrev pub IsSealFault : Wanted → List ℕ → Option (List ℕ) → List ℕ → SealFault → Type 0
+IsSealFault wanted docket sheet secret_text (Secret fault) = secret_of secret_text ≡ Err fault
+IsSealFault wanted docket sheet secret_text (Files fault) = (fault ≡ files.Write) ⊎ IsFilesFault docket sheet fault
+IsSealFault wanted docket sheet secret_text Unstable = IsUnfit wanted docket sheet

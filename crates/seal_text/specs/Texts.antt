@@ -3,13 +3,12 @@ use Rattle.std.specs.Prelude.{◌≡◌, ℕ, Bool, if◌then◌else◌, Option,
 use Rattle.std.specs.List.{flat_map, range_with_len}
 use Rattle.match_model.specs.Instance.{is_withdrawn, quota}
 use Rattle.match_model.specs.Placement.{holds, programme_of}
-use Rattle.row_writer.specs.RowText.{Adds, row}
-use Rattle.row_writer.specs.declared.writer.RowWriter.{RowWriter}
+use Rattle.records.specs.RowText.{Adds, row}
+use Rattle.records.specs.declared.writer.RowWriter.{RowWriter}
 use Rattle.docket.specs.Contents.{Contents}
-use Rattle.docket.specs.Fields.{field}
 use Rattle.docket.specs.Whole.{IsSheetOf, IsWhole}
 use Rattle.docket.specs.Texts.{programme_name, resident_name, filled_row, mark_row, resident_row}
-use Rattle.records.specs.Reading.{Fields}
+use Rattle.records.specs.Reading.{Fields, field}
 use Rattle.records.specs.Lines.{line}
 use Rattle.reasons_text.specs.Answers.{CaseParts}
 use Rattle.reasons_text.specs.Naming.{own_names}

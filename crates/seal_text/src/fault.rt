@@ -23,4 +23,7 @@ pub enum SealFault {
     /// The docket's or the sheet's file is at fault, or memory or the writer failed.
     #[error(transparent)]
     Files(FilesFault),
+    /// Receipts were wanted, and the sheet isn't stable. What a receipt of it says would not hold.
+    #[error("the sheet is not stable, so no receipts are made of it: residency-audit tells why")]
+    Unstable,
 }

@@ -2,7 +2,7 @@
 ghost use Rattle.std.specs.Prelude.{◌≡◌, OnOk, decimal, map};
 ghost use Rattle.std.specs.Io.KnownBytes.{Appends};
 ghost use Rattle.records.specs.Lines.{Grows};
-ghost use Rattle.row_writer.specs.RowText.{row};
+ghost use Rattle.records.specs.RowText.{row};
 ghost use Rattle.seal_text.specs.Sealed.{digest_field};
 
 use docket::{DocketFault, RowWriter, room_for_rows};

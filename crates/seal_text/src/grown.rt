@@ -7,7 +7,7 @@ ghost use Rattle.seal_text.specs.Grown.{IsGrown, texts_in};
 
 use crate::grow::{put, put_digest, put_number, put_row};
 use crate::leaves::{Section, leaf_hashes};
-use seal::{Tree, salt};
+use seal::{Tree, published, salt};
 use std::alloc::{AllocError, Global};
 
 /// A tree with the texts of its leaves.
@@ -21,7 +21,7 @@ pub(crate) struct Grown {
     pub(crate) tree: Tree,
 }
 
-// Adds the row of a root.
+// Adds the row of a published root.
 fn put_root_row(
     alloc: Global,
     text: &mut Vec<u8>,
@@ -97,9 +97,10 @@ impl Grown {
     /// Adds the row of its root.
     pub(crate) fn put_root(&self, alloc: Global, text: &mut Vec<u8>) -> Result<(), AllocError>
         ensures { OnOk result (Grows text.old text.new
-            (root_row self.now.section (length self.now.texts.items) (tree.root self.now.tree))) }
+            (root_row self.now.section (length self.now.texts.items)
+            (tree.seal_hash (length self.now.texts.items) (tree.root self.now.tree)))) }
     {
-        let root = self.tree.root();
+        let root = published(self.texts.len() as u64, &self.tree.root());
         put_root_row(alloc, text, self.section, self.texts.len(), &root)
     }
 

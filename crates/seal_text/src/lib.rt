@@ -1,36 +1,28 @@
-//! Sealing a docket: the roots of its lists and of its result, each member's receipt, and the check of a receipt.
+//! Sealing a docket: the roots of its lists and of its result, and each member's receipt; and the program, which also checks
+//! a receipt.
 //!
 //! The program is `seal_words`, over the words and the streams that it is given. What the files give no contract can say, so
 //! the work is over their bytes.
 #![tactic(auto)]
 
-mod digits;
 mod fault;
 mod grow;
 mod grown;
 mod laws;
 mod leaves;
 mod line;
-mod load;
-mod opening;
-mod points;
 mod program;
 mod reading;
-mod reasons;
-mod receipt;
 mod receipts;
 mod rows;
 mod secret;
 mod serve;
 mod status;
 mod texts;
-mod told;
-mod wrong;
 
 pub use fault::{SealFault, SecretFault};
 pub use laws::{law_receipt_opens, law_same_texts};
+pub use line::{Order, Roots, Sources};
 pub use program::seal_words;
-pub use receipt::serve_receipt;
 pub use secret::read_secret;
-pub use serve::{serve_receipts, serve_seal};
-pub use wrong::{ReceiptFault, Wrong};
+pub use serve::{Wanted, serve_receipts, serve_seal};

@@ -1,5 +1,11 @@
 //! The command line.
+ghost use Rattle.std.specs.Prelude.{◌≡◌, IfErr, IfOk, IfSome, None, Some, codes, map, true, false};
+ghost use Rattle.clap.specs.Words.{HasKind, app_of, fault_of, first_of, found_of, new_app, rows_of, rule_of, subcommand_of, subcommand_rows_of, with_subcommand};
+ghost use Rattle.clap.specs.declared.error.kind.ErrorKind.TheVariants.{MissingSubcommand};
+ghost use Rattle.program_shell.specs.Faults.{IsErrorOf};
+ghost use Rattle.seal_text.specs.Line.{GivesFiles, GivesRoots, IsOrdered, OrdersNothing, OrdersSeal, RefusesSeal, bare_app, checking_app, option_rule, seal_app, sealing_app, sealing_word};
 
+use crate::serve::Wanted;
 use clap::error::ErrorKind;
 use clap::{Arg, ArgMatches, Command};
 use program_shell::{LineFault, line_fault};
@@ -23,10 +29,11 @@ Example: residency-seal root --secret secret.txt --sheet sheet.csv < docket.csv"
 const RECEIPTS_HELP: &str =
     "Reads what residency-seal root reads. Writes the receipt of each member, the programmes and then the
 residents, in the docket's order. A row member,P,NAME or member,R,NAME stands before each receipt, and
-is no part of it. With a sheet each receipt has the result too.
+is no part of it. With a sheet each receipt has the result too, and the sheet has to be stable.
 
 Exit status: 0 for receipts; 1 where memory, reading or writing failed; 2 for a wrong command line; 3
-for a file at fault, whose record is named on standard error, and for a text that is no secret.
+for a file at fault, whose record is named on standard error, for a text that is no secret, and for a
+sheet that isn't stable.
 
 Example: residency-seal receipts --secret secret.txt < docket.csv > receipts.csv";
 
@@ -35,36 +42,35 @@ const CHECK_HELP: &str =
 digits each. They are never taken from the receipt.
 Writes what the receipt shows: the list as it was sealed, the result, and the reason of each choice.
 
-Exit status: 0 for a good receipt; 4 for another, and the first row with which something is wrong is
-named on standard error; 1 where memory, reading or writing failed; 2 for a wrong command line.
+Exit status: 0 for a receipt that holds; 3 for a file that isn't as it was given, and 4 for a wrong
+receipt: the first row with which something is wrong is named on standard error; 1 where memory,
+reading or writing failed; 2 for a wrong command line.
 
 Example: residency-seal check --lists ROOT --result ROOT < receipt.csv";
 
 /// The files that are sealed beside the docket.
 #[derive(Clone, Copy, Debug, PartialEq, Eq)]
-pub(crate) struct Files<'a> {
+pub struct Sources<'a> {
     /// The secret's file.
-    pub(crate) secret: &'a str,
+    pub secret: &'a str,
     /// The sheet's file, if there is one.
-    pub(crate) sheet: Option<&'a str>,
+    pub sheet: Option<&'a str>,
 }
 
-/// The roots that were published.
+/// The digits of the roots that were published.
 #[derive(Clone, Copy, Debug, PartialEq, Eq)]
-pub(crate) struct Roots<'a> {
+pub struct Roots<'a> {
     /// The root of the lists.
-    pub(crate) lists: &'a str,
+    pub lists: &'a str,
     /// The root of the result, if there is one.
-    pub(crate) result: Option<&'a str>,
+    pub outcome: Option<&'a str>,
 }
 
 /// What the words order.
 #[derive(Clone, Copy, Debug, PartialEq, Eq)]
-pub(crate) enum Order<'a> {
-    /// The roots of a docket.
-    Root(Files<'a>),
-    /// The receipts of a docket's members.
-    Receipts(Files<'a>),
+pub enum Order<'a> {
+    /// What is sealed: the roots of a docket, or the receipts of its members.
+    Seal(Wanted, Sources<'a>),
     /// The check of a receipt.
     Check(Roots<'a>),
 }
@@ -75,13 +81,30 @@ fn valued<'a>(
     id: &'static str,
     value: &'static str,
     help: &'static str,
-    required: bool,
-) -> Arg<'a> {
+    needed: bool,
+) -> Arg<'a>
+    ensures rule { rule_of result ≡ option_rule id.entry.now needed }
+    ensures own { result.global ≡ false }
+{
     Arg::new(alloc, id)
         .long(id)
         .value_name(value)
         .help(help)
-        .required(required)
+        .required(needed)
+}
+
+// The description of a command: its name, its usage and its help.
+fn described<'a>(
+    alloc: Global,
+    name: &'a str,
+    call: &'a str,
+    about: &'a str,
+    help: &'a str,
+) -> Command<'a>
+    ensures { app_of result ≡ new_app name.entry.now }
+{
+    let command = Command::new(alloc, name).override_usage(call);
+    command.about(about).after_help(help)
 }
 
 // A command that seals, with its files.
@@ -91,11 +114,10 @@ fn sealing<'a>(
     call: &'a str,
     about: &'a str,
     help: &'a str,
-) -> Result<Command<'a>, AllocError> {
-    let command = Command::new(alloc, name)
-        .override_usage(call)
-        .about(about)
-        .after_help(help);
+) -> Result<Command<'a>, AllocError>
+    ensures { IfOk result (λ command. app_of command ≡ sealing_app name.entry.now) }
+{
+    let command = described(alloc, name, call, about, help);
     let secret = valued(alloc, "secret", "FILE", "The file with the secret", true);
     let command = command.arg(secret)?;
     let sheet = valued(alloc, "sheet", "FILE", "The file with the placement", false);
@@ -103,58 +125,85 @@ fn sealing<'a>(
 }
 
 // The command that checks a receipt, with its roots.
-fn checking<'a>(alloc: Global) -> Result<Command<'a>, AllocError> {
-    let command = Command::new(alloc, "check")
-        .override_usage("residency-seal check --lists ROOT [--result ROOT] < receipt.csv")
-        .about("Says what a receipt shows, or what is wrong with it")
-        .after_help(CHECK_HELP);
-    let lists = valued(
-        alloc,
-        "lists",
-        "ROOT",
-        "The published root of the lists",
-        true,
-    );
-    let command = command.arg(lists)?;
-    let result = valued(
-        alloc,
-        "result",
-        "ROOT",
-        "The published root of the result",
-        false,
-    );
-    command.arg(result)
+fn checking<'a>(alloc: Global) -> Result<Command<'a>, AllocError>
+    ensures { IfOk result (λ command. app_of command ≡ checking_app) }
+{
+    let call = "residency-seal check --lists ROOT [--result ROOT] < receipt.csv";
+    let about = "Says what a receipt shows, or what is wrong with it";
+    let command = described(alloc, "check", call, about, CHECK_HELP);
+    let help = "The published root of the lists";
+    let command = command.arg(valued(alloc, "lists", "ROOT", help, true))?;
+    let help = "The published root of the result";
+    command.arg(valued(alloc, "result", "ROOT", help, false))
+}
+
+// The program without its commands.
+fn program<'a>(alloc: Global) -> Result<Command<'a>, AllocError>
+    ensures { IfOk result (λ command. app_of command ≡ bare_app) }
+{
+    let program = Command::new(alloc, "residency-seal").bin_name("residency-seal")?;
+    Ok(
+        program
+            .about("Seals a docket under a published root, and hands each member a receipt")
+            .version(VERSION)
+            .no_binary_name(true)
+            .subcommand_required(true),
+    )
+}
+
+// The program with one command more.
+fn with_command<'a>(program: Command<'a>, command: Command<'a>) -> Result<Command<'a>, AllocError>
+    requires { (app_of command).top.is_plain ≡ true }
+    ensures { IfOk result (λ both.
+        app_of both ≡ with_subcommand (app_of program.entry) (app_of command.entry).top) }
+{
+    program.subcommand(command)
 }
 
 // The program with its commands.
-fn commands<'a>(alloc: Global) -> Result<Command<'a>, AllocError> {
-    let program = Command::new(alloc, "residency-seal").bin_name("residency-seal")?;
-    let program = program
-        .about("Seals a docket under a published root, and hands each member a receipt")
-        .version(VERSION)
-        .no_binary_name(true)
-        .subcommand_required(true);
-    let program = program.subcommand(sealing(
+fn commands<'a>(alloc: Global) -> Result<Command<'a>, AllocError>
+    ensures { IfOk result (λ command. app_of command ≡ seal_app) }
+{
+    let roots = sealing(
         alloc,
         "root",
         "residency-seal root --secret FILE [--sheet FILE] < docket.csv",
         "Writes the root of a docket's lists, and with a sheet that of the result",
         ROOT_HELP,
-    )?)?;
-    let program = program.subcommand(sealing(
+    )?;
+    let receipts = sealing(
         alloc,
         "receipts",
         "residency-seal receipts --secret FILE [--sheet FILE] < docket.csv",
         "Writes the receipt of each member",
         RECEIPTS_HELP,
-    )?)?;
-    program.subcommand(checking(alloc)?)
+    )?;
+    let program = with_command(program(alloc)?, roots)?;
+    let program = with_command(program, receipts)?;
+    with_command(program, checking(alloc)?)
 }
 
-// The files that a command names, if it names them.
-fn files_of<'a>(matches: &ArgMatches<'a>) -> Option<Files<'a>> {
+// What the parser finds in the words, by these descriptions of commands.
+fn matches_of<'a, S: AsStr>(
+    commands: &mut Command<'a>,
+    words: &'a [S],
+) -> Result<ArgMatches<'a>, clap::Error>
+    requires { app_of commands.old ≡ seal_app }
+    ensures found { IfOk result (λ matches.
+        subcommand_rows_of matches ≡ subcommand_of seal_app (map S.text words.entry.now)) }
+    ensures refused { IfErr result (HasKind (fault_of seal_app (map S.text words.entry.now))) }
+{
+    commands.try_get_matches_from_mut(words)
+}
+
+// The files that a command names, if it names the secret's file.
+fn files_of<'a>(matches: &ArgMatches<'a>) -> Option<Sources<'a>>
+    ensures files { IfSome result (GivesFiles (rows_of (found_of matches.now))) }
+    ensures none { result ≡ None
+        → first_of (codes "secret") (rows_of (found_of matches.now)) ≡ None }
+{
     match matches.get_str("secret") {
-        Some(secret) => Some(Files {
+        Some(secret) => Some(Sources {
             secret,
             sheet: matches.get_str("sheet"),
         }),
@@ -162,29 +211,54 @@ fn files_of<'a>(matches: &ArgMatches<'a>) -> Option<Files<'a>> {
     }
 }
 
-// The roots that a command names, if it names them.
-fn roots_of<'a>(matches: &ArgMatches<'a>) -> Option<Roots<'a>> {
+// The roots that a command gives, if it gives the root of the lists.
+fn roots_of<'a>(matches: &ArgMatches<'a>) -> Option<Roots<'a>>
+    ensures roots { IfSome result (GivesRoots (rows_of (found_of matches.now))) }
+    ensures none { result ≡ None
+        → first_of (codes "lists") (rows_of (found_of matches.now)) ≡ None }
+{
     match matches.get_str("lists") {
         Some(lists) => Some(Roots {
             lists,
-            result: matches.get_str("result"),
+            outcome: matches.get_str("result"),
         }),
         None => None,
     }
 }
 
-// The order that these matches name, if they name a command.
-fn order_named<'a>(matches: &ArgMatches<'a>) -> Option<Order<'a>> {
+// The order to seal the files that a command names, if it names the secret's file.
+fn seal_named<'a>(wanted: Wanted, matches: &ArgMatches<'a>) -> Option<Order<'a>>
+    ensures named { IfSome result (IsOrdered (Some
+        (sealing_word wanted, rows_of (found_of matches.now)))) }
+    ensures none { result ≡ None
+        → first_of (codes "secret") (rows_of (found_of matches.now)) ≡ None }
+{
+    match files_of(matches) {
+        Some(files) => Some(Order::Seal(wanted, files)),
+        None => None,
+    }
+}
+
+// The order that these matches give, if they give one.
+fn order_named<'a>(matches: &ArgMatches<'a>) -> Option<Order<'a>>
+    ensures named { IfSome result (IsOrdered (subcommand_rows_of matches.now)) }
+    ensures none { result ≡ None → OrdersNothing (subcommand_rows_of matches.now) }
+{
     match matches.subcommand() {
-        Some(("root", options)) => Some(Order::Root(files_of(options)?)),
-        Some(("receipts", options)) => Some(Order::Receipts(files_of(options)?)),
-        Some(("check", options)) => Some(Order::Check(roots_of(options)?)),
+        Some(("root", options)) => seal_named(Wanted::Roots, options),
+        Some(("receipts", options)) => seal_named(Wanted::Receipts, options),
+        Some(("check", options)) => match roots_of(options) {
+            Some(roots) => Some(Order::Check(roots)),
+            None => None,
+        },
         _ => None,
     }
 }
 
 // What is told where no command is named.
-fn nothing_named(commands: &mut Command) -> LineFault {
+fn nothing_named(commands: &mut Command) -> LineFault
+    ensures { IsErrorOf (λ kind. kind ≡ MissingSubcommand) result }
+{
     match commands.error(ErrorKind::MissingSubcommand, "a command is wanted") {
         Ok(error) => line_fault(error),
         Err(_) => LineFault::Memory,
@@ -192,12 +266,12 @@ fn nothing_named(commands: &mut Command) -> LineFault {
 }
 
 /// The order that the words give, the program's own name left out.
-pub(crate) fn read_line<'a, S: AsStr>(
-    alloc: Global,
-    words: &'a [S],
-) -> Result<Order<'a>, LineFault> {
+pub(crate) fn read_line<'a, S: AsStr>(alloc: Global, words: &'a [S]) -> Result<Order<'a>, LineFault>
+    ensures order { IfOk result (OrdersSeal (map S.text words.entry.now)) }
+    ensures refused { IfErr result (RefusesSeal (map S.text words.entry.now)) }
+{
     let mut commands = commands(alloc)?;
-    let matches = match commands.try_get_matches_from_mut(words) {
+    let matches = match matches_of(&mut commands, words) {
         Ok(matches) => matches,
         Err(error) => return Err(line_fault(error)),
     };

@@ -1,24 +1,32 @@
 //! The program, over any streams: it seals a docket or checks a receipt, and its exit status tells how that ended.
+ghost use Rattle.std.specs.Prelude.{◌≡◌, ◌⊎◌, IfSome, None, Some, option_map};
+ghost use Rattle.std.specs.Process.{exit_status as exit_status_in};
+ghost use Rattle.program_shell.specs.Ends.{EndsServed};
+ghost use Rattle.receipt_check.specs.Faults as faults;
+ghost use Rattle.seal_text.specs.Program.{AnswersCheck, AnswersSeal, EndsBadRoot, EndsChecked, EndsSeal, ServesSeal};
+ghost use Rattle.seal_text.specs.Status.{receipt_status_of, seal_status_of};
 
-use crate::digits::digest_of;
 use crate::fault::SealFault;
-use crate::line::{Files, Order, Roots, read_line};
-use crate::load::{Loaded, Unread, load, load_input};
-use crate::receipt::serve_receipt;
-use crate::serve::{serve_receipts, serve_seal};
+use crate::line::{Order, Roots, Sources, read_line};
+use crate::serve::{Wanted, serve};
 use crate::status::{receipt_status, seal_status};
 use docket::Part;
-use program_shell::{UsageFault, refuse, texts_of};
+use program_shell::{
+    UsageFault, lent, load_input, load_path, load_path_if, refuse, refuse_unread, texts_of,
+};
+use receipt_check::{digest_of, serve_receipt};
 use std::alloc::Global;
+use std::io;
 use std::io::{Read, Write};
 use std::process::ExitCode;
 use std::random::RandomSource;
-use std::{io, rt};
+use std::rt::Files;
 
 // The file at fault, if it is one.
-fn file_of<'a>(files: &Files<'a>, fault: &SealFault) -> Option<&'a str> {
+fn file_of<'a>(files: &Sources<'a>, fault: &SealFault) -> Option<&'a str> {
     match fault {
         SealFault::Secret(_) => Some(files.secret),
+        SealFault::Unstable => files.sheet,
         SealFault::Files(fault) => match (fault.file(), files.sheet) {
             (Some(Part::Docket), _) => Some("standard input"),
             (Some(_), Some(sheet)) => Some(sheet),
@@ -29,62 +37,19 @@ fn file_of<'a>(files: &Files<'a>, fault: &SealFault) -> Option<&'a str> {
 }
 
 // Tells why nothing was sealed. No exit status depends on whether that text could be written.
-fn tell<T: Eprint>(told: &T, files: &Files, fault: &SealFault) {
+fn tell<T: Eprint>(told: &T, files: &Sources, fault: &SealFault) {
     let _ = match file_of(files, fault) {
         Some(file) => eprintln!(told; "residency: {file}: {fault}"),
         None => eprintln!(told; "residency: {fault}"),
     };
 }
 
-// Tells that a file couldn't be read.
-fn tell_unread<T: Eprint>(told: &T, unread: &Unread) -> ExitCode {
-    let why = if unread.memory {
-        "out of memory"
-    } else {
-        "could not be read"
-    };
-    let _ = eprintln!(told; "residency: {}: {why}", unread.path);
-    ExitCode::from(1)
-}
-
-// What is sealed.
-#[derive(Clone, Copy, Debug, PartialEq, Eq)]
-enum Wanted {
-    Root,
-    Receipts,
-}
-
-// Seals what was read.
-fn seal_loaded<W: Write, T: Eprint, H: RandomSource>(
-    rt: &H,
-    alloc: Global,
-    wanted: Wanted,
-    files: &Files,
-    loaded: &Loaded,
-    writer: &mut W,
-    told: &T,
-) -> ExitCode {
-    let sheet = match &loaded.sheet {
-        Some(bytes) => Some(bytes.as_slice()),
-        None => None,
-    };
-    let (docket, secret) = (loaded.docket.as_slice(), loaded.secret.as_slice());
-    let answer = match wanted {
-        Wanted::Root => serve_seal(rt, alloc, docket, sheet, secret, writer),
-        Wanted::Receipts => serve_receipts(rt, alloc, docket, sheet, secret, writer),
-    };
-    if let Err(fault) = &answer {
-        tell(told, files, fault);
-    }
-    ExitCode::from(seal_status(&answer))
-}
-
-// Reads the files, and seals what they say.
+// Reads the files, and writes what is wanted of them.
 fn seal_files<R, W, T, H>(
     rt: &H,
     alloc: Global,
     wanted: Wanted,
-    files: &Files,
+    files: &Sources,
     reader: &mut R,
     writer: &mut W,
     told: &T,
@@ -93,70 +58,104 @@ where
     R: Read,
     W: Write,
     T: Eprint,
-    H: RandomSource + rt::Files + AllocGlobal,
+    H: RandomSource + Files + AllocGlobal,
+    ensures { EndsServed (AnswersSeal wanted files.now (R.remaining reader.old)
+        (W.contents writer.old) (W.contents writer.new)) seal_status_of
+        (W.contents writer.old) (W.contents writer.new) (exit_status_in result) }
 {
-    match load(rt, alloc, files, reader) {
-        Ok(loaded) => seal_loaded(rt, alloc, wanted, files, &loaded, writer, told),
-        Err(unread) => tell_unread(told, &unread),
+    let secret = match load_path(rt, files.secret) {
+        Ok(secret) => secret,
+        Err(unread) => return refuse_unread(told, &unread),
+    };
+    let loaded = match load_path_if(rt, files.sheet) {
+        Ok(loaded) => loaded,
+        Err(unread) => return refuse_unread(told, &unread),
+    };
+    let docket = match load_input(alloc, "standard input", reader) {
+        Ok(docket) => docket,
+        Err(unread) => return refuse_unread(told, &unread),
+    };
+    let (sheet, secret) = (lent(&loaded), secret.as_slice());
+    let answer = serve(rt, alloc, wanted, docket.as_slice(), sheet, secret, writer);
+    if let Err(fault) = &answer {
+        tell(told, files, fault);
     }
+    ExitCode::from(seal_status(&answer))
 }
 
 // Tells that a word isn't a root.
-fn refuse_root<T: Eprint>(told: &T, word: &str) -> ExitCode {
+fn refuse_root<T: Eprint>(told: &T, word: &str) -> ExitCode
+    ensures { exit_status_in result ≡ 2 }
+{
     let _ = eprintln!(told; "residency: --{word}: not 64 small hexadecimal digits");
     ExitCode::from(2)
 }
 
-// Checks a receipt, and tells what is wrong with it.
-fn check_bytes<W: Write, T: Eprint>(
+// The root of the result, if its digits are given. None if the digits write no root.
+fn outcome_of(digits: Option<&str>) -> Option<Option<[u8; 32]>>
+    ensures root { IfSome result (λ root.
+        option_map (λ digits. faults.digest_of digits.now) digits.entry ≡ option_map Some root) }
+    ensures bad { result ≡ None
+        → option_map (λ digits. faults.digest_of digits.now) digits.entry ≡ Some None }
+{
+    match digits {
+        None => Some(None),
+        Some(digits) => match digest_of(digits.as_bytes()) {
+            Some(root) => Some(Some(root)),
+            None => None,
+        },
+    }
+}
+
+// Reads a receipt, checks it against these roots, and tells what is wrong with it.
+fn check_input<R: Read, W: Write, T: Eprint, H: RandomSource>(
+    rt: &H,
     alloc: Global,
-    receipt: &[u8],
     lists: &[u8; 32],
     outcome: Option<&[u8; 32]>,
+    reader: &mut R,
     writer: &mut W,
     told: &T,
-) -> ExitCode {
-    let answer = serve_receipt(alloc, receipt, lists, outcome, writer);
+) -> ExitCode
+    ensures { EndsServed (AnswersCheck lists.now (option_map (λ root. root.now) outcome.entry)
+        (R.remaining reader.old) (W.contents writer.old) (W.contents writer.new)) receipt_status_of
+        (W.contents writer.old) (W.contents writer.new) (exit_status_in result) }
+{
+    let receipt = match load_input(alloc, "standard input", reader) {
+        Ok(receipt) => receipt,
+        Err(unread) => return refuse_unread(told, &unread),
+    };
+    let answer = serve_receipt(rt, alloc, receipt.as_slice(), lists, outcome, writer);
     if let Err(fault) = &answer {
         let _ = eprintln!(told; "residency: {fault}");
     }
     ExitCode::from(receipt_status(&answer))
 }
 
-// Reads a receipt, and checks it against these roots.
-fn check_input<R: Read, W: Write, T: Eprint>(
+// Reads a receipt, and checks it against the roots that these digits write.
+fn check_roots<R: Read, W: Write, T: Eprint, H: RandomSource>(
+    rt: &H,
     alloc: Global,
     roots: &Roots,
     reader: &mut R,
     writer: &mut W,
     told: &T,
-) -> ExitCode {
+) -> ExitCode
+    ensures { EndsBadRoot roots.now (W.contents writer.old) (W.contents writer.new)
+        (exit_status_in result) ⊎ EndsChecked roots.now (R.remaining reader.old)
+        (W.contents writer.old) (W.contents writer.new) (exit_status_in result) }
+{
     let Some(lists) = digest_of(roots.lists.as_bytes()) else {
         return refuse_root(told, "lists");
     };
-    let outcome = match roots.result {
-        None => None,
-        Some(digits) => match digest_of(digits.as_bytes()) {
-            Some(root) => Some(root),
-            None => return refuse_root(told, "result"),
-        },
+    let Some(outcome) = outcome_of(roots.outcome) else {
+        return refuse_root(told, "result");
     };
-    let receipt = match load_input(alloc, reader) {
-        Ok(receipt) => receipt,
-        Err(unread) => return tell_unread(told, &unread),
-    };
-    check_bytes(
-        alloc,
-        receipt.as_slice(),
-        &lists,
-        outcome.as_ref(),
-        writer,
-        told,
-    )
+    check_input(rt, alloc, &lists, outcome.as_ref(), reader, writer, told)
 }
 
 /// Seals a docket or checks a receipt, as the words order, and gives the exit status. It is 0 where all was written, and 4 for a
-/// receipt that isn't good. It is 1 where memory, reading or writing failed, 2 for a wrong command line, and 3 for a file at
+/// receipt that is wrong. It is 1 where memory, reading or writing failed, 2 for a wrong command line, and 3 for a file at
 /// fault.
 ///
 /// The words are those after the program's own name. What help and the version say goes to standard output, and why nothing
@@ -173,20 +172,19 @@ where
     R: Read,
     W: Write,
     T: Print + Eprint,
-    H: RandomSource + rt::Files + AllocGlobal,
+    H: RandomSource + Files + AllocGlobal,
+    ensures { EndsSeal words (R.remaining reader.old)
+        (W.contents writer.old) (W.contents writer.new) (exit_status_in result) }
 {
     let texts = match texts_of(words) {
         Ok(texts) => texts,
         Err(fault) => return refuse(told, &fault),
     };
     match read_line(alloc, texts.as_slice()) {
-        Ok(Order::Root(files)) => {
-            seal_files(rt, alloc, Wanted::Root, &files, reader, writer, told)
+        Ok(Order::Seal(wanted, files)) => {
+            seal_files(rt, alloc, wanted, &files, reader, writer, told)
         }
-        Ok(Order::Receipts(files)) => {
-            seal_files(rt, alloc, Wanted::Receipts, &files, reader, writer, told)
-        }
-        Ok(Order::Check(roots)) => check_input(alloc, &roots, reader, writer, told),
+        Ok(Order::Check(roots)) => check_roots(rt, alloc, &roots, reader, writer, told),
         Err(fault) => refuse(told, &UsageFault::Line(fault)),
     }
 }

@@ -58,7 +58,7 @@ impl Trees {
             (lists_in self.now) (results_in self.now) index)) }
     {
         put_row(alloc, text, &[b"member", kind, name])?;
-        put_row(alloc, text, &[b"receipt", b"1", kind, name])?;
+        put_row(alloc, text, &[b"receipt", b"2", kind, name])?;
         self.lists.put_part(alloc, text, secret, index)?;
         self.put_outcome(alloc, text, secret, index)
     }

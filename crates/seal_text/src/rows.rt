@@ -1,12 +1,12 @@
 //! The records of files, as they were written.
 ghost use Rattle.std.specs.Prelude.{◌≡◌, ◌≢◌, ℕ, List, [], ◌∷◌, IfOk, MatchBool, MatchOption, OnOk, Some, bytes_eq, find, map, option_map, slice_get, true, false};
 ghost use Rattle.csv.specs.Records.{fields_of};
-ghost use Rattle.docket.specs.Fields.{field as field_in};
-ghost use Rattle.records.specs.Reading.{rows_of};
-ghost use Rattle.records.specs.Reading.{IsReading, rows_left};
-ghost use Rattle.seal_text.specs.Records.{AreListsIn, AreListsOf, AreRowsIn, Keeps, rows_in};
+ghost use Rattle.records.specs.Reading.{rows_of, field as field_in};
+ghost use Rattle.records.specs.Reading.{IsSource, rows_left};
+ghost use Rattle.seal_text.specs.Records.{AreListsIn, AreListsOf, Keeps, rows_in};
 
 use csv::{ByteRecord, Reader};
+pub(crate) use records::field;
 use records::{next_row, reader_over};
 use std::alloc::{AllocError, Global};
 use std::io::Read;
@@ -20,17 +20,6 @@ pub(crate) struct ListRecords {
     pub(crate) residents: Vec<ByteRecord>,
 }
 
-/// Field `i` of a record, from 0, which is empty past the end.
-#[tactic(auto, unfolding(docket::specs::Fields::field))]
-pub(crate) fn field(row: &ByteRecord, i: usize) -> &[u8]
-    ensures { result.now ≡ field_in (fields_of row.now) i }
-{
-    match row.get(i) {
-        Some(text) => text,
-        None => &[],
-    }
-}
-
 /// Whether field `i` of a record is this text.
 pub(crate) fn has(row: &ByteRecord, i: usize, text: &[u8]) -> bool
     ensures { result ≡ bytes_eq (field_in (fields_of row.now) i) text.now }
@@ -38,57 +27,9 @@ pub(crate) fn has(row: &ByteRecord, i: usize, text: &[u8]) -> bool
     field(row, i) == text
 }
 
-/// Whether the record has just these three fields.
-pub(crate) fn is_triple(row: &ByteRecord, first: &[u8], second: &[u8], third: &[u8]) -> bool
-    ensures { MatchBool result
-        (fields_of row.now ≡ first.now ∷ second.now ∷ third.now ∷ [])
-        (fields_of row.now ≢ first.now ∷ second.now ∷ third.now ∷ []) }
-{
-    if row.len() != 3 {
-        return false;
-    }
-    if !has(row, 0, first) {
-        return false;
-    }
-    if !has(row, 1, second) {
-        return false;
-    }
-    if !has(row, 2, third) {
-        return false;
-    }
-    true
-}
-
-// The records that a reader has left.
-fn rows_from<R: Read>(alloc: Global, reader: &mut Reader<R>) -> Result<Vec<ByteRecord>, AllocError>
-    requires reading { IsReading reader.old }
-    ensures { IfOk result (λ rows. AreRowsIn (rows_left R.remaining reader.old) rows.items) }
-{
-    let mut rows = Vec::new(alloc);
-    for _n in 0..u64::MAX {
-        let mut row = ByteRecord::new(alloc);
-        let Ok(found) = next_row(reader, &mut row) else {
-            return Err(AllocError);
-        };
-        if !found {
-            return Ok(rows);
-        }
-        rows.push(row)?;
-    }
-    Err(AllocError)
-}
-
-/// All records of these bytes.
-pub(crate) fn read_rows(alloc: Global, bytes: &[u8]) -> Result<Vec<ByteRecord>, AllocError>
-    ensures { IfOk result (λ rows. rows_in rows.items ≡ rows_of bytes.now) }
-{
-    let mut reader = reader_over(alloc, bytes)?;
-    rows_from(alloc, &mut reader)
-}
-
 // The list records that a reader has left.
 fn lists_from<R: Read>(alloc: Global, reader: &mut Reader<R>) -> Result<ListRecords, AllocError>
-    requires reading { IsReading reader.old }
+    requires reading { IsSource reader.old }
     ensures { IfOk result (λ lists. AreListsIn (rows_left R.remaining reader.old) lists) }
 {
     let mut lists = ListRecords {
@@ -128,7 +69,7 @@ impl ListRecords {
     pub(crate) fn read(alloc: Global, docket: &[u8]) -> Result<ListRecords, AllocError>
         ensures { IfOk result (AreListsOf (rows_of docket.now)) }
     {
-        let mut reader = reader_over(alloc, docket)?;
+        let mut reader = reader_over(alloc, b',', docket)?;
         lists_from(alloc, &mut reader)
     }
 

@@ -1,5 +1,5 @@
 //! From the bytes of a docket, a sheet and a secret to roots and receipts.
-ghost use Rattle.std.specs.Prelude.{◌≡◌, ◌≢◌, ℕ, [], None, Some, Ok, List, IfErr, IfOk, IfSome, OnOk, OnErr, length, option_copied, option_map};
+ghost use Rattle.std.specs.Prelude.{◌≡◌, ◌≢◌, ℕ, [], None, Some, Ok, List, IfErr, IfOk, IfSome, MatchOption, OnOk, OnErr, length, option_copied, option_map};
 ghost use Rattle.std.specs.Io.KnownBytes.{Appends};
 ghost use Rattle.records.specs.Reading.{rows_of};
 ghost use Rattle.records.specs.Lines.{Grows};
@@ -7,7 +7,7 @@ ghost use Rattle.seal_text.specs.declared.leaves.Section.TheVariants.{Outcome};
 ghost use Rattle.seal_text.specs.Grown.{AreTrees, IsGrownAs, lists_in, member_count, results_in, texts_in, texts_of};
 ghost use Rattle.seal_text.specs.Secret.{secret_of};
 ghost use Rattle.seal_text.specs.Serving as serving;
-ghost use Rattle.seal_text.specs.Serving.{IsEarlyText, IsFullText, IsTextFrom, IsServed, IsCaseFault, IsFilesFault, IsSealFault};
+ghost use Rattle.seal_text.specs.Serving.{IsEarlyText, IsFullText, IsTextFrom, IsServed, IsCaseFault, IsFilesFault, IsSealFault, IsTold, IsUnfit, IsUnstable};
 ghost use Rattle.seal_text.specs.Texts.{AreResultTexts, HasSheet};
 ghost use Rattle.seal_text.specs.Texts as texts;
 ghost use Rattle.audit_files.specs.Answer.{IsReadingFault};
@@ -22,17 +22,18 @@ use crate::secret::read_secret;
 use crate::texts::{lists_texts, result_texts};
 use audit_files::{FilesFault, read_files};
 use docket::Docket;
+use match_audit::audit;
 use reasons_text::Case;
 use std::alloc::{AllocError, Global};
 use std::io::Write;
 use std::random::RandomSource;
 
-// What is wanted of a docket.
+/// What is wanted of a docket.
 #[derive(Clone, Copy, Debug, PartialEq, Eq)]
-enum Wanted {
-    // The rows of its roots.
+pub enum Wanted {
+    /// The rows of its roots.
     Roots,
-    // The receipts of its members.
+    /// The receipts of its members.
     Receipts,
 }
 
@@ -154,7 +155,20 @@ fn early_text<H: RandomSource>(
     }
 }
 
-// What is wanted of the bytes of a docket and its sheet.
+// Whether what is wanted is told of the case: receipts are told of a stable sheet alone.
+fn is_told(alloc: Global, wanted: Wanted, case: &Case) -> Result<bool, AllocError>
+    ensures { IfOk result (IsTold wanted case.now) }
+{
+    if wanted == Wanted::Roots {
+        return Ok(true);
+    }
+    match audit(alloc, case.docket().instance(), case.sheet()) {
+        Ok(report) => Ok(report.is_stable()),
+        Err(_) => Err(AllocError),
+    }
+}
+
+// What is wanted of the bytes of a docket and its sheet. It is none if receipts are wanted and the sheet isn't stable.
 fn full_text<H: RandomSource>(
     rt: &H,
     alloc: Global,
@@ -162,9 +176,9 @@ fn full_text<H: RandomSource>(
     docket: &[u8],
     sheet: &[u8],
     secret: &[u8; 32],
-) -> Result<Vec<u8>, FilesFault>
-    ensures text { IfOk result (λ text.
-        IsFullText wanted docket.now sheet.now secret.now text.items) }
+) -> Result<Option<Vec<u8>>, FilesFault>
+    ensures text { IfOk result (λ text. MatchOption text (IsUnstable wanted docket.now sheet.now)
+        (λ text. IsFullText wanted docket.now sheet.now secret.now text.items)) }
     ensures fault { IfErr result (IsCaseFault docket.now sheet.now) }
 {
     let case = match read_case(rt, alloc, docket, sheet) {
@@ -173,13 +187,20 @@ fn full_text<H: RandomSource>(
     };
     // For the proof alone: the docket is whole.
     let _inst = case.docket().instance();
+    let Ok(told) = is_told(alloc, wanted, &case) else {
+        return Err(FilesFault::Memory);
+    };
+    if !told {
+        return Ok(None);
+    }
     match text_of_case(alloc, wanted, secret, &case, docket) {
-        Ok(text) => Ok(text),
+        Ok(text) => Ok(Some(text)),
         Err(_) => Err(FilesFault::Memory),
     }
 }
 
-// What is wanted of the bytes of a docket and, if there is one, its sheet.
+// What is wanted of the bytes of a docket and, if there is one, its sheet. It is none if receipts are wanted and the sheet
+// isn't stable.
 fn text_from<H: RandomSource>(
     rt: &H,
     alloc: Global,
@@ -187,19 +208,23 @@ fn text_from<H: RandomSource>(
     docket: &[u8],
     sheet: Option<&[u8]>,
     secret: &[u8; 32],
-) -> Result<Vec<u8>, FilesFault>
-    ensures text { IfOk result (λ text.
-        IsTextFrom wanted docket.now (option_copied sheet.entry) secret.now text.items) }
+) -> Result<Option<Vec<u8>>, FilesFault>
+    ensures text { IfOk result (λ text. MatchOption text
+        (IsUnfit wanted docket.now (option_copied sheet.entry))
+        (λ text. IsTextFrom wanted docket.now (option_copied sheet.entry) secret.now text.items)) }
     ensures fault { IfErr result (IsFilesFault docket.now (option_copied sheet.entry)) }
 {
     match sheet {
         Some(sheet) => full_text(rt, alloc, wanted, docket, sheet, secret),
-        None => early_text(rt, alloc, wanted, docket, secret),
+        None => match early_text(rt, alloc, wanted, docket, secret) {
+            Ok(text) => Ok(Some(text)),
+            Err(fault) => Err(fault),
+        },
     }
 }
 
-// Writes what is wanted.
-fn serve<W: Write, H: RandomSource>(
+/// Writes what is wanted.
+pub(crate) fn serve<W: Write, H: RandomSource>(
     rt: &H,
     alloc: Global,
     wanted: Wanted,
@@ -211,7 +236,8 @@ fn serve<W: Write, H: RandomSource>(
     ensures text { OnOk result ((text : List ℕ)
         × IsServed wanted docket.now (option_copied sheet.entry) secret.now text
         × Appends (W.contents writer.old) (W.contents writer.new) text) }
-    ensures fault { IfErr result (IsSealFault docket.now (option_copied sheet.entry) secret.now) }
+    ensures fault { IfErr result
+        (IsSealFault wanted docket.now (option_copied sheet.entry) secret.now) }
     ensures before { IfErr result (λ fault. fault ≢ SealFault.Files FilesFault.Write
         → writer.new ≡ writer.old) }
 {
@@ -220,7 +246,8 @@ fn serve<W: Write, H: RandomSource>(
         Err(fault) => return Err(SealFault::Secret(fault)),
     };
     let text = match text_from(rt, alloc, wanted, docket, sheet, &secret) {
-        Ok(text) => text,
+        Ok(Some(text)) => text,
+        Ok(None) => return Err(SealFault::Unstable),
         Err(fault) => return Err(SealFault::Files(fault)),
     };
     match writer.write_all(text.as_slice()) {
@@ -242,7 +269,8 @@ pub fn serve_seal<W: Write, H: RandomSource>(
     ensures text { OnOk result ((text : List ℕ)
         × IsServed Wanted.Roots docket.now (option_copied sheet.entry) secret.now text
         × Appends (W.contents writer.old) (W.contents writer.new) text) }
-    ensures fault { IfErr result (IsSealFault docket.now (option_copied sheet.entry) secret.now) }
+    ensures fault { IfErr result
+        (IsSealFault Wanted.Roots docket.now (option_copied sheet.entry) secret.now) }
     ensures before { IfErr result (λ fault. fault ≢ SealFault.Files FilesFault.Write
         → writer.new ≡ writer.old) }
 {
@@ -250,7 +278,8 @@ pub fn serve_seal<W: Write, H: RandomSource>(
 }
 
 /// Writes the receipt of each member, after a row that names the member. With a sheet a receipt has the result too. Each
-/// file is read apart from the others. Nothing is written before a fault other than the writer's own.
+/// file is read apart from the others. A sheet that isn't stable is a fault. Nothing is written before a fault other than the
+/// writer's own.
 pub fn serve_receipts<W: Write, H: RandomSource>(
     rt: &H,
     alloc: Global,
@@ -262,7 +291,8 @@ pub fn serve_receipts<W: Write, H: RandomSource>(
     ensures text { OnOk result ((text : List ℕ)
         × IsServed Wanted.Receipts docket.now (option_copied sheet.entry) secret.now text
         × Appends (W.contents writer.old) (W.contents writer.new) text) }
-    ensures fault { IfErr result (IsSealFault docket.now (option_copied sheet.entry) secret.now) }
+    ensures fault { IfErr result
+        (IsSealFault Wanted.Receipts docket.now (option_copied sheet.entry) secret.now) }
     ensures before { IfErr result (λ fault. fault ≢ SealFault.Files FilesFault.Write
         → writer.new ≡ writer.old) }
 {

@@ -1,34 +1,31 @@
-//! With which status the program ends.
+//! The exit status of the program.
+ghost use Rattle.std.specs.Prelude.{◌≡◌};
+ghost use Rattle.seal_text.specs.Status.{receipt_status_of, seal_status_of};
 
 use crate::fault::SealFault;
-use crate::wrong::ReceiptFault;
-use audit_files::FilesFault;
-use program_shell::docket_status;
-
-// The exit status after files at fault.
-fn files_status(fault: &FilesFault) -> u8 {
-    match fault {
-        FilesFault::Docket { fault, .. } => docket_status(fault),
-        FilesFault::Memory | FilesFault::Write => 1,
-        FilesFault::NoSheet | FilesFault::NoJournal => 3,
-    }
-}
+use audit_files::files_status;
+use receipt_check::ReceiptFault;
 
 /// The exit status after sealing. It is 0 where all was written, 1 where memory, reading or writing failed, and 3 where a file
-/// is at fault or the secret is none.
-pub fn seal_status(answer: &Result<(), SealFault>) -> u8 {
+/// is at fault, the secret is none, or the sheet isn't stable.
+pub(crate) fn seal_status(answer: &Result<(), SealFault>) -> u8
+    ensures { result ≡ seal_status_of answer.now }
+{
     match answer {
         Ok(()) => 0,
-        Err(SealFault::Secret(_)) => 3,
+        Err(SealFault::Secret(_) | SealFault::Unstable) => 3,
         Err(SealFault::Files(fault)) => files_status(fault),
     }
 }
 
-/// The exit status after a check. It is 0 for a good receipt, 4 for another, and 1 where memory or writing failed.
-pub fn receipt_status(answer: &Result<(), ReceiptFault>) -> u8 {
+/// The exit status after a check. It is 0 for a good receipt, 3 for a file that isn't as it was given, 4 for a wrong receipt,
+/// and 1 where memory or writing failed.
+pub(crate) fn receipt_status(answer: &Result<(), ReceiptFault>) -> u8
+    ensures { result ≡ receipt_status_of answer.now }
+{
     match answer {
         Ok(()) => 0,
-        Err(ReceiptFault::Wrong { .. }) => 4,
+        Err(ReceiptFault::Wrong(fault)) => { if fault.is_changed() { 3 } else { 4 } }
         Err(ReceiptFault::Memory | ReceiptFault::Write) => 1,
     }
 }

@@ -8,7 +8,7 @@ ghost use Rattle.records.specs.Lines.{Grows};
 ghost use Rattle.records.specs.Reading.{Fields};
 ghost use Rattle.match_model.specs.Instance.{IsProgramme, IsResident};
 ghost use Rattle.match_model.specs.Placement.{holds, member_count, programme_of};
-ghost use Rattle.row_writer.specs.RowText.{Adds};
+ghost use Rattle.records.specs.RowText.{Adds};
 ghost use Rattle.std.specs.Io.KnownBytes.{Appends};
 ghost use Rattle.reasons_text.specs.Texts.{AppendsText};
 ghost use Rattle.seal_text.specs.Grown.{texts_of};

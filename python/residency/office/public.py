@@ -2,11 +2,11 @@
 No list stands in it, and no resident's name."""
 import html
 import json
+import re
 from pathlib import Path
-from typing import Sequence
+from typing import Dict, Sequence
 
 from . import compare, folder, rosters
-from .faults import counted
 from .folder import Draft
 from .outcome import Outcome, Programme
 from .page import About, Page, row, section, table
@@ -17,17 +17,16 @@ PARTS = ("unfilled", "figures", "choices", "programmes", "roots")
 
 
 def check_page(roots: Roots, about: About) -> str:
-    """The page that checks a receipt, with the published roots in it."""
-    there = [("lists", roots.lists), *([("result", roots.result)] if roots.result else [])]
-    published = {word: {"count": roots.count, "root": digits} for word, digits in there}
-    rows = "\n".join(f"<dt>Root of the {word}, of {counted(roots.count, 'member')}</dt>\n<dd><code>{digits}</code></dd>"
-                     for word, digits in there)
-    text = (Path(__file__).with_name(CHECK)).read_text(encoding="utf-8")
-    for mark, told in (("@TITLE@", html.escape(about.title)), ("@DAY@", about.phrases.day(about.day)), ("@ROOTS@", rows),
-                       ("@AND_RESULT@", ", and what the match gave you" if roots.result else ""),
-                       ("@PUBLISHED@", json.dumps({"result": None, **published}))):
-        text = text.replace(mark, told)
-    return text
+    """The page that checks a receipt, with the published roots in it. A mark in it stands for a value, or for the phrase of its name."""
+    there, said = [("lists", roots.lists), *([("result", roots.result)] if roots.result else [])], about.phrases
+    shown: Dict[str, object] = {key.partition(".")[2]: text for key, text in said.texts.items() if key.startswith("checked.")}
+    shown.update(choice=said.texts["letter.row"], plurals=said.texts["plurals"], ordinals=said.ordinals)
+    marks = {"LANGUAGE": html.escape(said.language), "TITLE": html.escape(about.title), "DAY": html.escape(said.day(about.day)),
+             "TELLS": said.html(f"check.tells-{there[-1][0]}"), "SAID": json.dumps(shown).replace("<", "\\u003c"),
+             "ROOTS": "\n".join(f"<dt>{said.html(f'check.root-of-{word}', count=roots.count)}</dt>\n<dd><code>{digits}</code></dd>" for word, digits in there),
+             "PUBLISHED": json.dumps({"result": None, **{word: {"count": roots.count, "root": digits} for word, digits in there}})}
+    text = Path(__file__).with_name(CHECK).read_text(encoding="utf-8")
+    return re.sub("@([A-Za-z-]+)@", lambda found: marks[found[1]] if found[1] in marks else said.html(f"check.{found[1]}", title=marks["TITLE"]), text)
 
 
 class PublicPage(Page):

@@ -122,7 +122,8 @@ class Tree:
             self.levels.append(pairs + below[len(pairs) * 2:])
 
     def root(self) -> str:
-        return (self.levels[-1][0] if self.texts else sha()).hex()
+        """The published root, which has the number of members in it."""
+        return sha(b"\2", len(self.texts).to_bytes(8, "big"), self.levels[-1][0] if self.texts else sha()).hex()
 
     def part(self, word: str, index: int) -> bytes:
         """What a receipt says of the leaf of this index: the root, the opening and the text."""
@@ -152,5 +153,5 @@ class Sealed:
 
     def receipts(self) -> Dict[Tuple[str, str], bytes]:
         """Each member's receipt, in order."""
-        return {member: text_of([("receipt", 1, *member)]) + b"".join(tree.part(word, index) for word, tree in self.trees.items())
+        return {member: text_of([("receipt", 2, *member)]) + b"".join(tree.part(word, index) for word, tree in self.trees.items())
                 for index, member in enumerate(self.members)}

@@ -3,7 +3,8 @@ ghost use Rattle.std.specs.Prelude.{◌≡◌, ◌<◌, ◌++◌, ◌∷◌, ◌
 ghost use Rattle.std.specs.List.{list_all};
 ghost use Rattle.docket.specs.Answers.{Answers};
 ghost use Rattle.docket.specs.Contents.{placement_of, quotas_of};
-ghost use Rattle.docket.specs.Fields.{Fields, unless};
+ghost use Rattle.docket.specs.Fields.{unless};
+ghost use Rattle.records.specs.Reading.{Fields};
 ghost use Rattle.docket.specs.Known.{AreKnown};
 ghost use Rattle.docket.specs.Passes.{first_from, mark_fault, filled_fault, placement_fault};
 ghost use Rattle.docket.specs.SheetRows.{AreSheetRows};

@@ -2,15 +2,15 @@
 ghost use Rattle.std.specs.Prelude.{◌≡◌, ◌≤◌, ◌<◌, ◌+◌, ◌++◌, ◌∷◌, ◌&&◌, Some, [], true, is_some, length, drop, slice_get, IfOk, IfSome, OnOk, OnErr};
 ghost use Rattle.std.specs.List.{list_all};
 ghost use Rattle.csv.specs.Records.{fields_of};
-ghost use Rattle.docket.specs.Fields.{Fields, field as field_of};
+ghost use Rattle.records.specs.Reading.{Fields, field as field_of};
 ghost use Rattle.docket.specs.Lists.{AreLists, AreWalked, AddsEntry, list_entry, gone_entry};
 ghost use Rattle.docket_names.specs.Texts.{StartsWith, IsJoined};
 ghost use Rattle.docket_names.specs.Words as words;
 
-use crate::row::field;
 use crate::vocabulary::{MOST_NAMES, Side};
 use csv::ByteRecord;
 use docket_names::{Texts, is_name};
+use records::field;
 use std::alloc::{AllocError, Global};
 use std::marker::Model;
 

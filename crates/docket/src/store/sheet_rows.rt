@@ -1,6 +1,6 @@
 //! What the third pass needs: the rows of a sheet.
 ghost use Rattle.std.specs.Prelude.{◌≡◌, ◌≤◌, ◌++◌, ◌∷◌, [], List, nat_lt, length, OnOk};
-ghost use Rattle.docket.specs.Fields.{Fields};
+ghost use Rattle.records.specs.Reading.{Fields};
 ghost use Rattle.docket.specs.Passes.{next_place};
 ghost use Rattle.docket.specs.SheetRows.{AreSheetRows, MarkSays};
 

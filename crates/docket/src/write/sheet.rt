@@ -3,7 +3,7 @@ ghost use Rattle.std.specs.Prelude.{◌≡◌, ◌≢◌, ◌⊎◌, ◌<◌, �
 ghost use Rattle.match_model.specs.Instance.{IsProgramme, IsResident};
 ghost use Rattle.match_model.specs.Placement.{IsMemberOf};
 ghost use Rattle.docket.specs.Whole.{IsSheetOf};
-ghost use Rattle.row_writer.specs.RowText.{Adds, Keeps, Writes};
+ghost use Rattle.records.specs.RowText.{Adds, Keeps, Writes};
 ghost use Rattle.docket.specs.Texts.{sheet_text, mark_row, programme_row, resident_rows, filled_rows, AreCountsOf};
 
 use crate::docket::Docket;
@@ -11,7 +11,7 @@ use crate::fault::DocketFault;
 use crate::vocabulary::{FILLED, MATCHED, UNMATCHED};
 use crate::write::room_for_rows;
 use match_model::{Assignment, ProgrammeNo, ResidentNo};
-use row_writer::{RowWriter, WriteFailed};
+use records::{RowWriter, WriteFailed};
 use std::alloc::{AllocError, Global};
 use std::io::Write;
 

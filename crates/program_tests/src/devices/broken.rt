@@ -2,24 +2,34 @@
 use std::io;
 use std::io::{Read, Write};
 
-/// A reader that gives its text byte by byte up to `cut` bytes, and then an error.
+/// A reader that gives its text byte by byte up to `cut` bytes, and then an error of this kind.
 #[derive(Drop)]
 pub(crate) struct CutReader<'a> {
     text: &'a [u8],
     at: usize,
     cut: usize,
+    kind: io::ErrorKind,
 }
 
 impl<'a> CutReader<'a> {
     pub(crate) fn new(text: &'a [u8], cut: usize) -> CutReader<'a> {
-        CutReader { text, at: 0, cut }
+        CutReader::failing(text, cut, io::ErrorKind::BrokenPipe)
+    }
+
+    pub(crate) fn failing(text: &'a [u8], cut: usize, kind: io::ErrorKind) -> CutReader<'a> {
+        CutReader {
+            text,
+            at: 0,
+            cut,
+            kind,
+        }
     }
 }
 
 impl<'a> Read for CutReader<'a> {
     fn read(&mut self, buf: &mut [u8]) -> io::Result<usize> {
         if self.at >= self.cut {
-            return Err(io::Error::from(io::ErrorKind::BrokenPipe));
+            return Err(io::Error::from(self.kind));
         }
         match (self.text.get(self.at), buf.first_mut()) {
             (Some(byte), Some(place)) => {

@@ -1,5 +1,5 @@
 use Rattle.std.proofs.lemmas.Result.{on_ok_weaker}
-use Rattle.row_writer.proofs.RowTextFacts.{adds_both}
+use Rattle.records.proofs.RowTextFacts.{adds_both}
 use Rattle.audit_text.specs.Answer.{replay_text}
 use Rattle.audit_text.proofs.answer.push_replay.Goals as goal
 

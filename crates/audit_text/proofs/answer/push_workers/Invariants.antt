@@ -1,5 +1,5 @@
 use Rattle.std.proofs.Common.{take}
-use Rattle.row_writer.specs.RowText.{Adds}
+use Rattle.records.specs.RowText.{Adds}
 use Rattle.audit_text.specs.Answer.{worker_rows}
 use Rattle.audit_text.proofs.answer.push_workers.Given as goal
 

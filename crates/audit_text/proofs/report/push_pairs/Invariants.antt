@@ -1,6 +1,6 @@
 use Rattle.std.proofs.Common.{take}
 use Rattle.std.specs.List.{flat_map}
-use Rattle.row_writer.specs.RowText.{Adds}
+use Rattle.records.specs.RowText.{Adds}
 use Rattle.audit_text.specs.Report.{pair_row}
 use Rattle.audit_text.proofs.report.push_pairs.Given as goal
 

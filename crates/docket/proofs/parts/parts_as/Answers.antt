@@ -1,6 +1,5 @@
-use Rattle.std.proofs.Common.{◌∙◌}
 use Rattle.std.proofs.lemmas.Result.{err_from_is_err_and}
-use Rattle.docket.proofs.PartFacts.{later_lists, later_read, later_told, tells_first}
+use Rattle.docket.proofs.PartFacts.{tells_first}
 use Rattle.docket.proofs.PassedFacts.{some_passed}
 use Rattle.docket.proofs.parts.parts_as.Goals as goal
 

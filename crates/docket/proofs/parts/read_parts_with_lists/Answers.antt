@@ -1,4 +1,3 @@
-use Rattle.std.proofs.lemmas.Result.{err_from_is_err_and}
 use Rattle.docket.proofs.PartFacts.{lists_in_files}
 use Rattle.docket.proofs.parts.read_parts_with_lists.Goals as goal
 

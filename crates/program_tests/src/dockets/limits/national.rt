@@ -3,7 +3,7 @@ use super::{ELEVENTH, closes, numbered, ranked};
 use docket::read_docket_within;
 use match_model::Limits;
 use match_pool::OpenGate;
-use residency::{JournalForm, MatchOptions, Status, serve_match_within};
+use residency::{JournalForm, MatchOptions, Order, Status, serve_within};
 use std::alloc::{AllocError, Global};
 use std::test::Fail;
 use test_support::randomness::OneByte;
@@ -73,13 +73,13 @@ fn matches_beyond_the_standard_limits(rt: HostRuntime) -> Result<(), Fail> {
     let mut text = numbered(rt.alloc(), "Q,p", 2_001, ",1\n")?;
     text.push_str("P,p2000,r\nR,r,p2000\n")?;
     let mut sheet = Vec::new(rt.alloc());
-    let answer = serve_match_within(
+    let answer = serve_within(
         rt,
         rt.alloc(),
         Limits::National,
+        &Order::Match(MATCH),
         text.as_bytes(),
         &mut sheet,
-        &MATCH,
         &OpenGate,
     );
     assert!(rt; answer == Ok(Status::Closed));

@@ -1,7 +1,7 @@
 use Rattle.std.proofs.Common.{ℕ, take}
 use Rattle.std.specs.List.{enumerate_from, flat_map, zip}
 use Rattle.match_reasons.specs.declared.reason.Why.{Why}
-use Rattle.row_writer.specs.RowText.{Adds}
+use Rattle.records.specs.RowText.{Adds}
 use Rattle.reasons_text.specs.Naming.{naming_of}
 use Rattle.reasons_text.specs.Table.{answer_row}
 use Rattle.reasons_text.proofs.answering.push_rows.Given as goal

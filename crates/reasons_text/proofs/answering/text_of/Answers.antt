@@ -1,4 +1,4 @@
-use Rattle.std.proofs.Common.{None, inl, inr, refl, subst}
+use Rattle.std.proofs.Common.{subst}
 use Rattle.docket.specs.Contents.{Contents}
 use Rattle.reasons_text.specs.Keys.{IsKeyOf}
 use Rattle.reasons_text.specs.Naming.{both_of}

@@ -1,7 +1,7 @@
 use Rattle.std.proofs.Common.{◌≡◌, List, ℕ, ◌++◌, refl, arith}
 use Rattle.std.specs.List.{flat_map}
-use Rattle.row_writer.specs.RowText.{Adds, Writes, row}
-use Rattle.row_writer.proofs.RowTextFacts.{adds_both}
+use Rattle.records.specs.RowText.{Adds, Writes, row}
+use Rattle.records.proofs.RowTextFacts.{adds_both}
 use Rattle.reasons_text.specs.Table.{columns}
 use Rattle.reasons_text.proofs.LineFacts.{handed_over}
 use Rattle.reasons_text.proofs.answering.write_table.Goals as goal

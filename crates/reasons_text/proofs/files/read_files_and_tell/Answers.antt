@@ -2,6 +2,7 @@ use Rattle.std.proofs.Common.{inl, inr, refl}
 use Rattle.std.proofs.lemmas.Result.{IfErr-weaker, IfOk-weaker}
 use Rattle.docket.specs.declared.part.Part.TheVariants as part
 use Rattle.docket.specs.declared.fault.DocketFault.TheVariants as docket
+use Rattle.docket.specs.declared.records_fault.RecordsFault.TheVariants as records
 use Rattle.reasons_text.proofs.files.read_files_and_tell.Goals as goal
 
 pub returns-clause-text : goal.returns-clause-text
@@ -16,4 +17,4 @@ returns-clause-fault g c =
 
 pub returns-in_default-clause-fault : goal.returns-in_default-clause-fault
 returns-in_default-clause-fault g c =
-    inl (inr (inl (record { first = record { file = part.Docket; fault = docket.Read 1 }; is_first = inl (inr (1, refl)); is_told = refl })))
+    inl (inr (inl (record { first = record { file = part.Docket; fault = records.Docket (docket.Read 1) }; is_first = inl (inr (1, refl)); is_told = refl })))

@@ -1,4 +1,4 @@
-use Rattle.std.proofs.Common.{◌∙◌, sym}
+use Rattle.std.proofs.Common.{◌∙◌}
 use Rattle.reasons_text.specs.Numbers.{number_in}
 use Rattle.reasons_text.proofs.NumberFacts.{number_more, numbers_none}
 use Rattle.reasons_text.proofs.naming.numbers_of.Goals as goal

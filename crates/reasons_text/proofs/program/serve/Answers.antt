@@ -1,5 +1,15 @@
-use Rattle.reasons_text.proofs.FaultFacts.{key_unread}
+use Rattle.std.proofs.Common.{inr, ap, ◌∙◌, option_copied, rules}
+use Rattle.std.specs.Prelude.{is_some}
+use Rattle.program_shell.proofs.OfAnswers.{answered}
 use Rattle.reasons_text.proofs.program.serve.Goals as goal
 
-pub returns-in-Err-clause-failed : goal.returns-in-Err-clause-failed
-returns-in-Err-clause-failed g c = key_unread c.args.limits c.args.question.now _ _ c.in-Err.fault c.in-Err.ensures.fault
+pub returns : goal.returns
+returns g c = inr (record {
+  answer = c.serve_why_within-answer.result;
+  appends = record {
+    key = option_copied c.lent-key.result;
+    keyed = ap is_some c.lent-key.ensures ∙ c.in-Ok.ensures;
+    answers = rw c.in-None.is (answered g.W.Write.contents _ _ c.serve_why_within-answer.result _ _ _ c.serve_why_within-answer.ensures.text c.serve_why_within-answer.ensures.fault c.serve_why_within-answer.ensures.before);
+  };
+  tells = search rules;
+})

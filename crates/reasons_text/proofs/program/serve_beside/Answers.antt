@@ -1,22 +1,15 @@
-use Rattle.std.proofs.lemmas.Result.{IfErr-weaker, on_ok_weaker}
-use Rattle.std.proofs.Common.{inr}
-use Rattle.reasons_text.specs.Program.{Beside}
+use Rattle.std.proofs.Common.{inr, rules}
+use Rattle.program_shell.proofs.OfAnswers.{answered}
 use Rattle.reasons_text.proofs.program.serve_beside.Goals as goal
 
-pub returns-clause-answered : goal.returns-clause-answered
-returns-clause-answered g c =
-    let files : Beside (g.R.Read.remaining c.args.reader) = record {
-      docket = c.as_slice.result.now;
-      sheet = c.as_slice-2.result.now;
-      input_is = rw c.as_slice.ensures.value c.in-Ok-input_of.ensures.bytes;
-    } in
-    on_ok_weaker c.serve_why_files_within.result (λ told. (files, told)) c.serve_why_files_within.ensures.text
-
-pub returns-clause-failed : goal.returns-clause-failed
-returns-clause-failed g c =
-    let files : Beside (g.R.Read.remaining c.args.reader) = record {
-      docket = c.as_slice.result.now;
-      sheet = c.as_slice-2.result.now;
-      input_is = rw c.as_slice.ensures.value c.in-Ok-input_of.ensures.bytes;
-    } in
-    IfErr-weaker c.serve_why_files_within.result _ _ (λ fault holds. inr (inr (files, holds))) c.serve_why_files_within.ensures.fault
+pub returns : goal.returns
+returns g c = inr (record {
+  answer = c.serve_why_files_within-answer.result;
+  appends = record {
+    docket = c.as_slice.result.now;
+    sheet = c.as_slice-2.result.now;
+    docket_is = search rules;
+    answers = answered g.W.Write.contents _ _ c.serve_why_files_within-answer.result _ _ _ c.serve_why_files_within-answer.ensures.text c.serve_why_files_within-answer.ensures.fault c.serve_why_files_within-answer.ensures.before;
+  };
+  tells = search rules;
+})

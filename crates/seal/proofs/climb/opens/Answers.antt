@@ -1,4 +1,4 @@
-use Rattle.std.proofs.Common.{◌+◌, ◌/◌, ◌%◌, ◌<◌, length, arith, refl, sym, ◌∙◌}
+use Rattle.std.proofs.Common.{subst, Decides, ◌≡◌, ◌+◌, ◌/◌, ◌%◌, ◌<◌, length, arith, refl, sym, ◌∙◌}
 use Rattle.std.proofs.lemmas.Bool.{ne_eqb}
 use Rattle.std.proofs.lemmas.Bool.Decides.{Decides-eqb}
 use Rattle.std.proofs.lemmas.Slice.Eq.{slice_eq-Decides}
@@ -11,13 +11,13 @@ pub returns-then-used-path : goal.returns-then-used-path
 returns-then-used-path c =
     let l = c.loop-nodes in
     let none = falls_short l.place l.nodes l.used Left l.hash c.args.path.now l.invariant.0 c.loop-nodes-test.true (is_left l.place l.nodes c.if-place-eq1.true) c.if-used-path.true in
-    fails _ _ _ refl (climb_is _ _ _ _ c.if-index-count.false ∙ sym l.invariant.2 ∙ none)
+    fails _ _ _ _ refl (climb_is _ _ _ _ c.if-index-count.false ∙ sym l.invariant.2 ∙ none)
 
 pub returns-then-used-path-2 : goal.returns-then-used-path-2
 returns-then-used-path-2 c =
     let l = c.loop-nodes in
     let none = falls_short l.place l.nodes l.used Right l.hash c.args.path.now l.invariant.0 c.loop-nodes-test.true (is_right l.place l.nodes c.if-place-eq1.false c.if-place-nodes.true) c.if-used-path-2.true in
-    fails _ _ _ refl (climb_is _ _ _ _ c.if-index-count.false ∙ sym l.invariant.2 ∙ none)
+    fails _ _ _ _ refl (climb_is _ _ _ _ c.if-index-count.false ∙ sym l.invariant.2 ∙ none)
 
 pub loop-nodes-preserved : goal.loop-nodes-preserved
 loop-nodes-preserved c =
@@ -49,7 +49,7 @@ loop-nodes-preserved c =
 pub returns-then-used-path-3 : goal.returns-then-used-path-3
 returns-then-used-path-3 c =
     let l = c.loop-nodes in
-    decides _ _ l.hash c.args.root.now (slice_eq-Decides Decides-eqb l.hash c.args.root.now c.eq.result c.eq.ensures)
+    decides _ _ _ l.hash c.args.root.now (subst (λ z. Decides c.eq.result (z ≡ c.args.root.now)) c.published.ensures (slice_eq-Decides Decides-eqb c.published.result c.args.root.now c.eq.result c.eq.ensures))
     (climb_is _ _ _ _ c.if-index-count.false ∙ sym l.invariant.2
     ∙ ends l.place l.nodes l.used l.hash c.args.path.now l.invariant.0 c.loop-nodes-test.false c.if-used-path-3.true)
 
@@ -57,6 +57,6 @@ pub returns-else-used-path-3 : goal.returns-else-used-path-3
 returns-else-used-path-3 c =
     let l = c.loop-nodes in
     let less : l.used < length c.args.path.now = omega (arith, l.invariant.1, c.if-used-path-3.false) in
-    fails _ _ _ (ne_eqb _ _ c.if-used-path-3.false)
+    fails _ _ _ _ (ne_eqb _ _ c.if-used-path-3.false)
     (climb_is _ _ _ _ c.if-index-count.false ∙ sym l.invariant.2
     ∙ left_over l.place l.nodes l.used l.hash c.args.path.now l.invariant.0 c.loop-nodes-test.false less)

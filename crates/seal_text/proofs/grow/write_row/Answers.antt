@@ -1,6 +1,6 @@
 use Rattle.std.proofs.Common.{◌≡◌, map, arith}
 use Rattle.std.specs.Io.KnownBytes.{Appends}
-use Rattle.row_writer.specs.RowText.{row}
+use Rattle.records.specs.RowText.{row}
 use Rattle.seal_text.proofs.TextFacts.{handed_over}
 use Rattle.seal_text.proofs.grow.write_row.Goals as goal
 

@@ -8,3 +8,6 @@ text_of_case-requires g c =
 
 pub returns-clause-fault : goal.returns-clause-fault
 returns-clause-fault g c = no_memory c.args.docket.now c.args.sheet.now
+
+pub returns-in_default-clause-fault : goal.returns-in_default-clause-fault
+returns-in_default-clause-fault g c = no_memory c.args.docket.now c.args.sheet.now

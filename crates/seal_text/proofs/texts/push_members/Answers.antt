@@ -1,6 +1,6 @@
 use Rattle.std.proofs.Common.{◌≡◌, true, false, sym, ◌∙◌}
 use Rattle.match_model.specs.Placement.{holds, programme_of}
-use Rattle.row_writer.proofs.RowTextFacts.{adds_none}
+use Rattle.records.proofs.RowTextFacts.{adds_none}
 use Rattle.seal_text.proofs.TextFacts.{members_yes, members_no}
 use Rattle.seal_text.proofs.texts.push_members.Goals as goal
 use Rattle.seal_text.proofs.texts.push_members.Goals.{then-has_programme+in_ok-push_mark, else-has_programme}

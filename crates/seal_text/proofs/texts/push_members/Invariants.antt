@@ -1,4 +1,4 @@
-use Rattle.row_writer.specs.RowText.{Adds}
+use Rattle.records.specs.RowText.{Adds}
 use Rattle.seal_text.specs.Texts.{member_rows}
 use Rattle.seal_text.proofs.texts.push_members.Given as goal
 

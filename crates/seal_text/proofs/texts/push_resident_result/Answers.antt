@@ -1,7 +1,7 @@
 use Rattle.std.proofs.Common.{◌++◌, ◌∙◌, refl, sym, arith}
 use Rattle.std.proofs.lemmas.Result.{on_ok_weaker}
 use Rattle.docket.specs.Texts.{resident_row}
-use Rattle.row_writer.proofs.RowTextFacts.{adds_both}
+use Rattle.records.proofs.RowTextFacts.{adds_both}
 use Rattle.seal_text.proofs.texts.push_resident_result.Goals as goal
 
 pub returns : goal.returns

@@ -1,5 +1,5 @@
 use Rattle.std.proofs.Common.{◌≡◌, [], List, drop}
-use Rattle.docket.specs.Fields.{Fields}
+use Rattle.records.specs.Reading.{Fields}
 use Rattle.docket.specs.Known.{AreKnown}
 use Rattle.docket.specs.Lists.{AreLists}
 use Rattle.docket.specs.Ranking.{IsRanked}

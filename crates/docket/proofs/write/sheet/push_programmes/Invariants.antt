@@ -1,7 +1,7 @@
 use Rattle.std.proofs.Common.{ℕ, List, Option, length}
 use Rattle.std.specs.List.{flat_map, range_with_len}
 use Rattle.docket.specs.Texts.{filled_row, AreCountsOf}
-use Rattle.row_writer.specs.RowText.{Adds}
+use Rattle.records.specs.RowText.{Adds}
 use Rattle.docket.proofs.write.sheet.push_programmes.Given as goal
 
 abbrev pub invariant-loop-p : goal.invariant-loop-p

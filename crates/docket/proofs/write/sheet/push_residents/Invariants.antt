@@ -1,6 +1,6 @@
 use Rattle.std.specs.List.{flat_map, range_with_len}
 use Rattle.docket.specs.Texts.{resident_row}
-use Rattle.row_writer.specs.RowText.{Adds}
+use Rattle.records.specs.RowText.{Adds}
 use Rattle.docket.proofs.write.sheet.push_residents.Given as goal
 
 abbrev pub invariant-loop-r : goal.invariant-loop-r

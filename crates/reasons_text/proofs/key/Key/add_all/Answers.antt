@@ -1,6 +1,7 @@
-use Rattle.std.proofs.Common.{inr}
+use Rattle.std.proofs.Common.{◌∙◌, ap}
 use Rattle.std.proofs.lemmas.Result.{err_from_is_err_and}
 use Rattle.csv.specs.Records.{fields_of}
+use Rattle.records.specs.Reading.{marked}
 use Rattle.reasons_text.specs.Naming.{both_of}
 use Rattle.reasons_text.proofs.KeyLoopFacts.{bad_or_memory, row_more, rows_over, rows_start}
 use Rattle.reasons_text.proofs.key.Key.add_all.Goals as goal
@@ -8,7 +9,7 @@ use Rattle.reasons_text.proofs.key.Key.add_all.Goals as goal
 pub loop-before-init : goal.loop-before-init
 loop-before-init c =
     let r = c.in_ok-reader.ensures in
-    rows_start c.args.numbers.now.docket.now c.args.bytes.now (both_of c.args.self.now) c.in_ok-reader.reader r.config r.trim r.ready r.state r.source
+    rows_start c.args.numbers.now.docket.now c.args.bytes.now (both_of c.args.self.now) c.in_ok-reader.reader (r.config ∙ ap marked c.delimiter_of.ensures) r.reading r.state r.source
 
 pub returns-then-not-branch-clause-all : goal.returns-then-not-branch-clause-all
 returns-then-not-branch-clause-all c =
@@ -21,7 +22,7 @@ loop-before-preserved c =
     let reads = rw c.if-not-branch.false at c.in_ok-next_row.ensures.reads in
     row_more c.args.numbers.now.docket.now c.args.bytes.now (both_of c.args.self.now) (both_of c.loop-before.self) c.loop-before.reader c.next_row.new.reader
     c.loop-before.before c.loop-before.invariant (fields_of c.next_row.new.row) (both_of c.add.new.self) reads
-    (c.in_ok-next_row.ensures.ready c.if-not-branch.false) c.in_ok-add.ensures.faultless c.in_ok-add.ensures.row
+    (c.in_ok-next_row.ensures.reading c.if-not-branch.false) c.in_ok-add.ensures.faultless c.in_ok-add.ensures.row
 
 pub returns-in_err-add-clause-fault : goal.returns-in_err-add-clause-fault
 returns-in_err-add-clause-fault c =

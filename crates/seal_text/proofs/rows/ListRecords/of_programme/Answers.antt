@@ -2,8 +2,7 @@ use Rattle.std.proofs.Common.{◌≡◌, ◌<◌, Bool, Some, length, arith, ap,
 use Rattle.std.specs.Prelude.{bytes_eq}
 use Rattle.std.proofs.lemmas.List.{length-map}
 use Rattle.csv.specs.Records.{fields_of}
-use Rattle.docket.specs.Fields.{field}
-use Rattle.records.specs.Reading.{Fields}
+use Rattle.records.specs.Reading.{Fields, field}
 use Rattle.seal_text.specs.Records.{rows_in}
 use Rattle.seal_text.proofs.RecordFacts.{find_next, find_here, row_there}
 use Rattle.seal_text.proofs.rows.ListRecords.of_programme.Goals as goal

@@ -1,7 +1,6 @@
 use Rattle.std.proofs.Common.{◌≡◌, take, None}
 use Rattle.std.specs.Prelude.{bytes_eq, find}
-use Rattle.docket.specs.Fields.{field}
-use Rattle.records.specs.Reading.{Fields}
+use Rattle.records.specs.Reading.{Fields, field}
 use Rattle.seal_text.specs.Records.{rows_in}
 use Rattle.seal_text.proofs.rows.ListRecords.of_programme.Given as goal
 

@@ -2,7 +2,7 @@ use Rattle.std.proofs.Common.{◌∙◌, ◌+◌, ◌≡◌, ap, refl, sym, arit
 use Rattle.std.specs.Prelude.{slice_set, count_by}
 use Rattle.std.proofs.lemmas.Result.{err_from_is_err_and}
 use Rattle.docket.specs.Contents.{is_matched_with}
-use Rattle.docket.specs.Fields.{field}
+use Rattle.records.specs.Reading.{field}
 use Rattle.docket.proofs.DeclarationFacts.{refuses_first, refuses_second, no_fault}
 use Rattle.docket.proofs.RankingFacts.{distinct_programmes, distinct_residents}
 use Rattle.docket.proofs.SheetMarkFacts.{matched_fault_is, matched_resident, matched_programme, marked_at, counts_at, count_few, second_row, first_row, room, marks_matched}

@@ -1,6 +1,6 @@
 use Rattle.std.proofs.Common.{◌∙◌, refl}
 use Rattle.std.proofs.lemmas.Result.{err_from_is_err_and}
-use Rattle.docket.specs.Fields.{field}
+use Rattle.records.specs.Reading.{field}
 use Rattle.docket.proofs.DeclarationFacts.{refuses_first, refuses_second, no_fault}
 use Rattle.docket.proofs.RankingFacts.{distinct_residents}
 use Rattle.docket.proofs.SheetMarkFacts.{unmatched_fault_is, unmatched_resident, marked_at, second_row, first_row, marks_unmatched}

@@ -1,5 +1,5 @@
 use Rattle.std.proofs.Common.{◌≡◌, List, [], ℕ, None, drop}
-use Rattle.docket.specs.Fields.{Fields}
+use Rattle.records.specs.Reading.{Fields}
 use Rattle.docket.specs.Contents.{quotas_of}
 use Rattle.docket.specs.Known.{AreKnown}
 use Rattle.docket.specs.Passes.{first_from, mark_fault}

@@ -1,6 +1,6 @@
 use Rattle.std.proofs.Common.{◌∙◌, ap, sym, refl, rules, []}
 use Rattle.std.specs.Prelude.{slice_index_or, ◌==◌, unwrap_or, Option, ℕ}
-use Rattle.docket.specs.Fields.{field}
+use Rattle.records.specs.Reading.{field}
 use Rattle.docket.specs.Contents.{quotas_of}
 use Rattle.docket.specs.Passes.{first_from, mark_fault}
 use Rattle.docket.proofs.SheetMarkFacts.{counts_at, clean_here, filled_is, filled_known, filled_other, filled_programme, filled_unknown, test_true, test_false}

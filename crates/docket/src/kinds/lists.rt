@@ -1,0 +1,73 @@
+//! The rank lists and the withdrawals.
+ghost use Rattle.std.specs.Prelude.{◌≡◌, ◌++◌, ◌∷◌, [], Some, List, slice_get, IfOk, OnOk};
+ghost use Rattle.csv.specs.Records.{fields_of};
+ghost use Rattle.docket.specs.Answers.{Answers};
+ghost use Rattle.docket.specs.Fields.{kind_of, list_row_fault, withdrawal_row_fault};
+ghost use Rattle.records.specs.Reading.{Fields, field as field_of};
+ghost use Rattle.docket.specs.Lists.{AreLists, list_letter};
+ghost use Rattle.docket.specs.Passes.{next_place};
+ghost use Rattle.docket.specs.Rows.{side_text};
+ghost use Rattle.docket_names.specs.Texts.{StartsWith};
+
+use crate::fault::DocketFault;
+use crate::store::lists::Lists;
+use crate::vocabulary::{Side, WITHDRAWAL, side_of};
+use csv::ByteRecord;
+use docket_names::Texts;
+use records::field;
+
+/// Checks and keeps the list of a member on this side: `P,programme,resident,..` or `R,resident,programme,..`. The answer
+/// is the number of the owner's name.
+pub(crate) fn list_row(
+    lists: &mut Lists,
+    texts: &mut Texts,
+    row: &ByteRecord,
+    side: Side,
+    place: u32,
+) -> Result<usize, DocketFault>
+    requires kind { kind_of (fields_of row.now) ≡ list_letter side }
+    ensures texts { StartsWith texts.old texts.new }
+    ensures owner { IfOk result (λ n.
+        slice_get texts.new n ≡ Some (field_of (fields_of row.now) 1)) }
+    ensures kept { OnOk result ((rows : List Fields)
+        → place ≡ next_place rows → AreLists texts.old lists.old rows
+        → AreLists texts.new lists.new (rows ++ fields_of row.now ∷ [])) }
+    ensures fault { Answers (list_row_fault place (fields_of row.now)) result }
+{
+    if row.len() < 2 {
+        return Err(DocketFault::FieldCount { place });
+    }
+    match lists.add_list(texts, row, side, place)? {
+        Some(owner) => Ok(owner),
+        None => Err(DocketFault::BadName { place }),
+    }
+}
+
+/// Checks and keeps the withdrawal `W,P,programme` or `W,R,resident`. The answer is the side, and the number of the name.
+pub(crate) fn withdrawal_row(
+    lists: &mut Lists,
+    texts: &mut Texts,
+    row: &ByteRecord,
+    place: u32,
+) -> Result<(Side, usize), DocketFault>
+    requires kind { kind_of (fields_of row.now) ≡ WITHDRAWAL }
+    ensures texts { StartsWith texts.old texts.new }
+    ensures side { IfOk result (λ gone. field_of (fields_of row.now) 1 ≡ side_text gone.0) }
+    ensures name { IfOk result (λ gone.
+        slice_get texts.new gone.1 ≡ Some (field_of (fields_of row.now) 2)) }
+    ensures kept { OnOk result ((rows : List Fields)
+        → place ≡ next_place rows → AreLists texts.old lists.old rows
+        → AreLists texts.new lists.new (rows ++ fields_of row.now ∷ [])) }
+    ensures fault { Answers (withdrawal_row_fault place (fields_of row.now)) result }
+{
+    if row.len() != 3 {
+        return Err(DocketFault::FieldCount { place });
+    }
+    let Some(side) = side_of(field(row, 1)) else {
+        return Err(DocketFault::BadWithdrawal { place });
+    };
+    match lists.add_withdrawal(texts, row, side, place)? {
+        Some(name) => Ok((side, name)),
+        None => Err(DocketFault::BadName { place }),
+    }
+}

@@ -1,0 +1,10 @@
+use Rattle.std.proofs.Common.{◌-◌, ◌≤◌, length, drop, ap, sym, ◌∙◌, arith, take_all, length-drop}
+use Rattle.std.proofs.lemmas.List.{drop-map}
+use Rattle.receipt_check.specs.Shown.{fields_in, rows_in}
+use Rattle.receipt_check.proofs.shown.rows_from.Goals as goal
+
+pub returns-then-k-rows : goal.returns-then-k-rows
+returns-then-k-rows c =
+    let rows = c.args.rows.now in
+    let all : length (drop c.args.k rows) ≤ length rows - c.args.k = omega (arith, length-drop c.args.k rows) in
+    ap rows_in (take_all (length rows - c.args.k) (drop c.args.k rows) all) ∙ sym (drop-map (λ row. fields_in row.items) c.args.k rows)

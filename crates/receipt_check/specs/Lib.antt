@@ -1,0 +1,7 @@
+pub mod Rows
+pub mod Receipt
+pub mod Shape
+pub mod Faults
+pub mod Told
+pub mod Good
+pub mod Shown

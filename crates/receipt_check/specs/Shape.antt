@@ -1,0 +1,74 @@
+-- The first row that isn't as the receipt with this content has it, and what is wrong with it.
+use Rattle.std.specs.Prelude.{ℕ, ◌+◌, ◌==◌, ◌&&◌, nat_lt, nat_le, not, Bool, true, false, if◌then◌else◌, Option, Some, None, List, [], ◌∷◌, option_map, bytes_eq, codes, length}
+use Rattle.receipt_check.specs.Rows.{Cells, text_at, row_at, cell}
+use Rattle.receipt_check.specs.Receipt.{Receipt, end_place, receipt_text}
+use Rattle.receipt_check.specs.declared.wrong.Wrong.{Wrong}
+use Rattle.receipt_check.specs.declared.wrong.Wrong.TheVariants as wrong
+use Rattle.receipt_check.specs.declared.wrong.Fault.{Fault}
+use Rattle.hex.specs.Hex.{encode_lower}
+
+-- how many line feeds the byte is
+abbrev pub feeds : ℕ → ℕ
+feeds byte = if byte == 10 then 1 else 0
+
+-- the first row, from 0, in which two texts differ, if they do
+abbrev pub first_unlike : List ℕ → List ℕ → Option ℕ
+first_unlike [] [] = None
+first_unlike [] (y ∷ ys) = Some 0
+first_unlike (x ∷ xs) [] = Some 0
+first_unlike (x ∷ xs) (y ∷ ys) =
+    if x == y then option_map (λ row. row + feeds x) (first_unlike xs ys) else Some 0
+
+-- what is wrong with the first row
+abbrev pub header_wrong : List Cells → Wrong
+header_wrong rows =
+    if bytes_eq (cell rows 0 0) (codes "receipt") && bytes_eq (cell rows 0 1) (codes "1") then wrong.Age else wrong.Header
+
+-- what is wrong with the row of a root, which has another root, another count than that of the lists, or another form
+abbrev pub root_wrong : List ℕ → List ℕ → Cells → Wrong
+root_wrong root count row =
+    if not (length (text_at row 2) == 64) then wrong.RootRow
+    else if not (bytes_eq (text_at row 2) (encode_lower root)) then wrong.Root
+    else if bytes_eq (text_at row 1) count then wrong.RootRow else wrong.Count
+
+-- what is wrong with a row of the result
+abbrev pub result_wrong : List ℕ → Receipt → List Cells → ℕ → Wrong
+result_wrong root r rows k =
+    if k == end_place r.has_list r.gone then (if bytes_eq (cell rows k 0) (codes "result") then root_wrong root r.count (row_at rows k) else wrong.List)
+    else if k == end_place r.has_list r.gone + 1 then (if bytes_eq (cell rows k 2) r.index then wrong.OpeningRow else wrong.Place)
+    else wrong.Result
+
+-- what is wrong with a row after those of the lists
+abbrev pub later_wrong : Option (List ℕ) → Receipt → List Cells → ℕ → Wrong
+later_wrong None r rows k = if bytes_eq (cell rows k 0) (codes "result") then wrong.Unasked else wrong.List
+later_wrong (Some root) r rows k = result_wrong root r rows k
+
+-- What is wrong with the first row that isn't as the receipt has it. If there is no such row, the receipt is cut off.
+unfoldable pub shape_wrong : List ℕ → Option (List ℕ) → Receipt → List Cells → ℕ → Wrong
+shape_wrong lists_root result_root r rows k =
+    if nat_le (length rows) k then wrong.Missing
+    else if k == 0 then header_wrong rows
+    else if k == 1 then root_wrong lists_root r.count (row_at rows 1)
+    else if k == 2 then wrong.OpeningRow
+    else if nat_lt k (end_place r.has_list r.gone) then wrong.List
+    else later_wrong result_root r rows k
+
+-- the fault of a row, from 0
+abbrev pub at : ℕ → Wrong → Fault
+at k w = record { row = k + 1; wrong = w }
+
+-- the fault of the first row of a text that isn't as the receipt with this content has it
+unfoldable pub shape_fault : List ℕ → Option (List ℕ) → Receipt → List Cells → List ℕ → Option Fault
+shape_fault lists_root result_root r rows text =
+    option_map (λ k. at k (shape_wrong lists_root result_root r rows k)) (first_unlike text (receipt_text lists_root result_root r))
+
+-- whether a receipt with this fault isn't as it was given: a program changed it, a part is missing, or it is of an earlier
+-- form; else the receipt is wrong
+abbrev pub is_changed : Wrong → Bool
+is_changed wrong.Header = true
+is_changed wrong.Age = true
+is_changed wrong.RootRow = true
+is_changed wrong.OpeningRow = true
+is_changed wrong.Missing = true
+is_changed wrong.Long = true
+is_changed other = false

@@ -1,0 +1,112 @@
+//! The check of a receipt.
+ghost use Rattle.std.specs.Prelude.{◌≡◌, ◌≢◌, ℕ, None, Some, List, IfErr, IfOk, MatchResult, OnOk, option_map};
+ghost use Rattle.std.specs.Io.KnownBytes.{Appends};
+ghost use Rattle.receipt_check.specs.Faults as faults;
+ghost use Rattle.receipt_check.specs.Faults.{receipt_fault};
+ghost use Rattle.receipt_check.specs.Good.{IsReceiptFault};
+ghost use Rattle.receipt_check.specs.Receipt as receipt;
+ghost use Rattle.receipt_check.specs.Rows as form;
+ghost use Rattle.receipt_check.specs.Told as words;
+
+use crate::faults::value_fault;
+use crate::rows::{plain_text, split_rows};
+use crate::shape::shape_fault;
+use crate::shown::read;
+use crate::told::told;
+use crate::wrong::{Fault, ReceiptFault, Wrong, at};
+use std::alloc::{AllocError, Global};
+use std::hash::RandomState;
+use std::io::Write;
+use std::random::RandomSource;
+
+// How many bytes a receipt has at most; the longest that a docket can have is shorter.
+const LONGEST: usize = 2_000_000;
+
+// What the receipt that this text is shows; or the first thing that is wrong with it.
+#[tactic(auto, unfolding(crate::specs::Faults::text_fault))]
+fn words_of(
+    alloc: Global,
+    keys: RandomState,
+    text: &[u8],
+    lists_root: &[u8; 32],
+    result_root: Option<&[u8; 32]>,
+) -> Result<Result<Vec<u8>, Fault>, AllocError>
+    ensures { IfOk result (λ answer. MatchResult answer
+        (λ told. (faults.text_fault lists_root.now
+        (option_map (λ root. root.now) result_root.entry) text.now ≡ None)
+        × (told.items ≡ words.told (option_map (λ root. root.now) result_root.entry)
+        (receipt.read (form.split_rows text.now))))
+        (λ fault. faults.text_fault lists_root.now
+        (option_map (λ root. root.now) result_root.entry) text.now ≡ Some fault)) }
+{
+    let rows = split_rows(alloc, text)?;
+    let shown = read(rows.as_slice());
+    if let Some(fault) = shape_fault(
+        alloc,
+        lists_root,
+        result_root,
+        &shown,
+        rows.as_slice(),
+        text,
+    )? {
+        return Ok(Err(fault));
+    }
+    if let Some(fault) = value_fault(alloc, keys, lists_root, result_root, &shown)? {
+        return Ok(Err(fault));
+    }
+    Ok(Ok(told(alloc, result_root, &shown)?))
+}
+
+// What the receipt shows; or why there is nothing to say.
+fn answer_of<H: RandomSource>(
+    rt: &H,
+    alloc: Global,
+    bytes: &[u8],
+    lists_root: &[u8; 32],
+    result_root: Option<&[u8; 32]>,
+) -> Result<Vec<u8>, ReceiptFault>
+    ensures { MatchResult result
+        (λ told. (receipt_fault lists_root.now
+        (option_map (λ root. root.now) result_root.entry) bytes.now ≡ None)
+        × (told.items ≡ words.told_of (option_map (λ root. root.now) result_root.entry) bytes.now))
+        (IsReceiptFault lists_root.now
+        (option_map (λ root. root.now) result_root.entry) bytes.now) }
+{
+    if bytes.len() > LONGEST {
+        return Err(ReceiptFault::Wrong(at(0, Wrong::Long)));
+    }
+    let Ok(keys) = RandomState::new(rt) else {
+        return Err(ReceiptFault::Memory);
+    };
+    let text = plain_text(alloc, bytes)?;
+    match words_of(alloc, keys, text.as_slice(), lists_root, result_root)? {
+        Ok(told) => Ok(told),
+        Err(fault) => Err(ReceiptFault::Wrong(fault)),
+    }
+}
+
+/// Checks a receipt against the published roots, and writes what it shows in words. If something is wrong with it, the fault
+/// is the first thing that is wrong, and nothing is written.
+pub fn serve_receipt<W: Write, H: RandomSource>(
+    rt: &H,
+    alloc: Global,
+    receipt: &[u8],
+    lists_root: &[u8; 32],
+    result_root: Option<&[u8; 32]>,
+    writer: &mut W,
+) -> Result<(), ReceiptFault>
+    ensures good { OnOk result (receipt_fault lists_root.now
+        (option_map (λ root. root.now) result_root.entry) receipt.now ≡ None) }
+    ensures told { OnOk result (Appends (W.contents writer.old) (W.contents writer.new)
+        (words.told_of (option_map (λ root. root.now) result_root.entry) receipt.now)) }
+    ensures fault { IfErr result (IsReceiptFault lists_root.now
+        (option_map (λ root. root.now) result_root.entry) receipt.now) }
+    ensures unwritten { IfErr result (λ fault.
+        fault ≢ ReceiptFault.Write → writer.new ≡ writer.old) }
+{
+    let text = answer_of(rt, alloc, receipt, lists_root, result_root)?;
+    match writer.write_all(text.as_slice()) {
+        Ok(()) => Ok(()),
+        Err(_) => Err(ReceiptFault::Write),
+    }
+}

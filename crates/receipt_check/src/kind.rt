@@ -1,0 +1,34 @@
+//! The sides of a match.
+ghost use Rattle.std.specs.Prelude.{◌≡◌};
+ghost use Rattle.receipt_check.specs.Receipt as receipt;
+
+/// Whose receipt it is.
+#[derive(Clone, Copy, Debug, PartialEq, Eq)]
+pub(crate) enum Kind {
+    /// A programme's.
+    Programme,
+    /// A resident's.
+    Resident,
+}
+
+impl Kind {
+    /// The letter of the side.
+    pub(crate) fn letter(self) -> &'static [u8]
+        ensures { result.now ≡ receipt.letter_of self }
+    {
+        match self {
+            Kind::Programme => b"P",
+            Kind::Resident => b"R",
+        }
+    }
+
+    /// Whether it is a programme.
+    pub(crate) fn is_programme(self) -> bool
+        ensures { result ≡ receipt.is_programme self }
+    {
+        match self {
+            Kind::Programme => true,
+            Kind::Resident => false,
+        }
+    }
+}

@@ -1,0 +1,137 @@
+//! What a receipt tells, as it is read from its rows.
+ghost use Rattle.std.specs.Prelude.{◌≡◌, ◌<◌, ◌+◌, ◌^◌, List, ℕ, drop, map, option_map};
+ghost use Rattle.receipt_check.specs.Receipt as receipt;
+ghost use Rattle.receipt_check.specs.Shown.{content, fields_in, rows_in};
+
+use crate::kind::Kind;
+use crate::rows::{cell, field, fields_from, is};
+
+/// What a receipt tells. Numbers and digests are as they are written. The last three are of the result.
+#[derive(Clone, Copy)]
+pub(crate) struct Shown<'r, 'a> {
+    /// Of which side the member is.
+    pub(crate) kind: Kind,
+    /// The member's name.
+    pub(crate) name: &'a [u8],
+    /// How many members there are.
+    pub(crate) count: &'a [u8],
+    /// The member's number, from 0.
+    pub(crate) index: &'a [u8],
+    /// The salt and the path of the lists.
+    pub(crate) opening: &'r [&'a [u8]],
+    /// The quota of a programme.
+    pub(crate) quota: &'a [u8],
+    /// Whether a programme has a row for its list.
+    pub(crate) has_list: bool,
+    /// The list.
+    pub(crate) list: &'r [&'a [u8]],
+    /// Whether the member is withdrawn.
+    pub(crate) gone: bool,
+    /// The salt and the path of the result.
+    pub(crate) second: &'r [&'a [u8]],
+    /// The programme of a resident, if there is one.
+    pub(crate) own: Option<&'a [u8]>,
+    /// The rows after the result's first row.
+    pub(crate) after: &'r [Vec<&'a [u8]>],
+}
+
+// Of which side the member is.
+fn kind_in(rows: &[Vec<&[u8]>]) -> Kind
+    ensures { result ≡ receipt.kind_in (rows_in rows.now) }
+{
+    if is(cell(rows, 0, 2), b"P") {
+        Kind::Programme
+    } else {
+        Kind::Resident
+    }
+}
+
+// Whether a programme has a row for its list.
+fn has_list_in(rows: &[Vec<&[u8]>]) -> bool
+    ensures { result ≡ receipt.has_list_in (rows_in rows.now) }
+{
+    kind_in(rows).is_programme() && is(cell(rows, 4, 0), b"P")
+}
+
+/// The place of the row with the list, or of a programme's only row.
+pub(crate) fn list_place(has_list: bool) -> usize
+    ensures { result ≡ receipt.list_place has_list }
+{
+    if has_list { 4 } else { 3 }
+}
+
+/// The place of the row after the member's rows of the lists.
+pub(crate) fn end_place(has_list: bool, gone: bool) -> usize
+    ensures { result ≡ receipt.end_place has_list gone }
+{
+    list_place(has_list) + if gone { 2 } else { 1 }
+}
+
+// The list of the member.
+fn list_in<'r, 'a>(rows: &'r [Vec<&'a [u8]>]) -> &'r [&'a [u8]]
+    ensures { fields_in result.now ≡ receipt.list_in (rows_in rows.now) }
+{
+    let has_list = has_list_in(rows);
+    if kind_in(rows).is_programme() && !has_list {
+        return &[];
+    }
+    fields_from(rows, list_place(has_list), 2)
+}
+
+// Whether the member is withdrawn.
+fn gone_in(rows: &[Vec<&[u8]>]) -> bool
+    ensures { result ≡ receipt.gone_in (rows_in rows.now) }
+{
+    is(cell(rows, list_place(has_list_in(rows)) + 1, 0), b"W")
+}
+
+// The programme of a resident, if the row says that there is one.
+fn own_in<'a>(row: &[&'a [u8]]) -> Option<&'a [u8]>
+    ensures { option_map (λ own. own.now) result ≡ receipt.own_in (fields_in row.now) }
+{
+    if is(field(row, 0), b"M") {
+        Some(field(row, 2))
+    } else {
+        None
+    }
+}
+
+// The rows from this one on.
+fn rows_from<'r, 'a>(rows: &'r [Vec<&'a [u8]>], k: usize) -> &'r [Vec<&'a [u8]>]
+    ensures { rows_in result.now ≡ drop k (rows_in rows.now) }
+{
+    if k < rows.len() { &rows[k..] } else { &[] }
+}
+
+/// What these rows tell.
+#[tactic(auto, unfolding(crate::specs::Receipt::read))]
+pub(crate) fn read<'r, 'a>(rows: &'r [Vec<&'a [u8]>]) -> Shown<'r, 'a>
+    ensures { content result ≡ receipt.read (rows_in rows.now) }
+{
+    let has_list = has_list_in(rows);
+    let gone = gone_in(rows);
+    let end = end_place(has_list, gone);
+    Shown {
+        kind: kind_in(rows),
+        name: cell(rows, 0, 3),
+        count: cell(rows, 1, 1),
+        index: cell(rows, 2, 2),
+        opening: fields_from(rows, 2, 3),
+        quota: cell(rows, 3, 2),
+        has_list,
+        list: list_in(rows),
+        gone,
+        second: fields_from(rows, end + 1, 3),
+        own: own_in(fields_from(rows, end + 2, 0)),
+        after: rows_from(rows, end + 3),
+    }
+}
+
+impl<'r, 'a> Shown<'r, 'a> {
+    /// The answer to a resident's choice, from 0: a word and three numbers.
+    pub(crate) fn answer(&self, k: usize) -> &'r [&'a [u8]]
+        ensures { fields_in result.now ≡ receipt.answer (content self.now) k }
+    {
+        fields_from(self.after, k, 3)
+    }
+}

@@ -1,0 +1,232 @@
+//! What a good receipt shows, in words.
+ghost use Rattle.std.specs.Prelude.{◌≡◌, ◌<◌, ◌++◌, ℕ, List, IfOk, OnOk, codes, length, option_map};
+ghost use Rattle.std.specs.List.{flat_map, range_with_len};
+ghost use Rattle.receipt_check.specs.Receipt.{members};
+ghost use Rattle.receipt_check.specs.Rows.{Grows};
+ghost use Rattle.receipt_check.specs.Shown.{content, fields_in};
+ghost use Rattle.receipt_check.specs.Told as words;
+
+use crate::faults::members_in;
+use crate::kind::Kind;
+use crate::print::{put, put_number};
+use crate::rows::{field, is};
+use crate::shown::Shown;
+use docket_names::number_of;
+use std::alloc::{AllocError, Global};
+
+// Adds the end of a sentence.
+fn put_stop(text: &mut Vec<u8>) -> Result<(), AllocError>
+    ensures { OnOk result (Grows text.old text.new words.stop) }
+{
+    put(text, b".\n")
+}
+
+// Adds the names after the first, each after a comma.
+fn put_more(text: &mut Vec<u8>, names: &[&[u8]]) -> Result<(), AllocError>
+    ensures { OnOk result (Grows text.old text.new (words.more_names (fields_in names.now))) }
+{
+    for k in 0..names.len() {
+        put(text, b", ")?;
+        put(text, field(names, k))?;
+    }
+    Ok(())
+}
+
+// Adds the names of a list.
+fn put_names(text: &mut Vec<u8>, names: &[&[u8]]) -> Result<(), AllocError>
+    ensures { OnOk result (Grows text.old text.new (words.names_text (fields_in names.now))) }
+{
+    let Some((first, rest)) = names.split_first() else {
+        return put(text, b"nobody");
+    };
+    put(text, *first)?;
+    put_more(text, rest)
+}
+
+// The ending of a rank, as in 1st, 2nd, 3rd and 4th.
+fn ending_of(rank: u32) -> &'static [u8]
+    ensures { result.now ≡ words.ending_of rank }
+{
+    if 11 <= rank % 100 && rank % 100 <= 13 {
+        return b"th";
+    }
+    match rank % 10 {
+        1 => b"st",
+        2 => b"nd",
+        3 => b"rd",
+        _ => b"th",
+    }
+}
+
+// Adds a rank with its ending.
+fn put_rank(text: &mut Vec<u8>, digits: &[u8]) -> Result<(), AllocError>
+    ensures { OnOk result (Grows text.old text.new (words.rank_text digits.now)) }
+{
+    put(text, digits)?;
+    match number_of(digits) {
+        Some(rank) => put(text, ending_of(rank)),
+        None => Ok(()),
+    }
+}
+
+// Adds the places of a full programme, and the last rank among those who have them.
+fn put_places(text: &mut Vec<u8>, fields: &[&[u8]]) -> Result<(), AllocError>
+    ensures { OnOk result (Grows text.old text.new (words.places_text (fields_in fields.now))) }
+{
+    let quota = field(fields, 3);
+    if is(quota, b"0") {
+        return put(text, b", and it has no places");
+    }
+    if is(quota, b"1") {
+        put(text, b". Its place went to a resident it ranked higher, ")?;
+        return put_rank(text, field(fields, 2));
+    }
+    put(text, b". Its ")?;
+    put(text, quota)?;
+    put(
+        text,
+        b" places went to residents it ranked higher, the last of them ",
+    )?;
+    put_rank(text, field(fields, 2))
+}
+
+// Adds the sentence of an answer.
+fn put_answer(text: &mut Vec<u8>, fields: &[&[u8]]) -> Result<(), AllocError>
+    ensures { OnOk result (Grows text.old text.new (words.answer_text (fields_in fields.now))) }
+{
+    let word = field(fields, 0);
+    if is(word, b"matched") {
+        return put(text, b"you are matched there");
+    }
+    if is(word, b"withdrawn") {
+        return put(text, b"you or the programme is withdrawn");
+    }
+    if is(word, b"unranked") {
+        return put(text, b"it did not rank you");
+    }
+    if is(word, b"better") {
+        return put(text, b"you have a programme that you ranked higher");
+    }
+    put(text, b"it ranked you ")?;
+    put_rank(text, field(fields, 1))?;
+    put_places(text, fields)
+}
+
+// Adds the sentence of a resident's choice, from 0.
+fn put_reason(text: &mut Vec<u8>, shown: &Shown, k: usize) -> Result<(), AllocError>
+    ensures { OnOk result (Grows text.old text.new (words.reason_text (content shown.now) k)) }
+{
+    put(text, field(shown.list, k))?;
+    put(text, b": ")?;
+    put_answer(text, shown.answer(k))?;
+    put_stop(text)
+}
+
+// Adds the words before a member's list.
+fn put_before(text: &mut Vec<u8>, kind: Kind, quota: &[u8]) -> Result<(), AllocError>
+    ensures { OnOk result (Grows text.old text.new (words.lists_words kind quota.now)) }
+{
+    match kind {
+        Kind::Programme => {
+            put(text, b": the sealed lists have your quota of ")?;
+            put(text, quota)?;
+            put(text, b", and your list: ")
+        }
+        Kind::Resident => put(text, b": the sealed lists have your list: "),
+    }
+}
+
+// Adds the words of a withdrawal.
+fn put_gone(text: &mut Vec<u8>, gone: bool) -> Result<(), AllocError>
+    ensures { OnOk result (Grows text.old text.new (words.gone_words gone)) }
+{
+    if gone {
+        put(text, b"You are withdrawn")?;
+        return put_stop(text);
+    }
+    Ok(())
+}
+
+// Adds the member, and the list that was sealed.
+#[tactic(auto, unfolding(crate::specs::Told::told_lists))]
+fn put_lists(text: &mut Vec<u8>, shown: &Shown) -> Result<(), AllocError>
+    ensures { OnOk result (Grows text.old text.new (words.told_lists (content shown.now))) }
+{
+    put(text, shown.name)?;
+    put_before(text, shown.kind, shown.quota)?;
+    put_names(text, shown.list)?;
+    put_stop(text)?;
+    put_gone(text, shown.gone)
+}
+
+// Adds where a resident is placed.
+fn put_own(text: &mut Vec<u8>, own: Option<&[u8]>) -> Result<(), AllocError>
+    ensures { OnOk result (Grows text.old text.new
+        (words.own_words (option_map (λ own. own.now) own.entry))) }
+{
+    match own {
+        Some(own) => {
+            put(text, b"The sealed result has you matched with ")?;
+            put(text, own)?;
+        }
+        None => put(text, b"The sealed result has you unmatched")?,
+    }
+    put_stop(text)
+}
+
+// Adds the sentences of a resident's choices.
+fn put_reasons(text: &mut Vec<u8>, shown: &Shown) -> Result<(), AllocError>
+    ensures { OnOk result (Grows text.old text.new (flat_map (words.reason_text (content shown.now))
+        (range_with_len 0 (length shown.now.list.now)))) }
+{
+    for k in 0..shown.list.len() {
+        put_reason(text, shown, k)?;
+    }
+    Ok(())
+}
+
+// Adds the residents of a programme.
+fn put_members(alloc: Global, text: &mut Vec<u8>, shown: &Shown) -> Result<(), AllocError>
+    ensures { OnOk result (Grows text.old text.new
+        (words.names_text (members (content shown.now)))) }
+{
+    let found = members_in(alloc, shown)?;
+    put_names(text, found.as_slice())
+}
+
+// Adds the result of a member.
+#[tactic(auto, unfolding(crate::specs::Told::told_result))]
+fn put_result(alloc: Global, text: &mut Vec<u8>, shown: &Shown) -> Result<(), AllocError>
+    ensures { OnOk result (Grows text.old text.new (words.told_result (content shown.now))) }
+{
+    match shown.kind {
+        Kind::Programme => {
+            put(text, b"The sealed result has ")?;
+            put_number(text, shown.after.len())?;
+            put(text, b" of your places filled: ")?;
+            put_members(alloc, text, shown)?;
+            put_stop(text)
+        }
+        Kind::Resident => {
+            put_own(text, shown.own)?;
+            put_reasons(text, shown)
+        }
+    }
+}
+
+/// What a receipt with this content shows. It has a result if a root of one was published.
+pub(crate) fn told(
+    alloc: Global,
+    has_result: Option<&[u8; 32]>,
+    shown: &Shown,
+) -> Result<Vec<u8>, AllocError>
+    ensures { IfOk result (λ text. text.items
+        ≡ words.told (option_map (λ root. root.now) has_result.entry) (content shown.now)) }
+{
+    let mut text = Vec::new(alloc);
+    put_lists(&mut text, shown)?;
+    if has_result.is_some() {
+        put_result(alloc, &mut text, shown)?;
+    }
+    Ok(text)
+}

@@ -1,0 +1,18 @@
+use Rattle.std.proofs.Common.{inr, ap, ◌∙◌, option_copied, rules}
+use Rattle.std.specs.Prelude.{is_some}
+use Rattle.program_shell.proofs.OfAnswers.{answered}
+use Rattle.seal_text.proofs.program.seal_files.Goals as goal
+
+pub returns : goal.returns
+returns g c = inr (record {
+  answer = c.serve-answer.result;
+  appends = record {
+    docket = c.as_slice.result.now;
+    sheet = option_copied c.lent-sheet.result;
+    secret = c.as_slice-secret.result.now;
+    docket_is = search rules;
+    sheet_is = ap is_some c.lent-sheet.ensures ∙ c.in-Ok-load_path_if.ensures;
+    answers = answered g.W.Write.contents _ _ c.serve-answer.result _ _ _ c.serve-answer.ensures.text c.serve-answer.ensures.fault c.serve-answer.ensures.before;
+  };
+  tells = search rules;
+})
