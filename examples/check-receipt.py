@@ -13,7 +13,7 @@ CHANGED = {"header": f"not the first row of a receipt{AGAIN}", "root row": f"not
 WRONG = {"root": "another root than the published one", "count": "another count than that of the lists",
          "place": "another place than in the lists", "opening": "what follows doesn't open the published root",
          "list": "not a row of this member's list", "result": "not a row of this member's result",
-         "unasked": "a result, and no root of a result was given", "name": "not a name of a docket", "twice": "a name that stands twice",
+         "unasked": "a result, and no root of a result was given", "name": "not a name of a docket", "real name": "not a real name that can be shown", "twice": "a name that stands twice",
          "not listed": "a name that isn't on the list", "numbers": "the numbers don't fit the rows",
          "gone": "a result of a member who is withdrawn", "reason": "a reason that can't stand here",
          "full": "full, but not of residents who are ranked before", "members": "another number of members than the published one"}
@@ -66,6 +66,16 @@ def named(those, rows_of, on=None):
         need(one not in seen, rows_of(place), "twice")
         seen.add(one)
 
+def real_name(row):
+    """Who it is: the fields after the `N` of this row, exactly as CSV writes a name and perhaps an ID, with nothing that hides or turns a text."""
+    field = '[^",]+|"[^",]*(?:,|"")(?:[^"]|"")*"'
+    found = re.fullmatch(f"({field})(?:,({field}))?", ",".join(real))
+    text = ",".join(real).encode("latin-1").decode("utf-8", "replace")
+    need(found and text.encode("utf-8").decode("latin-1") == ",".join(real), row, "real name")
+    need(not re.search("[\0-\x1f\x7f-\x9f\u061c\u200e\u200f\u2028-\u202e\u2066-\u2069]", text), row, "real name")
+    parts = [one[1:-1].replace('""', '"') if one[0] == '"' else one for one in found.groups() if one]
+    return " (".join(parts).encode("latin-1").decode("utf-8") + ")" * (len(parts) - 1)
+
 def right(answer, choice, mine):
     """Whether the answer can be that to this choice, where the resident has the choice `mine`; choices are from 0."""
     if answer[:1] == ["full"] and len(answer) == 4:
@@ -92,11 +102,13 @@ cell = lambda row, place: (rest(row, place) or [""])[0]
 side, name, count, index = "P" if cell(0, 2) == "P" else "R", cell(0, 3), cell(1, 1), cell(2, 2)
 has_list, quota = side == "P" and cell(4, 0) == "P", cell(3, 2)
 listed, is_gone = rest(3 + has_list, 2) if side == "R" or has_list else [], cell(4 + has_list, 0) == "W"
-end = 4 + has_list + is_gone
+named_at = 4 + has_list + is_gone
+real = rest(named_at, 1) if cell(named_at, 0) == "N" else []
+end = named_at + bool(real)
 own, after = cell(end + 2, 2) if cell(end + 2, 0) == "M" else None, rows[end + 3:]
 members, answers = [(row + ["", ""])[1] for row in after], [rest(end + 3 + place, 3) for place in range(len(listed))]
 # What was sealed of a member with this content, and the receipt that tells it.
-sealed = ([["Q", name, quota]] + [["P", name, *listed]] * has_list if side == "P" else [["R", name, *listed]]) + [["W", side, name]] * is_gone
+sealed = ([["Q", name, quota]] + [["P", name, *listed]] * has_list if side == "P" else [["R", name, *listed]]) + [["W", side, name]] * is_gone + [["N", *real]] * bool(real)
 placed = [["F", name, str(len(after)), quota]] + [["M", one, name] for one in members] if side == "P" else [
     ["U", name] if own is None else ["M", name, own]] + [[name, one, str(place + 1), *answers[place]] for place, one in enumerate(listed)]
 whole = [["receipt", "2", side, name], ["lists", count, lists], ["opens", "lists", index, *rest(2, 3)], *sealed]
@@ -112,7 +124,8 @@ if result:
 named([name], lambda _: 0)
 need(side == "R" or number(quota) is not None, 3, "numbers")
 named(listed, lambda _: 3 + has_list)
-told = [f"{name}: the sealed lists have your {f'quota of {quota}, and your ' if side == 'P' else ''}list: {names(listed)}."]
+told = [f"{real_name(named_at)} is {name} in the lists."] if real else []
+told += [f"{name}: the sealed lists have your {f'quota of {quota}, and your ' if side == 'P' else ''}list: {names(listed)}."]
 told += ["You are withdrawn."] * is_gone
 if result and side == "P":
     need(len(after) <= int(quota), end + 2, "numbers")
@@ -132,4 +145,5 @@ elif result:
         told.append(f"{one}: {full or SAYS[answer[0]]}.")
 need(given.lists[0] in (None, count), 1, "members")
 need(given.result[0] in (None, count), end, "members")
+getattr(sys.stdout, "reconfigure", lambda **_: None)(encoding="utf-8")
 print("\n".join(told))

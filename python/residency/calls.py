@@ -23,7 +23,11 @@ _KINDS, _SHEET, _JOURNAL = tuple("VQPRWMUFCE"), tuple("MUF"), tuple("CE")
 
 def match(market: Market, workers: int = 2, capacity: Optional[int] = None, journal: Union[bool, str] = False,
           timeout: float = DEFAULT_TIMEOUT) -> Match:
-    """The match of a market; see `Market.match`."""
+    """The match by the built program, with 1 to 8 workers and mailboxes of 1 to 1,024 places, or full ones for None.
+
+    `journal` is False, True or `"by worker"`. Raises ProgramMissing, ProgramTimeout, ProgramFailed or UnknownStatus
+    where the program gave no answer.
+    """
     _test_market(market)
     words = ["match", "--workers", _count("workers", workers), "--capacity", "full" if capacity is None else _count("capacity", capacity)]
     if not (isinstance(journal, bool) or isinstance(journal, str) and journal == "by worker"):
@@ -53,7 +57,11 @@ def _count(what: str, given: object) -> str:
 
 
 def read_match(market: Market, sheet: bytes, journal: bytes = b"") -> Match:
-    """A match of the market from a sheet's bytes; see `Market.read_match`."""
+    """A match of this market from a sheet's bytes, as `Match.sheet` has them.
+
+    DocketFault where they are no sheet of this market, or have a record of another part; its records are counted from
+    the docket's first.
+    """
     wanted("a journal is bytes", bytes, journal)
     _refuse_others(sheet, _SHEET, market.docket())
     places = read_docket(market.docket() + sheet).sheet
@@ -93,7 +101,11 @@ def _sheet(market: Market, places: Places) -> bytes:
 
 
 def audit(market: Market, places: Places, timeout: float = DEFAULT_TIMEOUT) -> Audit:
-    """Whether these places are stable; see `Market.audit`."""
+    """Whether these places are stable, and every cause why not.
+
+    `places` is a match or a dictionary with every resident's programme or None; MarketFault for one that lacks a
+    resident or has a name that no member has. Raises as `match`.
+    """
     _test_market(market)
     status, answer = run_program("residency", ["audit"], market.docket() + _sheet(market, places), timeout)
     try:
@@ -103,7 +115,10 @@ def audit(market: Market, places: Places, timeout: float = DEFAULT_TIMEOUT) -> A
 
 
 def check_validity(market: Market, places: Places, timeout: float = DEFAULT_TIMEOUT) -> bool:
-    """True for a valid match, else NotValid; see `Market.check_validity`."""
+    """True where each pair is acceptable and no programme is over its places; NotValid with every cause otherwise.
+
+    As in the package `matching`, but that the places are given. Raises as `audit`.
+    """
     found = audit(market, places, timeout)
     if found.unacceptable or found.over_quota:
         raise NotValid(found.unacceptable, found.over_quota)
@@ -112,7 +127,11 @@ def check_validity(market: Market, places: Places, timeout: float = DEFAULT_TIME
 
 def replay(market: Market, journal: Union[Match, bytes], places: Optional[Places] = None,
            timeout: float = DEFAULT_TIMEOUT) -> Replay:
-    """Whether a journal is a good exchange; see `Market.replay`."""
+    """Whether a journal is a good exchange that gives its sheet: a match's own journal and sheet, or these.
+
+    The bytes may have the journal's own sheet, where no places are given. DocketFault, `no journal in the docket`, for a
+    match without one, and for a record of another part. Raises as `match`.
+    """
     _test_market(market)
     rows = wanted("a journal is a Match or bytes", (Match, bytes), journal)
     rows = rows.journal if isinstance(rows, Match) else rows
@@ -130,7 +149,10 @@ def replay(market: Market, journal: Union[Match, bytes], places: Optional[Places
 
 def why(market: Market, places: Places, resident: str, programme: Optional[str] = None,
         timeout: float = DEFAULT_TIMEOUT) -> Tuple[Why, ...]:
-    """Why a resident isn't with a programme, or with each of its list; see `Market.why`."""
+    """Why a resident isn't with a programme or, where none is named, with each of its list as written, best first.
+
+    MarketFault for a name that no member has. Raises as `match`.
+    """
     _test_market(market)
     resident, programme = as_name(resident), as_name(programme)
     asked = [("resident", resident, market.resident_lists)] + ([] if programme is None else [("programme", programme, market.quotas)])

@@ -69,10 +69,10 @@ def from_cell(cell: str) -> str:
     return _WITHIN.sub(_less, inside)
 
 
-def csv_row(cells: Iterable[object]) -> str:
-    """A row of a CSV file with commas and LF; cells with a comma, a semicolon, a quote, a tab or a line's end are quoted."""
+def csv_row(cells: Iterable[object], quoted: str = ',;"\t\r\n') -> str:
+    """A row of a CSV file with commas and LF; cells with one of these signs are quoted, as with a semicolon or a tab."""
     texts = (str(cell) for cell in cells)
-    return ",".join('"' + text.replace('"', '""') + '"' if any(c in text for c in ',;"\t\r\n') else text for text in texts) + "\n"
+    return ",".join('"' + text.replace('"', '""') + '"' if any(c in text for c in quoted) else text for text in texts) + "\n"
 
 
 def write_key(names: Names) -> bytes:

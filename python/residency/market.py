@@ -9,7 +9,7 @@ from .docket import Docket, read_docket, write_docket
 from .errors import KeyFault, MarketFault, OtherOptimum
 from .names import Member, Names
 from .program import DEFAULT_TIMEOUT
-from .results import Audit, Match, Replay, Why
+from .results import Match
 from .tables import Cell, Read, read_long, read_wide
 
 Places = Union[Match, Mapping[str, Optional[str]]]
@@ -162,15 +162,6 @@ class Market:
         return Market(self.quotas, self.programme_lists, self.resident_lists, (*self.withdrawn_programmes, *gone),
                       (*self.withdrawn_residents, *left), self.names)
 
-    def match(self, workers: int = 2, capacity: Optional[int] = None, journal: Union[bool, str] = False,
-              timeout: float = DEFAULT_TIMEOUT) -> Match:
-        """The match by the built program, with 1 to 8 workers and mailboxes of 1 to 1,024 places, or full ones for None.
-
-        `journal` is False, True or `"by worker"`. Raises ProgramMissing, ProgramTimeout, ProgramFailed or UnknownStatus
-        where the program gave no answer.
-        """
-        return calls.match(self, workers, capacity, journal, timeout)
-
     def solve(self, optimal: str = "programmes", timeout: float = DEFAULT_TIMEOUT) -> Match:
         """The match, as `match` gives it: the programmes' optimum, the one that is answered here.
 
@@ -180,46 +171,10 @@ class Market:
             raise OtherOptimum(optimal)
         return self.match(timeout=timeout)
 
-    def check_validity(self, places: Places, timeout: float = DEFAULT_TIMEOUT) -> bool:
-        """True where each pair is acceptable and no programme is over its places; NotValid with every cause otherwise.
-
-        As in the package `matching`, but that the places are given. Raises as `audit`.
-        """
-        return calls.check_validity(self, places, timeout)
-
     def check_stability(self, places: Places, timeout: float = DEFAULT_TIMEOUT) -> bool:
         """Whether no pair blocks: `audit` lists those that do. As in the package `matching`; raises as `audit`."""
         return not self.audit(places, timeout).blocking
 
-    def read_match(self, sheet: bytes, journal: bytes = b"") -> Match:
-        """A match of this market from a sheet's bytes, as `Match.sheet` has them.
-
-        DocketFault where they are no sheet of this market, or have a record of another part; its records are counted from
-        the docket's first.
-        """
-        return calls.read_match(self, sheet, journal)
-
-    def audit(self, places: Places, timeout: float = DEFAULT_TIMEOUT) -> Audit:
-        """Whether these places are stable, and every cause why not.
-
-        `places` is a match or a dictionary with every resident's programme or None; MarketFault for one that lacks a
-        resident or has a name that no member has. Raises as `match`.
-        """
-        return calls.audit(self, places, timeout)
-
-    def replay(self, journal: Union[Match, bytes], places: Optional[Places] = None,
-               timeout: float = DEFAULT_TIMEOUT) -> Replay:
-        """Whether a journal is a good exchange that gives its sheet: a match's own journal and sheet, or these.
-
-        The bytes may have the journal's own sheet, where no places are given. DocketFault, `no journal in the docket`, for a
-        match without one, and for a record of another part. Raises as `match`.
-        """
-        return calls.replay(self, journal, places, timeout)
-
-    def why(self, places: Places, resident: str, programme: Optional[str] = None,
-            timeout: float = DEFAULT_TIMEOUT) -> Tuple[Why, ...]:
-        """Why a resident isn't with a programme or, where none is named, with each of its list as written, best first.
-
-        MarketFault for a name that no member has. Raises as `match`.
-        """
-        return calls.why(self, places, resident, programme, timeout)
+    # The questions to the built program, each of which is a call with a market, too.
+    match, audit, replay, why = calls.match, calls.audit, calls.replay, calls.why
+    check_validity, read_match = calls.check_validity, calls.read_match

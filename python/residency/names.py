@@ -6,26 +6,20 @@ from __future__ import annotations
 
 import itertools
 import unicodedata
+from pathlib import Path
 from typing import Any, Dict, Iterable, Iterator, List, NamedTuple, Optional, Sequence, Tuple, Union
 
 from .errors import KeyFault
 from .ordered import NotRead, as_list, as_members, as_name, wanted
-from .text import shown
+from .text import sections, shown
 
-PROGRAMME = "P"
-RESIDENT = "R"
+PROGRAMME, RESIDENT = "P", "R"
+SIDES = {PROGRAMME: "programme", RESIDENT: "resident"}
 MOST_LETTERS = 32
 # A name that isn't alone is cut to so many letters, so that a number has room after it.
 _STEM = 26
-# What letters are in plain ones where Unicode doesn't say it.
-_PLAIN = {"ß": "ss", "æ": "ae", "œ": "oe", "ø": "o", "ł": "l", "đ": "d", "ð": "d", "þ": "th", "ı": "i", "ħ": "h", "ŋ": "ng",
-          "&": " and "}
-_CYRILLIC = ("абвгдезийклмнопрстуфыэ", "abvgdeziyklmnoprstufye")
-_MORE_CYRILLIC = {"ж": "zh", "х": "kh", "ц": "ts", "ч": "ch", "ш": "sh", "щ": "shch", "ъ": "", "ь": "", "ю": "yu", "я": "ya",
-                  "є": "ye", "і": "i", "ґ": "g", "ђ": "dj", "ј": "j", "љ": "lj", "њ": "nj", "ћ": "c", "џ": "dz", "ѓ": "g", "ќ": "k"}
-_GREEK = ("αβγδεζηικλμνξοπρσςτυφω", "avgdeziiklmnxoprsstyfo")
-_MORE_GREEK = {"θ": "th", "χ": "ch", "ψ": "ps"}
-_LETTERS = str.maketrans({**_PLAIN, **dict(zip(*_CYRILLIC)), **_MORE_CYRILLIC, **dict(zip(*_GREEK)), **_MORE_GREEK})
+# What letters are in plain ones, where Unicode doesn't say it.
+_LETTERS = str.maketrans({**sections(Path(__file__).with_name("letters.txt"))["LETTERS"], "&": " and "})
 # A member as a caller gives it: its name, or its name and its ID.
 Named = Union[str, Tuple[str, str]]
 

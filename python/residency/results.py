@@ -8,7 +8,7 @@ from typing import Dict, List, Mapping, Optional, Sequence, Tuple
 from .errors import UnknownMember
 from .near import NearNames
 from .ordered import as_name
-from .text import shown
+from .text import counted, shown
 
 # The rows that a notebook shows of an answer.
 _MOST_ROWS = 10
@@ -28,10 +28,6 @@ def _html(said: str, rows: Sequence[Row]) -> str:
 
 def _cell(one: object) -> str:
     return "&ndash;" if one is None else escape(shown(str(one), 200))
-
-
-def _counted(count: int, what: str) -> str:
-    return f"{count:,} {what}" + ("" if count == 1 else "s")
 
 
 @dataclass(frozen=True, repr=False)
@@ -74,8 +70,8 @@ class Match:
 
     def _said(self) -> str:
         left = len(self.unmatched)
-        return (f"Match of {_counted(len(self.places), 'resident')}: {len(self.places) - left:,} matched, {left:,} unmatched; "
-                f"{sum(self.filled.values()):,} of {_counted(sum(self.quotas.values()), 'place')} filled")
+        return (f"Match of {counted(len(self.places), 'resident')}: {len(self.places) - left:,} matched, {left:,} unmatched; "
+                f"{sum(self.filled.values()):,} of {counted(sum(self.quotas.values()), 'place')} filled")
 
     def __repr__(self) -> str:
         return f"<{self._said()}>"
@@ -111,9 +107,9 @@ class Audit:
     def _said(self) -> str:
         if self.stable:
             return "Audit: stable"
-        return (f"Audit: unstable; {_counted(len(self.blocking), 'blocking pair')}, "
-                f"{_counted(len(self.unacceptable), 'unacceptable pair')}, "
-                f"{_counted(len(self.over_quota), 'programme')} over quota")
+        return (f"Audit: unstable; {counted(len(self.blocking), 'blocking pair')}, "
+                f"{counted(len(self.unacceptable), 'unacceptable pair')}, "
+                f"{counted(len(self.over_quota), 'programme')} over quota")
 
     def __repr__(self) -> str:
         return f"<{self._said()}>"
@@ -165,8 +161,8 @@ class Replay:
 
     def _said(self) -> str:
         if self.good:
-            by = f" by {_counted(len(self.by_worker), 'worker')}" if self.by_worker else ""
-            return f"Replay: good; {_counted(self.events or 0, 'event')}{by}"
+            by = f" by {counted(len(self.by_worker), 'worker')}" if self.by_worker else ""
+            return f"Replay: good; {counted(self.events or 0, 'event')}{by}"
         if self.differs is not None:
             return f"Replay: the sheet differs at {shown(self.differs)}"
         pending = f", {self.pending} at {shown(self.at or '')}" if self.pending is not None else ""

@@ -4,7 +4,8 @@ from __future__ import annotations
 import codecs
 import re
 import unicodedata
-from typing import Iterator, List, Optional, Pattern, Tuple
+from pathlib import Path
+from typing import Dict, Iterator, List, Optional, Pattern, Tuple
 
 _MARKS = ((codecs.BOM_UTF8, "utf-8-sig"), (codecs.BOM_UTF32_LE, "utf-32"), (codecs.BOM_UTF32_BE, "utf-32"),
           (codecs.BOM_UTF16_LE, "utf-16"), (codecs.BOM_UTF16_BE, "utf-16"))
@@ -43,6 +44,11 @@ def shown(text: str, most: int = 60) -> str:
     return "".join(c if c.isprintable() else c.encode("unicode_escape").decode("ascii") for c in cut)
 
 
+def counted(number: int, one: str, many: str = "") -> str:
+    """A number of things: `1 place`, `2 places`."""
+    return f"{number:,} {one if number == 1 else many or one + 's'}"
+
+
 def _unmarked(data: bytes) -> str:
     """The character set of bytes without a mark: UTF-16 where every other byte of much of it is 0, else UTF-8 if it can be."""
     if data[1::2].count(0) > len(data) // 4:
@@ -73,6 +79,18 @@ def decode(data: bytes, encoding: Optional[str] = None) -> Tuple[str, str]:
     found = encoding or marked or _unmarked(data)
     text = data.decode(found)
     return text[1:] if text.startswith("\ufeff") else text, found
+
+
+def sections(path: Path) -> Dict[str, Dict[str, str]]:
+    """By the heads of its sections, and by their names, the texts of a file; a line that begins with # says nothing."""
+    found: Dict[str, Dict[str, str]] = {}
+    for line in path.read_text(encoding="utf-8").splitlines():
+        if line.startswith("["):
+            section = found.setdefault(line.strip("[]"), {})
+        elif line and not line.startswith("#"):
+            word, _, text = line.partition(" =")
+            section[word] = text.strip()
+    return found
 
 
 def _cell(text: str, at: int, plain: Pattern[str], where: Tuple[int, int]) -> Tuple[str, int]:

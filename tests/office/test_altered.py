@@ -12,7 +12,7 @@ from support import PROGRAMMES, RESIDENTS, TOP, office
 from test_verify import make_sums_again
 
 # Which file of its kind is altered: by its kind the beginning of its name.
-KINDS = ("letters/", "rosters/", "receipts/resident", "receipts/programme", "public/page.html", "public/figures.csv", "public/unfilled.csv",
+KINDS = ("letters/", "rosters/", "rosters.html", "receipts/resident", "receipts/programme", "public/page.html", "public/figures.csv", "public/unfilled.csv",
          "public/cut-offs.csv", "public/check.html", "public/root.txt", "root.txt", "page.html", "letters.html", "matches.csv", "unfilled.csv",
          "changes.csv", "audit.csv", "replay.csv", "journal.csv", "manifest.json", "SHA256SUMS")
 # Words that a person reads, and what a dishonest office would have them be.
@@ -44,8 +44,8 @@ def other_number(path: Path) -> None:
     path.write_bytes((text[:at] + str((int(text[at]) + 1) % 10) + text[at + 1:]).encode("utf-8"))
 
 
-# What of a folder has real names.
-NAMED = ("key.csv", "letters/", "letters.html", "matches.csv", "results.csv", "page.html", "rosters/", "unfilled.csv", "public/page.html", "public/unfilled.csv")
+# What of a sealed match has real names, or is of no use without them.
+NAMED = ("secret.txt", "receipts/", "key.csv", "letters/", "letters.html", "matches.csv", "results.csv", "page.html", "rosters/", "rosters.html", "unfilled.csv", "public/page.html", "public/unfilled.csv")
 FOR_AUDITOR = """The match, 2026-03-20: for its auditor.
 
 Get the programs from the project that makes them, not from the office.
@@ -56,7 +56,7 @@ Then run, in a clone of the project (of a release the command is residency-offic
 
 """
 WITH_KEY = "With the office's two tables, --tables PROGRAMMES RESIDENTS makes docket and key again, too.\n"
-WITHOUT_KEY = "The key isn't here. Nor is what has names, and verify says that these aren't checked.\n"
+WITHOUT_KEY = "The key isn't here. Nor is what has names, nor the secret, and verify says that these aren't checked.\n"
 
 
 class Altered(unittest.TestCase):

@@ -77,7 +77,7 @@ class CellsTest(OfficeTest):
     @staticmethod
     def opened(out: Path) -> List[Path]:
         """The tables that people open in a spreadsheet."""
-        return [out / "changes.csv", out / "unfilled.csv", out / "key.csv", *sorted((out / "rosters").iterdir())]
+        return [out / "changes.csv", out / "unfilled.csv", out / "key.csv", *sorted((out / "rosters").glob("*.csv"))]
 
 
 class Cells(CellsTest):
@@ -100,7 +100,7 @@ class Cells(CellsTest):
         names = read_key((out / "key.csv").read_bytes())
         self.assertEqual([one.name for one in names.members("R")], list(NAMES + PLAIN))
         self.assertEqual([one.id for one in names.members("R")][:2], ["=6+0", "=6+1"])
-        rows = [row for path in (out / "rosters").iterdir() for row in table(path)]
+        rows = [row for path in (out / "rosters").glob("*.csv") for row in table(path)]
         self.assertEqual(len(rows), len(NAMES + PLAIN) - 1)
         self.assertEqual({from_cell(row["Resident"]) for row in rows}, set(NAMES + PLAIN) - {"=1+1"})
         # Names in which nothing may be taken for a formula stay as they are.

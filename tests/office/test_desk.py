@@ -9,7 +9,7 @@ from residency.near import NearNames, edits
 from residency.office import sentences
 from residency.office.cells import other_mark
 from residency.office.faults import MOST_KEPT, MOST_SHOWN, Faults
-from residency.office.remarks import is_remark
+from residency.office.doubts import is_remark
 from residency.office.tables import Entry, Table, number_of
 from support import PROGRAMMES, RESIDENTS, OfficeTest, office
 

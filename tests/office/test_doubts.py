@@ -9,7 +9,7 @@ import planted
 from residency.office import sentences, steps
 from residency.office.faults import Cell, Fault
 from residency.office.settings import Settings
-from support import OfficeTest
+from support import OfficeTest, office
 
 Rows = List[List[str]]
 
@@ -167,3 +167,57 @@ class Doubts(OfficeTest):
             more = f" and {len(gone) - 5} more" if len(gone) > 5 else ""
             self.assertEqual(sentences.cause(note), f"{len(gone)} {side}{'s' * (len(gone) > 1)} with an empty list whom others rank: {told}{more}")
             self.assertEqual([key for key in notes if key[0] == "note.empty"], [("note.empty", f"{side}s")])
+
+
+class Mails(OfficeTest):
+    """Forty residents with their addresses, of whom one column of names was sorted alone: nobody becomes unknown, since lists have IDs."""
+
+    def rows(self, chance: random.Random, is_parted: bool) -> List[List[str]]:
+        people = [planted.person(number) for number in chance.sample(range(planted.RESIDENTS), 40)]
+        heading = ["ID", *(["First name", "Last name"] if is_parted else ["Applicant"]), "E-mail", "1"]
+        return [heading, *([str(5000 + number), *(name.split(" ", 1) if is_parted else [name]), self.mail(name), "North"] for number, name in enumerate(people))]
+
+    @staticmethod
+    def mail(name: str) -> str:
+        plain = "".join(c for c in unicodedata.normalize("NFKD", name.casefold()) if not unicodedata.combining(c))
+        return ".".join("".join(c if c.isalnum() else " " for c in plain).split()) + "@example.org"
+
+    def told(self, rows: Rows, *options: str) -> List[str]:
+        texts = [io.StringIO(), io.StringIO()]
+        csv.writer(texts[0]).writerows([["Programme", "Places", *map(str, range(1, len(rows)))], ["North", "2", *(row[0] for row in rows[1:])]])
+        csv.writer(texts[1]).writerows(rows)
+        said = office("check", *self.tables(*(text.getvalue() for text in texts)), *options)
+        self.assertEqual(said.err, "")
+        return said.out.splitlines()
+
+    def test_a_column_that_was_sorted_alone(self) -> None:
+        for seed in range(6):
+            chance, is_parted = random.Random(seed), seed % 2 == 0
+            rows = self.rows(chance, is_parted)
+            self.assertEqual(self.told(rows)[-1], "no fault")
+            at = chance.choice([1, 2]) if is_parted else 1
+            for row, text in zip(rows[1:], sorted(row[at] for row in rows[1:])):
+                row[at] = text
+            # Whoever has an address of words that are all their own wasn't moved, or is beside one who has the same.
+            words = [set(self.mail(" ".join(row[1:-2])).partition("@")[0].split(".")) for row in rows[1:]]
+            every = set().union(*words)
+            wrong = [number for number, (row, own) in enumerate(zip(rows[1:], words), 2) if set(row[-2].partition("@")[0].split(".")) & every - own]
+            self.assertGreater(len(wrong), 20)
+            name, more = " ".join(rows[wrong[0] - 1][1:-2]), len(wrong) - 4
+            fault = (f"residents, row {wrong[0]}, cell 2 (B{wrong[0]}): {len(wrong)} e-mail addresses have a word of another resident's name, as "
+                     f"{rows[wrong[0] - 1][-2]} beside {name}: was one column sorted alone? (--ignore leaves the column of addresses out) (also in "
+                     f"{', '.join(f'B{number}' for number in wrong[1:4])} and {more} more cells)")
+            self.assertEqual(self.told(rows)[2:], [fault, "1 fault in the tables"], seed)
+            self.assertIn(fault, self.told(rows, "--keep", "E-mail"))
+            self.assertEqual(self.told(rows, "--ignore", "E-mail")[-1], "no fault")
+
+    def test_addresses_that_say_nothing(self) -> None:
+        """Those of an office or of nobody, a few of relatives, and those of nine alone."""
+        rows = self.rows(random.Random(1), False)
+        names = [row[1] for row in rows[1:]]
+        for mails in ([f"office{number}@x.org" for number in range(40)], ["" for _ in names], [self.mail(names[number - number % 3]) if number < 27 else self.mail(name)
+                                                                                            for number, name in enumerate(names)],
+                      [self.mail(names[number - 1]) if number < 9 else "" for number in range(40)]):
+            for row, mail in zip(rows[1:], mails):
+                row[2] = mail
+            self.assertEqual(self.told(rows)[-1], "no fault", mails[:4])

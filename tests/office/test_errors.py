@@ -141,9 +141,8 @@ class Told(OfficeTest):
         said = office("run", "more.csv", "other.csv", "--seal", "sealed", "--out", "c")
         self.assertEqual((said.status, said.out), (3, ""))
         self.assertEqual(said.err.splitlines(), [f"office: {line}" for line in (
-            "resident Rosa Rossi was sealed, and isn't in the table", "resident Lee is in the table, and wasn't sealed",
-            "resident Kim Lee: rank 1 was sealed as North Clinic, and the table has South Hospital",
-            "programme East Ward: 1 place sealed, and the table has 2",
+            "programme East Ward: 1 place before, 2 now", "resident Rosa Rossi is no more in the table",
+            "resident Kim Lee: South Hospital from 2 to 1", "resident Lee is new",
             "the tables say otherwise than what sealed sealed; nothing was written")])
 
     def test_where_two_may_be_meant(self) -> None:
@@ -188,7 +187,8 @@ class Values(unittest.TestCase):
         codes = set(re.findall(r'OfficeError\("([a-z.-]+)"', text)) | {"reader.fault"} | set(re.findall(r'__init__\("(folder[a-z.-]+)"', text))
         self.assertEqual(codes, set(sentences.ERRORS))
         self.assertFalse(set(sentences.ERRORS) & set(sentences.SENTENCES))
-        self.assertEqual(set(re.findall(r'Fault\("(sealed\.[a-z]+)"', text)), set(sentences.OTHERWISE))
+        told = re.findall(r'\("([a-z]+)", what, name', (package / "changed.py").read_text())
+        self.assertEqual({"sealed.withdrawn", "changed.back", "changed.withdrawn", *(f"changed.{one}" for one in told)}, set(sentences.OTHERWISE))
 
     def test_how_a_reader_ends(self) -> None:
         for code, values, text in (("reader.ended", {"ended": -11}, "what read this ended with status -11"),

@@ -31,6 +31,7 @@ FILES = [
     "replay.csv",
     "results.csv",
     "rosters",
+    "rosters.html",
     "sheet.csv",
     "unfilled.csv",
 ]
@@ -90,7 +91,7 @@ class Written(OfficeTest):
     def test_which_files(self) -> None:
         self.assertEqual(sorted(os.listdir(self.out)), FILES)
         self.assertEqual(len(os.listdir(self.out / "letters")), 40)
-        self.assertEqual(len(os.listdir(self.out / "rosters")), 10)
+        self.assertEqual(len(os.listdir(self.out / "rosters")), 20)
         self.assertEqual(stat.S_IMODE(self.out.stat().st_mode), 0o777 & ~writing.umask())
 
     def test_what_it_says(self) -> None:

@@ -155,8 +155,8 @@ class Rule(Given):
             now = self.given(in_names(lists, before, market), kind)
             self.assertEqual(self.market, market)
             others = [path for path in files if Path(path).stem not in (name, f"resident-{name}", f"programme-{name}")]
-            self.assertEqual(len(others) + len([part for part in ("letters", "rosters") for path in files if path == f"{part}/{name}." + (
-                "txt" if part == "letters" else "csv")]) + 2 * kind.sealed, len(files))
+            own = (f"letters/{name}.txt", f"rosters/{name}.csv", f"rosters/{name}.txt")
+            self.assertEqual(len(others) + len([path for path in files if path in own]) + 2 * kind.sealed, len(files))
             self.assertEqual({path: now[path] for path in others}, {path: files[path] for path in others}, (name, lists))
 
     def test_the_rule(self) -> None:
@@ -206,8 +206,7 @@ class Table(Given):
         for begin, title, who in FILES:
             told = [("the last rank that got a place" if begin.startswith("public") else "for each `full`, the resident's rank and the last rank "
                      "that got a place") if one == ranks else says[one] for one in gives[begin]]
-            made.append(LINE.format(title, who, " and ".join(told) or "nothing but roots"
-                                    if begin != "rosters/" else "nothing"))
+            made.append(LINE.format(title, who, " and ".join(told) or "nothing but roots"))
         self.assertIn("\n".join(made), (TOP / "docs" / "sealed.md").read_text(encoding="utf-8"), "\n".join(made))
 
 

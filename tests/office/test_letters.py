@@ -36,8 +36,8 @@ class Letters(Again):
     def test_a_template(self) -> None:
         template = self.write("letter.txt", "An $name ($docket_name): ${programme}/$choice von $listed, $$5, $date\n")
         said = office("letters", self.out, "--template", template, "--out", self.folder / "letters")
-        self.assertEqual((said.status, said.out), (0, f"40 letters written to {self.folder / 'letters'}\n"))
-        self.assertEqual(len(os.listdir(self.folder / "letters")), 41)
+        self.assertEqual((said.status, said.out), (0, f"40 letters to residents and 10 to programmes written to {self.folder / 'letters'}\n"))
+        self.assertEqual(len(os.listdir(self.folder / "letters")), 43)
         self.assertEqual(
             read(self.folder / "letters" / "jurgen-gross.txt"),
             "An Jürgen Groß (jurgen-gross): Queen's Park – Psychiatry/4th von 4, $5, 2026-03-20\n",
@@ -70,7 +70,7 @@ class Letters(Again):
         self.refused(2, "one of the arguments --out --preview is required", "letters", self.out)
         (templates / "lost-out.txt").unlink()
         (templates / "letter.txt").unlink()
-        self.refused(3, f"{templates} has none of matched.txt, ranked-nobody.txt, ranked-back-by-nobody.txt, lost-out.txt, withdrawn.txt, letter.txt",
+        self.refused(3, f"{templates} has none of matched.txt, ranked-nobody.txt, ranked-back-by-nobody.txt, lost-out.txt, withdrawn.txt, letter.txt, programme.txt",
                      *words, "--out", self.folder / "none")
 
     def test_who_sends_and_signs(self) -> None:
@@ -99,7 +99,9 @@ K. Lee
 
     def test_without_a_template_they_are_the_same(self) -> None:
         self.assertEqual(office("letters", self.out, "--out", self.folder / "letters").status, 0)
-        wanted = {**snapshot(self.out / "letters"), "letters.html": snapshot(self.out)["letters.html"]}
+        whole = snapshot(self.out)
+        wanted = {**snapshot(self.out / "letters"), **{name: whole[name] for name in ("letters.html", "rosters.html")},
+                  **{f"programmes/{Path(name).name}": one for name, one in whole.items() if name.startswith("rosters/") and name.endswith(".txt")}}
         self.assertEqual(snapshot(self.folder / "letters"), wanted)
 
     def test_a_template_at_fault(self) -> None:
@@ -151,7 +153,7 @@ K. Lee
     def test_line_ends_of_a_template(self) -> None:
         template = self.write("letter.txt", "$name\r\n\r\n$list\rEnd\r\n")
         self.assertEqual(office("letters", self.out, "--template", template, "--out", self.folder / "letters").status, 0)
-        for path in (self.folder / "letters").iterdir():
+        for path in (self.folder / "letters").rglob("*.*"):
             self.assertNotIn(b"\r", path.read_bytes())
         self.assertTrue(read(self.folder / "letters" / "jurgen-gross.txt").endswith("\nEnd\n"))
 

@@ -402,7 +402,7 @@ class Families(PageTest):
         details = Details({"Ana": "de, Silva", "Cy": '"C'}, ("E-mail", "choice"), kept)
         outcome = outcome_of(market, {"Ana": "P"}, details)
         data = matches(outcome)
-        self.assertEqual(details_of(data, {"ana": "Ana", "bo": "Bo", "cy": "Cy"}), details)
+        self.assertEqual(details_of(data, market.names, True), details)
         self.assertEqual([names[one] for one in "abc"], list(outcome.residents))
 
 

@@ -462,7 +462,7 @@ class Writes(OfficeTest):
     def test_a_folder_that_appears_meanwhile(self) -> None:
         target = self.folder / "out"
         said = []
-        with mock.patch("residency.office.running.write_letters", side_effect=lambda *words: target.mkdir()):
+        with mock.patch("residency.office.running.write_letters", side_effect=lambda *words: target.mkdir(exist_ok=True)):
             said.append(office("run", *self.tables(), "--out", target))
         self.assertEqual((said[0].status, said[0].out, os.listdir(target)), (2, "", []))
 
@@ -512,9 +512,9 @@ class Writes(OfficeTest):
         self.assertEqual([office(*words).status for words in (
             ["letters", self.runs[0], "--out", letters], ["compare", *self.runs, "--out", changes])], [0, 0])
         self.assertEqual(oct(mode_of(changes)), oct(0o644))
-        self.tell_modes(letters, {"letters.html"}, {""}, {".txt"})
+        self.tell_modes(letters, {"letters.html", "rosters.html"}, {"", "programmes"}, {".txt"})
         owners = {"key.csv", "matches.csv", "results.csv", "letters.html", *(f"letters/{path.name}" for path in (self.runs[0] / "letters").iterdir())}
-        lists = {"docket.csv", "journal.csv", "page.html", "changes.csv", "manifest.json", "SHA256SUMS",
+        lists = {"docket.csv", "journal.csv", "page.html", "rosters.html", "changes.csv", "manifest.json", "SHA256SUMS",
                  *(f"rosters/{path.name}" for path in (self.runs[0] / "rosters").iterdir())}
         for number, words in enumerate((["run", *tables], ["withdraw", self.runs[0], "Ana Silva"])):
             out, readable = self.folder / f"own{number}", self.folder / f"readable{number}"

@@ -30,8 +30,9 @@ def mode_of(path: Path) -> int:
 
 
 def derived(folder: Path, matched: bool) -> derivation.Sealed:
-    """What the docket of a folder gives with its secret, by the derivation of tests/seal."""
-    market = derivation.read((folder / "docket.csv").read_bytes())
+    """What the docket and the key of a folder give with its secret, by the derivation of tests/seal."""
+    key = csv.reader(io.StringIO((folder / "key.csv").read_text(encoding="utf-8")))
+    market = derivation.read((folder / "docket.csv").read_bytes())._replace(names={(row[0], row[1]): (row[2], "".join(row[3:])) for row in key})
     secret = bytes.fromhex((folder / "secret.txt").read_text().strip())
     return derivation.Sealed(market, derivation.match(market) if matched else None, secret)
 
@@ -72,7 +73,7 @@ class Written(Sealed):
                    "resident-ana-silva", "resident-fatima-kovacs", "resident-jurgen-gross", "resident-kim-lee", "resident-omar-haddad",
                    "resident-rosa-rossi", "resident-zoe-bronte"]
         self.assertEqual(files, sorted(["SHA256SUMS", "docket.csv", "key.csv", "manifest.json", "root.txt", "secret.txt",
-                                        "public/check.html", "public/root.txt", *(f"receipts/{name}.csv" for name in members)]))
+                                        "public/check.html", "public/root.txt", *(f"receipts/{name}.txt" for name in members)]))
         own = derived(out, False)
         self.assertEqual((out / "root.txt").read_bytes(), own.roots())
         self.assertEqual((out / "public" / "root.txt").read_bytes(), own.roots())
@@ -132,6 +133,23 @@ class Written(Sealed):
         self.assertEqual((match / "matches.csv").read_bytes(), (plain / "matches.csv").read_bytes())
         self.assertIn("a@x.org", (match / "matches.csv").read_text(encoding="utf-8"))
 
+    def test_real_names(self) -> None:
+        """Each receipt is sealed with the real name and the ID, as the key has them, and tells them first."""
+        names = ['Seán "Shay" O\'Brien', "Lee, Kim", "=Ana", "李雷", "Zoë Brontë"]
+        table = io.StringIO(newline="")
+        csv.writer(table).writerows([["Applicant", "ID", "Rank 1"], *([name, f"7{number}", "East Ward"] for number, name in enumerate(names))])
+        match = self.matched(self.sealed(programmes="Programme,Places,Rank 1\nEast Ward,2,Zoë Brontë\n", residents=table.getvalue()))
+        own = derived(match, True)
+        self.assertEqual(self.receipts(match), own.receipts())
+        for (side, name), receipt in zip(own.names, own.receipts()):
+            path = self.folder / "receipt.csv"
+            path.write_bytes(receipt)
+            done = subprocess.run([sys.executable, str(TOP / "examples" / "check-receipt.py"), *(f"--{word}={tree.root}" for word, tree in own.trees().items()), str(path)],
+                                  capture_output=True, check=False, env={**os.environ, "LC_ALL": "C", "PYTHONIOENCODING": "ascii"})
+            number = int(name) - 70 if side == "R" else 0
+            wanted = "East Ward" if side == "P" else f"{names[number].replace('=', chr(39) + '=')} (7{number})"
+            self.assertEqual(done.stdout.decode("utf-8").splitlines()[0], f"{wanted} is {name} in the lists.")
+
     def test_no_letter_has_the_hash_of_the_docket(self) -> None:
         """A template of a sealed match may not ask for it, in either form; and no file that is given away has it, or the sheet's, or the key's."""
         sealed = self.sealed()
@@ -156,9 +174,17 @@ class Written(Sealed):
         letter = (match / "letters" / "kim-lee.txt").read_text(encoding="utf-8")
         told = " ".join(letter[letter.index("Your list was sealed"):].split())
         self.assertEqual(told, "Your list was sealed before the match, and your result after it, under these published roots of 11 "
-                         f"members: {lists} {result} To check yours, give your receipt to the page check.html that the office "
-                         "published, and compare its roots with these.")
+                         f"members: {lists} {result} To check yours: 1. Open the page check.html that the office published. 2. Choose your receipt "
+                         "there, the file that the office gave you, unchanged. The page shows your own name first. 3. Compare the roots that the page shows with those above.")
+        self.assertEqual(letter[letter.index("To check yours"):].splitlines(), [
+            "To check yours:", "1. Open the page check.html that the office published.", "2. Choose your receipt there, the file that the office gave you, unchanged. The page shows your own name first.",
+            "3. Compare the roots that the page shows with those above."])
         self.assertIn(f"{lists}\n  {result}", (match / "letters.html").read_text(encoding="utf-8"))
+        for language in ("de", "es", "fr", "pl"):
+            letter = (self.matched(self.folder / "sealed", "--language", language, out=language) / "letters" / "kim-lee.txt").read_text(encoding="utf-8")
+            below = letter[letter.index(f"  {result}\n"):].splitlines()
+            self.assertEqual([line[:2] for line in below[3:6]], ["1.", "2.", "3."], language)
+            self.assertTrue("check.html" in below[3] and len(max(below, key=len)) < 130, language)
         again = self.folder / "letters"
         template = self.write("letter.txt", "$name\n$lists_root\n$result_root\n")
         self.assertEqual(office("letters", match, "--template", template, "--out", again).status, 0)
@@ -225,15 +251,15 @@ class Refused(Sealed):
 
     def test_tables_that_say_otherwise(self) -> None:
         self.sealed()
-        self.refused(PROGRAMMES.replace("East Ward,1", "East Ward,2"), RESIDENTS, "programme East Ward: 1 place sealed, and the table has 2")
+        self.refused(PROGRAMMES.replace("East Ward,1", "East Ward,2"), RESIDENTS, "programme East Ward: 1 place before, 2 now")
         self.refused(PROGRAMMES, RESIDENTS.replace("Ana Silva,South Hospital,North Clinic", "Ana Silva,North Clinic,South Hospital"),
-                     "resident Ana Silva: rank 1 was sealed as South Hospital, and the table has North Clinic")
+                     "resident Ana Silva: North Clinic from 2 to 1")
         self.refused(PROGRAMMES, RESIDENTS.replace("West Infirmary,East Ward,", "West Infirmary,,"),
-                     "resident Fatima Kovács: rank 2 was sealed as East Ward, and the table has nobody")
+                     "resident Fatima Kovács: East Ward gone, was at 2")
         self.refused(PROGRAMMES.replace("Kim Lee,,,", "Kim Lee,Ana Silva,,"), RESIDENTS,
-                     "programme West Infirmary: rank 2 was sealed as nobody, and the table has Ana Silva")
-        self.refused(PROGRAMMES, RESIDENTS.replace("Rosa Rossi,,,\n", "Rosa Russo,,,\n"), "resident Rosa Rossi was sealed, and isn't in the table",
-                     "resident Rosa Russo is in the table, and wasn't sealed")
+                     "programme West Infirmary: Ana Silva new at 2")
+        self.refused(PROGRAMMES, RESIDENTS.replace("Rosa Rossi,,,\n", "Rosa Russo,,,\n"), "resident Rosa Rossi is no more in the table",
+                     "resident Rosa Russo is new")
 
     def test_folders_that_are_none(self) -> None:
         plain, sealed = self.run_tables(out="plain"), self.sealed()
@@ -332,7 +358,7 @@ class Again(Sealed):
             "publish what is in public/, and these roots wherever members look:", own.roots().decode().strip()]))
         self.assertNotEqual((again / "secret.txt").read_bytes(), (sealed / "secret.txt").read_bytes())
         self.assertEqual(self.receipts(again), own.receipts())
-        self.assertIn(b"W,R,zoe-bronte\n", (again / "receipts" / "resident-zoe-bronte.csv").read_bytes())
+        self.assertIn(b"W,R,zoe-bronte\n", (again / "receipts" / "resident-zoe-bronte.txt").read_bytes())
         before, now = ({path.name: path.read_bytes() for path in (folder / "receipts").iterdir()} for folder in (sealed, again))
         self.assertEqual([name for name in now if now[name] == before[name]], [])
         match = self.matched(again)
@@ -371,15 +397,15 @@ class Verified(Sealed):
         lines = self.verify(match, "--lists", f"11,{lists}", "--result", f"11,{result}")
         by = "by the program seal and by the office's own trees" if sealing.is_built() else "by the office's own trees; the program seal isn't here"
         # Seven letters, four rosters, five files of public/ and sixteen at the top.
-        held = f"31 files made again, 11 receipts, the result, the journal of {events} events"
+        held = f"36 files made again, 11 receipts, the result, the journal of {events} events"
         self.assertEqual(lines[-4:], [f"roots: {rows[0]} and {rows[1]}, {by}", "published: the same roots, of 11 members",
-                                      "files: 42 as made again", f"{held}; {self.LEFT}"])
+                                      "files: 47 as made again", f"{held}; {self.LEFT}"])
         self.assertEqual(self.verify(match)[-1], f"{held}; {self.LEFT}; what was published, for want of --lists and --result")
         self.assertEqual(self.verify(match, "--lists", lists, "--result", result)[-1],
                          f"{held}; {self.LEFT}; how many members were published, for want of N,ROOT")
         self.assertEqual(self.verify(match, "--lists", f"12,{result}", "--result", f"11,{result}")[-3:], [
             f"published: for the lists {result} was published; 12 members were published for the lists, and there are 11",
-            "files: 42 as made again", f"this does not hold: published; {self.LEFT}"])
+            "files: 47 as made again", f"this does not hold: published; {self.LEFT}"])
         for word in (lists.upper(), f"x,{lists}", f"11,{lists[1:]}", ",".join(rows)):
             self.assertEqual(office("verify", match, "--lists", word).status, 2)
 
@@ -402,8 +428,21 @@ class Verified(Sealed):
         match = self.matched(self.sealed())
         (match / "secret.txt").unlink()
         lines = self.verify(match)
-        self.assertEqual(lines[-3:-1], ["roots and receipts and 11 files made of them: not checked: needs the secret", "files: 30 as made again"])
+        self.assertEqual(lines[-3:-1], ["roots and receipts and 11 files made of them: not checked: needs the secret", "files: 35 as made again"])
         self.assertIn("; roots and receipts and 11 files made of them, for want of the secret", lines[-1])
+
+    def test_without_the_key(self) -> None:
+        """Without the key neither the roots nor the receipts can be made again, also where the secret is there."""
+        match = self.matched(self.sealed())
+        # Without it are left docket, sheet, journal, audit, replay, manifest, sums, roots, the auditor's page, and three files of public/.
+        for words, files in ((["--key"], 48), ([], 12)):
+            copy = self.folder / f"copy{len(words)}"
+            self.assertEqual(office("auditor", match, *words, "--out", copy).status, 0)
+            lines = self.verify(copy)
+            self.assertEqual(lines[-2], f"files: {files} as made again")
+            self.assertEqual("roots and receipts: not checked: needs the key and the secret" in lines, not words)
+        (match / "key.csv").unlink()
+        self.assertIn("roots and receipts and 12 files made of them: not checked: needs the key and the secret", self.verify(match))
 
     def test_without_the_program(self) -> None:
         """Where the program isn't here, the office's own trees alone make the same, and verify says so."""
@@ -411,10 +450,10 @@ class Verified(Sealed):
             match = self.matched(self.sealed())
             self.assertIn("by the office's own trees; the program seal isn't here", self.verify(match)[-3])
         self.assertEqual(self.receipts(match), derived(match, True).receipts())
-        self.assertIn("files: 42 as made again", self.verify(match))
+        self.assertIn("files: 47 as made again", self.verify(match))
 
     def test_in_a_process_of_its_own(self) -> None:
         match = self.matched(self.sealed())
         done = spawn(["verify", str(match)])
         self.assertEqual((done.status, done.err), (0, ""))
-        self.assertIn("\nfiles: 42 as made again\n", done.out)
+        self.assertIn("\nfiles: 47 as made again\n", done.out)

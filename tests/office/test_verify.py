@@ -98,8 +98,8 @@ class Verify(unittest.TestCase):
         self.assertEqual(self.holds(), [
             "parts: each file has its own records alone", *digests, "members: 4 programmes and 7 residents", "withdrawn: nobody",
             "audit: S,stable", "result: Y,result", f"replay: G,{events}", f"second opinion: S,stable G,{events}, the same",
-            "reasons: the program says what the letters say", "files: 24 as made again",
-            f"24 files made again, the result, the journal of {events} events; {NO_TABLES}"])
+            "reasons: the program says what the letters say", "files: 29 as made again",
+            f"29 files made again, the result, the journal of {events} events; {NO_TABLES}"])
 
     def test_what_is_told_is_a_value(self) -> None:
         """The step has each line with what it is about and whether it holds, gives each to the call, and prints nothing."""
@@ -110,15 +110,15 @@ class Verify(unittest.TestCase):
             amiss = steps.verify(str(self.at))
         self.assertEqual((done.lines, done.wrong, len(done.held), out.getvalue()), (told, [], 3, ""))
         self.assertEqual([one.what for one in told if one.holds is None], [DOCKET, SHEET, "journal.csv", "members", "withdrawn"])
-        self.assertEqual((told[-1], told[-1].line()), (("files", "24 as made again", True), "files: 24 as made again"))
+        self.assertEqual((told[-1], told[-1].line()), (("files", "29 as made again", True), "files: 29 as made again"))
         self.assertEqual((amiss.lines[-2:], amiss.wrong, amiss.verdict()), (
-            [("page.html", "missing", False), ("files", "1 file of 24 differ, are missing or are more", False)], ["files"],
+            [("page.html", "missing", False), ("files", "1 file of 29 differ, are missing or are more", False)], ["files"],
             f"this does not hold: files; {NO_TABLES}"))
 
     def test_with_the_tables(self) -> None:
         lines = self.holds("--tables", *self.tables)
         self.assertIn("tables: the files that the manifest names, and the docket and key that they give", lines)
-        self.assertRegex(lines[-1], r"\A24 files made again, the result, the journal of [0-9]+ events\Z")
+        self.assertRegex(lines[-1], r"\A29 files made again, the result, the journal of [0-9]+ events\Z")
         spaced = Path(self.tables[1]).with_name("spaced.csv")
         spaced.write_text(RESIDENTS + ",,,\n", encoding="utf-8")
         self.assertIn("tables: other files than the manifest names, and the docket and key that they give",
@@ -150,11 +150,11 @@ class Verify(unittest.TestCase):
         (self.at / "key.csv").unlink()
         lines = self.holds()
         self.assertEqual(lines[-3:], [
-            "names and 16 files made of them: not checked: needs the key", "files: 7 as made again",
-            f"7 files made again, the result, the journal of {events} events; {NO_TABLES}; names and 16 files made of them, for want of the key"])
+            "names and 21 files made of them: not checked: needs the key", "files: 7 as made again",
+            f"7 files made again, the result, the journal of {events} events; {NO_TABLES}; names and 21 files made of them, for want of the key"])
         for name in ("letters", "rosters"):
             shutil.rmtree(self.at / name)
-        for name in ("letters.html", "page.html", "matches.csv", "results.csv", "unfilled.csv"):
+        for name in ("letters.html", "rosters.html", "page.html", "matches.csv", "results.csv", "unfilled.csv"):
             (self.at / name).unlink()
         self.assertEqual(self.holds()[-3], "names: not checked: needs the key")
         self.change("audit.csv", "S,unstable\n")

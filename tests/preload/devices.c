@@ -4,6 +4,7 @@
 //   DEVICE_IN_FAILS=n   the n-th call that does anything, and each after it, fails
 //   DEVICE_IN_ENDS=1    each call after the one that found the end of the input fails
 //   DEVICE_THREADS=n    n threads are started, and no more
+//   DEVICE_RANDOM=1     the system has no random bytes
 //   DEVICE_TOLD=F       at the end the file F gets two numbers: the reads and the writes that did or failed something
 #define _GNU_SOURCE
 #include <dlfcn.h>
@@ -69,6 +70,16 @@ int pthread_create(pthread_t *thread, const pthread_attr_t *attributes, void *(*
     if (getenv("DEVICE_THREADS") && started >= number("DEVICE_THREADS")) return EAGAIN;
     started++;
     return create(thread, attributes, work, given);
+}
+
+// Fills the room with random bytes, unless there are none.
+int getentropy(void *room, size_t length) {
+    int (*filled)(void *, size_t) = dlsym(RTLD_NEXT, "getentropy");
+    if (getenv("DEVICE_RANDOM")) {
+        errno = ENOSYS;
+        return -1;
+    }
+    return filled(room, length);
 }
 
 static void tell(void) {

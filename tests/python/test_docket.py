@@ -64,8 +64,7 @@ class Reading(unittest.TestCase):
 
     def test_mutual_lists(self):
         docket = read_docket(b"V,2\nQ,a,1\nQ,b,1\nQ,c,1\nP,a,w,x,y,z\nP,b,z,x\nP,c,x\nR,x,c,b,a\nR,y,b,a\nR,z,b\nR,w,b\nW,P,c\nW,R,z\n")
-        self.assertEqual([docket.ranked_by_programme(p) for p in "abc"], [("x", "y"), ("x",), ()])
-        self.assertEqual([docket.ranked_by_resident(r) for r in "xyzw"], [("b", "a"), ("a",), (), ()])
+        self.assertEqual(made.mutual(docket), ({"a": ["x", "y"], "b": ["x"], "c": []}, {"x": ["b", "a"], "y": ["a"], "z": [], "w": []}))
 
     def test_fault_has_record_field_text_and_name(self):
         for data, record, field, text, name in (

@@ -1,9 +1,11 @@
 """Dockets, their matches, hash trees and receipts, derived from what docs/sealed.md says: nothing of the package or of a program."""
 from __future__ import annotations
 
+import csv
 import hashlib
 import re
-from typing import Callable, Dict, List, NamedTuple, Optional, Sequence, Tuple
+import unicodedata
+from typing import Callable, Dict, List, Mapping, NamedTuple, Optional, Sequence, Tuple
 
 # The secret with which the page's roots of examples/nrmp.csv are made.
 SECRET = bytes(31) + b"\1"
@@ -16,6 +18,8 @@ class Market(NamedTuple):
     programme_lists: Dict[str, List[str]]
     resident_lists: Dict[str, List[str]]
     gone: Sequence[Tuple[str, str]] = ()
+    # The real name and the ID of members, as their lists are sealed with them; an ID may be empty.
+    names: Mapping[Tuple[str, str], Tuple[str, str]] = {}
 
     def members(self) -> List[Tuple[str, str]]:
         return [("P", name) for name in self.quotas] + [("R", name) for name in self.resident_lists]
@@ -32,7 +36,12 @@ Places = Dict[str, Optional[str]]
 
 
 def text_of(rows: Sequence[Sequence[object]]) -> bytes:
-    return "".join(",".join(map(str, row)) + "\n" for row in rows).encode("ascii")
+    return "".join(",".join(map(str, row)) + "\n" for row in rows).encode("utf-8", "surrogateescape")
+
+
+def quoted(field: str) -> str:
+    """A field as CSV has it: in quotes where it has a comma, a quote or the end of a line."""
+    return '"' + field.replace('"', '""') + '"' if any(sign in field for sign in ',"\r\n') else field
 
 
 def match(market: Market) -> Places:
@@ -89,7 +98,9 @@ class Sealed:
         rows: List[Sequence[object]] = [("R", name, *market.resident_lists[name])] if side == "R" else [("Q", name, market.quotas[name])]
         if side == "P" and name in market.programme_lists:
             rows.append(("P", name, *market.programme_lists[name]))
-        return text_of(rows + [("W", side, name)] * ((side, name) in self.gone))
+        real = market.names.get((side, name))
+        last: List[Sequence[object]] = [("N", *map(quoted, filter(None, real)))] if real else []
+        return text_of(rows + [("W", side, name)] * ((side, name) in self.gone) + last)
 
     def trees(self) -> Dict[str, Tree]:
         leaves = {"lists": self.lists} if self.results is None else {"lists": self.lists, "result": self.results}
@@ -163,10 +174,17 @@ class Shown(NamedTuple):
     where: Optional[str]
     filled: Sequence[str]
     reasons: Sequence[Sequence[object]]
+    # The real name and the ID; no name where none was sealed.
+    real: Tuple[str, str] = ("", "")
+
+    def who(self) -> List[str]:
+        """Who it is, if the real name was sealed."""
+        name, one = self.real
+        return [f"{name}{f' ({one})' if one else ''} is {self.name} in the lists."] if name else []
 
     def by_program(self) -> str:
         places = f"quota of {self.quota}, and your " if self.side == "P" else ""
-        lines = [f"{self.name}: the sealed lists have your {places}list: {', '.join(self.listed) or 'nobody'}."]
+        lines = [*self.who(), f"{self.name}: the sealed lists have your {places}list: {', '.join(self.listed) or 'nobody'}."]
         lines += ["You are withdrawn."] * self.is_gone
         if self.has_result and self.side == "P":
             lines.append(f"The sealed result has {len(self.filled)} of your places filled: {', '.join(self.filled) or 'nobody'}.")
@@ -183,7 +201,7 @@ class Shown(NamedTuple):
     def by_page(self) -> List[object]:
         """The class of the answer, and each of its elements with its text; a list has its items."""
         who = "a resident" if self.side == "R" else f"a programme of {self.quota} place{'s' * (self.quota != 1)}"
-        told: List[object] = ["good", "H3 This receipt holds", f"P It is that of {self.name}, {who}{', who is withdrawn' * self.is_gone}.",
+        told: List[object] = ["good", "H3 This receipt holds", *(f"P {line}" for line in self.who()), f"P It is that of {self.name}, {who}{', who is withdrawn' * self.is_gone}.",
                               "H3 Your list, as it was sealed", self.listed or "P It ranks nobody.",
                               "P Compare it with the list that you handed in. If it is another one, tell the office."]
         if self.has_result:
@@ -223,7 +241,7 @@ def shown_in(market: Market, places: Optional[Places], side: str, name: str) -> 
     listed = market.programme_lists.get(name, []) if is_programme else market.resident_lists[name]
     reasons = [] if is_programme or places is None else [told.reason(name, choice, one) for choice, one in enumerate(listed, 1)]
     return Shown(side, name, (side, name) in set(market.gone), market.quotas[name] if is_programme else 0, listed, places is not None,
-                 None if is_programme else (places or {}).get(name), told.residents[name] if is_programme else [], reasons)
+                 None if is_programme else (places or {}).get(name), told.residents[name] if is_programme else [], reasons, market.names.get((side, name), ("", "")))
 
 
 def ordinal(number: object) -> str:
@@ -308,7 +326,7 @@ TELLS = {"header": "not the first row of a receipt" + AGAIN, "root row": "not th
          "long": "longer than any receipt" + AGAIN,
          "root": "another root than the published one", "count": "another count than that of the lists", "place": "another place than in the lists",
          "opening": "what follows doesn't open the published root", "list": "not a row of this member's list", "result": "not a row of this member's result",
-         "unasked": "a result, and no root of a result was given", "name": "not a name of a docket", "twice": "a name that stands twice",
+         "unasked": "a result, and no root of a result was given", "name": "not a name of a docket", "real name": "not a real name that can be shown", "twice": "a name that stands twice",
          "not listed": "a name that isn't on the list", "numbers": "the numbers don't fit the rows", "gone": "a result of a member who is withdrawn",
          "reason": "a reason that can't stand here", "full": "full, but not of residents who are ranked before"}
 # How the page tells it.
@@ -320,7 +338,7 @@ SAYS = {"header": "this is not the first row of a receipt.", "root row": "this i
         "opening": "what follows is not what the office sealed: it does not lead to the published root.",
         "list": "this is not a row of this member\u2019s list.", "result": "this is not a row of this member\u2019s result.",
         "unasked": "here is a result, and this page is from before the match. Take the page of after the match.",
-        "name": "here is a name that no docket has.", "twice": "here is a name that stands twice.", "not listed": "here is a name that is not on the list.",
+        "name": "here is a name that no docket has.", "real name": "here is a real name that cannot be shown as it is.", "twice": "here is a name that stands twice.", "not listed": "here is a name that is not on the list.",
         "numbers": "the numbers do not fit the rows.", "gone": "here is a result of a member who is withdrawn.",
         "reason": "here is a reason that cannot stand here.", "full": "a programme is called full, and not of residents whom it ranked higher."}
 # With one of these the file is not as it was given; with another the receipt is wrong.
@@ -351,7 +369,9 @@ class Content:
         at = 3 + self.has_list
         self.listed = rows[at][2:] if at < len(rows) and (self.side == "R" or self.has_list) else []
         self.quota, self.is_gone = self.cell(3, 2), self.cell(at + 1, 0) == "W"
-        self.end = end = at + 1 + self.is_gone
+        last = at + 1 + self.is_gone
+        self.real = ",".join(rows[last][1:]) if self.cell(last, 0) == "N" and len(rows[last]) > 1 else None
+        self.end = end = last + (self.real is not None)
         self.paths = {"lists": rows[2][3:] if len(rows) > 2 else [], "result": rows[end + 1][3:] if len(rows) > end + 1 else []}
         self.own = self.cell(end + 2, 2) if self.cell(end + 2, 0) == "M" else None
         self.after = rows[end + 3:]
@@ -364,7 +384,7 @@ class Content:
         side, name = self.side, self.name
         if word == "lists":
             lists = [["Q", name, self.quota]] + [["P", name, *self.listed]] * self.has_list if side == "P" else [["R", name, *self.listed]]
-            return lists + [["W", side, name]] * self.is_gone
+            return lists + [["W", side, name]] * self.is_gone + ([] if self.real is None else [["N", self.real]])
         if side == "P":
             return [["F", name, str(len(self.after)), self.quota], *(["M", one, name] for one in self.members())]
         answers = (self.after + [[]] * len(self.listed))[:len(self.listed)]
@@ -389,7 +409,7 @@ def shown_by(receipt: bytes, roots: Dict[str, Tuple[int, str]]) -> Shown:
         (told.name, one, choice, row[3], *(int(digits) if digits else "" for digits in row[4:]))
         for choice, (one, row) in enumerate(zip(told.listed, told.after), 1)]
     return Shown(told.side, told.name, told.is_gone, int(told.quota) if is_programme else 0, told.listed, has_result, told.own,
-                 told.members() if is_programme and has_result else [], reasons)
+                 told.members() if is_programme and has_result else [], reasons, ("", "") if told.real is None else real_of(told, 0))
 
 
 def plain(receipt: bytes) -> str:
@@ -441,6 +461,27 @@ def want_names(names: Sequence[str], row: Callable[[int], int], listed: Optional
         seen.add(one)
 
 
+# Marks of direction, which are no control characters by their category.
+MARKS = ("ARABIC LETTER MARK", "LEFT-TO-RIGHT MARK", "RIGHT-TO-LEFT MARK")
+TURNING = ("LRE", "RLE", "PDF", "LRO", "RLO", "LRI", "RLI", "FSI", "PDI")
+
+
+def is_seen(char: str) -> bool:
+    """Whether a real name can have the character: it is no control character, ends no line and turns no text."""
+    return unicodedata.category(char) not in ("Cc", "Zl", "Zp") and unicodedata.bidirectional(char) not in TURNING and unicodedata.name(char, "") not in MARKS
+
+
+def real_of(told: Content, row: int) -> Tuple[str, str]:
+    """The real name and the ID, as CSV reads the row; they are written exactly as CSV writes them."""
+    try:
+        fields: List[str] = next(csv.reader([told.real or ""], strict=True), [])
+        texts = [field.encode("latin-1").decode("utf-8") for field in fields]
+    except (csv.Error, UnicodeDecodeError):
+        raise Wrong(row, "real name") from None
+    want(",".join(map(quoted, fields)) == told.real and len(texts) in (1, 2) and all(texts) and all(map(is_seen, "".join(texts))), row, "real name")
+    return texts[0], "".join(texts[1:])
+
+
 def want_answer(told: Content, choice: int, row: int) -> None:
     """The answer to a choice, from 0, can stand there."""
     place = None if told.own is None else told.listed.index(told.own)
@@ -468,6 +509,8 @@ def fault_of(receipt: bytes, roots: Dict[str, Tuple[int, str]]) -> Optional[Wron
         want_names([told.name], lambda _: 1)
         want(told.side == "R" or is_number(told.quota), 4, "numbers")
         want_names(told.listed, lambda _: 4 + told.has_list)
+        if told.real is not None:
+            real_of(told, told.end)
         if "result" in roots:
             want_result(told, told.end + 3)
     except Wrong as wrong:

@@ -45,7 +45,7 @@ async function used(...given) {
   start();
   const [file, text] = [document.getElementById("file"), document.getElementById("text")];
   for (const [how, what] of given) {
-    if (how === "file") file.files = [{ arrayBuffer: async () => { if (what === null) throw new Error("gone"); return bytesOf(what).buffer; } }];
+    if (how === "file") file.files = [{ arrayBuffer: async () => { if (what === null) throw new Error("gone"); return new TextEncoder().encode(what).buffer; } }];
     else text.text = what;
     (how === "file" ? file : text).heard[how === "file" ? "change" : "input"]();
   }

@@ -10,7 +10,7 @@ from residency.office.phrases import VALUE, Phrases
 from residency.office.tree import Roots
 
 # By a cause the name of its phrase, where it is another one.
-CAUSES = {"root row": "root-row", "opening row": "opening-row", "cut": "missing", "not listed": "not-listed"}
+CAUSES = {"root row": "root-row", "opening row": "opening-row", "cut": "missing", "not listed": "not-listed", "real name": "real-name"}
 REASONS = {"unranked": "unranked", "matched": "matched-here"}
 
 
@@ -65,7 +65,9 @@ def good(shown: Shown, said: Phrases) -> List[object]:
     """As `by_page` of what is shown, in this language."""
     say = sayer(said)
     who = ("resident" if shown.side == "R" else "programme") + "-gone" * shown.is_gone
-    told: List[object] = ["good", f"H3 {say('holds')}", f"P {say(who, name=shown.name, places=shown.quota)}", f"H3 {say('list')}",
+    name, one = shown.real
+    real = [f"P {say('real', real=f'{name} ({one})' if one else name, name=shown.name)}"] if name else []
+    told: List[object] = ["good", f"H3 {say('holds')}", *real, f"P {say(who, name=shown.name, places=shown.quota)}", f"H3 {say('list')}",
                           shown.listed or f"P {say('nobody')}", f"P {say('compare')}"]
     own = said.ordinal(shown.listed.index(shown.where) + 1) if shown.where else ""
     if shown.has_result and shown.side == "P":

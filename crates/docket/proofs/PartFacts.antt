@@ -5,7 +5,7 @@ use Rattle.std.specs.Option.{option_or}
 use Rattle.docket.specs.Answers.{Refuses, Stops}
 use Rattle.records.specs.Reading.{Fields, GivesRow, IsSplit}
 use Rattle.docket.specs.FileFault.{located, there}
-use Rattle.docket.specs.Parts.{AreEnds, GoesOn, IsInFiles, IsInFilesWithLists, Tells, fault_of_files, files_fault, rows_of_all, file_fault, is_elsewhere, kind_fault, part_fault}
+use Rattle.docket.specs.Parts.{AreEnds, AreGiven, GoesOn, IsInFiles, IsInFilesWithLists, Tells, fault_of_files, files_fault, rows_of_all, file_fault, is_elsewhere, kind_fault, part_fault}
 use Rattle.docket.specs.Passed.{IsPassed, HasPassed}
 use Rattle.docket.specs.Limits.{is_above, most_listed, most_records}
 use Rattle.docket.specs.Passes.{first_from, first_pass_fault, reading_fault, later_fault, next_place}
@@ -15,10 +15,10 @@ use Rattle.docket.specs.declared.part.Part.{Part}
 use Rattle.docket.specs.declared.file_fault.FileFault.{FileFault}
 use Rattle.docket.specs.declared.file_fault.Ends.{Ends}
 use Rattle.docket.specs.Contents.{Contents, contents_of, draft_of}
-use Rattle.docket.specs.WithLists.{lists_if}
+use Rattle.docket.specs.WithLists.{KeptLists, lists_if}
 use Rattle.match_model.specs.Written.{Written, written_of}
 use Rattle.std.proofs.lemmas.Option.{same_Some}
-use Rattle.docket.proofs.WithListsFacts.{lists_read}
+use Rattle.docket.proofs.WithListsFacts.{given_below, lists_read}
 use Rattle.docket.specs.declared.reading.Reading.{Reading}
 use Rattle.match_model.specs.declared.limits.Limits.{Limits}
 use Rattle.docket.specs.declared.fault.DocketFault.{DocketFault}
@@ -275,15 +275,23 @@ later_read lim d s j r c same own h none is =
     }
 
 -- the lists of the files' records
-pub later_lists : (d s j : List ℕ) (keeps : Bool) (r : Reading) (w : Option Written) → (h : HasPassed (Some (rows_of_all d s j)) r)
+pub later_lists : (d s j : List ℕ) (keeps : Bool) (r : Reading) (w : Option KeptLists) → (h : HasPassed (Some (rows_of_all d s j)) r)
     → ((rows : List Fields) → IsPassed r rows → w ≡ lists_if keeps rows) → w ≡ lists_if keeps (rows_of_all d s j)
 later_lists d s j keeps r w h lists = rw h.all_are (lists h.rows h.passed)
 
 -- the docket of the files, with its lists
-pub lists_in_files : (lim : Limits) (d s j : List ℕ) (c : Contents) (kept : Option Written) (w : Written) → kept ≡ Some w → IsInFiles lim d s j c
+pub lists_in_files : (lim : Limits) (d s j : List ℕ) (c : Contents) (kept : Option KeptLists) (w : Written) (given : List (Option (List ℕ))) → kept ≡ Some (w, given) → IsInFiles lim d s j c
     → kept ≡ lists_if true (rows_of_all d s j) → IsInFilesWithLists lim d s j c w
-lists_in_files lim d s j c kept w is h lists = record {
+lists_in_files lim d s j c kept w given is h lists = record {
   docket_is = h;
-  written_is = same_Some w (written_of (draft_of (rows_of_all d s j))) (sym is ∙ lists);
-  read = lists_read lim None c kept w is (record { rows = rows_of_all d s j; all = tt; faultless = h.sound; docket_is = h.docket_is; lists_are = lists });
+  written_is = ap (λ (k : KeptLists). k.0) (same_Some (w, given) (written_of (draft_of (rows_of_all d s j)), (draft_of (rows_of_all d s j)).programme_lists) (sym is ∙ lists));
+  read = lists_read lim None c kept w given is (record { rows = rows_of_all d s j; all = tt; faultless = h.sound; docket_is = h.docket_is; lists_are = lists });
 }
+
+-- and the programmes' lists, which name residents
+pub given_in_files : (lim : Limits) (d s j : List ℕ) (c : Contents) (kept : Option KeptLists) (w : Written) (given : List (Option (List ℕ))) → kept ≡ Some (w, given) → IsInFiles lim d s j c
+    → kept ≡ lists_if true (rows_of_all d s j) → AreGiven (rows_of_all d s j) c given
+given_in_files lim d s j c kept w given is h lists =
+    let rows : List Fields = rows_of_all d s j in
+    let same : given ≡ (draft_of rows).programme_lists = ap (λ (k : KeptLists). k.1) (same_Some (w, given) (written_of (draft_of rows), (draft_of rows).programme_lists) (sym is ∙ lists)) in
+    record { given_are = same; members = λ p list e. rw h.docket_is (given_below lim rows p list h.sound (rw same at e)) }

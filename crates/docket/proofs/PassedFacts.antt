@@ -6,7 +6,6 @@ use Rattle.std.specs.Option.{option_or}
 use Rattle.match_model.specs.declared.limits.Limits.{Limits}
 use Rattle.match_model.specs.Draft.{instance_of}
 use Rattle.match_model.specs.Instance.{Instance}
-use Rattle.match_model.specs.Written.{Written}
 use Rattle.docket_names.proofs.TextFacts.{names_length}
 use Rattle.docket.specs.Answers.{Refuses, Stops}
 use Rattle.docket.specs.Contents.{Contents, contents_of, draft_of, placement_of, programmes_of, residents_of, quotas_of, has_sheet, sheet_of}
@@ -16,7 +15,7 @@ use Rattle.docket.specs.Passed.{IsPassed, HasPassed}
 use Rattle.docket.specs.Passes.{first_from, first_pass_fault, later_fault, fault_within}
 use Rattle.docket.specs.Ranking.{IsRanked}
 use Rattle.docket.specs.Read.{IsSourceFault}
-use Rattle.docket.specs.WithLists.{IsReadAs, lists_if}
+use Rattle.docket.specs.WithLists.{IsReadAs, KeptLists, lists_if}
 use Rattle.docket.specs.declared.fault.DocketFault.{DocketFault}
 use Rattle.docket.specs.declared.records_fault.RecordsFault.{RecordsFault}
 use Rattle.docket.specs.declared.records_fault.RecordsFault.TheVariants.{Docket}
@@ -69,7 +68,7 @@ quotas_each r inst rows p is =
     ap length (quotas_made inst rows is) ∙ length-quotas_of rows ∙ sym (names_length r.texts r.declared.programmes (programmes_of rows) p.reading_is.declared.programmes)
 
 -- if no pass has a fault, the whole call returns the docket, and its lists if they are asked for
-pub all_read : (lim : Limits) (bytes : Option (List ℕ)) (keeps : Bool) (r : Reading) (d : Contents) (w : Option Written)
+pub all_read : (lim : Limits) (bytes : Option (List ℕ)) (keeps : Bool) (r : Reading) (d : Contents) (w : Option KeptLists)
     → r.declared.builder.limits ≡ lim → HasPassed (option_map rows_of bytes) r
     → ((rows : List Fields) → IsPassed r rows → d ≡ contents_of rows) → ((rows : List Fields) → IsPassed r rows → w ≡ lists_if keeps rows)
     → ((rows : List Fields) → IsPassed r rows → later_fault r.declared.builder.limits rows ≡ None) → IsReadAs lim bytes keeps d w

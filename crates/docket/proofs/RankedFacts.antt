@@ -1,7 +1,7 @@
 -- What the builder has after each list and each withdrawal of the second pass, and which faults it finds.
 use Rattle.docket.specs.Limits.{widest}
 use Rattle.std.proofs.Common.{◌≡◌, ◌≤◌, ◌<◌, ◌+◌, ℕ, List, [], true, false, length, take, drop, sym, ◌∙◌, refl, ap, Option, Some, None, inl, inr, rules}
-use Rattle.std.specs.Prelude.{not, if◌then◌else◌, codes, slice_set, nat_le}
+use Rattle.std.specs.Prelude.{not, if◌then◌else◌, codes, slice_set, nat_le, replicate}
 use Rattle.std.specs.List.{list_all}
 use Rattle.std.proofs.lemmas.List.{take_more}
 use Rattle.match_model.specs.Draft.{Draft, with_programme_list, with_resident_list, list_fault, has_no_repeats, instance_of, IsFinishFault}
@@ -11,7 +11,9 @@ use Rattle.docket.specs.Fields.{kind_of, is_kind, withdrawal_kind}
 use Rattle.records.specs.Reading.{Fields, field}
 use Rattle.docket.specs.Rows.{row_at}
 use Rattle.docket.specs.Contents.{listed_in, programmes_of, residents_of, lists_of, withdrawn_of, draft_of}
-use Rattle.docket_names.specs.Texts.{number_in, is_declared}
+use Rattle.docket_names.specs.Texts.{AreNames, number_in, is_declared}
+use Rattle.docket_names.proofs.TextFacts.{names_length}
+use Rattle.std.proofs.lemmas.Simd.{splat_is_map}
 use Rattle.docket.specs.Ranking.{IsRanked}
 use Rattle.docket.specs.Passes.{first_from, reading_fault, pairs_fault}
 use Rattle.match_model.specs.Instance.{pair_count}
@@ -19,7 +21,7 @@ use Rattle.match_model.specs.Limits.{most_pairs}
 use Rattle.docket.specs.Answers.{Refuses, at_record}
 use Rattle.docket.specs.declared.vocabulary.TheConstants.{PROGRAMME_LIST, RESIDENT_LIST, MAX_RECORDS}
 use Rattle.docket.proofs.WithdrawalFacts.{withdrawn_of-other}
-use Rattle.docket.proofs.RankingFacts.{distinct_programmes, distinct_residents, length-lists_of, length-quotas_of, list_fault-row, lists_of-other, lists_of-owner, programme_list_free, resident_list_free, sound_row}
+use Rattle.docket.proofs.RankingFacts.{distinct_programmes, distinct_residents, length-lists_of, length-quotas_of, list_fault-row, lists_of-none, lists_of-other, lists_of-owner, programme_list_free, resident_list_free, sound_row}
 
 -- what the builder has after a P row, and after an R row
 pub ranked_programme : (b e : Draft) (rows : List Fields) (k i : ℕ) → first_from (reading_fault widest) [] rows ≡ None → length rows ≤ MAX_RECORDS → k < length rows
@@ -144,3 +146,10 @@ pairs_over b rows fault n h (inr over) place =
   where
     above : most_pairs b.limits < pair_count (instance_of b) → nat_le (pair_count (instance_of b)) (most_pairs b.limits) ≡ false
     above lt = search (rules, lt)
+
+-- before any list is given there is none for each programme
+pub none_given : (texts : Fields) (programmes : List ℕ) (b : Draft) (rows : List Fields) → AreNames texts programmes (programmes_of rows) → IsRanked b rows []
+    → replicate (length programmes) None ≡ b.programme_lists
+none_given texts programmes b rows names h =
+    splat_is_map (programmes_of rows) (length programmes) None (sym (names_length texts programmes (programmes_of rows) names))
+    ∙ sym (h.programme_lists ∙ lists_of-none PROGRAMME_LIST (programmes_of rows) (residents_of rows))

@@ -1,5 +1,6 @@
 -- What is kept of the rank lists and the withdrawals for the second pass.
-use Rattle.std.specs.Prelude.{◌≡◌, ◌≤◌, ◌<◌, ◌-◌, ◌+◌, ◌||◌, ℕ, Bool, if◌then◌else◌, List, [], ◌∷◌, ◌++◌, length, take, drop, map, count_by, slice_index_or, unwrap_or, bytes_eq, true, ⊤}
+use Rattle.std.specs.Prelude.{◌≡◌, ◌≤◌, ◌<◌, ◌-◌, ◌+◌, ◌||◌, ℕ, Bool, if◌then◌else◌, List, [], ◌∷◌, ◌++◌, length, take, drop, map, count_by, slice_index_or, unwrap_or, bytes_eq, true, ⊤, Option, option_map}
+use Rattle.std.specs.Global.{Vec}
 use Rattle.std.specs.List.{All, flat_map, list_all, list_any}
 use Rattle.docket.specs.Fields.{is_kind, withdrawal_kind}
 use Rattle.records.specs.Reading.{Fields, field}
@@ -146,3 +147,7 @@ pub record HasEntry (texts more : Fields) (old new : KeptLists) (entry : ListEnt
 pub record AddsEntry (texts more : Fields) (old new : KeptLists) (entry : ListEntry) : Type 0 where
   pub kept : old.brought ≤ MOST_NAMES → HasEntry texts more old new entry
   pub cut : MOST_NAMES < old.brought → new ≡ old
+
+-- the items of a list, if there is one
+abbrev pub items_of : Option (Vec ℕ) → Option (List ℕ)
+items_of list = option_map (λ (v : Vec ℕ). v.items) list

@@ -1,6 +1,7 @@
 -- The parts of a market's files: which kinds of record belong to each, and the first fault of files that are read as
 -- parts.
-use Rattle.std.specs.Prelude.{◌≡◌, ◌⊎◌, option_map, ℕ, nat_le, ◌==◌, ◌||◌, ◌++◌, Bool, true, false, if◌then◌else◌, Option, Some, None, List, [], length}
+use Rattle.std.specs.Prelude.{◌≡◌, ◌⊎◌, option_map, ℕ, nat_le, nat_lt, slice_index_or, ◌==◌, ◌||◌, ◌++◌, Bool, true, false, if◌then◌else◌, Option, Some, None, List, [], length}
+use Rattle.std.specs.List.{list_all}
 use Rattle.std.specs.Option.{option_or}
 use Rattle.match_model.specs.declared.limits.Limits.{Limits}
 use Rattle.match_model.specs.Written.{Written, written_of}
@@ -113,3 +114,8 @@ pub record IsInFilesWithLists (limits : Limits) (docket sheet journal : List ℕ
   pub docket_is : IsInFiles limits docket sheet journal d
   pub written_is : written ≡ written_of (draft_of (rows_of_all docket sheet journal))
   pub read : IsReadWithin limits None d written
+
+-- each programme's list, if it has one, in the records of this docket; a list has only numbers of residents
+pub record AreGiven (rows : List Fields) (d : Contents) (given : List (Option (List ℕ))) : Type 0 where
+  pub given_are : given ≡ (draft_of rows).programme_lists
+  pub members : (p : ℕ) (list : List ℕ) → slice_index_or given p None ≡ Some list → list_all (λ r. nat_lt r (length d.residents)) list ≡ true

@@ -16,19 +16,23 @@ use Rattle.docket.specs.declared.vocabulary.TheConstants.{RESIDENT_LIST}
 abbrev pub fields_after : ℕ → List ℕ → List Fields → List (List ℕ)
 fields_after kind name rows = drop 2 (unwrap_or (find (is_row_of kind name) rows) [])
 
+-- the lists as they were written, and beside them each programme's list, if it has one
+abbrev pub KeptLists : Type 0
+KeptLists = Written × List (Option (List ℕ))
+
 -- the lists in the records, if lists are kept
-abbrev pub lists_if : Bool → List Fields → Option Written
-lists_if true rows = Some (written_of (draft_of rows))
+abbrev pub lists_if : Bool → List Fields → Option KeptLists
+lists_if true rows = Some (written_of (draft_of rows), (draft_of rows).programme_lists)
 lists_if false rows = None
 
 -- The docket of these records, which have no fault within these limits, and their lists if lists are kept. If the bytes
 -- are known, the records are all records in the bytes.
-pub record IsReadAs (limits : Limits) (bytes : Option (List ℕ)) (keeps : Bool) (docket : Contents) (written : Option Written) : Type 0 where
+pub record IsReadAs (limits : Limits) (bytes : Option (List ℕ)) (keeps : Bool) (docket : Contents) (kept : Option KeptLists) : Type 0 where
   pub rows : List Fields
   pub all : AreAll (option_map rows_of bytes) rows
   pub faultless : fault_in limits rows ≡ None
   pub docket_is : docket ≡ contents_of rows
-  pub lists_are : written ≡ lists_if keeps rows
+  pub lists_are : kept ≡ lists_if keeps rows
 
 -- The docket of these records, which have no fault within these limits, and their lists. If the bytes are known, the
 -- records are all records in the bytes. The instance is made of the lists. Each resident's list names the programmes of

@@ -17,6 +17,7 @@ mod kinds;
 mod part;
 mod parts;
 mod passes;
+mod programme_lists;
 mod read;
 mod reading;
 mod records_fault;
@@ -30,6 +31,7 @@ pub use fault::DocketFault;
 pub use file_fault::FileFault;
 pub use part::Part;
 pub use parts::{read_parts, read_parts_with_lists};
+pub use programme_lists::ProgrammeLists;
 pub use read::{
     read_docket, read_docket_with_lists, read_docket_with_lists_within, read_docket_within,
 };

@@ -2,7 +2,7 @@
 ghost use Rattle.std.specs.Prelude.{List, [], ◌≡◌, ◌≤◌, None, Some, IfErr, IfOk, IfSome, OnOk};
 ghost use Rattle.records.specs.Reading.{Fields, rows_of};
 ghost use Rattle.docket.specs.Limits.{most_records as most_in};
-ghost use Rattle.docket.specs.Parts.{AreEnds, GoesOn, IsInFiles, IsInFilesWithLists, Tells, fault_of_files, file_fault, files_fault, rows_of_all};
+ghost use Rattle.docket.specs.Parts.{AreEnds, AreGiven, GoesOn, IsInFiles, IsInFilesWithLists, Tells, fault_of_files, file_fault, files_fault, rows_of_all};
 ghost use Rattle.docket.specs.Passed.{HasPassed, IsPassed};
 ghost use Rattle.docket.specs.Reading.{IsReading};
 ghost use Rattle.docket.specs.WithLists.{lists_if};
@@ -11,6 +11,7 @@ use crate::docket::Docket;
 use crate::fault::DocketFault;
 use crate::file_fault::{Ends, FileFault, located, there};
 use crate::part::Part;
+use crate::programme_lists::ProgrammeLists;
 use crate::read::{docket_from, read_part};
 use crate::reading::Reading;
 use crate::records_fault::RecordsFault;
@@ -83,7 +84,7 @@ fn parts_as<H: RandomSource>(
     sheet: &[u8],
     journal: &[u8],
     keeps_lists: bool,
-) -> Result<(Docket, Option<WrittenLists>), FileFault>
+) -> Result<(Docket, Option<(WrittenLists, ProgrammeLists)>), FileFault>
     ensures docket { IfOk result (λ read.
         IsInFiles limits docket.now sheet.now journal.now read.0) }
     ensures lists { IfOk result (λ read.
@@ -127,7 +128,7 @@ pub fn read_parts<H: RandomSource>(
     Ok(docket)
 }
 
-/// Reads a docket as `read_parts` does, and also returns its lists as they were written.
+/// Reads a docket as `read_parts` does, and also returns its lists as they were written, and which programmes have one.
 pub fn read_parts_with_lists<H: RandomSource>(
     rt: &H,
     alloc: Global,
@@ -135,15 +136,17 @@ pub fn read_parts_with_lists<H: RandomSource>(
     docket: &[u8],
     sheet: &[u8],
     journal: &[u8],
-) -> Result<(Docket, WrittenLists), FileFault>
+) -> Result<(Docket, WrittenLists, ProgrammeLists), FileFault>
     ensures read { IfOk result (λ read.
         IsInFilesWithLists limits docket.now sheet.now journal.now read.0 read.1) }
+    ensures given { IfOk result (λ read.
+        AreGiven (rows_of_all docket.now sheet.now journal.now) read.0 read.2) }
     ensures fault { IfErr result
         (Tells (fault_of_files limits docket.now sheet.now journal.now)) }
 {
     let (docket, lists) = parts_as(rt, alloc, limits, docket, sheet, journal, true)?;
-    let Some(lists) = lists else {
+    let Some((lists, given)) = lists else {
         unreachable!("the lists are kept");
     };
-    Ok((docket, lists))
+    Ok((docket, lists, given))
 }

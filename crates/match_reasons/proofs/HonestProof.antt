@@ -30,10 +30,10 @@ no_items (x ∷ xs) h = absurd (h x (IsListed-cons_same x xs))
 module _ (inst : Instance) (written : Written) (m : List (Option ℕ)) (members : ℕ → List ℕ) (why : ℕ → ℕ → Why)
     (is : IsInstance inst) (made : AreWritten inst written) (stable : IsStable inst m)
     (are : (p : ℕ) → AreMembersOf m p (members p)) where
-  both : (r p : ℕ) → IsMemberOf m r p → IsListed (list_at written.resident_lists r) p × IsListed (list_at written.programme_lists p) r
+  pub both : (r p : ℕ) → IsMemberOf m r p → IsListed (list_at written.resident_lists r) p × IsListed (list_at written.programme_lists p) r
   both r p e = written_parts inst r p _ _ (lists_of_pair inst written r p made) (stable.is_assignment.pairs_acceptable r p e)
 
-  count : (p : ℕ) → member_count m p ≡ length (members p)
+  pub count : (p : ℕ) → member_count m p ≡ length (members p)
   count p =
       let most = different_among (members_of m p) (members p) (members_differ m p) (λ r l. ((are p).are r).1 (member_from_listed m p r l)) in
       let least = different_among (members p) (members_of m p) (are p).none_twice (λ r l. member_listed m p r (((are p).are r).0 l)) in
@@ -42,11 +42,11 @@ module _ (inst : Instance) (written : Written) (m : List (Option ℕ)) (members 
       let b = count_by-le-length (is_listed (members_of m p)) (members p) in
       omega arith
 
-  nobody : (p : ℕ) → ((s : ℕ) → IsMemberOf m s p → ⊥) → member_count m p ≡ 0
+  pub nobody : (p : ℕ) → ((s : ℕ) → IsMemberOf m s p → ⊥) → member_count m p ≡ 0
   nobody p h = count p ∙ no_items (members p) (λ s l. h s (((are p).are s).0 l))
 
   module _ (r p : ℕ) where
-    at_own : (w : Why) → IsFirst inst (list_at written.resident_lists r) (list_at written.programme_lists p) m r p w → IsMemberOf m r p → w ≡ Matched
+    pub at_own : (w : Why) → IsFirst inst (list_at written.resident_lists r) (list_at written.programme_lists p) m r p w → IsMemberOf m r p → w ≡ Matched
     at_own Withdrawn f e = absurd (not_withdrawn inst is r p (stable.is_assignment.pairs_acceptable r p e) f.holds)
     at_own NotListed f e = absurd (f.holds (both r p e).0)
     at_own NotRanked f e = absurd (f.holds (both r p e).1)
@@ -55,7 +55,7 @@ module _ (inst : Instance) (written : Written) (m : List (Option ℕ)) (members 
     at_own (Full i k q) f e = absurd (f.none_before Matched (omega arith) e)
     at_own Blocking f e = absurd (f.none_before Matched (omega arith) e)
 
-    full_told : (i : ℕ) (k : Option ℕ) (q : ℕ) → IsFullBefore inst (list_at written.programme_lists p) m r p i k q → IsLastTold i k q
+    pub full_told : (i : ℕ) (k : Option ℕ) (q : ℕ) → IsFullBefore inst (list_at written.programme_lists p) m r p i k q → IsLastTold i k q
     full_told i None q h = let n = nobody p h.last in let all = h.all_taken in let e = h.has_quota in omega arith
     full_told i (Some k) q h =
         let b = h.all_before h.last.0.0 h.last.0.1 in
@@ -63,7 +63,7 @@ module _ (inst : Instance) (written : Written) (m : List (Option ℕ)) (members 
         let stands = h.last.0.2 in
         omega arith
 
-    before_own : (w : Why) (o : Option ℕ) → programme_of m r ≡ o → IsFirst inst (list_at written.resident_lists r) (list_at written.programme_lists p) m r p w →
+    pub before_own : (w : Why) (o : Option ℕ) → programme_of m r ≡ o → IsFirst inst (list_at written.resident_lists r) (list_at written.programme_lists p) m r p w →
         IsListed (list_at written.resident_lists r) p → Prefers (list_at written.resident_lists r) p o → (IsMemberOf m r p → ⊥) → IsPassed w
     before_own Withdrawn o e f l b n = tt
     before_own NotListed o e f l b n = f.holds l
@@ -81,7 +81,7 @@ module _ (inst : Instance) (written : Written) (m : List (Option ℕ)) (members 
     before_own (Full i k q) o e f l b n = full_told i k q f.holds
     before_own Blocking o e f l b n = stable.nothing_blocks r p f.holds
 
-    after_own : (w : Why) (q : ℕ) → programme_of m r ≡ Some q → IsFirst inst (list_at written.resident_lists r) (list_at written.programme_lists p) m r p w →
+    pub after_own : (w : Why) (q : ℕ) → programme_of m r ≡ Some q → IsFirst inst (list_at written.resident_lists r) (list_at written.programme_lists p) m r p w →
         IsListed (list_at written.resident_lists r) p → IsBefore (list_at written.resident_lists r) q p → IsPast w
     after_own Withdrawn q e f l b = tt
     after_own NotListed q e f l b = f.holds l
@@ -101,7 +101,7 @@ module _ (inst : Instance) (written : Written) (m : List (Option ℕ)) (members 
     last_told None h = λ s l. h s (((are p).are s).0 l)
     last_told (Some k) h = ((h.0.0, ((are p).are h.0.0).1 h.0.1, h.0.2), λ s l. h.1 s (((are p).are s).0 l))
 
-    fits : (w : Why) → IsFirst inst (list_at written.resident_lists r) (list_at written.programme_lists p) m r p w → IsListed (list_at written.resident_lists r) p →
+    pub fits : (w : Why) → IsFirst inst (list_at written.resident_lists r) (list_at written.programme_lists p) m r p w → IsListed (list_at written.resident_lists r) p →
         Fits inst (list_at written.programme_lists p) (members p) r p w
     fits Withdrawn f l = f.holds
     fits NotListed f l = f.holds l
@@ -118,7 +118,7 @@ module _ (inst : Instance) (written : Written) (m : List (Option ℕ)) (members 
         }
     fits Blocking f l = stable.nothing_blocks r p f.holds
 
-    gone : (w : Why) → IsFirst inst (list_at written.resident_lists r) (list_at written.programme_lists p) m r p w → HasWithdrawn inst r p → w ≡ Withdrawn
+    pub gone : (w : Why) → IsFirst inst (list_at written.resident_lists r) (list_at written.programme_lists p) m r p w → HasWithdrawn inst r p → w ≡ Withdrawn
     gone Withdrawn f h = refl
     gone NotListed f h = absurd (f.none_before Withdrawn (omega arith) h)
     gone NotRanked f h = absurd (f.none_before Withdrawn (omega arith) h)

@@ -1,7 +1,7 @@
-mod Ranks
+pub mod Ranks
 mod Kept
 mod Tallies
-mod Firsts
+pub mod Firsts
 mod PairsProof
-mod HonestProof
-mod RoomProof
+pub mod HonestProof
+pub mod RoomProof

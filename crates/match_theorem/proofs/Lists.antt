@@ -7,9 +7,9 @@ use Rattle.std.proofs.lemmas.Bool.{and_parts}
 use Rattle.std.proofs.lemmas.List.{length-map}
 use Rattle.std.proofs.lemmas.List.Elements.{All-map}
 use Rattle.match_model.specs.Instance.{IsInstance, pair_count}
-use Rattle.match_model.specs.Draft.{IsDraft, given_lists, has_no_repeats, instance_of}
+use Rattle.match_model.specs.Draft.{Draft, IsDraft, given_lists, has_no_repeats, instance_of}
 use Rattle.match_model.specs.Limits.{IsWithin, most_programmes, most_residents, most_pairs}
-use Rattle.match_model.specs.declared.limits.Limits.TheVariants.{Standard}
+use Rattle.match_model.specs.declared.limits.Limits.{Limits}
 use Rattle.match_model.proofs.LimitFacts.{pairs_bounded}
 use Rattle.match_model.specs.declared.fault.ModelFault.TheVariants as model
 use Rattle.match_model.proofs.Kept.{IsWithin-instance_of, IsWellFormed-instance_of}
@@ -17,9 +17,12 @@ use Rattle.docket.specs.Fields.{is_kind, is_row_of, unless, withdrawal_kind}
 use Rattle.records.specs.Reading.{Fields, field, rows_of}
 use Rattle.docket_names.specs.Texts.{is_declared}
 use Rattle.docket.specs.Contents.{programmes_of, residents_of, quotas_of, listed_in, lists_of, draft_of, withdrawn_of, is_withdrawal_of}
-use Rattle.docket.specs.Passes.{first_from, reading_fault, ranking_fault, listing_fault, unknown_fault, pairs_fault, sheet_fault, event_fault, later_fault, fault_of, next_place, names_on, first_fault}
+use Rattle.docket.specs.Passes.{first_from, reading_fault, ranking_fault, listing_fault, unknown_fault, pairs_fault, sheet_fault, event_fault, fault_in, fault_within, first_pass_fault, later_fault, listed_fault, next_place}
 use Rattle.docket.specs.declared.fault.DocketFault.{DocketFault}
 use Rattle.docket.specs.declared.fault.DocketFault.TheVariants.{UnknownName, Model}
+use Rattle.docket.specs.declared.records_fault.RecordsFault.{RecordsFault}
+use Rattle.docket.specs.declared.records_fault.RecordsFault.TheVariants.{Docket}
+use Rattle.docket.proofs.CountFacts.{unmapped}
 use Rattle.docket.proofs.SoundFacts.{both_none, unless_none}
 use Rattle.docket.proofs.RankingFacts.{length-quotas_of, length-lists_of, items_below}
 use Rattle.match_theorem.proofs.Limits.{programme_letter, resident_letter, one_kind, programmes_within, residents_within, quotas_within}
@@ -105,9 +108,13 @@ flags_each : (side : List ℕ) (names : List (List ℕ)) (rows : List Fields) �
 unfolding withdrawn_of
 flags_each side names rows = length-map names (λ (name : List ℕ). list_any (is_withdrawal_of side name) rows)
 
+-- what a docket's records hand in to a builder within these limits
+abbrev draft_within : Limits → List Fields → Draft
+draft_within lim rows = record (draft_of rows) { limits = lim }
+
 -- the quotas, lists and withdrawals in a docket's records are what a builder accepts
-draft_kept : (rows : List Fields) → first_from (reading_fault Standard) [] rows ≡ None → first_from (ranking_fault rows) [] rows ≡ None → IsDraft (draft_of rows)
-draft_kept rows reading ranking =
+draft_kept : (lim : Limits) (rows : List Fields) → first_from (reading_fault lim) [] rows ≡ None → first_from (ranking_fault rows) [] rows ≡ None → IsDraft (draft_within lim rows)
+draft_kept lim rows reading ranking =
     let programmes = programmes_of rows in
     let residents = residents_of rows in
     let many = length-quotas_of rows in
@@ -120,9 +127,9 @@ draft_kept rows reading ranking =
     let their_lists = length-lists_of resident_letter residents programmes rows in
     record {
       one_list_each = length-lists_of programme_letter programmes residents rows ∙ sym many;
-      programmes_within = subst (λ n. n ≤ most_programmes Standard) (sym many) (programmes_within rows reading);
-      residents_within = subst (λ n. n ≤ most_residents Standard) (sym their_lists) (residents_within rows reading);
-      quotas_within = quotas_within rows reading;
+      programmes_within = subst (λ n. n ≤ most_programmes lim) (sym many) (programmes_within lim rows reading);
+      residents_within = subst (λ n. n ≤ most_residents lim) (sym their_lists) (residents_within lim rows reading);
+      quotas_within = quotas_within lim rows reading;
       programme_lists = record {
         items_below = subst (λ n. All (λ list. list_all (λ x. nat_lt x n) list ≡ true) (given_lists (lists_of programme_letter programmes residents rows))) (sym their_lists) (all_below _ _ ours);
         no_repeats = all_once _ _ ours;
@@ -136,20 +143,54 @@ draft_kept rows reading ranking =
     }
 
 -- the number of acceptable pairs is at most the limit on pairs
-pairs_within : (rows : List Fields) → pairs_fault Standard rows ≡ None → pair_count (instance_of (draft_of rows)) ≤ most_pairs Standard
+pairs_within : (lim : Limits) (rows : List Fields) → pairs_fault lim rows ≡ None → pair_count (instance_of (draft_of rows)) ≤ most_pairs lim
 unfolding pairs_fault
-pairs_within rows none = search (rules, unless_none (nat_le (pair_count (instance_of (draft_of rows))) (most_pairs Standard)) (Model (length rows) model.TooManyPairs) none)
+pairs_within lim rows none = search (rules, unless_none (nat_le (pair_count (instance_of (draft_of rows))) (most_pairs lim)) (Model (length rows) model.TooManyPairs) none)
 
--- the instance of a docket without a fault is strict and mutual, and within the standard limits
-pub docket_instance : (bytes : List ℕ) → first_fault bytes ≡ None → IsInstance (instance_of (draft_of (rows_of bytes))) × IsWithin Standard (instance_of (draft_of (rows_of bytes)))
+-- what the records of a docket without a fault within these limits hand in to the builder
+pub record AreSound (lim : Limits) (rows : List Fields) : Type 0 where
+  pub reading : first_from (reading_fault lim) [] rows ≡ None
+  pub draft : IsDraft (record (draft_of rows) { limits = lim })
+  pub few : pair_count (instance_of (draft_of rows)) ≤ most_pairs lim
+  pub instance : IsInstance (instance_of (draft_of rows))
+
+-- the first pass finds no fault in a record but one of its own
+reading_sound : (lim : Limits) (before rows : List Fields) → first_from (first_pass_fault lim) before rows ≡ None → first_from (reading_fault lim) before rows ≡ None
+unfolding first_from
+reading_sound lim before [] h = refl
+reading_sound lim before (row ∷ rest) h =
+    let parts = both_none_of (first_pass_fault lim before row) (first_from (first_pass_fault lim) (before ++ row ∷ []) rest) h in
+    let own = both_none_of (option_map Docket (reading_fault lim before row)) (listed_fault lim before row) parts.0 in
+    rw (unmapped (reading_fault lim before row) own.0) (reading_sound lim (before ++ row ∷ []) rest parts.1)
+  where
+    both_none_of : (a b : Option RecordsFault) → option_or a b ≡ None → (a ≡ None) × (b ≡ None)
+    both_none_of None b e = (refl, e)
+    both_none_of (Some f) b e = absurd (cc e)
+
+pub rows_sound : (lim : Limits) (rows : List Fields) → fault_in lim rows ≡ None → AreSound lim rows
 unfolding later_fault
-docket_instance bytes none =
-    let rows = rows_of bytes in
-    let passes = both_none (first_from (reading_fault Standard) [] rows) (later_fault Standard rows) none in
-    let ranked = both_none (first_from (ranking_fault rows) [] rows) (option_or (pairs_fault Standard rows) (option_or (sheet_fault rows) (first_from (event_fault rows) [] rows))) passes.1 in
-    let paired = both_none (pairs_fault Standard rows) (option_or (sheet_fault rows) (first_from (event_fault rows) [] rows)) ranked.1 in
-    let kept = draft_kept rows passes.0 ranked.0 in
-    let few = pairs_within rows paired.0 in (
-      (IsWellFormed-instance_of (draft_of rows) (pair_count (instance_of (draft_of rows))) kept (omega (arith, few, pairs_bounded Standard)) refl).is_instance,
-      IsWithin-instance_of (draft_of rows) kept few,
-    )
+rows_sound lim rows none =
+    let whole = both (first_from (first_pass_fault lim) [] rows) (option_map Docket (later_fault lim rows)) none in
+    let reading = reading_sound lim [] rows whole.0 in
+    let later = unmapped (later_fault lim rows) whole.1 in
+    let ranked = both_none (first_from (ranking_fault rows) [] rows) (option_or (pairs_fault lim rows) (option_or (sheet_fault rows) (first_from (event_fault rows) [] rows))) later in
+    let paired = both_none (pairs_fault lim rows) (option_or (sheet_fault rows) (first_from (event_fault rows) [] rows)) ranked.1 in
+    let kept = draft_kept lim rows reading ranked.0 in
+    let few = pairs_within lim rows paired.0 in
+    record {
+      reading = reading;
+      draft = kept;
+      few = few;
+      instance = (IsWellFormed-instance_of (draft_within lim rows) (pair_count (instance_of (draft_of rows))) kept (omega (arith, few, pairs_bounded lim)) refl).is_instance;
+    }
+  where
+    both : (a b : Option RecordsFault) → option_or a b ≡ None → (a ≡ None) × (b ≡ None)
+    both None b e = (refl, e)
+    both (Some f) b e = absurd (cc e)
+
+-- the instance of a docket without a fault is strict and mutual, and within the limits
+pub docket_instance : (lim : Limits) (bytes : List ℕ) → fault_within lim bytes ≡ None
+    → IsInstance (instance_of (draft_of (rows_of bytes))) × IsWithin lim (instance_of (draft_of (rows_of bytes)))
+docket_instance lim bytes none =
+    let sound = rows_sound lim (rows_of bytes) none in
+    (sound.instance, IsWithin-instance_of (draft_within lim (rows_of bytes)) sound.draft sound.few)

@@ -55,3 +55,13 @@ pub record WritesResult (k : Market) (journal : List ℕ) (old new : Option (Lis
   pub placement : List (Option ℕ)
   pub result : IsResult k.instance placement
   pub appended : Appends old new (market_sheet k placement ++ journal)
+
+-- the same within the national limits
+pub record WritesNationalResult (k : Market) (journal : List ℕ) (old new : Option (List ℕ)) : Type 0 where
+  pub lists : IsInstance k.instance
+  pub few_programmes : length k.instance.quotas ≤ 10000
+  pub few_residents : length k.instance.resident_lists ≤ 100000
+  pub few_pairs : pair_count k.instance ≤ 2000000
+  pub placement : List (Option ℕ)
+  pub result : IsResult k.instance placement
+  pub appended : Appends old new (market_sheet k placement ++ journal)

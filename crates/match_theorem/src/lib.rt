@@ -4,4 +4,4 @@
 
 mod theorem;
 
-pub use theorem::{law_match, law_program};
+pub use theorem::{law_match, law_national_program, law_program};

@@ -1,6 +1,6 @@
 //! What a match has written once its call has ended well.
 
-ghost use Rattle.match_theorem.specs.Law.{MatchLaw, ProgramLaw};
+ghost use Rattle.match_theorem.specs.Law.{MatchLaw, NationalLaw, ProgramLaw};
 
 /// A match of a docket has written the sheet of the docket's result. If the journal is asked for, it follows the sheet.
 pub fn law_match()
@@ -11,4 +11,9 @@ pub fn law_match()
 /// only settled placement.
 pub fn law_program()
     ensures { ProgramLaw }
+{}
+
+/// The same of the program for the national limits.
+pub fn law_national_program()
+    ensures { NationalLaw }
 {}

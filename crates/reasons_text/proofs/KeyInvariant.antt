@@ -12,13 +12,17 @@ use Rattle.reasons_text.specs.Naming.{KeyNames}
 abbrev pub bytes_left : Bor (List ℕ) → Option (List ℕ)
 bytes_left slice = Some slice.now
 
-pub record HasAdded (d : Contents) (bytes : List ℕ) (old now : KeyNames) (reader : Reader (Bor (List ℕ))) (count : ℕ) : Type 0 where
+-- these rows were read
+pub record HasRows (bytes : List ℕ) (reader : Reader (Bor (List ℕ))) (rows : List Fields) : Type 0 where
   pub config : reader_config reader ≡ key_config bytes
   pub source_is : IsSource reader
-  pub done : List Fields
   pub left : List ℕ
   pub source : source_of bytes_left reader ≡ Some left
-  pub reached : Reached (key_config bytes) st.StartRecord (strip_bom bytes) done (reader_state reader) left
+  pub reached : Reached (key_config bytes) st.StartRecord (strip_bom bytes) rows (reader_state reader) left
+
+pub record HasAdded (d : Contents) (bytes : List ℕ) (old now : KeyNames) (reader : Reader (Bor (List ℕ))) (count : ℕ) : Type 0 where
+  pub done : List Fields
+  pub read : HasRows bytes reader done
   pub counted : length done ≡ count
   pub good : fault_from d old 0 done ≡ None
   pub added : now ≡ all_added d old done

@@ -7,6 +7,7 @@ mod FaultFacts
 mod ShownFacts
 mod WhomFacts
 mod KeyFacts
+mod RealFacts
 mod DelimiterFacts
 mod NumberFacts
 mod LabelFacts

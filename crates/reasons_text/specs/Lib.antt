@@ -13,3 +13,4 @@ pub mod Delimiter
 pub mod Keys
 pub mod Numbers
 pub mod Files
+pub mod RealNames

@@ -188,7 +188,7 @@ impl Case {
         ensures fault { IfErr result (IsFilesCaseFault limits docket.now sheet.now) }
     {
         match read_parts_with_lists(rt, alloc, limits, docket, sheet, &[]) {
-            Ok((docket, lists)) => match Case::of_docket(alloc, docket, lists, are_all_told) {
+            Ok((docket, lists, _)) => match Case::of_docket(alloc, docket, lists, are_all_told) {
                 Ok(case) => Ok(case),
                 Err(WhyFault::NoSheet) => Err(WhyFault::EmptySheet),
                 Err(_) => Err(WhyFault::Docket(DocketFault::Memory)),
@@ -241,6 +241,13 @@ impl Case {
             unreachable!("a case has a sheet");
         };
         sheet
+    }
+
+    /// The lists as they were written.
+    pub fn written(&self) -> &WrittenLists
+        ensures { result.now ≡ self.now.written }
+    {
+        &self.lists
     }
 
     /// The programme with which the sheet matches a resident, or none.

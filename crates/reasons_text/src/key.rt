@@ -93,9 +93,9 @@ fn sign(row: &ByteRecord) -> &[u8]
     if id.len() == 0 { field(row, 1) } else { id }
 }
 
-// The side of a row, from its first field.
+/// The side of a row, from its first field.
 #[tactic(auto, unfolding(records::specs::Reading::field))]
-fn side_of_row(row: &ByteRecord) -> Option<Side>
+pub(crate) fn side_of_row(row: &ByteRecord) -> Option<Side>
     ensures { result ≡ row_side (fields_of row.now) }
 {
     match field(row, 0) {
@@ -240,8 +240,8 @@ impl Key {
         }
     }
 
-    // A key in which all members of the docket are without names.
-    fn unnamed(alloc: Global, docket: &Docket) -> Result<Key, AllocError>
+    /// A key in which all members of the docket are without names.
+    pub(crate) fn unnamed(alloc: Global, docket: &Docket) -> Result<Key, AllocError>
         ensures { IfOk result (λ key. both_of key ≡ unnamed docket.now) }
     {
         Ok(Key {
@@ -297,8 +297,8 @@ impl Key {
         Err(WhyFault::Docket(DocketFault::Memory))
     }
 
-    // Adds one row, unless all fields of the row are empty.
-    fn add(
+    /// Adds one row, unless all fields of the row are empty.
+    pub(crate) fn add(
         &mut self,
         alloc: Global,
         numbers: &MemberNumbers,

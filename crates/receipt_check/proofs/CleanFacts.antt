@@ -8,8 +8,9 @@ use Rattle.std.proofs.lemmas.Slice.Eq.{bytes_eq-Decides}
 use Rattle.docket_names.specs.Words.{is_name}
 use Rattle.docket_names.specs.Texts.{is_declared, number_in}
 use Rattle.receipt_check.specs.Rows.{Cells, text_at}
-use Rattle.receipt_check.specs.Receipt.{Receipt, answer, first_row, gone_rows, is_programme, letter_of, list_place, list_rows, lists_rows_of, member_row, members, part_rows, placed_row, reason_row, result_rows_of}
-use Rattle.receipt_check.specs.Faults.{answer_wrong, can_stand, digests_of, digests_wrong, first_in, first_of, is_bare, is_before, is_full, is_on, lists_fault, members_fault, name_at, name_wrong, opening_wrong, openings_at, openings_fault, placed, plain_number, programme_fault, reason_at, reason_wrong, reasons_fault, resident_fault, result_fault, result_fault_of, result_place, second_fault, stand_of, value_fault, wrong_name, wrong_reason}
+use Rattle.receipt_check.specs.Receipt.{Receipt, answer, first_row, gone_rows, has_real_name, is_programme, last_rows, letter_of, list_place, list_rows, lists_rows_of, member_row, members, name_rows, named_place, part_rows, placed_row, reason_row, result_rows_of}
+use Rattle.receipt_check.specs.Faults.{answer_wrong, can_stand, digests_of, digests_wrong, first_in, first_of, is_bare, is_before, is_full, is_on, lists_fault, members_fault, name_at, name_wrong, opening_wrong, openings_at, openings_fault, placed, plain_number, programme_fault, real_fault, reason_at, reason_wrong, reasons_fault, resident_fault, result_fault, result_fault_of, result_place, second_fault, stand_of, value_fault, wrong_name, wrong_reason}
+use Rattle.receipt_check.specs.Named.{is_real}
 use Rattle.receipt_check.specs.Shape.{at}
 use Rattle.receipt_check.specs.declared.kind.Kind.{Kind}
 use Rattle.receipt_check.specs.declared.kind.Kind.TheVariants.{Programme, Resident}
@@ -18,7 +19,7 @@ use Rattle.receipt_check.specs.declared.reasons.Stand.TheVariants.{Before, At, A
 use Rattle.receipt_check.specs.declared.wrong.Wrong.TheVariants as wrong
 use Rattle.receipt_check.proofs.RowFacts.{AreFields, AreRows, IsField, IsRow}
 use Rattle.receipt_check.proofs.ShownFacts.{receipt_rows, result_part_rows}
-use Rattle.receipt_check.proofs.FieldFacts.{decimal_field, digest_fields, name_field, no_text, plain_field, root_field, word}
+use Rattle.receipt_check.proofs.FieldFacts.{decimal_field, digest_fields, name_field, no_text, plain_field, real_name_fields, root_field, word}
 
 pub map_none : {X Y : Type 0} (f : X → Y) (o : Option X) → option_map f o ≡ None → o ≡ None
 map_none f None h = refl
@@ -207,22 +208,32 @@ record HasLists (r : Receipt) : Type 0 where
   name : IsField r.name
   quota : r.kind ≡ Programme → IsField r.quota
   list : AreFields r.list
+  named : AreFields r.named
 
 quota_field : (digits : List ℕ) (o : Option ℕ) → plain_number digits ≡ o → not (is_some o) ≡ false → IsField digits
 quota_field digits None e h = cc h
 quota_field digits (Some n) e h = plain_field digits n e
 
+named_clean : (place : ℕ) (named : Cells) → (if has_real_name named && not (is_real named) then Some (at place wrong.RealName) else None) ≡ None → AreFields named
+named_clean place [] h = tt
+named_clean place (piece ∷ rest) h = by_real (is_real (piece ∷ rest)) refl h
+  where
+    by_real : (b : Bool) → is_real (piece ∷ rest) ≡ b → (if not b then Some (at place wrong.RealName) else None) ≡ None → AreFields (piece ∷ rest)
+    by_real true e k = real_name_fields (piece ∷ rest) e
+    by_real false e k = cc k
+
 lists_clean : (r : Receipt) → lists_fault r ≡ None → HasLists r
 lists_clean r h = by_test (is_name r.name) (is_programme r.kind && not (is_some (plain_number r.quota))) refl refl h
   where
     by_test : (is_named is_wrong : Bool) → is_name r.name ≡ is_named → (is_programme r.kind && not (is_some (plain_number r.quota))) ≡ is_wrong
-        → (if not is_named then Some (at 0 wrong.Name) else if is_wrong then Some (at 3 wrong.Numbers) else placed (λ k. list_place r.has_list) (wrong_name None r.list)) ≡ None → HasLists r
+        → (if not is_named then Some (at 0 wrong.Name) else if is_wrong then Some (at 3 wrong.Numbers) else first_of (placed (λ k. list_place r.has_list) (wrong_name None r.list)) (real_fault r)) ≡ None → HasLists r
     by_test false is_wrong n q k = cc k
     by_test true true n q k = cc k
-    by_test true false n q k = record {
+    by_test true false n q k = let parts = first_none (placed (λ k. list_place r.has_list) (wrong_name None r.list)) (real_fault r) k in record {
       name = name_field r.name n;
       quota = λ e. quota_field r.quota (plain_number r.quota) refl (rw e at q);
-      list = names_clean None r.list (map_none _ _ k);
+      list = names_clean None r.list (map_none _ _ parts.0);
+      named = named_clean (named_place r.has_list r.gone) r.named parts.1;
     }
 
 members_clean : (r : Receipt) (quota : Option ℕ) → programme_fault r quota ≡ None → AreFields (members r)
@@ -272,6 +283,13 @@ gone_clean r n = by_gone r.gone
     by_gone true = ((word (codes "W") refl, (side r.kind, (n, tt))), tt)
     by_gone false = tt
 
+name_clean : (named : Cells) → AreFields named → AreRows (name_rows named)
+name_clean [] h = tt
+name_clean (piece ∷ rest) h = ((word (codes "N") refl, h), tt)
+
+last_clean : (r : Receipt) → HasLists r → AreRows (last_rows r)
+last_clean r h = rows_and (gone_rows r) (name_rows r.named) (gone_clean r h.name) (name_clean r.named h.named)
+
 list_clean : (r : Receipt) → IsField r.name → AreFields r.list → AreRows (list_rows r)
 list_clean r n l = by_list r.has_list
   where
@@ -281,8 +299,8 @@ list_clean r n l = by_list r.has_list
 
 lists_rows_clean : (kind : Kind) (r : Receipt) → r.kind ≡ kind → HasLists r → AreRows (lists_rows_of kind r)
 lists_rows_clean Programme r e h =
-    ((word (codes "Q") refl, (h.name, (h.quota e, tt))), rows_and (list_rows r) (gone_rows r) (list_clean r h.name h.list) (gone_clean r h.name))
-lists_rows_clean Resident r e h = ((word (codes "R") refl, (h.name, h.list)), gone_clean r h.name)
+    ((word (codes "Q") refl, (h.name, (h.quota e, tt))), rows_and (list_rows r) (last_rows r) (list_clean r h.name h.list) (last_clean r h))
+lists_rows_clean Resident r e h = ((word (codes "R") refl, (h.name, h.list)), last_clean r h)
 
 part_clean : (expected root count index : List ℕ) (opening : Cells) → IsField expected → IsField count → IsField index → AreFields opening → AreRows (part_rows expected root count index opening)
 part_clean expected root count index opening w c i o =

@@ -1,10 +1,12 @@
 -- Each field of a receipt in which nothing is wrong parts neither fields nor rows.
-use Rattle.std.proofs.Common.{◌≡◌, ℕ, zero, suc, ◌+◌, ◌<◌, ◌==◌, ◌/◌, ◌%◌, Bool, true, false, List, [], ◌∷◌, length, Option, Some, None, Result, Ok, Err, refl, sym, ap, ◌∙◌, arith, inl, inr, ◌&&◌, nat_le}
+use Rattle.std.proofs.Common.{◌≡◌, ℕ, zero, suc, ◌+◌, ◌<◌, ◌==◌, ◌/◌, ◌%◌, Bool, true, false, List, [], ◌∷◌, length, get_or, Option, Some, None, Result, Ok, Err, refl, sym, ap, ◌∙◌, arith, inl, inr, ◌&&◌, nat_le}
 use Rattle.std.specs.Prelude.{decimal, slice_index}
 use Rattle.std.specs.List.{list_all}
 use Rattle.std.specs.Fmt.{digits, digits_onto, digit_glyph}
 use Rattle.std.proofs.lemmas.Bool.{and_parts, cases_Bool, cases_lt, eqb-true, lt-ltb, ne_eqb}
-use Rattle.std.proofs.lemmas.List.Elements.{All-cons, All-head, All-nil, All-tail, All-weaker}
+use Rattle.std.specs.Str.{IsUtf8, NonePass, chars, is_utf8}
+use Rattle.std.proofs.lemmas.Str.{IsUtf8-from_is_utf8, NoCharPasses-byte, encodes-chars}
+use Rattle.std.proofs.lemmas.List.Elements.{All-cons, All-from_get_or, All-head, All-nil, All-tail, All-weaker}
 use Rattle.std.proofs.lemmas.List.Sums.{AllPass-from_list_all}
 use Rattle.hex.specs.Hex.{decode_sized, encode_lower, encode_with, is_hex_digit, lower_digits}
 use Rattle.hex.specs.declared.error.FromHexError.{FromHexError}
@@ -12,6 +14,7 @@ use Rattle.hex.proofs.HexLemmas.{decode_of-ok, decode_sized-ok, decode_sized-twi
 use Rattle.docket_names.specs.Words.{is_digit, is_name, is_name_byte, is_number, number_of}
 use Rattle.receipt_check.specs.Rows.{Cells}
 use Rattle.receipt_check.specs.Faults.{cons_if, digest_of, digests_of, if_ok, if_written, is_small, plain_number}
+use Rattle.receipt_check.specs.Named.{has_parts, is_part, is_piece, is_printed, is_real, real_fields}
 use Rattle.receipt_check.proofs.RowFacts.{AreFields, IsField, PartsNothing}
 
 no_truth : {A : Type 0} → true ≡ false → A
@@ -115,6 +118,35 @@ digest_some : (o : Option (List ℕ)) (more : Option (List (List ℕ))) (found :
 digest_some None more found h = cc h
 digest_some (Some digest) None found h = cc h
 digest_some (Some digest) (Some rest) found h = (digest, rest, refl, refl)
+
+-- what stands between the commas of a real name's row: no character of it is this one
+none : (mark : ℕ) → is_part mark ≡ false → (cs : List ℕ) → list_all is_part cs ≡ true → NonePass (λ c. c == mark) cs
+none mark fails [] h = tt
+none mark fails (c ∷ cs) h =
+    let parts = and_parts (is_part c) (list_all is_part cs) h in
+    (other is_part mark c fails parts.0, none mark fails cs parts.1)
+
+no_byte : (mark : ℕ) → mark < 128 → is_part mark ≡ false → (piece : List ℕ) → IsUtf8 piece → list_all is_part (chars piece) ≡ true → (i : ℕ) → i < length piece → (get_or piece i 0 == mark) ≡ false
+no_byte mark small fails piece u h i l = elim (cases_lt (get_or piece i 0) 128) [
+  | inl ascii ↦ NoCharPasses-byte (λ c. c == mark) piece i (chars piece, encodes-chars piece u, none mark fails (chars piece) h) l ascii
+  | inr high ↦ ne_eqb (get_or piece i 0) mark (λ e. absurd (omega (arith, e, high, small)))
+]
+
+piece_field : (piece : List ℕ) → is_piece piece ≡ true → IsField piece
+piece_field piece h =
+    let parts = and_parts (is_utf8 piece) (list_all is_part (chars piece)) h in
+    let u = IsUtf8-from_is_utf8 piece parts.0 in
+    All-from_get_or PartsNothing piece 0 (λ i l. (no_byte 44 (omega arith) refl piece u parts.1 i l, no_byte 10 (omega arith) refl piece u parts.1 i l))
+
+piece_fields : (pieces : Cells) → list_all is_piece pieces ≡ true → AreFields pieces
+piece_fields [] h = tt
+piece_fields (piece ∷ rest) h = let parts = and_parts (is_piece piece) (list_all is_piece rest) h in (piece_field piece parts.0, piece_fields rest parts.1)
+
+pub real_name_fields : (named : Cells) → is_real named ≡ true → AreFields named
+unfolding is_real
+real_name_fields named h =
+    let parts = and_parts (list_all is_piece named && is_printed named (real_fields named)) (has_parts (real_fields named)) h in
+    piece_fields named (and_parts (list_all is_piece named) (is_printed named (real_fields named)) parts.0).0
 
 pub digest_fields : (fields : Cells) (found : List (List ℕ)) → digests_of fields ≡ Some found → AreFields fields
 digest_fields [] found h = tt

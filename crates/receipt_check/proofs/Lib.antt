@@ -4,6 +4,7 @@ mod TextFacts
 mod RowFacts
 mod ShownFacts
 mod KeptFacts
+mod NamedFacts
 mod FieldFacts
 mod CleanFacts
 mod GoodFacts

@@ -63,35 +63,50 @@ kept_of kind result_root r = record {
   has_list = r.has_list;
   list = r.list;
   gone = r.gone;
+  named = r.named;
   second = kept_second result_root r;
   own = kept_own result_root kind r;
   after = kept_after result_root kind r;
 }
 
-read_fields : (lists_root : List ℕ) (result_root : Option (List ℕ)) (kind : Kind) (name count index quota : List ℕ) (opening list second : Cells) (after : List Cells) (own : Option (List ℕ)) (has_list gone : Bool)
+read_fields : (lists_root : List ℕ) (result_root : Option (List ℕ)) (kind : Kind) (name count index quota : List ℕ) (opening list second : Cells) (after : List Cells) (own : Option (List ℕ)) (has_list gone : Bool) (named : Cells)
     → ListIsShown kind has_list list → (r : Receipt)
-    → r ≡ record { kind = kind; name = name; count = count; index = index; opening = opening; quota = quota; has_list = has_list; list = list; gone = gone; second = second; own = own; after = after }
+    → r ≡ record { kind = kind; name = name; count = count; index = index; opening = opening; quota = quota; has_list = has_list; list = list; gone = gone; named = named; second = second; own = own; after = after }
     → read (receipt_rows lists_root result_root r) ≡ kept_of r.kind result_root r
 unfolding read
-read_fields lists_root None Programme name count index quota opening list second after own true true h r e = rw e refl
-read_fields lists_root None Programme name count index quota opening list second after own true false h r e = rw e refl
-read_fields lists_root None Programme name count index quota opening list second after own false true h r e = rw (e, h) refl
-read_fields lists_root None Programme name count index quota opening list second after own false false h r e = rw (e, h) refl
-read_fields lists_root None Resident name count index quota opening list second after own true gone h r e = absurd h
-read_fields lists_root None Resident name count index quota opening list second after own false true h r e = rw e refl
-read_fields lists_root None Resident name count index quota opening list second after own false false h r e = rw e refl
-read_fields lists_root (Some root) Programme name count index quota opening list second after own true true h r e = rw e refl
-read_fields lists_root (Some root) Programme name count index quota opening list second after own true false h r e = rw e refl
-read_fields lists_root (Some root) Programme name count index quota opening list second after own false true h r e = rw (e, h) refl
-read_fields lists_root (Some root) Programme name count index quota opening list second after own false false h r e = rw (e, h) refl
-read_fields lists_root (Some root) Resident name count index quota opening list second after own true gone h r e = absurd h
-read_fields lists_root (Some root) Resident name count index quota opening list second after None false true h r e = rw e refl
-read_fields lists_root (Some root) Resident name count index quota opening list second after None false false h r e = rw e refl
-read_fields lists_root (Some root) Resident name count index quota opening list second after (Some own) false true h r e = rw e refl
-read_fields lists_root (Some root) Resident name count index quota opening list second after (Some own) false false h r e = rw e refl
+read_fields lists_root None Programme name count index quota opening list second after own true true [] h r e = rw e refl
+read_fields lists_root None Programme name count index quota opening list second after own true true (piece ∷ rest) h r e = rw e refl
+read_fields lists_root None Programme name count index quota opening list second after own true false [] h r e = rw e refl
+read_fields lists_root None Programme name count index quota opening list second after own true false (piece ∷ rest) h r e = rw e refl
+read_fields lists_root None Programme name count index quota opening list second after own false true [] h r e = rw (e, h) refl
+read_fields lists_root None Programme name count index quota opening list second after own false true (piece ∷ rest) h r e = rw (e, h) refl
+read_fields lists_root None Programme name count index quota opening list second after own false false [] h r e = rw (e, h) refl
+read_fields lists_root None Programme name count index quota opening list second after own false false (piece ∷ rest) h r e = rw (e, h) refl
+read_fields lists_root None Resident name count index quota opening list second after own true gone named h r e = absurd h
+read_fields lists_root None Resident name count index quota opening list second after own false true [] h r e = rw e refl
+read_fields lists_root None Resident name count index quota opening list second after own false true (piece ∷ rest) h r e = rw e refl
+read_fields lists_root None Resident name count index quota opening list second after own false false [] h r e = rw e refl
+read_fields lists_root None Resident name count index quota opening list second after own false false (piece ∷ rest) h r e = rw e refl
+read_fields lists_root (Some root) Programme name count index quota opening list second after own true true [] h r e = rw e refl
+read_fields lists_root (Some root) Programme name count index quota opening list second after own true true (piece ∷ rest) h r e = rw e refl
+read_fields lists_root (Some root) Programme name count index quota opening list second after own true false [] h r e = rw e refl
+read_fields lists_root (Some root) Programme name count index quota opening list second after own true false (piece ∷ rest) h r e = rw e refl
+read_fields lists_root (Some root) Programme name count index quota opening list second after own false true [] h r e = rw (e, h) refl
+read_fields lists_root (Some root) Programme name count index quota opening list second after own false true (piece ∷ rest) h r e = rw (e, h) refl
+read_fields lists_root (Some root) Programme name count index quota opening list second after own false false [] h r e = rw (e, h) refl
+read_fields lists_root (Some root) Programme name count index quota opening list second after own false false (piece ∷ rest) h r e = rw (e, h) refl
+read_fields lists_root (Some root) Resident name count index quota opening list second after own true gone named h r e = absurd h
+read_fields lists_root (Some root) Resident name count index quota opening list second after None false true [] h r e = rw e refl
+read_fields lists_root (Some root) Resident name count index quota opening list second after None false true (piece ∷ rest) h r e = rw e refl
+read_fields lists_root (Some root) Resident name count index quota opening list second after None false false [] h r e = rw e refl
+read_fields lists_root (Some root) Resident name count index quota opening list second after None false false (piece ∷ rest) h r e = rw e refl
+read_fields lists_root (Some root) Resident name count index quota opening list second after (Some own) false true [] h r e = rw e refl
+read_fields lists_root (Some root) Resident name count index quota opening list second after (Some own) false true (piece ∷ rest) h r e = rw e refl
+read_fields lists_root (Some root) Resident name count index quota opening list second after (Some own) false false [] h r e = rw e refl
+read_fields lists_root (Some root) Resident name count index quota opening list second after (Some own) false false (piece ∷ rest) h r e = rw e refl
 
 pub read_is : (lists_root : List ℕ) (result_root : Option (List ℕ)) (r : Receipt) → ListIsShown r.kind r.has_list r.list → read (receipt_rows lists_root result_root r) ≡ kept_of r.kind result_root r
-read_is lists_root result_root r h = read_fields lists_root result_root r.kind r.name r.count r.index r.quota r.opening r.list r.second r.after r.own r.has_list r.gone h r refl
+read_is lists_root result_root r h = read_fields lists_root result_root r.kind r.name r.count r.index r.quota r.opening r.list r.second r.after r.own r.has_list r.gone r.named h r refl
 
 -- what is made of the numbers below n is the same
 range_same : {A : Type 0} (f g : ℕ → A) (a n : ℕ) → ((k : ℕ) → k < a + n → f k ≡ g k) → map f (range_with_len a n) ≡ map g (range_with_len a n)

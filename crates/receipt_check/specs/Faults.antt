@@ -8,7 +8,8 @@ use Rattle.seal.specs.Tree.{opened}
 use Rattle.docket_names.specs.Words.{is_name, number_of}
 use Rattle.docket_names.specs.Texts.{is_declared, number_in}
 use Rattle.receipt_check.specs.Rows.{Cells, text_at, plain_text, split_rows}
-use Rattle.receipt_check.specs.Receipt.{Receipt, answer, end_place, is_programme, list_place, lists_text, members, read, result_text}
+use Rattle.receipt_check.specs.Receipt.{Receipt, answer, end_of, has_real_name, is_programme, list_place, lists_text, members, named_place, read, result_text}
+use Rattle.receipt_check.specs.Named.{is_real}
 use Rattle.receipt_check.specs.Shape.{at, shape_fault}
 use Rattle.receipt_check.specs.declared.kind.Kind.{Kind}
 use Rattle.receipt_check.specs.declared.kind.Kind.TheVariants.{Programme, Resident}
@@ -85,7 +86,7 @@ fault_at k w = option_map (at k) w
 abbrev pub second_fault : Option (List ℕ) → ℕ → ℕ → Receipt → Option Fault
 second_fault None count index r = None
 second_fault (Some root) count index r =
-    fault_at (end_place r.has_list r.gone + 1) (opening_wrong root count index r.second (result_text r))
+    fault_at (end_of r + 1) (opening_wrong root count index r.second (result_text r))
 
 abbrev pub openings_at : List ℕ → Option (List ℕ) → Receipt → Option ℕ → Option ℕ → Option Fault
 openings_at lists_root result_root r None index = Some (at 1 wrong.RootRow)
@@ -181,7 +182,7 @@ reason_wrong gone stand fields = if can_stand gone stand fields then None else S
 
 -- the row after those of a receipt's result with this number, from 0; the first is that of the placement or of the places
 abbrev pub result_place : Receipt → ℕ → ℕ
-result_place r k = end_place r.has_list r.gone + 2 + k
+result_place r k = end_of r + 2 + k
 
 abbrev pub reason_at : Receipt → Option ℕ → ℕ → Option (ℕ × Wrong)
 reason_at r own k = found_at k (reason_wrong r.gone (stand_of own k) (answer r k))
@@ -225,12 +226,16 @@ abbrev pub result_fault : Option (List ℕ) → Receipt → Option Fault
 result_fault None r = None
 result_fault (Some root) r = result_fault_of r.kind r
 
--- what is wrong with a member's name, quota and list
+-- what is wrong with the row of the real name, if there is one
+abbrev pub real_fault : Receipt → Option Fault
+real_fault r = if has_real_name r.named && not (is_real r.named) then Some (at (named_place r.has_list r.gone) wrong.RealName) else None
+
+-- what is wrong with a member's name, quota, list and real name
 abbrev pub lists_fault : Receipt → Option Fault
 lists_fault r =
     if not (is_name r.name) then Some (at 0 wrong.Name)
     else if is_programme r.kind && not (is_some (plain_number r.quota)) then Some (at 3 wrong.Numbers)
-    else placed (λ k. list_place r.has_list) (wrong_name None r.list)
+    else first_of (placed (λ k. list_place r.has_list) (wrong_name None r.list)) (real_fault r)
 
 -- what is wrong with a receipt's content
 unfoldable pub value_fault : List ℕ → Option (List ℕ) → Receipt → Option Fault

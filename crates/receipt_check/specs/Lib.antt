@@ -1,5 +1,6 @@
 pub mod Rows
 pub mod Receipt
+pub mod Named
 pub mod Shape
 pub mod Faults
 pub mod Told

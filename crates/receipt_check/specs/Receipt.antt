@@ -6,8 +6,9 @@ use Rattle.receipt_check.specs.Rows.{Cells, text_at, row_at, cell, lines}
 use Rattle.receipt_check.specs.declared.kind.Kind.{Kind}
 use Rattle.receipt_check.specs.declared.kind.Kind.TheVariants.{Programme, Resident}
 
--- What a receipt tells. Numbers and digests are as they are written. The last three are of the result, and are not
--- looked at without one.
+-- What a receipt tells. Numbers and digests are as they are written. `named` has what stands between the commas of the
+-- real name's row after its `N`, or nothing without such a row. The last three are of the result, and are not looked at
+-- without one.
 pub record Receipt : Type 0 where
   pub kind : Kind
   pub name : List ℕ
@@ -18,6 +19,7 @@ pub record Receipt : Type 0 where
   pub has_list : Bool
   pub list : Cells
   pub gone : Bool
+  pub named : Cells
   pub second : Cells
   pub own : Option (List ℕ)
   pub after : List Cells
@@ -45,9 +47,22 @@ has_list_in rows = is_programme (kind_in rows) && bytes_eq (cell rows 4 0) (code
 abbrev pub list_place : Bool → ℕ
 list_place has_list = if has_list then 4 else 3
 
+-- the place of the row after the member's list and its withdrawal, where the real name's row stands, if there is one
+abbrev pub named_place : Bool → Bool → ℕ
+named_place has_list gone = list_place has_list + (if gone then 2 else 1)
+
+-- whether there is a row of the real name
+abbrev pub has_real_name : Cells → Bool
+has_real_name [] = false
+has_real_name (piece ∷ rest) = true
+
 -- the place of the row after the member's rows of the lists
-abbrev pub end_place : Bool → Bool → ℕ
-end_place has_list gone = list_place has_list + (if gone then 2 else 1)
+abbrev pub end_place : Bool → Bool → Cells → ℕ
+end_place has_list gone named = named_place has_list gone + (if has_real_name named then 1 else 0)
+
+-- the same, of a receipt
+abbrev pub end_of : Receipt → ℕ
+end_of r = end_place r.has_list r.gone r.named
 
 -- the list of the member
 abbrev pub list_in : List Cells → Cells
@@ -57,9 +72,16 @@ list_in rows = if is_programme (kind_in rows) && not (has_list_in rows) then [] 
 abbrev pub gone_in : List Cells → Bool
 gone_in rows = bytes_eq (cell rows (list_place (has_list_in rows) + 1) 0) (codes "W")
 
+-- the row of the real name after its `N`, if there is one
+abbrev pub name_row : Cells → Cells
+name_row row = if bytes_eq (text_at row 0) (codes "N") then drop 1 row else []
+
+abbrev pub named_in : List Cells → Cells
+named_in rows = name_row (row_at rows (named_place (has_list_in rows) (gone_in rows)))
+
 -- where the result begins
 abbrev pub end_in : List Cells → ℕ
-end_in rows = end_place (has_list_in rows) (gone_in rows)
+end_in rows = end_place (has_list_in rows) (gone_in rows) (named_in rows)
 
 -- the programme of a resident, if the row says that there is one
 abbrev pub own_in : Cells → Option (List ℕ)
@@ -77,6 +99,7 @@ read rows = record {
   has_list = has_list_in rows;
   list = list_in rows;
   gone = gone_in rows;
+  named = named_in rows;
   second = drop 3 (row_at rows (end_in rows + 1));
   own = own_in (row_at rows (end_in rows + 2));
   after = drop (end_in rows + 3) rows;
@@ -92,10 +115,19 @@ gone_rows r = if r.gone then (codes "W" ∷ letter_of r.kind ∷ r.name ∷ []) 
 abbrev pub list_rows : Receipt → List Cells
 list_rows r = if r.has_list then (codes "P" ∷ r.name ∷ r.list) ∷ [] else []
 
+-- the row of the real name
+abbrev pub name_rows : Cells → List Cells
+name_rows [] = []
+name_rows (piece ∷ rest) = (codes "N" ∷ piece ∷ rest) ∷ []
+
+-- the rows after a member's list: of its withdrawal, and of its real name
+abbrev pub last_rows : Receipt → List Cells
+last_rows r = gone_rows r ++ name_rows r.named
+
 -- the rows of a member before the match, by the member's side
 abbrev pub lists_rows_of : Kind → Receipt → List Cells
-lists_rows_of Programme r = (codes "Q" ∷ r.name ∷ r.quota ∷ []) ∷ list_rows r ++ gone_rows r
-lists_rows_of Resident r = (codes "R" ∷ r.name ∷ r.list) ∷ gone_rows r
+lists_rows_of Programme r = (codes "Q" ∷ r.name ∷ r.quota ∷ []) ∷ list_rows r ++ last_rows r
+lists_rows_of Resident r = (codes "R" ∷ r.name ∷ r.list) ∷ last_rows r
 
 abbrev pub lists_rows : Receipt → List Cells
 lists_rows r = lists_rows_of r.kind r

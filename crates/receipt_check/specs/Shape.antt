@@ -1,7 +1,7 @@
 -- The first row that isn't as the receipt with this content has it, and what is wrong with it.
 use Rattle.std.specs.Prelude.{ℕ, ◌+◌, ◌==◌, ◌&&◌, nat_lt, nat_le, not, Bool, true, false, if◌then◌else◌, Option, Some, None, List, [], ◌∷◌, option_map, bytes_eq, codes, length}
 use Rattle.receipt_check.specs.Rows.{Cells, text_at, row_at, cell}
-use Rattle.receipt_check.specs.Receipt.{Receipt, end_place, receipt_text}
+use Rattle.receipt_check.specs.Receipt.{Receipt, end_of, receipt_text}
 use Rattle.receipt_check.specs.declared.wrong.Wrong.{Wrong}
 use Rattle.receipt_check.specs.declared.wrong.Wrong.TheVariants as wrong
 use Rattle.receipt_check.specs.declared.wrong.Fault.{Fault}
@@ -34,8 +34,8 @@ root_wrong root count row =
 -- what is wrong with a row of the result
 abbrev pub result_wrong : List ℕ → Receipt → List Cells → ℕ → Wrong
 result_wrong root r rows k =
-    if k == end_place r.has_list r.gone then (if bytes_eq (cell rows k 0) (codes "result") then root_wrong root r.count (row_at rows k) else wrong.List)
-    else if k == end_place r.has_list r.gone + 1 then (if bytes_eq (cell rows k 2) r.index then wrong.OpeningRow else wrong.Place)
+    if k == end_of r then (if bytes_eq (cell rows k 0) (codes "result") then root_wrong root r.count (row_at rows k) else wrong.List)
+    else if k == end_of r + 1 then (if bytes_eq (cell rows k 2) r.index then wrong.OpeningRow else wrong.Place)
     else wrong.Result
 
 -- what is wrong with a row after those of the lists
@@ -50,7 +50,7 @@ shape_wrong lists_root result_root r rows k =
     else if k == 0 then header_wrong rows
     else if k == 1 then root_wrong lists_root r.count (row_at rows 1)
     else if k == 2 then wrong.OpeningRow
-    else if nat_lt k (end_place r.has_list r.gone) then wrong.List
+    else if nat_lt k (end_of r) then wrong.List
     else later_wrong result_root r rows k
 
 -- the fault of a row, from 0

@@ -26,6 +26,7 @@ content s = record {
   has_list = s.has_list;
   list = fields_in s.list.now;
   gone = s.gone;
+  named = fields_in s.named.now;
   second = fields_in s.second.now;
   own = option_map (λ (own : Bor (List ℕ)). own.now) s.own;
   after = rows_in s.after.now;

@@ -3,7 +3,9 @@ use Rattle.std.specs.Prelude.{ℕ, ◌%◌, ◌==◌, ◌&&◌, nat_le, Bool, if
 use Rattle.std.specs.List.{flat_map, range_with_len}
 use Rattle.docket_names.specs.Words.{number_of}
 use Rattle.receipt_check.specs.Rows.{Cells, text_at, plain_text, split_rows}
-use Rattle.receipt_check.specs.Receipt.{Receipt, answer, members, read}
+use Rattle.records.specs.Reading.{Fields, field}
+use Rattle.receipt_check.specs.Receipt.{Receipt, answer, has_real_name, members, read}
+use Rattle.receipt_check.specs.Named.{real_fields}
 use Rattle.receipt_check.specs.declared.kind.Kind.{Kind}
 use Rattle.receipt_check.specs.declared.kind.Kind.TheVariants.{Programme, Resident}
 
@@ -89,9 +91,22 @@ abbrev pub told_result_if : Option (List ℕ) → Receipt → List ℕ
 told_result_if None r = []
 told_result_if (Some root) r = told_result r
 
+-- the ID, if there is one
+abbrev pub id_words : List ℕ → List ℕ
+id_words [] = []
+id_words (c ∷ rest) = codes " (" ++ ((c ∷ rest) ++ codes ")")
+
+-- who the member with this name in the docket is, by the fields of the real name's row
+abbrev pub real_words : List ℕ → Fields → List ℕ
+real_words name fields = field fields 1 ++ (id_words (field fields 2) ++ (codes " is " ++ (name ++ codes " in the lists.\n")))
+
+-- the real name, if it was sealed
+unfoldable pub told_name : Receipt → List ℕ
+told_name r = if has_real_name r.named then real_words r.name (real_fields r.named) else []
+
 -- what a receipt with this content shows
 abbrev pub told : Option (List ℕ) → Receipt → List ℕ
-told result_root r = told_lists r ++ told_result_if result_root r
+told result_root r = told_name r ++ (told_lists r ++ told_result_if result_root r)
 
 -- what the receipt with these bytes shows
 abbrev pub told_of : Option (List ℕ) → List ℕ → List ℕ

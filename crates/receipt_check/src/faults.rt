@@ -5,11 +5,12 @@ ghost use Rattle.receipt_check.specs.Receipt.{members};
 ghost use Rattle.receipt_check.specs.Shown.{content, fields_in};
 
 use crate::kind::Kind;
+use crate::named::is_real;
 use crate::names::names_in;
 use crate::opening::{openings_fault, plain_number};
 use crate::reasons::wrong_reason;
 use crate::rows::cell;
-use crate::shown::{Shown, end_place, list_place};
+use crate::shown::{Shown, has_real_name, list_place, named_place};
 use crate::wrong::{Fault, Wrong, at};
 use docket_names::{Texts, is_name};
 use std::alloc::{AllocError, Global};
@@ -20,7 +21,7 @@ fn result_place(shown: &Shown, k: usize) -> usize
     requires { k < 2 ^ 63 }
     ensures { result ≡ faults.result_place (content shown.now) k }
 {
-    end_place(shown.has_list, shown.gone) + 2 + k
+    shown.end() + 2 + k
 }
 
 // What is wrong with the reasons of a resident, whose own programme is this choice.
@@ -122,7 +123,18 @@ fn result_fault(
     }
 }
 
-// The names of a member's list; or what is wrong with its name, quota and list.
+// What is wrong with the row of the real name, if there is one.
+fn real_fault(alloc: Global, shown: &Shown) -> Result<Option<Fault>, AllocError>
+    ensures { IfOk result (λ fault. fault ≡ faults.real_fault (content shown.now)) }
+{
+    if !has_real_name(shown.named) || is_real(alloc, shown.named)? {
+        return Ok(None);
+    }
+    let place = named_place(shown.has_list, shown.gone);
+    Ok(Some(at(place, Wrong::RealName)))
+}
+
+// The names of a member's list; or what is wrong with its name, quota, list and real name.
 fn lists_in(
     alloc: Global,
     keys: RandomState,
@@ -139,9 +151,13 @@ fn lists_in(
     if shown.kind.is_programme() && plain_number(shown.quota).is_none() {
         return Ok(Err(at(3, Wrong::Numbers)));
     }
-    match names_in(alloc, keys, None, shown.list)? {
-        Ok(list) => Ok(Ok(list)),
-        Err((_, wrong)) => Ok(Err(at(list_place(shown.has_list), wrong))),
+    let list = match names_in(alloc, keys, None, shown.list)? {
+        Ok(list) => list,
+        Err((_, wrong)) => return Ok(Err(at(list_place(shown.has_list), wrong))),
+    };
+    match real_fault(alloc, shown)? {
+        Some(fault) => Ok(Err(fault)),
+        None => Ok(Ok(list)),
     }
 }
 

@@ -4,7 +4,7 @@ ghost use Rattle.receipt_check.specs.Receipt as receipt;
 
 /// Whose receipt it is.
 #[derive(Clone, Copy, Debug, PartialEq, Eq)]
-pub(crate) enum Kind {
+pub enum Kind {
     /// A programme's.
     Programme,
     /// A resident's.

@@ -8,6 +8,7 @@ mod check;
 mod faults;
 mod kind;
 mod laws;
+mod named;
 mod names;
 mod opening;
 mod print;
@@ -19,6 +20,7 @@ mod told;
 mod wrong;
 
 pub use check::serve_receipt;
+pub use kind::Kind;
 pub use laws::law_good_receipt;
 pub use opening::digest_of;
 pub use wrong::{Fault, ReceiptFault, Wrong};

@@ -7,7 +7,7 @@ ghost use Rattle.receipt_check.specs.Shown.{content, fields_in};
 
 use crate::print::{lists_text, result_text};
 use crate::rows::field;
-use crate::shown::{Shown, end_place};
+use crate::shown::Shown;
 use crate::wrong::{Fault, Wrong, at};
 use docket_names::number_of;
 use hex::FromHex;
@@ -121,7 +121,7 @@ fn second_fault(
     };
     let text = result_text(alloc, shown)?;
     let wrong = opening_wrong(alloc, root, count, index, shown.second, text.as_slice())?;
-    Ok(fault_at(end_place(shown.has_list, shown.gone) + 1, wrong))
+    Ok(fault_at(shown.end() + 1, wrong))
 }
 
 // What is wrong with the openings of a member with this number among so many.

@@ -9,7 +9,7 @@ ghost use Rattle.receipt_check.specs.Shown.{content, fields_in};
 
 use crate::kind::Kind;
 use crate::rows::{cell, field};
-use crate::shown::Shown;
+use crate::shown::{Shown, has_real_name};
 use std::alloc::{AllocError, Global};
 
 /// Adds bytes.
@@ -81,6 +81,26 @@ fn put_gone(text: &mut Vec<u8>, shown: &Shown) -> Result<(), AllocError>
     Ok(())
 }
 
+/// Adds the row of the real name, if there is one.
+pub(crate) fn put_name(text: &mut Vec<u8>, named: &[&[u8]]) -> Result<(), AllocError>
+    ensures { OnOk result (Grows text.old text.new
+        (lines (receipt.name_rows (fields_in named.now)))) }
+{
+    if has_real_name(named) {
+        return put_row(text, b"N", &[], named);
+    }
+    Ok(())
+}
+
+// Adds the rows after a member's list.
+fn put_last(text: &mut Vec<u8>, shown: &Shown) -> Result<(), AllocError>
+    ensures { OnOk result (Grows text.old text.new
+        (lines (receipt.last_rows (content shown.now)))) }
+{
+    put_gone(text, shown)?;
+    put_name(text, shown.named)
+}
+
 // Adds the row of a programme's list, if it has one.
 fn put_list(text: &mut Vec<u8>, shown: &Shown) -> Result<(), AllocError>
     ensures { OnOk result (Grows text.old text.new
@@ -104,7 +124,7 @@ fn put_lists(text: &mut Vec<u8>, shown: &Shown) -> Result<(), AllocError>
         }
         Kind::Resident => put_row(text, b"R", &[shown.name], shown.list)?,
     }
-    put_gone(text, shown)
+    put_last(text, shown)
 }
 
 // Adds the row that says how many places of a programme are filled.

@@ -5,7 +5,7 @@ ghost use Rattle.receipt_check.specs.Shown.{content, fields_in, rows_in};
 
 use crate::print::receipt_text;
 use crate::rows::{cell, field, fields_from, is};
-use crate::shown::{Shown, end_place};
+use crate::shown::Shown;
 use crate::wrong::{Fault, Wrong, at};
 use std::alloc::{AllocError, Global};
 
@@ -82,7 +82,7 @@ fn result_wrong(
     ensures { IfOk result (λ wrong. wrong
         ≡ shape.result_wrong root.now (content shown.now) (rows_in rows.now) k) }
 {
-    let start = end_place(shown.has_list, shown.gone);
+    let start = shown.end();
     if k == start {
         if is(cell(rows, k, 0), b"result") {
             return root_wrong(alloc, root, shown.count, fields_from(rows, k, 0));
@@ -146,7 +146,7 @@ fn shape_wrong(
     if k == 2 {
         return Ok(Wrong::OpeningRow);
     }
-    if k < end_place(shown.has_list, shown.gone) {
+    if k < shown.end() {
         return Ok(Wrong::List);
     }
     later_wrong(alloc, result_root, shown, rows, k)

@@ -27,6 +27,8 @@ pub(crate) struct Shown<'r, 'a> {
     pub(crate) list: &'r [&'a [u8]],
     /// Whether the member is withdrawn.
     pub(crate) gone: bool,
+    /// The row of the real name after its `N`, in pieces at its commas; nothing without such a row.
+    pub(crate) named: &'r [&'a [u8]],
     /// The salt and the path of the result.
     pub(crate) second: &'r [&'a [u8]],
     /// The programme of a resident, if there is one.
@@ -60,11 +62,28 @@ pub(crate) fn list_place(has_list: bool) -> usize
     if has_list { 4 } else { 3 }
 }
 
-/// The place of the row after the member's rows of the lists.
-pub(crate) fn end_place(has_list: bool, gone: bool) -> usize
-    ensures { result ≡ receipt.end_place has_list gone }
+/// The place of the row after the member's list and its withdrawal.
+pub(crate) fn named_place(has_list: bool, gone: bool) -> usize
+    ensures { result ≡ receipt.named_place has_list gone }
 {
     list_place(has_list) + if gone { 2 } else { 1 }
+}
+
+/// Whether there is a row of the real name.
+pub(crate) fn has_real_name(named: &[&[u8]]) -> bool
+    ensures { result ≡ receipt.has_real_name (fields_in named.now) }
+{
+    match named.split_first() {
+        Some(_) => true,
+        None => false,
+    }
+}
+
+/// The place of the row after the member's rows of the lists.
+pub(crate) fn end_place(has_list: bool, gone: bool, named: &[&[u8]]) -> usize
+    ensures { result ≡ receipt.end_place has_list gone (fields_in named.now) }
+{
+    named_place(has_list, gone) + if has_real_name(named) { 1 } else { 0 }
 }
 
 // The list of the member.
@@ -83,6 +102,17 @@ fn gone_in(rows: &[Vec<&[u8]>]) -> bool
     ensures { result ≡ receipt.gone_in (rows_in rows.now) }
 {
     is(cell(rows, list_place(has_list_in(rows)) + 1, 0), b"W")
+}
+
+// The row of the real name after its `N`, if there is one.
+fn named_in<'r, 'a>(rows: &'r [Vec<&'a [u8]>]) -> &'r [&'a [u8]]
+    ensures { fields_in result.now ≡ receipt.named_in (rows_in rows.now) }
+{
+    let k = named_place(has_list_in(rows), gone_in(rows));
+    if is(cell(rows, k, 0), b"N") {
+        return fields_from(rows, k, 1);
+    }
+    &[]
 }
 
 // The programme of a resident, if the row says that there is one.
@@ -110,7 +140,8 @@ pub(crate) fn read<'r, 'a>(rows: &'r [Vec<&'a [u8]>]) -> Shown<'r, 'a>
 {
     let has_list = has_list_in(rows);
     let gone = gone_in(rows);
-    let end = end_place(has_list, gone);
+    let named = named_in(rows);
+    let end = end_place(has_list, gone, named);
     Shown {
         kind: kind_in(rows),
         name: cell(rows, 0, 3),
@@ -121,6 +152,7 @@ pub(crate) fn read<'r, 'a>(rows: &'r [Vec<&'a [u8]>]) -> Shown<'r, 'a>
         has_list,
         list: list_in(rows),
         gone,
+        named,
         second: fields_from(rows, end + 1, 3),
         own: own_in(fields_from(rows, end + 2, 0)),
         after: rows_from(rows, end + 3),
@@ -128,6 +160,13 @@ pub(crate) fn read<'r, 'a>(rows: &'r [Vec<&'a [u8]>]) -> Shown<'r, 'a>
 }
 
 impl<'r, 'a> Shown<'r, 'a> {
+    /// The place of the row after the member's rows of the lists.
+    pub(crate) fn end(&self) -> usize
+        ensures { result ≡ receipt.end_of (content self.now) }
+    {
+        end_place(self.has_list, self.gone, self.named)
+    }
+
     /// The answer to a resident's choice, from 0: a word and three numbers.
     pub(crate) fn answer(&self, k: usize) -> &'r [&'a [u8]]
         ensures { fields_in result.now ≡ receipt.answer (content self.now) k }

@@ -1,6 +1,7 @@
 //! What a good receipt shows, in words.
 ghost use Rattle.std.specs.Prelude.{◌≡◌, ◌<◌, ◌++◌, ℕ, List, IfOk, OnOk, codes, length, option_map};
 ghost use Rattle.std.specs.List.{flat_map, range_with_len};
+ghost use Rattle.csv.specs.Records.{fields_of};
 ghost use Rattle.receipt_check.specs.Receipt.{members};
 ghost use Rattle.receipt_check.specs.Rows.{Grows};
 ghost use Rattle.receipt_check.specs.Shown.{content, fields_in};
@@ -8,10 +9,13 @@ ghost use Rattle.receipt_check.specs.Told as words;
 
 use crate::faults::members_in;
 use crate::kind::Kind;
+use crate::named::real_fields;
 use crate::print::{put, put_number};
 use crate::rows::{field, is};
-use crate::shown::Shown;
+use crate::shown::{Shown, has_real_name};
+use csv::ByteRecord;
 use docket_names::number_of;
+use records::field as part;
 use std::alloc::{AllocError, Global};
 
 // Adds the end of a sentence.
@@ -214,6 +218,42 @@ fn put_result(alloc: Global, text: &mut Vec<u8>, shown: &Shown) -> Result<(), Al
     }
 }
 
+// Adds the ID, if there is one.
+fn put_id(text: &mut Vec<u8>, id: &[u8]) -> Result<(), AllocError>
+    ensures { OnOk result (Grows text.old text.new (words.id_words id.now)) }
+{
+    if id.len() == 0 {
+        return Ok(());
+    }
+    put(text, b" (")?;
+    put(text, id)?;
+    put(text, b")")
+}
+
+// Adds who the member with this name in the docket is.
+fn put_real(text: &mut Vec<u8>, name: &[u8], fields: &ByteRecord) -> Result<(), AllocError>
+    ensures { OnOk result (Grows text.old text.new
+        (words.real_words name.now (fields_of fields.now))) }
+{
+    put(text, part(fields, 1))?;
+    put_id(text, part(fields, 2))?;
+    put(text, b" is ")?;
+    put(text, name)?;
+    put(text, b" in the lists.\n")
+}
+
+// Adds the real name, if it was sealed.
+#[tactic(auto, unfolding(crate::specs::Told::told_name))]
+fn put_name(alloc: Global, text: &mut Vec<u8>, shown: &Shown) -> Result<(), AllocError>
+    ensures { OnOk result (Grows text.old text.new (words.told_name (content shown.now))) }
+{
+    if !has_real_name(shown.named) {
+        return Ok(());
+    }
+    let fields = real_fields(alloc, shown.named)?;
+    put_real(text, shown.name, &fields)
+}
+
 /// What a receipt with this content shows. It has a result if a root of one was published.
 pub(crate) fn told(
     alloc: Global,
@@ -224,6 +264,7 @@ pub(crate) fn told(
         ≡ words.told (option_map (λ root. root.now) has_result.entry) (content shown.now)) }
 {
     let mut text = Vec::new(alloc);
+    put_name(alloc, &mut text, shown)?;
     put_lists(&mut text, shown)?;
     if has_result.is_some() {
         put_result(alloc, &mut text, shown)?;

@@ -51,6 +51,9 @@ pub enum Wrong {
     /// A name isn't one that a docket can have.
     #[error("not a name of a docket")]
     Name,
+    /// A real name isn't written as csv writes one, or has a character that can't be shown.
+    #[error("not a real name that can be shown")]
+    RealName,
     /// A name stands twice.
     #[error("a name that stands twice")]
     Twice,

@@ -6,21 +6,25 @@ use Rattle.std.specs.List.{range_with_len}
 use Rattle.std.proofs.lemmas.List.{length-map, length-append}
 use Rattle.std.proofs.lemmas.List.FromFn.{length-map-range_with_len}
 use Rattle.docket.specs.Contents.{Contents}
-use Rattle.records.specs.Reading.{Fields}
+use Rattle.match_model.specs.Draft.{Draft}
 use Rattle.reasons_text.specs.Answers.{CaseParts}
+use Rattle.reasons_text.specs.RealNames.{Real}
+use Rattle.docket.specs.Parts.{AreGiven, IsInFilesWithLists, rows_of_all}
 use Rattle.docket.specs.Whole.{IsWhole}
-use Rattle.seal_text.specs.Texts.{lists_texts, programme_lists, resident_lists, programme_result, AreResultTexts, HasSheet}
+use Rattle.match_model.specs.Written.{Written}
+use Rattle.match_model.specs.declared.limits.Limits.{Limits}
+use Rattle.seal_text.specs.Texts.{lists_texts, programme_lists, resident_lists, programme_result, AreListsOf, AreResultTexts, HasSheet, NameMembers}
 use Rattle.seal_text.specs.Grown.{member_count, texts_of}
-use Rattle.seal_text.specs.Serving.{text_of}
+use Rattle.seal_text.specs.Serving.{draft_in, text_of}
 use Rattle.seal_text.specs.declared.serve.Wanted.{Wanted}
 
 -- one text of the lists for each member
-pub lists_counted : (d : Contents) (rows : List Fields) (texts : List (Vec ℕ)) → texts_of texts ≡ lists_texts d rows → length texts ≡ member_count d
-lists_counted d rows texts e =
-    let P = map (programme_lists d rows) (range_with_len 0 (length d.instance.quotas)) in
-    let R = map (resident_lists d rows) (range_with_len 0 (length d.instance.resident_lists)) in
-    let p = length-map-range_with_len (programme_lists d rows) 0 (length d.instance.quotas) in
-    let r = length-map-range_with_len (resident_lists d rows) 0 (length d.instance.resident_lists) in
+pub lists_counted : (d : Contents) (draft : Draft) (real : Real) (texts : List (Vec ℕ)) → texts_of texts ≡ lists_texts d draft real → length texts ≡ member_count d
+lists_counted d draft real texts e =
+    let P = map (programme_lists d draft real) (range_with_len 0 (length d.instance.quotas)) in
+    let R = map (resident_lists d draft real) (range_with_len 0 (length d.instance.resident_lists)) in
+    let p = length-map-range_with_len (programme_lists d draft real) 0 (length d.instance.quotas) in
+    let r = length-map-range_with_len (resident_lists d draft real) 0 (length d.instance.resident_lists) in
     sym (length-map texts (λ (text : Vec ℕ). text.items)) ∙ ap (λ (t : List (List ℕ)). length t) e ∙ length-append P R ∙ omega (arith, p, r)
 
 -- one text of the result for each member
@@ -43,3 +47,12 @@ wanted_made wanted secret d lists lists' results results' old new o n l r = n �
 -- a docket that is whole has its sheet of its members
 pub has_sheet : (c : CaseParts) → c.docket.sheet ≡ Some c.sheet → IsWhole c.docket → HasSheet c
 has_sheet c has whole = record { whole = whole; sheet_of = whole.sheet c.sheet has }
+
+-- the lists of a docket that was read are those of its records, and name its members
+pub lists_of : (lim : Limits) (d s : List ℕ) (c : Contents) (w : Written) (given : List (Option (List ℕ))) → IsInFilesWithLists lim d s [] c w → AreGiven (rows_of_all d s []) c given
+    → AreListsOf (draft_in d s) given w
+lists_of lim d s c w given read are = record { given_are = are.given_are; written_are = read.written_is }
+
+pub names_members : (lim : Limits) (d s : List ℕ) (c : Contents) (w : Written) (given : List (Option (List ℕ))) → IsInFilesWithLists lim d s [] c w → AreGiven (rows_of_all d s []) c given
+    → NameMembers c given w
+names_members lim d s c w given read are = record { draft = draft_in d s; are_of = lists_of lim d s c w given read are; residents = are.members; programmes = read.read.members }

@@ -1,6 +1,6 @@
 -- What is handed to a writer, and what residents are told after the match.
-use Rattle.std.proofs.Common.{◌≡◌, ℕ, ◌+◌, Bool, find, List, [], ◌∷◌, ◌++◌, Option, Some, true, false, length, refl, sym, ap, ◌∙◌, subst, inl, inr, append_assoc, append-nil, rules}
-use Rattle.std.specs.Prelude.{bytes_eq, codes, slice_get}
+use Rattle.std.proofs.Common.{◌≡◌, ℕ, ◌+◌, Bool, List, [], ◌∷◌, ◌++◌, Option, Some, true, false, length, refl, sym, ap, ◌∙◌, subst, inl, inr, append_assoc, append-nil, rules}
+use Rattle.std.specs.Prelude.{None, codes, map, option_map, slice_get, slice_index_or}
 use Rattle.std.specs.Global.{Vec}
 use Rattle.std.specs.Io.KnownBytes.{Appends}
 use Rattle.std.proofs.lemmas.List.{length_push}
@@ -11,17 +11,17 @@ use Rattle.records.proofs.RowTextFacts.{adds_both, adds_none, sent}
 use Rattle.match_model.specs.Placement.{holds, member_count, programme_of}
 use Rattle.docket.specs.Contents.{Contents}
 use Rattle.docket.specs.Texts.{mark_row, programme_name, programme_row, resident_name}
-use Rattle.records.specs.Lines.{Grows}
-use Rattle.records.specs.Reading.{Fields, field}
+use Rattle.records.specs.Lines.{Grows, line}
+use Rattle.records.specs.Reading.{Fields}
 use Rattle.records.proofs.LineFacts.{grows_both}
-use Rattle.match_model.specs.Instance.{is_withdrawn, quota}
+use Rattle.match_model.specs.Draft.{Draft, given_lists}
+use Rattle.match_model.specs.Instance.{is_withdrawn, list_at, quota}
 use Rattle.reasons_text.specs.Texts.{AppendsText}
-use Rattle.seal_text.specs.Records.{AreListsOf, rows_in}
-use Rattle.seal_text.specs.declared.rows.ListRecords.{ListRecords}
 use Rattle.seal_text.proofs.Steps.{grows_three}
 use Rattle.docket.proofs.WriteFacts.{rows_next}
 use Rattle.reasons_text.specs.Answers.{CaseParts}
-use Rattle.seal_text.specs.Texts.{IsResidentResult, PushesResults, line_if, list_of_programme, member_row, member_rows, programme_lists, programme_result, quota_row, records_of, resident_lists, withdrawal_if}
+use Rattle.reasons_text.specs.RealNames.{Real}
+use Rattle.seal_text.specs.Texts.{IsResidentResult, PushesResults, line_if, list_record, name_record, member_row, member_rows, programme_lists, programme_result, quota_row, resident_lists, withdrawal_if}
 
 -- a text was added to no rows over a writer, and what then waited was handed to it
 pub handed_over : {W : Type 0} (contents : W → Option (List ℕ)) (start last : RowWriter W) (old new : W) (none text : List ℕ) → start.writer.now ≡ old →
@@ -74,27 +74,23 @@ pub result_made : {W : Type 0} (contents : W → Option (List ℕ)) (d : Content
 unfolding programme_result
 result_made contents d m p filled a b c e h k = adds_both contents a b c _ _ (rw e at h) k
 
--- what is sealed of a programme before the match: its row, its record and its withdrawal
-pub programme_made : (d : Contents) (rows : List Fields) (p : ℕ) (records : ListRecords) (a b c e : Vec ℕ) (name : List ℕ) (places : ℕ) (found : Option Fields) (gone : Bool)
-    → AreListsOf rows records → a.items ≡ [] → name ≡ programme_name d p → places ≡ quota d.instance p
-    → found ≡ find (λ (r : Fields). bytes_eq (field r 1) name) (rows_in records.programmes.items) → gone ≡ is_withdrawn d.instance.programmes_withdrawn p
-    → Grows a b (quota_row name places) → Grows b c (line_if found) → Grows c e (withdrawal_if gone (codes "P") name) → e.items ≡ programme_lists d rows p
+-- what is sealed of a programme before the match: its row, its record, its withdrawal and its real name
+pub programme_made : (d : Contents) (draft : Draft) (real : Real) (p : ℕ) (a b c e f : Vec ℕ) (name : List ℕ) (places : ℕ) (list : Option (List ℕ)) (gone : Bool) (own : Option Fields)
+    → a.items ≡ [] → name ≡ programme_name d p → places ≡ quota d.instance p → list ≡ slice_index_or draft.programme_lists p None → gone ≡ is_withdrawn d.instance.programmes_withdrawn p
+    → own ≡ slice_index_or real.programmes p None
+    → Grows a b (quota_row name places) → Grows b c (line_if (option_map (list_record (codes "P") name) (option_map (map (resident_name d)) list)))
+    → Grows c e (withdrawal_if gone (codes "P") name) → Grows e f (line_if (name_record own)) → f.items ≡ programme_lists d draft real p
 unfolding programme_lists
-programme_made d rows p records a b c e name places found gone are none n q f g h k l =
-    let found_is : found ≡ list_of_programme d rows p =
-    f ∙ ap (λ (x : List ℕ). find (λ (r : Fields). bytes_eq (field r 1) x) (rows_in records.programmes.items)) n
-    ∙ ap (find (λ (r : Fields). bytes_eq (field r 1) (programme_name d p))) are.programmes in
-    grows_three a b c e _ _ _ h k l ∙ rw (none, n, q, found_is, g) refl
+programme_made d draft real p a b c e f name places list gone own none n q li g o h k l m =
+    grows_both a b f _ _ h (grows_three b c e f _ _ _ k l m) ∙ rw (none, n, q, li, g, o) refl
 
--- what is sealed of a resident before the match: its record and its withdrawal
-pub resident_made : (d : Contents) (rows : List Fields) (r : ℕ) (records : ListRecords) (a b c : Vec ℕ) (name : List ℕ) (found : Option Fields) (gone : Bool)
-    → AreListsOf rows records → a.items ≡ [] → name ≡ resident_name d r → found ≡ slice_get (rows_in records.residents.items) r
-    → gone ≡ is_withdrawn d.instance.residents_withdrawn r
-    → Grows a b (line_if found) → Grows b c (withdrawal_if gone (codes "R") name) → c.items ≡ resident_lists d rows r
+-- what is sealed of a resident before the match: its record, its withdrawal and its real name
+pub resident_made : (d : Contents) (draft : Draft) (real : Real) (r : ℕ) (a b c e : Vec ℕ) (name : List ℕ) (two fields : Fields) (lists : List (List ℕ)) (gone : Bool) (own : Option Fields)
+    → a.items ≡ [] → name ≡ resident_name d r → lists ≡ given_lists draft.resident_lists → gone ≡ is_withdrawn d.instance.residents_withdrawn r
+    → own ≡ slice_index_or real.residents r None → two ≡ codes "R" ∷ name ∷ [] → fields ≡ two ++ map (programme_name d) (list_at lists r)
+    → Grows a b (line fields) → Grows b c (withdrawal_if gone (codes "R") name) → Grows c e (line_if (name_record own)) → e.items ≡ resident_lists d draft real r
 unfolding resident_lists
-resident_made d rows r records a b c name found gone are none n f g h k =
-    let found_is : found ≡ slice_get (records_of (codes "R") rows) r = f ∙ ap (λ (xs : List Fields). slice_get xs r) are.residents in
-    grows_both a b c _ _ h k ∙ rw (none, n, found_is, g) refl
+resident_made d draft real r a b c e name two fields lists gone own none n f g o t is h k l = grows_three a b c e _ _ _ h k l ∙ rw (none, is, t, n, f, g, o) refl
 
 -- a text of this kind that was added to nothing
 pub of_new : (P : List ℕ → Type 0) (old new text : List ℕ) → text ≡ new → old ≡ [] → AppendsText P (Some old) (Some new) → P text

@@ -1,6 +1,5 @@
 pub mod Secret
 pub mod Texts
-pub mod Records
 pub mod Sealed
 pub mod Grown
 pub mod Serving

@@ -17,9 +17,9 @@ use Rattle.seal_text.specs.declared.serve.Wanted.TheVariants as wanted
 abbrev pub option_rule : Text → Bool → Rule
 option_rule id needed = record (value_rule id) { required = needed }
 
--- a command that seals: the secret's file has to be named, and the sheet's file may be
+-- a command that seals: the secret's file has to be named, and the sheet's file and the key's file may be
 abbrev pub sealing_app : Text → App
-sealing_app name = with_rule (with_rule (new_app name) (option_rule (codes "secret") true)) (option_rule (codes "sheet") false)
+sealing_app name = with_rule (with_rule (with_rule (new_app name) (option_rule (codes "secret") true)) (option_rule (codes "sheet") false)) (option_rule (codes "key") false)
 
 -- the command that checks a receipt: the root of the lists has to be given, and the root of the result may be
 abbrev pub checking_app : App
@@ -47,6 +47,7 @@ command_word (Check roots) = codes "check"
 pub record GivesFiles (rows : List Row) (files : Sources) : Type 0 where
   pub secret : first_of (codes "secret") rows ≡ Some files.secret.now
   pub sheet : first_of (codes "sheet") rows ≡ option_map (λ path. path.now) files.sheet
+  pub key : first_of (codes "key") rows ≡ option_map (λ path. path.now) files.key
 
 -- the values give the digits of these roots
 pub record GivesRoots (rows : List Row) (roots : Roots) : Type 0 where

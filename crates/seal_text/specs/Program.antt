@@ -21,17 +21,19 @@ use Rattle.seal_text.specs.declared.line.Order.TheVariants.{Seal, Check}
 use Rattle.seal_text.specs.declared.line.Roots.{Roots}
 use Rattle.seal_text.specs.declared.serve.Wanted.{Wanted}
 
--- The docket is standard input, and there is a sheet exactly if one is named. Either all that is wanted of the files was
+-- The docket is standard input, and there is a sheet exactly if one is named, and a key exactly if one is named. Either all that is wanted of the files was
 -- appended, or this fault says why not.
 pub record AnswersSeal (wanted : Wanted) (files : Sources) (input old new : Option (List ℕ)) (answer : Result (Unit {0}) SealFault) : Type 0 where
   pub docket : List ℕ
   pub sheet : Option (List ℕ)
+  pub key : Option (List ℕ)
   pub secret : List ℕ
   pub docket_is : AreInput input docket
   pub sheet_is : is_some sheet ≡ is_some files.sheet
+  pub key_is : is_some key ≡ is_some files.key
   pub answers : MatchResult answer
-      (λ _. (text : List ℕ) × IsServed wanted docket sheet secret text × Appends old new text)
-      (λ fault. IsSealFault wanted docket sheet secret fault × (fault ≢ seal.Files Write → new ≡ old))
+      (λ _. (text : List ℕ) × IsServed wanted docket sheet key secret text × Appends old new text)
+      (λ fault. IsSealFault wanted docket sheet key secret fault × (fault ≢ seal.Files Write → new ≡ old))
 
 -- The receipt is standard input. Either what it shows was appended, or this fault says why not.
 pub record AnswersCheck (lists : List ℕ) (outcome : Option (List ℕ)) (input old new : Option (List ℕ)) (answer : Result (Unit {0}) ReceiptFault)

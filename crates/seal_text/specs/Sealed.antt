@@ -43,9 +43,13 @@ hashes_of secret section texts = leaf_hashes (leaves_from secret section 0 texts
 abbrev pub root_row : Section → ℕ → List ℕ → List ℕ
 root_row section count top = row (word_of section ∷ decimal count ∷ encode_lower top ∷ [])
 
+-- the published root of the tree over these texts
+abbrev pub published : List ℕ → Section → List (List ℕ) → List ℕ
+published secret section texts = seal_hash (length texts) (root (hashes_of secret section texts))
+
 -- the row of the root over these texts
 abbrev pub root_row_of : List ℕ → Section → List (List ℕ) → List ℕ
-root_row_of secret section texts = root_row section (length texts) (seal_hash (length texts) (root (hashes_of secret section texts)))
+root_row_of secret section texts = root_row section (length texts) (published secret section texts)
 
 -- a comma and a digest's digits
 abbrev pub digest_field : List ℕ → List ℕ
@@ -72,12 +76,14 @@ abbrev pub result_text_if : List ℕ → Option (List (List ℕ)) → ℕ → Li
 result_text_if secret None i = []
 result_text_if secret (Some texts) i = part_text secret Outcome texts i
 
--- the receipt of the member at place i, after the row that names the member
+-- the receipt of the member at place i
+abbrev pub receipt_of : List ℕ → List ℕ → List ℕ → List (List ℕ) → Option (List (List ℕ)) → ℕ → List ℕ
+receipt_of secret kind name lists results i =
+    row (codes "receipt" ∷ codes "2" ∷ kind ∷ name ∷ []) ++ (part_text secret Lists lists i ++ result_text_if secret results i)
+
+-- the row that names the member at place i, and the member's receipt
 unfoldable pub receipt_text : List ℕ → List ℕ → List ℕ → List (List ℕ) → Option (List (List ℕ)) → ℕ → List ℕ
-receipt_text secret kind name lists results i =
-    row (codes "member" ∷ kind ∷ name ∷ [])
-    ++ (row (codes "receipt" ∷ codes "2" ∷ kind ∷ name ∷ [])
-    ++ (part_text secret Lists lists i ++ result_text_if secret results i))
+receipt_text secret kind name lists results i = row (codes "member" ∷ kind ∷ name ∷ []) ++ receipt_of secret kind name lists results i
 
 -- the receipt of programme p, which stands at its number in the trees
 abbrev pub programme_receipt : List ℕ → Contents → List (List ℕ) → Option (List (List ℕ)) → ℕ → List ℕ

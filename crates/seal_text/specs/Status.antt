@@ -1,18 +1,20 @@
 -- The exit status of the program.
 use Rattle.std.specs.Prelude.{ℕ, if◌then◌else◌, Result, Ok, Err}
 use Rattle.audit_files.specs.Status.{fault_status_of}
+use Rattle.reasons_text.specs.Status.{names_status_of}
 use Rattle.receipt_check.specs.Shape.{is_changed}
 use Rattle.receipt_check.specs.declared.wrong.ReceiptFault.{ReceiptFault}
 use Rattle.receipt_check.specs.declared.wrong.ReceiptFault.TheVariants as receipt
 use Rattle.seal_text.specs.declared.fault.SealFault.{SealFault}
-use Rattle.seal_text.specs.declared.fault.SealFault.TheVariants.{Secret, Files, Unstable}
+use Rattle.seal_text.specs.declared.fault.SealFault.TheVariants.{Secret, Files, Key, Unstable}
 
 -- the status after sealing: 0 if all was written, 3 if there is no secret or the sheet isn't stable, else the status of
--- the files' fault
+-- the files' or the key's fault
 abbrev pub seal_status_of : Result (Unit {0}) SealFault → ℕ
 seal_status_of (Ok written) = 0
 seal_status_of (Err (Secret fault)) = 3
 seal_status_of (Err (Files fault)) = fault_status_of fault
+seal_status_of (Err (Key fault)) = names_status_of fault
 seal_status_of (Err Unstable) = 3
 
 -- the status after a check: 0 for a good receipt, 3 for a file that isn't as it was given, 4 for a wrong receipt, 1 if

@@ -1,6 +1,7 @@
 //! Why nothing was sealed.
 
 use audit_files::FilesFault;
+use reasons_text::NamesFault;
 use thiserror::Error;
 
 /// Why a text is no secret.
@@ -15,7 +16,7 @@ pub enum SecretFault {
 }
 
 /// Why nothing was sealed.
-#[derive(Clone, Copy, Debug, PartialEq, Eq, Error)]
+#[derive(Debug, PartialEq, Eq, Drop, Error)]
 pub enum SealFault {
     /// The secret is none.
     #[error(transparent)]
@@ -23,6 +24,9 @@ pub enum SealFault {
     /// The docket's or the sheet's file is at fault, or memory or the writer failed.
     #[error(transparent)]
     Files(FilesFault),
+    /// The key gives no real names.
+    #[error(transparent)]
+    Key(NamesFault),
     /// Receipts were wanted, and the sheet isn't stable. What a receipt of it says would not hold.
     #[error("the sheet is not stable, so no receipts are made of it: residency-audit tells why")]
     Unstable,

@@ -8,7 +8,7 @@ use std::alloc::{AllocError, Global};
 
 /// One of the two trees of a docket.
 #[derive(Clone, Copy, Debug, PartialEq, Eq)]
-pub(crate) enum Section {
+pub enum Section {
     /// The lists that members handed in.
     Lists,
     /// What the match gave them, and why.

@@ -14,7 +14,6 @@ mod line;
 mod program;
 mod reading;
 mod receipts;
-mod rows;
 mod secret;
 mod serve;
 mod status;
@@ -22,6 +21,7 @@ mod texts;
 
 pub use fault::{SealFault, SecretFault};
 pub use laws::{law_receipt_opens, law_same_texts};
+pub use leaves::Section;
 pub use line::{Order, Roots, Sources};
 pub use program::seal_words;
 pub use secret::read_secret;

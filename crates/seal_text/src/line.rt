@@ -16,7 +16,9 @@ use version::VERSION;
 // The help of each command: what it reads and writes, its exit status, and an example.
 const ROOT_HELP: &str =
     "Reads a docket on standard input: V, Q, P, R and W records, and no others. The sheet's file has M, U
-and F records, and no others. The secret's file has 64 hexadecimal digits, and maybe a line feed.
+and F records, and no others. The secret's file has 64 hexadecimal digits, and maybe a line feed. The
+key's file has P,PROGRAMME,NAME and R,RESIDENT,NAME records, with the ID as a fourth field if there is
+one: then the sealed list of each member in the key ends with N,NAME or N,NAME,ID.
 Writes lists,COUNT,ROOT, and with a sheet result,COUNT,ROOT.
 
 The sheet's rows are sealed as they are: whether it is the match's result the auditor's program tells.
@@ -55,6 +57,8 @@ pub struct Sources<'a> {
     pub secret: &'a str,
     /// The sheet's file, if there is one.
     pub sheet: Option<&'a str>,
+    /// The file of the key, if there is one.
+    pub key: Option<&'a str>,
 }
 
 /// The digits of the roots that were published.
@@ -121,7 +125,9 @@ fn sealing<'a>(
     let secret = valued(alloc, "secret", "FILE", "The file with the secret", true);
     let command = command.arg(secret)?;
     let sheet = valued(alloc, "sheet", "FILE", "The file with the placement", false);
-    command.arg(sheet)
+    let command = command.arg(sheet)?;
+    let key = valued(alloc, "key", "FILE", "The file with the real names", false);
+    command.arg(key)
 }
 
 // The command that checks a receipt, with its roots.
@@ -167,14 +173,14 @@ fn commands<'a>(alloc: Global) -> Result<Command<'a>, AllocError>
     let roots = sealing(
         alloc,
         "root",
-        "residency-seal root --secret FILE [--sheet FILE] < docket.csv",
+        "residency-seal root --secret FILE [--sheet FILE] [--key FILE] < docket.csv",
         "Writes the root of a docket's lists, and with a sheet that of the result",
         ROOT_HELP,
     )?;
     let receipts = sealing(
         alloc,
         "receipts",
-        "residency-seal receipts --secret FILE [--sheet FILE] < docket.csv",
+        "residency-seal receipts --secret FILE [--sheet FILE] [--key FILE] < docket.csv",
         "Writes the receipt of each member",
         RECEIPTS_HELP,
     )?;
@@ -206,6 +212,7 @@ fn files_of<'a>(matches: &ArgMatches<'a>) -> Option<Sources<'a>>
         Some(secret) => Some(Sources {
             secret,
             sheet: matches.get_str("sheet"),
+            key: matches.get_str("key"),
         }),
         None => None,
     }

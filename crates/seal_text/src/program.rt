@@ -27,6 +27,7 @@ fn file_of<'a>(files: &Sources<'a>, fault: &SealFault) -> Option<&'a str> {
     match fault {
         SealFault::Secret(_) => Some(files.secret),
         SealFault::Unstable => files.sheet,
+        SealFault::Key(_) => None,
         SealFault::Files(fault) => match (fault.file(), files.sheet) {
             (Some(Part::Docket), _) => Some("standard input"),
             (Some(_), Some(sheet)) => Some(sheet),
@@ -71,12 +72,17 @@ where
         Ok(loaded) => loaded,
         Err(unread) => return refuse_unread(told, &unread),
     };
+    let key = match load_path_if(rt, files.key) {
+        Ok(key) => key,
+        Err(unread) => return refuse_unread(told, &unread),
+    };
     let docket = match load_input(alloc, "standard input", reader) {
         Ok(docket) => docket,
         Err(unread) => return refuse_unread(told, &unread),
     };
-    let (sheet, secret) = (lent(&loaded), secret.as_slice());
-    let answer = serve(rt, alloc, wanted, docket.as_slice(), sheet, secret, writer);
+    let (docket, secret) = (docket.as_slice(), secret.as_slice());
+    let (sheet, key) = (lent(&loaded), lent(&key));
+    let answer = serve(rt, alloc, wanted, docket, sheet, key, secret, writer);
     if let Err(fault) = &answer {
         tell(told, files, fault);
     }

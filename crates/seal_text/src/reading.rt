@@ -1,37 +1,54 @@
 //! Reading what is to be sealed, each part from its own file.
-ghost use Rattle.std.specs.Prelude.{IfErr, IfOk};
+ghost use Rattle.std.specs.Prelude.{[], ◌≡◌, IfErr, IfOk, Some};
+ghost use Rattle.audit_files.specs.Answer.{IsReadingFault};
+ghost use Rattle.docket.specs.Parts.{AreGiven, IsInFilesWithLists, rows_of_all};
 ghost use Rattle.seal_text.specs.Serving.{IsCaseIn, IsCaseFault};
 
 use audit_files::{FilesFault, told};
-use docket::read_parts_with_lists;
-use match_model::Limits;
+use docket::{Docket, ProgrammeLists, read_parts_with_lists};
+use match_model::{Limits, WrittenLists};
 use reasons_text::{Case, WhyFault};
 use std::alloc::Global;
 use std::random::RandomSource;
 
-/// The docket and the sheet that two files say, each read as its own part.
+/// The docket that two files say, each read as its own part, with its lists as they were written. A missing file counts as
+/// empty.
+pub(crate) fn read_lists<H: RandomSource>(
+    rt: &H,
+    alloc: Global,
+    docket: &[u8],
+    sheet: &[u8],
+) -> Result<(Docket, WrittenLists, ProgrammeLists), FilesFault>
+    ensures read { IfOk result (λ read.
+        IsInFilesWithLists Limits.Standard docket.now sheet.now [] read.0 read.1) }
+    ensures given { IfOk result (λ read.
+        AreGiven (rows_of_all docket.now sheet.now []) read.0 read.2) }
+    ensures fault { IfErr result (IsReadingFault docket.now sheet.now []) }
+{
+    match read_parts_with_lists(rt, alloc, Limits::Standard, docket, sheet, &[]) {
+        Ok(read) => Ok(read),
+        Err(there) => Err(told(there)),
+    }
+}
+
+/// The docket and the sheet that two files say, each read as its own part, and the programmes' lists.
 pub(crate) fn read_case<H: RandomSource>(
     rt: &H,
     alloc: Global,
     docket: &[u8],
     sheet: &[u8],
-) -> Result<Case, FilesFault>
-    ensures case { IfOk result (IsCaseIn docket.now sheet.now) }
+) -> Result<(Case, ProgrammeLists), FilesFault>
+    ensures case { IfOk result (λ read. IsCaseIn docket.now sheet.now read.0) }
+    ensures given { IfOk result (λ read.
+        AreGiven (rows_of_all docket.now sheet.now []) read.0.docket read.1) }
     ensures fault { IfErr result (IsCaseFault docket.now sheet.now) }
 {
-    let (docket, lists) = match read_parts_with_lists(
-        rt,
-        alloc,
-        Limits::Standard,
-        docket,
-        sheet,
-        &[],
-    ) {
+    let (docket, lists, given) = match read_lists(rt, alloc, docket, sheet) {
         Ok(read) => read,
-        Err(there) => return Err(told(there)),
+        Err(fault) => return Err(fault),
     };
     match Case::of_docket(alloc, docket, lists, true) {
-        Ok(case) => Ok(case),
+        Ok(case) => Ok((case, given)),
         Err(WhyFault::NoSheet) => Err(FilesFault::NoSheet),
         Err(_) => Err(FilesFault::Memory),
     }

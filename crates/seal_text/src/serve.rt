@@ -1,29 +1,29 @@
 //! From the bytes of a docket, a sheet and a secret to roots and receipts.
-ghost use Rattle.std.specs.Prelude.{◌≡◌, ◌≢◌, ℕ, [], None, Some, Ok, List, IfErr, IfOk, IfSome, MatchOption, OnOk, OnErr, length, option_copied, option_map};
+ghost use Rattle.std.specs.Prelude.{◌≡◌, ◌≢◌, ℕ, [], None, Some, Ok, List, IfErr, IfOk, IfSome, OnOk, OnErr, length, option_copied, option_map};
 ghost use Rattle.std.specs.Io.KnownBytes.{Appends};
-ghost use Rattle.records.specs.Reading.{rows_of};
+ghost use Rattle.match_model.specs.Draft.{Draft};
 ghost use Rattle.records.specs.Lines.{Grows};
 ghost use Rattle.seal_text.specs.declared.leaves.Section.TheVariants.{Outcome};
 ghost use Rattle.seal_text.specs.Grown.{AreTrees, IsGrownAs, lists_in, member_count, results_in, texts_in, texts_of};
 ghost use Rattle.seal_text.specs.Secret.{secret_of};
 ghost use Rattle.seal_text.specs.Serving as serving;
-ghost use Rattle.seal_text.specs.Serving.{IsEarlyText, IsFullText, IsTextFrom, IsServed, IsCaseFault, IsFilesFault, IsSealFault, IsTold, IsUnfit, IsUnstable};
-ghost use Rattle.seal_text.specs.Texts.{AreResultTexts, HasSheet};
+ghost use Rattle.reasons_text.specs.RealNames.{AreReal, IsNamesFault};
+ghost use Rattle.seal_text.specs.Serving.{IsEarlyText, IsFullText, IsOfKey, IsUnmade, IsTextFrom, IsTextOf, IsServed, IsSealFault, IsTold, IsUntold};
+ghost use Rattle.seal_text.specs.Texts.{AreListsOf, AreResultTexts, HasSheet, NameMembers};
 ghost use Rattle.seal_text.specs.Texts as texts;
-ghost use Rattle.audit_files.specs.Answer.{IsReadingFault};
 
 use crate::fault::SealFault;
 use crate::grown::Grown;
 use crate::leaves::Section;
-use crate::reading::read_case;
+use crate::reading::{read_case, read_lists};
 use crate::receipts::Trees;
-use crate::rows::ListRecords;
 use crate::secret::read_secret;
 use crate::texts::{lists_texts, result_texts};
-use audit_files::{FilesFault, read_files};
-use docket::Docket;
+use audit_files::FilesFault;
+use docket::{Docket, ProgrammeLists};
 use match_audit::audit;
-use reasons_text::Case;
+use match_model::WrittenLists;
+use reasons_text::{Case, RealNames};
 use std::alloc::{AllocError, Global};
 use std::io::Write;
 use std::random::RandomSource;
@@ -99,39 +99,64 @@ fn text_of(
     Ok(text)
 }
 
-// What is wanted of the docket and the sheet that are read.
+// What is wanted of the docket and the sheet that are read, with these real names.
 fn text_of_case(
     alloc: Global,
     wanted: Wanted,
     secret: &[u8; 32],
     case: &Case,
-    docket_bytes: &[u8],
+    given: &ProgrammeLists,
+    names: &RealNames,
 ) -> Result<Vec<u8>, AllocError>
-    requires { HasSheet case.now }
-    ensures { IfOk result (λ text. (results : List (List ℕ)) × AreResultTexts case.now results
+    requires sheet { HasSheet case.now }
+    requires lists { NameMembers case.now.docket given.now case.now.written }
+    ensures { IfOk result (λ text. (draft : Draft) → AreListsOf draft given.now case.now.written
+        → (results : List (List ℕ)) × AreResultTexts case.now results
         × (text.items ≡ serving.text_of wanted secret.now case.now.docket
-        (texts.lists_texts case.now.docket (rows_of docket_bytes.now)) (Some results))) }
+        (texts.lists_texts case.now.docket draft names.now) (Some results))) }
 {
-    let records = ListRecords::read(alloc, docket_bytes)?;
-    let lists = lists_texts(alloc, case.docket(), &records)?;
+    let lists = lists_texts(alloc, case.docket(), given, case.written(), names)?;
     let outcome = result_texts(alloc, case)?;
     text_of(alloc, wanted, secret, case.docket(), lists, Some(outcome))
 }
 
-// What is wanted of the docket that is read.
+// What is wanted of the docket that is read, with these real names.
 fn text_of_docket(
     alloc: Global,
     wanted: Wanted,
     secret: &[u8; 32],
     docket: &Docket,
-    docket_bytes: &[u8],
+    written: &WrittenLists,
+    given: &ProgrammeLists,
+    names: &RealNames,
 ) -> Result<Vec<u8>, AllocError>
-    ensures { IfOk result (λ text. text.items ≡ serving.text_of wanted secret.now docket.now
-        (texts.lists_texts docket.now (rows_of docket_bytes.now)) None) }
+    requires { NameMembers docket.now given.now written.now }
+    ensures { IfOk result (λ text. (draft : Draft) → AreListsOf draft given.now written.now
+        → text.items ≡ serving.text_of wanted secret.now docket.now
+        (texts.lists_texts docket.now draft names.now) None) }
 {
-    let records = ListRecords::read(alloc, docket_bytes)?;
-    let lists = lists_texts(alloc, docket, &records)?;
+    let lists = lists_texts(alloc, docket, given, written, names)?;
     text_of(alloc, wanted, secret, docket, lists, None)
+}
+
+// The real names in a key, if there is one.
+fn names_of<H: RandomSource>(
+    rt: &H,
+    alloc: Global,
+    docket: &Docket,
+    key: Option<&[u8]>,
+) -> Result<RealNames, SealFault>
+    ensures names { IfOk result (AreReal docket.now (option_copied key.entry)) }
+    ensures fault { IfErr result
+        (IsOfKey (option_copied key.entry) (IsNamesFault docket.now)) }
+{
+    let Some(bytes) = key else {
+        return Ok(RealNames::none(alloc));
+    };
+    match RealNames::read(rt, alloc, docket, bytes) {
+        Ok(names) => Ok(names),
+        Err(fault) => Err(SealFault::Key(fault)),
+    }
 }
 
 // What is wanted of a docket's bytes alone.
@@ -140,18 +165,24 @@ fn early_text<H: RandomSource>(
     alloc: Global,
     wanted: Wanted,
     docket: &[u8],
+    key: Option<&[u8]>,
     secret: &[u8; 32],
-) -> Result<Vec<u8>, FilesFault>
-    ensures text { IfOk result (λ text. IsEarlyText wanted docket.now secret.now text.items) }
-    ensures fault { IfErr result (IsReadingFault docket.now [] []) }
+) -> Result<Vec<u8>, SealFault>
+    ensures text { IfOk result (λ text.
+        IsEarlyText wanted docket.now (option_copied key.entry) secret.now text.items) }
+    ensures fault { IfErr result (IsUnmade wanted docket.now None (option_copied key.entry)) }
 {
-    let read = match read_files(rt, alloc, docket, &[], &[]) {
+    let (read, written, given) = match read_lists(rt, alloc, docket, &[]) {
         Ok(read) => read,
+        Err(fault) => return Err(SealFault::Files(fault)),
+    };
+    let names = match names_of(rt, alloc, &read, key) {
+        Ok(names) => names,
         Err(fault) => return Err(fault),
     };
-    match text_of_docket(alloc, wanted, secret, &read, docket) {
+    match text_of_docket(alloc, wanted, secret, &read, &written, &given, &names) {
         Ok(text) => Ok(text),
-        Err(_) => Err(FilesFault::Memory),
+        Err(_) => Err(SealFault::Files(FilesFault::Memory)),
     }
 }
 
@@ -168,58 +199,80 @@ fn is_told(alloc: Global, wanted: Wanted, case: &Case) -> Result<bool, AllocErro
     }
 }
 
-// What is wanted of the bytes of a docket and its sheet. It is none if receipts are wanted and the sheet isn't stable.
+// What is wanted of a case, with the real names in a key, if there is one. Receipts are told of a stable sheet alone.
+fn text_told<H: RandomSource>(
+    rt: &H,
+    alloc: Global,
+    wanted: Wanted,
+    case: &Case,
+    given: &ProgrammeLists,
+    key: Option<&[u8]>,
+    secret: &[u8; 32],
+) -> Result<Vec<u8>, SealFault>
+    requires sheet { HasSheet case.now }
+    requires lists { NameMembers case.now.docket given.now case.now.written }
+    ensures text { IfOk result (λ text. (draft : Draft)
+        → AreListsOf draft given.now case.now.written
+        → IsTextOf wanted case.now draft (option_copied key.entry) secret.now text.items) }
+    ensures fault { IfErr result (IsUntold wanted case.now (option_copied key.entry)) }
+{
+    let names = match names_of(rt, alloc, case.docket(), key) {
+        Ok(names) => names,
+        Err(fault) => return Err(fault),
+    };
+    match is_told(alloc, wanted, case) {
+        Ok(true) => {}
+        Ok(false) => return Err(SealFault::Unstable),
+        Err(_) => return Err(SealFault::Files(FilesFault::Memory)),
+    }
+    match text_of_case(alloc, wanted, secret, case, given, &names) {
+        Ok(text) => Ok(text),
+        Err(_) => Err(SealFault::Files(FilesFault::Memory)),
+    }
+}
+
+// What is wanted of the bytes of a docket and its sheet.
 fn full_text<H: RandomSource>(
     rt: &H,
     alloc: Global,
     wanted: Wanted,
     docket: &[u8],
     sheet: &[u8],
+    key: Option<&[u8]>,
     secret: &[u8; 32],
-) -> Result<Option<Vec<u8>>, FilesFault>
-    ensures text { IfOk result (λ text. MatchOption text (IsUnstable wanted docket.now sheet.now)
-        (λ text. IsFullText wanted docket.now sheet.now secret.now text.items)) }
-    ensures fault { IfErr result (IsCaseFault docket.now sheet.now) }
+) -> Result<Vec<u8>, SealFault>
+    ensures text { IfOk result (λ text.
+        IsFullText wanted docket.now sheet.now (option_copied key.entry) secret.now text.items) }
+    ensures fault { IfErr result
+        (IsUnmade wanted docket.now (Some sheet.now) (option_copied key.entry)) }
 {
-    let case = match read_case(rt, alloc, docket, sheet) {
-        Ok(case) => case,
-        Err(fault) => return Err(fault),
+    let (case, given) = match read_case(rt, alloc, docket, sheet) {
+        Ok(read) => read,
+        Err(fault) => return Err(SealFault::Files(fault)),
     };
     // For the proof alone: the docket is whole.
     let _inst = case.docket().instance();
-    let Ok(told) = is_told(alloc, wanted, &case) else {
-        return Err(FilesFault::Memory);
-    };
-    if !told {
-        return Ok(None);
-    }
-    match text_of_case(alloc, wanted, secret, &case, docket) {
-        Ok(text) => Ok(Some(text)),
-        Err(_) => Err(FilesFault::Memory),
-    }
+    text_told(rt, alloc, wanted, &case, &given, key, secret)
 }
 
-// What is wanted of the bytes of a docket and, if there is one, its sheet. It is none if receipts are wanted and the sheet
-// isn't stable.
+// What is wanted of the bytes of a docket and, if there is one, its sheet.
 fn text_from<H: RandomSource>(
     rt: &H,
     alloc: Global,
     wanted: Wanted,
     docket: &[u8],
     sheet: Option<&[u8]>,
+    key: Option<&[u8]>,
     secret: &[u8; 32],
-) -> Result<Option<Vec<u8>>, FilesFault>
-    ensures text { IfOk result (λ text. MatchOption text
-        (IsUnfit wanted docket.now (option_copied sheet.entry))
-        (λ text. IsTextFrom wanted docket.now (option_copied sheet.entry) secret.now text.items)) }
-    ensures fault { IfErr result (IsFilesFault docket.now (option_copied sheet.entry)) }
+) -> Result<Vec<u8>, SealFault>
+    ensures text { IfOk result (λ text. IsTextFrom wanted docket.now (option_copied sheet.entry)
+        (option_copied key.entry) secret.now text.items) }
+    ensures fault { IfErr result
+        (IsUnmade wanted docket.now (option_copied sheet.entry) (option_copied key.entry)) }
 {
     match sheet {
-        Some(sheet) => full_text(rt, alloc, wanted, docket, sheet, secret),
-        None => match early_text(rt, alloc, wanted, docket, secret) {
-            Ok(text) => Ok(Some(text)),
-            Err(fault) => Err(fault),
-        },
+        Some(sheet) => full_text(rt, alloc, wanted, docket, sheet, key, secret),
+        None => early_text(rt, alloc, wanted, docket, key, secret),
     }
 }
 
@@ -230,14 +283,17 @@ pub(crate) fn serve<W: Write, H: RandomSource>(
     wanted: Wanted,
     docket: &[u8],
     sheet: Option<&[u8]>,
+    key: Option<&[u8]>,
     secret: &[u8],
     writer: &mut W,
 ) -> Result<(), SealFault>
     ensures text { OnOk result ((text : List ℕ)
-        × IsServed wanted docket.now (option_copied sheet.entry) secret.now text
+        × IsServed wanted docket.now (option_copied sheet.entry)
+        (option_copied key.entry) secret.now text
         × Appends (W.contents writer.old) (W.contents writer.new) text) }
     ensures fault { IfErr result
-        (IsSealFault wanted docket.now (option_copied sheet.entry) secret.now) }
+        (IsSealFault wanted docket.now (option_copied sheet.entry)
+        (option_copied key.entry) secret.now) }
     ensures before { IfErr result (λ fault. fault ≢ SealFault.Files FilesFault.Write
         → writer.new ≡ writer.old) }
 {
@@ -245,10 +301,9 @@ pub(crate) fn serve<W: Write, H: RandomSource>(
         Ok(secret) => secret,
         Err(fault) => return Err(SealFault::Secret(fault)),
     };
-    let text = match text_from(rt, alloc, wanted, docket, sheet, &secret) {
-        Ok(Some(text)) => text,
-        Ok(None) => return Err(SealFault::Unstable),
-        Err(fault) => return Err(SealFault::Files(fault)),
+    let text = match text_from(rt, alloc, wanted, docket, sheet, key, &secret) {
+        Ok(text) => text,
+        Err(fault) => return Err(fault),
     };
     match writer.write_all(text.as_slice()) {
         Ok(()) => Ok(()),
@@ -256,45 +311,60 @@ pub(crate) fn serve<W: Write, H: RandomSource>(
     }
 }
 
-/// Writes the root of a docket's lists, and with a sheet that of the result. Each file is read apart from the others. The
-/// secret is 64 hexadecimal digits. Nothing is written before a fault other than the writer's own.
+/// Writes the root of a docket's lists, and with a sheet that of the result. With a key the list leaf of each member that the
+/// key names ends with the real name. Each file is read apart from the others. The secret is 64 hexadecimal digits. Nothing is written before a fault other than the writer's own.
 pub fn serve_seal<W: Write, H: RandomSource>(
     rt: &H,
     alloc: Global,
     docket: &[u8],
     sheet: Option<&[u8]>,
+    key: Option<&[u8]>,
     secret: &[u8],
     writer: &mut W,
 ) -> Result<(), SealFault>
     ensures text { OnOk result ((text : List ℕ)
-        × IsServed Wanted.Roots docket.now (option_copied sheet.entry) secret.now text
+        × IsServed Wanted.Roots docket.now (option_copied sheet.entry)
+        (option_copied key.entry) secret.now text
         × Appends (W.contents writer.old) (W.contents writer.new) text) }
     ensures fault { IfErr result
-        (IsSealFault Wanted.Roots docket.now (option_copied sheet.entry) secret.now) }
+        (IsSealFault Wanted.Roots docket.now (option_copied sheet.entry)
+        (option_copied key.entry) secret.now) }
     ensures before { IfErr result (λ fault. fault ≢ SealFault.Files FilesFault.Write
         → writer.new ≡ writer.old) }
 {
-    serve(rt, alloc, Wanted::Roots, docket, sheet, secret, writer)
+    serve(rt, alloc, Wanted::Roots, docket, sheet, key, secret, writer)
 }
 
-/// Writes the receipt of each member, after a row that names the member. With a sheet a receipt has the result too. Each
-/// file is read apart from the others. A sheet that isn't stable is a fault. Nothing is written before a fault other than the
+/// Writes the receipt of each member, after a row that names the member. With a sheet a receipt has the result too, and with a
+/// key the real name of each member that the key names. Each file is read apart from the others. A sheet that isn't stable is a fault. Nothing is written before a fault other than the
 /// writer's own.
 pub fn serve_receipts<W: Write, H: RandomSource>(
     rt: &H,
     alloc: Global,
     docket: &[u8],
     sheet: Option<&[u8]>,
+    key: Option<&[u8]>,
     secret: &[u8],
     writer: &mut W,
 ) -> Result<(), SealFault>
     ensures text { OnOk result ((text : List ℕ)
-        × IsServed Wanted.Receipts docket.now (option_copied sheet.entry) secret.now text
+        × IsServed Wanted.Receipts docket.now (option_copied sheet.entry)
+        (option_copied key.entry) secret.now text
         × Appends (W.contents writer.old) (W.contents writer.new) text) }
     ensures fault { IfErr result
-        (IsSealFault Wanted.Receipts docket.now (option_copied sheet.entry) secret.now) }
+        (IsSealFault Wanted.Receipts docket.now (option_copied sheet.entry)
+        (option_copied key.entry) secret.now) }
     ensures before { IfErr result (λ fault. fault ≢ SealFault.Files FilesFault.Write
         → writer.new ≡ writer.old) }
 {
-    serve(rt, alloc, Wanted::Receipts, docket, sheet, secret, writer)
+    serve(
+        rt,
+        alloc,
+        Wanted::Receipts,
+        docket,
+        sheet,
+        key,
+        secret,
+        writer,
+    )
 }

@@ -4,6 +4,7 @@ ghost use Rattle.seal_text.specs.Status.{receipt_status_of, seal_status_of};
 
 use crate::fault::SealFault;
 use audit_files::files_status;
+use reasons_text::names_status;
 use receipt_check::ReceiptFault;
 
 /// The exit status after sealing. It is 0 where all was written, 1 where memory, reading or writing failed, and 3 where a file
@@ -15,6 +16,7 @@ pub(crate) fn seal_status(answer: &Result<(), SealFault>) -> u8
         Ok(()) => 0,
         Err(SealFault::Secret(_) | SealFault::Unstable) => 3,
         Err(SealFault::Files(fault)) => files_status(fault),
+        Err(SealFault::Key(fault)) => names_status(fault),
     }
 }
 

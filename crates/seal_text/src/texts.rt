@@ -1,38 +1,140 @@
 //! The texts of leaves: what is sealed of each member before the match, and after it.
-ghost use Rattle.std.specs.Prelude.{◌≡◌, ◌<◌, ◌++◌, ℕ, List, IfOk, OnOk, Some, length, map, option_map};
-ghost use Rattle.std.specs.List.{range_with_len};
-ghost use Rattle.docket.specs.Texts.{mark_row};
+ghost use Rattle.std.specs.Prelude.{◌≡◌, ◌<◌, ◌++◌, ◌∷◌, [], ℕ, List, IfOk, IfSome, None, OnOk, Some, codes, length, map, nat_lt, option_copied, option_map, slice_index_or, true};
+ghost use Rattle.std.specs.List.{list_all, range_with_len};
+ghost use Rattle.docket.specs.Texts.{mark_row, programme_name, resident_name};
 ghost use Rattle.docket.specs.Whole.{IsSheetOf};
-ghost use Rattle.csv.specs.Records.{fields_of};
+ghost use Rattle.csv.specs.Records.{fields_of, partial_of};
 ghost use Rattle.records.specs.Lines.{Grows};
-ghost use Rattle.records.specs.Reading.{Fields};
-ghost use Rattle.match_model.specs.Instance.{IsProgramme, IsResident};
+ghost use Rattle.match_model.specs.Draft.{Draft};
+ghost use Rattle.match_model.specs.Instance.{IsProgramme, IsResident, list_at};
 ghost use Rattle.match_model.specs.Placement.{holds, member_count, programme_of};
+ghost use Rattle.match_model.specs.Written.{written_of};
 ghost use Rattle.records.specs.RowText.{Adds};
 ghost use Rattle.std.specs.Io.KnownBytes.{Appends};
 ghost use Rattle.reasons_text.specs.Texts.{AppendsText};
 ghost use Rattle.seal_text.specs.Grown.{texts_of};
-ghost use Rattle.seal_text.specs.Records.{AreListsOf};
-ghost use Rattle.seal_text.specs.Texts.{AddsResidentResult, AreResidentResults, AreResultTexts, HasSheet, IsResidentResult, PushesResults, line_if, member_rows, quota_row, withdrawal_if};
+ghost use Rattle.seal_text.specs.Texts.{AddsResidentResult, AreListsOf, AreResultTexts, Extends, HasSheet, IsResidentResult, NameMembers, PushesResults, line_if, list_record, member_rows, name_record, quota_row, withdrawal_if};
 ghost use Rattle.seal_text.specs.Texts as spec;
 
 use crate::grow::put_row;
-use crate::rows::ListRecords;
 use csv::ByteRecord;
-use docket::{Docket, DocketFault, RowWriter, WriteFailed, push_programme, room_for_rows};
-use match_model::{Assignment, ProgrammeNo, ResidentNo};
-use reasons_text::{Case, push_rows_on};
-use records::put_line;
+use docket::{
+    Docket, DocketFault, ProgrammeLists, RowWriter, WriteFailed, push_programme, room_for_rows,
+};
+use match_model::{Assignment, ProgrammeNo, ResidentNo, WrittenLists};
+use reasons_text::{Case, RealNames, push_rows_on};
+use records::{field, put_line};
 use std::alloc::{AllocError, Global};
 use std::io::Write;
 
-// Adds the line of a record, if there is one.
-fn put_line_if(text: &mut Vec<u8>, row: Option<&ByteRecord>) -> Result<(), AllocError>
-    ensures { OnOk result
-        (Grows text.old text.new (line_if (option_map (λ row. fields_of row.now) row.entry))) }
+// Adds a field to a record.
+fn push_field(row: &mut ByteRecord, field: &[u8]) -> Result<(), AllocError>
+    requires { partial_of row.old ≡ [] }
+    ensures { OnOk result (Extends row.old row.new (field.now ∷ [])) }
 {
-    match row {
-        Some(row) => put_line(text, row),
+    row.push_field(field)
+}
+
+// A record of these two fields.
+fn record_of(alloc: Global, letter: &[u8], name: &[u8]) -> Result<ByteRecord, AllocError>
+    ensures fields { IfOk result (λ row. fields_of row ≡ letter.now ∷ name.now ∷ []) }
+    ensures whole { IfOk result (λ row. partial_of row ≡ []) }
+{
+    let mut row = ByteRecord::new(alloc);
+    row.push_field(letter)?;
+    row.push_field(name)?;
+    Ok(row)
+}
+
+// Adds the names of these residents to a record.
+fn push_residents(
+    row: &mut ByteRecord,
+    docket: &Docket,
+    list: &[ResidentNo],
+) -> Result<(), AllocError>
+    requires whole { partial_of row.old ≡ [] }
+    requires list { list_all (λ r. nat_lt r (length docket.now.residents)) list.now ≡ true }
+    ensures { OnOk result (Extends row.old row.new (map (resident_name docket.now) list.now)) }
+{
+    // For the proof alone: the docket is whole.
+    let _inst = docket.instance();
+    for k in 0..list.len() {
+        push_field(row, docket.resident_name(list[k]).as_bytes())?;
+    }
+    Ok(())
+}
+
+// Adds the names of the programmes on a resident's list to a record.
+fn push_choices(
+    row: &mut ByteRecord,
+    docket: &Docket,
+    lists: &WrittenLists,
+    resident: ResidentNo,
+) -> Result<(), AllocError>
+    requires whole { partial_of row.old ≡ [] }
+    requires list { list_all (λ p. nat_lt p (length docket.now.programmes))
+        (list_at lists.now.resident_lists resident) ≡ true }
+    ensures { OnOk result (Extends row.old row.new
+        (map (programme_name docket.now) (list_at lists.now.resident_lists resident))) }
+{
+    // For the proof alone: the docket is whole.
+    let _inst = docket.instance();
+    for k in 0..lists.listed_by_resident(resident) {
+        let Some(programme) = lists.choice(resident, k) else {
+            unreachable!("the list is so long");
+        };
+        push_field(row, docket.programme_name(programme).as_bytes())?;
+    }
+    Ok(())
+}
+
+// Adds the fields of another record to a record.
+fn push_all(row: &mut ByteRecord, fields: &ByteRecord) -> Result<(), AllocError>
+    requires { partial_of row.old ≡ [] }
+    ensures { OnOk result (Extends row.old row.new (fields_of fields.now)) }
+{
+    for k in 0..fields.len() {
+        push_field(row, field(fields, k))?;
+    }
+    Ok(())
+}
+
+// Adds the row with a member's real name, if it is known.
+fn put_real(alloc: Global, text: &mut Vec<u8>, real: Option<&ByteRecord>) -> Result<(), AllocError>
+    ensures { OnOk result (Grows text.old text.new
+        (line_if (name_record (option_map (λ real. fields_of real.now) real.entry)))) }
+{
+    match real {
+        Some(real) => {
+            let mut row = ByteRecord::new(alloc);
+            push_field(&mut row, b"N")?;
+            push_all(&mut row, real)?;
+            put_line(text, &row)
+        }
+        None => Ok(()),
+    }
+}
+
+// Adds a programme's `P` record, if it has a list.
+fn put_ranking(
+    alloc: Global,
+    text: &mut Vec<u8>,
+    docket: &Docket,
+    name: &[u8],
+    list: Option<&[ResidentNo]>,
+) -> Result<(), AllocError>
+    requires { IfSome (option_copied list) (λ list.
+        list_all (λ r. nat_lt r (length docket.now.residents)) list ≡ true) }
+    ensures { OnOk result
+        (Grows text.old text.new (line_if (option_map (list_record (codes "P") name.now)
+        (option_map (map (resident_name docket.now)) (option_copied list.entry))))) }
+{
+    match list {
+        Some(list) => {
+            let mut row = record_of(alloc, b"P", name)?;
+            push_residents(&mut row, docket, list)?;
+            put_line(text, &row)
+        }
         None => Ok(()),
     }
 }
@@ -63,43 +165,54 @@ fn put_quota(alloc: Global, text: &mut Vec<u8>, name: &[u8], quota: u32) -> Resu
     put_row(alloc, text, &[b"Q", name, quota])
 }
 
-// The text of a programme's lists leaf: its `Q` row, its `P` record if it has one, and its `W` row if it is withdrawn.
+// The text of a programme's lists leaf: its `Q` row, its `P` record if it has one, its `W` row if it is withdrawn, and its `N`
+// row if its real name is known.
 fn programme_lists(
     alloc: Global,
     docket: &Docket,
-    records: &ListRecords,
+    given: &ProgrammeLists,
+    names: &RealNames,
     programme: ProgrammeNo,
 ) -> Result<Vec<u8>, AllocError>
+    requires given { (p : ℕ) (list : List ℕ) → slice_index_or given.now p None ≡ Some list
+        → list_all (λ r. nat_lt r (length docket.now.residents)) list ≡ true }
     requires programme { IsProgramme docket.now.instance programme }
-    ensures { IfOk result (λ text. (rows : List Fields) → AreListsOf rows records.now
-        → text.items ≡ spec.programme_lists docket.now rows programme) }
+    ensures { IfOk result (λ text. (draft : Draft) → given.now ≡ draft.programme_lists
+        → text.items ≡ spec.programme_lists docket.now draft names.now programme) }
 {
     let name = docket.programme_name(programme).as_bytes();
     let quota = docket.instance().quota(programme);
     let gone = docket.instance().programme_withdrawn(programme);
     let mut text = Vec::new(alloc);
     put_quota(alloc, &mut text, name, quota)?;
-    put_line_if(&mut text, records.of_programme(name))?;
+    put_ranking(alloc, &mut text, docket, name, given.list_of(programme))?;
     put_withdrawal_if(alloc, &mut text, gone, b"P", name)?;
+    put_real(alloc, &mut text, names.programme(programme))?;
     Ok(text)
 }
 
-// The text of a resident's lists leaf: its `R` record, and its `W` row if it is withdrawn.
+// The text of a resident's lists leaf: its `R` record, its `W` row if it is withdrawn, and its `N` row if its real name is known.
 fn resident_lists(
     alloc: Global,
     docket: &Docket,
-    records: &ListRecords,
+    lists: &WrittenLists,
+    names: &RealNames,
     resident: ResidentNo,
 ) -> Result<Vec<u8>, AllocError>
+    requires list { list_all (λ p. nat_lt p (length docket.now.programmes))
+        (list_at lists.now.resident_lists resident) ≡ true }
     requires resident { IsResident docket.now.instance resident }
-    ensures { IfOk result (λ text. (rows : List Fields)
-        → AreListsOf rows records.now → text.items ≡ spec.resident_lists docket.now rows resident) }
+    ensures { IfOk result (λ text. (draft : Draft) → lists.now ≡ written_of draft
+        → text.items ≡ spec.resident_lists docket.now draft names.now resident) }
 {
     let name = docket.resident_name(resident).as_bytes();
     let gone = docket.instance().resident_withdrawn(resident);
     let mut text = Vec::new(alloc);
-    put_line_if(&mut text, records.of_resident(resident.0 as usize))?;
+    let mut row = record_of(alloc, b"R", name)?;
+    push_choices(&mut row, docket, lists, resident)?;
+    put_line(&mut text, &row)?;
     put_withdrawal_if(alloc, &mut text, gone, b"R", name)?;
+    put_real(alloc, &mut text, names.resident(resident))?;
     Ok(text)
 }
 
@@ -108,15 +221,18 @@ fn push_programme_lists(
     alloc: Global,
     texts: &mut Vec<Vec<u8>>,
     docket: &Docket,
-    records: &ListRecords,
+    given: &ProgrammeLists,
+    names: &RealNames,
 ) -> Result<(), AllocError>
-    ensures { OnOk result ((rows : List Fields)
-        → AreListsOf rows records.now → texts_of texts.new.items
-        ≡ texts_of texts.old.items ++ map (spec.programme_lists docket.now rows)
+    requires given { (p : ℕ) (list : List ℕ) → slice_index_or given.now p None ≡ Some list
+        → list_all (λ r. nat_lt r (length docket.now.residents)) list ≡ true }
+    ensures { OnOk result ((draft : Draft)
+        → given.now ≡ draft.programme_lists → texts_of texts.new.items
+        ≡ texts_of texts.old.items ++ map (spec.programme_lists docket.now draft names.now)
         (range_with_len 0 (length docket.now.instance.quotas))) }
 {
     for p in 0..docket.instance().programmes() {
-        let text = programme_lists(alloc, docket, records, ProgrammeNo(p))?;
+        let text = programme_lists(alloc, docket, given, names, ProgrammeNo(p))?;
         texts.push(text)?;
     }
     Ok(())
@@ -127,15 +243,19 @@ fn push_resident_lists(
     alloc: Global,
     texts: &mut Vec<Vec<u8>>,
     docket: &Docket,
-    records: &ListRecords,
+    lists: &WrittenLists,
+    names: &RealNames,
 ) -> Result<(), AllocError>
-    ensures { OnOk result ((rows : List Fields)
-        → AreListsOf rows records.now → texts_of texts.new.items
-        ≡ texts_of texts.old.items ++ map (spec.resident_lists docket.now rows)
+    requires lists { (r : ℕ) → r < length docket.now.residents
+        → list_all (λ p. nat_lt p (length docket.now.programmes))
+        (list_at lists.now.resident_lists r) ≡ true }
+    ensures { OnOk result ((draft : Draft)
+        → lists.now ≡ written_of draft → texts_of texts.new.items
+        ≡ texts_of texts.old.items ++ map (spec.resident_lists docket.now draft names.now)
         (range_with_len 0 (length docket.now.instance.resident_lists))) }
 {
     for r in 0..docket.instance().residents() {
-        let text = resident_lists(alloc, docket, records, ResidentNo(r))?;
+        let text = resident_lists(alloc, docket, lists, names, ResidentNo(r))?;
         texts.push(text)?;
     }
     Ok(())
@@ -145,14 +265,17 @@ fn push_resident_lists(
 pub(crate) fn lists_texts(
     alloc: Global,
     docket: &Docket,
-    records: &ListRecords,
+    given: &ProgrammeLists,
+    lists: &WrittenLists,
+    names: &RealNames,
 ) -> Result<Vec<Vec<u8>>, AllocError>
-    ensures { IfOk result (λ texts. (rows : List Fields)
-        → AreListsOf rows records.now → texts_of texts.items ≡ spec.lists_texts docket.now rows) }
+    requires { NameMembers docket.now given.now lists.now }
+    ensures { IfOk result (λ texts. (draft : Draft) → AreListsOf draft given.now lists.now
+        → texts_of texts.items ≡ spec.lists_texts docket.now draft names.now) }
 {
     let mut texts = Vec::new(alloc);
-    push_programme_lists(alloc, &mut texts, docket, records)?;
-    push_resident_lists(alloc, &mut texts, docket, records)?;
+    push_programme_lists(alloc, &mut texts, docket, given, names)?;
+    push_resident_lists(alloc, &mut texts, docket, lists, names)?;
     Ok(texts)
 }
 

@@ -22,18 +22,13 @@ from typing import IO, Any, Callable, Generator, NoReturn, Optional, Sequence, T
 from ..errors import DocketFault, MarketFault, ResidencyError
 from . import stopping
 from .faults import OfficeError
+from .languages import sections
 
 Progress = Callable[[str], None]
 # A step that may be asked for: what does it, by the name of a function of `steps`.
-STEPS = ("read", "looked_at", "linted", "manifest_read", "verified")
+STEPS = ("read", "looked_at", "linted", "reading_of", "verified")
 # The classes of which an answer may be.
-KNOWN = {
-    "builtins": ("iter", "set", "frozenset"), "residency.docket": ("Docket",), "residency.errors": ("DocketFault",),
-    "residency.market": ("Market",), "residency.names": ("Member", "Names"),
-    "residency.office.cells": ("Rows",), "residency.office.faults": ("Cell", "Fault", "Faults", "Remedy"),
-    "residency.office.headings": ("Columns",), "residency.office.settings": ("Settings",), "residency.office.steps": ("Look", "Read"),
-    "residency.office.tables": ("Entry", "Table"), "residency.office.text": ("Text",), "residency.office.verify": ("Checked", "Verified"),
-}
+KNOWN = {module: classes.split(", ") for module, classes in sections("answers.txt")["KNOWN"].items()}
 PROGRESS, DONE, FAILED = "progress", "done", "failed"
 # How a process ends that has no memory left.
 NO_MEMORY = 7

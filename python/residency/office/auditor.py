@@ -20,7 +20,7 @@ def page(manifest: Dict[str, Any], has_key: bool) -> bytes:
     lines += ["Then run, in a clone of the project (of a release the command is residency-office):", "",
               "  ./office verify FOLDER" + "".join(f" --{word} MEMBERS,ROOT" for word in words), ""]
     lines += ["With the office's two tables, --tables PROGRAMMES RESIDENTS makes docket and key again, too." if has_key else
-              "The key isn't here. Nor is what has names, and verify says that these aren't checked."]
+              f"The key isn't here. Nor is what has names{', nor the secret' * bool(words)}, and verify says that these aren't checked."]
     return ("\n".join(lines) + "\n").encode("utf-8")
 
 
@@ -38,7 +38,7 @@ def copy(path: str, out: str, with_key: bool) -> int:
     """Copies what an auditor gets into a new folder: how many files. OfficeError where a file isn't as SHA256SUMS has it."""
     kept = Kept(path)
     manifest, sums = manifest_of(kept, with_key), folder.sums_of(kept.results.read(folder.SUMS))
-    without = {folder.MANIFEST, folder.SUMS, PAGE} | (set() if with_key else folder.NEEDS_KEY)
+    without = {folder.MANIFEST, folder.SUMS, PAGE} | (set() if with_key else folder.NEEDS_KEY | folder.NEEDS_SECRET)
     names = [name for name in folder.files_below(Path(path)) if not folder.needs(name, without)]
     with folder.new_folder(out, private=True) as draft:
         for name in names:

@@ -13,7 +13,7 @@ WORDS = {"comma": ",", "semicolon": ";", "tab": "\t", "bar": "|", "\\t": "\t"}
 MOST_LETTERS_OF_A_CELL = 500
 QUOTED = re.compile(r'"[^"]*(?:""[^"]*)*"')
 # Letters that nobody sees: marks of direction, spaces of no width, soft hyphens.
-UNSEEN = dict.fromkeys((0xAD, 0x200B, 0x200E, 0x200F, 0x2060, 0xFEFF, *range(0x202A, 0x202F), *range(0x2066, 0x206A)))
+UNSEEN = dict.fromkeys((0xAD, 0x61C, 0x200B, 0x200E, 0x200F, 0x2060, 0xFEFF, *range(0x202A, 0x202F), *range(0x2066, 0x206A)))
 
 # Whether cells are a heading row.
 IsHeading = Callable[[List[str]], bool]

@@ -10,16 +10,16 @@ from typing import Callable, Dict, List, Optional, Sequence, Tuple
 from ..errors import DocketFault, MarketFault, ResidencyError
 from ..market import Market
 from ..text import decode
-from . import compare, folder, national, running, sealing, settings, sheets, steps, stopping, writing
+from . import changed, compare, folder, national, rounds, running, sealing, settings, sheets, steps, stopping, writing
 from .cells import DELIMITERS, known_delimiter
 from .faults import MOST_SHOWN, Faults, FaultsError, OfficeError, column_letters, counted, shown
 from .headings import Words
-from .letters import OTHERS, Templates, checked_templates
+from .letters import OTHERS, PROGRAMME, Templates, checked_templates
 from .line import parser
 from .outcome import UNMATCHED, Standing
 from .phrases import Language, languages, read_phrases
 from .running import Run, Wishes
-from .sentences import as_dict, errors_as_dicts, how, line_of, note, report, said_by, said_otherwise
+from .sentences import as_dict, cause, errors_as_dicts, how, line_of, note, report, said_by, said_otherwise
 from .settings import TABLES, Settings
 from .steps import Given, Look, Read, TablesError
 from .tables import Table
@@ -83,6 +83,8 @@ def dispatch(words: Optional[Sequence[str]]) -> int:
         return int(end.code or 0)
     try:
         return DOES[given.command](given)
+    except TablesError as error:
+        return tables_at_fault(error, given.all, complain, "nothing was written")
     except OfficeError as error:
         if given.command in QUIET and given.json:
             say(json.dumps({"faults": errors_as_dicts(error)}, ensure_ascii=False))
@@ -156,13 +158,11 @@ def read_tables(programmes: str, residents: str, chosen: Settings) -> Read:
     return read
 
 
-def tables_at_fault(error: TablesError, all_of_them: bool, tell: Callable[[str], None]) -> int:
+def tables_at_fault(error: TablesError, all_of_them: bool, tell: Callable[[str], None], *after: str) -> int:
     """Tells the faults of tables, and answers the status."""
-    for line in [how(table) for table in error.read.tables] + report(error.faults, all_of_them):
+    for line in (*map(how, error.read.tables), *report(error.faults, all_of_them), f"{counted(len(error.faults), 'fault')} in the tables", *after):
         tell(line)
-    count = len(error.faults)
-    tell(f"{counted(count, 'fault')} in the tables")
-    return 3
+    return error.status
 
 
 def describe(tables: Sequence[Table], market: Market) -> List[str]:
@@ -301,10 +301,11 @@ def refuse_one_table(path: str, data: bytes) -> None:
         raise OfficeError("words.one-of-two", 2, path)
 
 
-def wishes_of(given: argparse.Namespace, chosen: Settings, title: str, columns: Sequence[str], language: Language = Language()) -> Wishes:
+def wishes_of(given: argparse.Namespace, chosen: Settings, title: str, columns: Sequence[str], language: Language = Language(),
+              before: Optional[rounds.Before] = None) -> Wishes:
     language = language_of(chosen, language)
     return Wishes(title or language.phrases().say("title"), given.date or date.today(), chosen.order, template_of(given.template, columns),
-                  given.timeout, chosen.cut_offs, given.readable, language, chosen.texts())
+                  given.timeout, chosen.cut_offs, given.readable, language, chosen.texts(), b"" if before is None else before.earlier)
 
 
 def language_of(chosen: Settings, before: Language = Language()) -> Language:
@@ -340,23 +341,22 @@ def template_of(path: Optional[str], columns: Sequence[str]) -> Templates:
     that are kept."""
     if path is None or not os.path.isdir(path):
         return checked_templates(None if path is None else text_of(path), columns)
-    names = [one.key for one in Standing] + [OTHERS]
+    names = [*(one.key for one in Standing), OTHERS, PROGRAMME]
     found = {name: os.path.join(path, f"{name}.txt") for name in names if os.path.exists(os.path.join(path, f"{name}.txt"))}
     if not found:
         raise OfficeError("template.none", 3, path, files=[f"{name}.txt" for name in names])
     return checked_templates({name: text_of(one) for name, one in found.items()}, columns)
 
 
-def tables_of(given: argparse.Namespace, chosen: Settings) -> Optional[Tuple[Sequence[Table], Market]]:
-    """Both tables and their market; none where they are at fault, which is told."""
-    try:
-        read = read_tables(given.programmes, given.residents, chosen)
-        assert read.market is not None
-        return read.tables, read.market
-    except TablesError as error:
-        tables_at_fault(error, given.all, complain)
-        complain("nothing was written")
-        return None
+def tables_of(given: argparse.Namespace, chosen: Settings, before: Optional[rounds.Before] = None) -> Tuple[Sequence[Table], Market]:
+    """Both tables and their market, which fits the round before. TablesError where they are at fault."""
+    read = read_tables(given.programmes, given.residents, chosen)
+    assert read.market is not None
+    if before is not None:
+        read.faults = before.faults(read.market, given.allow_new, read.tables)
+    if len(read.faults):
+        raise TablesError(read)
+    return read.tables, read.market
 
 
 def how_read(tables: Sequence[Table], chosen: Settings) -> Dict[str, object]:
@@ -371,10 +371,7 @@ def seal_command(given: argparse.Namespace) -> int:
     chosen = settings_of(given, given.programmes)
     language = language_of(chosen)
     wishes = Wishes(chosen.title or language.phrases().say("title"), given.date or date.today(), timeout=given.timeout, language=language)
-    found = tables_of(given, chosen)
-    if found is None:
-        return 3
-    tables, market = found
+    tables, market = tables_of(given, chosen)
     roots = steps.seal(given.out, market, steps.details_of(tables[1], market), wishes, how_read(tables, chosen))
     for line in [*describe(tables, market), sealed(given.out, roots), *published(roots)]:
         say(line)
@@ -386,53 +383,54 @@ def run(given: argparse.Namespace) -> int:
         raise OfficeError("words.one-table", 2, makers="seal")
     if given.residents is None and given.seal is not None:
         raise OfficeError("words.seal-twice", 2)
+    if given.allow_new and given.after is None:
+        raise OfficeError("words.allow-new", 2)
     path = given.seal if given.residents is not None else given.programmes
     writing.refuse(given.out)
+    before = None if given.after is None else rounds.Before(Run(given.after))
     if path is not None:
-        return run_sealed(given, steps.sealed(path))
+        return run_sealed(given, steps.sealed(path), before)
     chosen = settings_of(given, given.programmes)
-    wishes = wishes_of(given, chosen, chosen.title, chosen.kept())
-    found = tables_of(given, chosen)
-    if found is None:
-        return 3
-    tables, market = found
+    wishes = wishes_of(given, chosen, chosen.title, chosen.kept(), before=before)
+    tables, market = tables_of(given, chosen, before)
     result = steps.match(market, steps.details_of(tables[1], market), wishes.timeout)
-    steps.write(given.out, result, wishes, how_read(tables, chosen))
-    for line in describe(tables, market) + told(given.out, result):
+    steps.write(given.out, result, wishes, {**how_read(tables, chosen), **(before.entry if before else {})})
+    for line in describe(tables, market) + told(given.out, result, wishes):
         say(line)
     return 0
 
 
-def run_sealed(given: argparse.Namespace, sealed: running.Kept) -> int:
+def run_sealed(given: argparse.Namespace, sealed: running.Kept, before: Optional[rounds.Before]) -> int:
     """Matches the very docket that was sealed; tables, where they are given, have to say the same."""
     sealing.refuse_readable(given.readable)
+    faults = Faults() if before is None else before.faults(sealed.market, given.allow_new)
+    if len(faults):
+        raise FaultsError(faults)
     lines: List[str] = []
     details, manifest = sealed.details, from_of(sealed)
     chosen = settings_of(given, None if given.residents is None else given.programmes)
     if given.residents is not None:
-        found = tables_of(given, chosen)
-        if found is None:
-            return 3
-        tables, market = found
+        tables, market = tables_of(given, chosen)
         try:
             sealing.refuse_others(sealed, market)
         except sealing.OtherTables as error:
             return failed(said_otherwise(error, error.faults, given.all), error.status)
         lines, details = describe(tables, market), steps.details_of(tables[1], market)
         manifest = from_of(sealed, settings.values_of(chosen))
-    wishes = wishes_of(given, chosen, chosen.title or sealed.title(), details.columns, sealed.language())
+    wishes = wishes_of(given, chosen, chosen.title or sealed.title(), details.columns, sealed.language(), before)
     result = steps.match(sealed.market, details, wishes.timeout)
-    roots = steps.write(given.out, result, wishes, manifest, sealed.secret(), sealed)
+    roots = steps.write(given.out, result, wishes, {**manifest, **(before.entry if before else {})}, sealed.secret(), sealed)
     assert roots is not None
-    for line in lines + told(given.out, result) + published(roots):
+    for line in lines + told(given.out, result, wishes) + published(roots):
         say(line)
     return 0
 
 
 def from_of(kept: running.Kept, said: Optional[Dict[str, Dict[str, object]]] = None) -> Dict[str, object]:
     """What a manifest says of the folder that another one is made from, whose settings are carried on where no others are said."""
-    reading = said or kept.results.manifest.get("reading")
-    return {**({"reading": reading} if isinstance(reading, dict) else {}), "from": kept.digests()}
+    manifest = kept.results.manifest
+    reading = said or manifest.get("reading")
+    return {**({"reading": reading} if isinstance(reading, dict) else {}), "from": kept.digests(), **{name: manifest[name] for name in ("after",) if name in manifest}}
 
 
 def sealed(out: str, roots: Roots) -> str:
@@ -450,15 +448,19 @@ def published_anew(roots: Roots) -> List[str]:
             *published(roots)]
 
 
-def told(out: str, result: running.Matched) -> List[str]:
+def told(out: str, result: running.Matched, wishes: Wishes) -> List[str]:
     """What a run says when it is done."""
     outcome = result.outcome
     kinds = {one.value: len(outcome.standing(one)) for one in (*UNMATCHED, Standing.WITHDRAWN)}
     counts = [f"{count:,} {kind}" for kind, count in kinds.items() if count]
     matched = len(outcome.standing(Standing.MATCHED))
     left = sum(one.unfilled for one in outcome.programmes.values())
+    every = [one for _, one in rounds.everybody(outcome, wishes.earlier)]
+    placed = sum(one.programme is not None for one in every)
     return [f"{matched:,} of {len(outcome.residents):,} residents matched" + "".join(f", {count}" for count in counts)
-            + f"; {left:,} of {outcome.places():,} places unfilled", f"audit: stable; replay: good; written to {shown(out)}"]
+            + f"; {left:,} of {outcome.places():,} places unfilled",
+            *[f"after all rounds {placed:,} of {len(every):,} residents have a place"] * bool(wishes.earlier),
+            f"audit: stable; replay: good; written to {shown(out)}"]
 
 
 def withdraw(given: argparse.Namespace) -> int:
@@ -466,16 +468,17 @@ def withdraw(given: argparse.Namespace) -> int:
         raise OfficeError("words.nobody", 2)
     before = running.opened(given.folder)
     sealing.refuse_readable(given.readable and before.is_sealed())
-    out = folder.free_name(given.folder) if given.out is None else given.out
+    stem = os.path.abspath(given.folder)
+    out = given.out if given.out is not None else next(f"{stem}-{number}" for number in range(2, 10 ** 6) if not os.path.lexists(f"{stem}-{number}"))
     writing.refuse(out)
     programmes, residents, either = ([as_text(name) for name in those] for those in (given.programme, given.resident, given.names))
     done = steps.withdraw(before, programmes, residents, either, given.timeout)
     if done.matched is None:
         return withdraw_sealed(given, done, out)
     chosen = settings_of(given)
-    wishes = wishes_of(given, chosen, chosen.title or before.title(), before.details.columns, before.language())
+    wishes = replace(wishes_of(given, chosen, chosen.title or before.title(), before.details.columns, before.language()), earlier=before.earlier())
     roots = steps.write(out, done.matched, wishes, from_of(before), done.secret(), changes=done.changes)
-    for line in [one.line() for one in done.changes] + told(out, done.matched) + ([] if roots is None else published_anew(roots)):
+    for line in [one.line() for one in done.changes] + told(out, done.matched, wishes) + ([] if roots is None else published_anew(roots)):
         say(line)
     return 0
 
@@ -514,20 +517,24 @@ def letters(given: argparse.Namespace) -> int:
     if given.preview is not None:
         for resident in (one for standing in Standing for one in run_before.outcome.standing(standing)[:given.preview]):
             say(written.letter(resident))
+        for programme in list(run_before.outcome.programmes.values())[:given.preview]:
+            say(written.programmes().letter(programme))
         return 0
     with folder.new_folder(given.out, private=True) as draft:
         count = running.write_letters(draft, written, "")
-    say(f"{counted(count, 'letter')} written to {shown(given.out)}")
+        more = running.write_letters(draft, written.programmes(), "programmes/")
+    say(f"{counted(count, 'letter')} to residents and {more:,} to programmes written to {shown(given.out)}")
     return 0
 
 
 def why_command(given: argparse.Namespace) -> int:
     from . import counter
 
-    lines = counter.answer(Run(given.folder), as_text(given.name), None if given.programme is None else as_text(given.programme), given.timeout)
+    asked = (Run(given.folder), as_text(given.name), None if given.programme is None else as_text(given.programme), given.timeout)
+    text = counter.letter(*asked, given.date or date.today()) if given.letter else "\n".join([*counter.answer(*asked), ""])
     if given.out is not None:
-        writing.new_file(given.out, "\n".join([*lines, ""]).encode("utf-8"), writing.PRIVATE)
-    say("\n".join(lines) if given.out is None else f"written to {shown(given.out)}")
+        writing.new_file(given.out, text.encode("utf-8"), writing.PRIVATE)
+    say(text.rstrip("\n") if given.out is None else f"written to {shown(given.out)}")
     return 0
 
 
@@ -538,14 +545,33 @@ def verify_command(given: argparse.Namespace) -> int:
     made = None
     if given.tables is not None:
         given.programmes, given.residents = given.tables
-        found = tables_of(given, settings_of(given, start=steps.read_by(given.folder)))
-        if found is None:
-            return 3
-        tables, market = found
+        tables, market = tables_of(given, settings_of(given, start=steps.read_by(given.folder)))
         made = FromTables(market, steps.details_of(tables[1], market), [table.sha256 for table in tables])
-    done = steps.verify(given.folder, given.timeout, published, made, lambda one: say(one.line()))
+    done = steps.verify(given.folder, given.timeout, published, made, lambda one: say(one.line()), after=given.after)
     say(done.verdict())
     return 4 if done.wrong else 0
+
+
+def changes_command(given: argparse.Namespace) -> int:
+    kept = running.opened(given.folder)
+    _, market = tables_of(given, settings_of(given, given.programmes, steps.read_by(given.folder)))
+    changes = changed.since(kept.market, market)
+    lists = sum(one.code == "changed.list" for one in changes)
+    for line in [*map(cause, changes), f"{counted(lists, 'list')} changed, of {len([*market.quotas, *market.resident_lists]):,}"]:
+        say(line)
+    return 0
+
+
+def next_command(given: argparse.Namespace) -> int:
+    writing.refuse(given.out)
+    before = Run(given.folder)
+    tables = rounds.tables_of(before)
+    with folder.new_folder(given.out, private=True) as draft:
+        for name, data in tables.items():
+            draft.write(f"{name}.xlsx", data)
+    left, free = sum(len(before.outcome.standing(one)) for one in UNMATCHED), len(before.outcome.unfilled())
+    say(f"{counted(free, 'programme')} with free places, {counted(left, 'unmatched resident')}; written to {shown(given.out)}")
+    return 0
 
 
 def auditor_command(given: argparse.Namespace) -> int:
@@ -559,5 +585,5 @@ def auditor_command(given: argparse.Namespace) -> int:
 
 DOES: Dict[str, Callable[[argparse.Namespace], int]] = {
     "check": check, "settings": settings_command, "lint": lint_command, "seal": seal_command, "run": run, "withdraw": withdraw, "compare": compare_command, "letters": letters,
-    "why": why_command, "verify": verify_command, "auditor": auditor_command,
+    "next": next_command, "changes": changes_command, "why": why_command, "verify": verify_command, "auditor": auditor_command,
 }

@@ -2,10 +2,10 @@
 filled otherwise."""
 from collections import Counter
 from dataclasses import dataclass
-from typing import Dict, Iterable, List, Mapping, Optional, Sequence, Tuple, TypeVar, Union
+from typing import Dict, List, Mapping, Optional, Sequence, Tuple, TypeVar, Union
 
 from .faults import shown
-from .outcome import Outcome, Programme, Resident, Standing
+from .outcome import Outcome, Programme, Resident, Standing, called
 from .phrases import Phrases, english
 from .rosters import heads, table_bytes
 
@@ -40,14 +40,8 @@ class Change:
 
     def line(self) -> str:
         one, words = self.member, english()
-        name = one.name if not one.id or one.name.endswith(f"({one.id})") else f"{one.name} ({one.id})"
         before, now = (shown(said, 300) for said in self.both(words))
-        return f"{shown(name, 200)}: {words.say(f'change.{self.what}')}; {before} -> {now}"
-
-
-def share(count: int, whole: int, phrases: Phrases) -> str:
-    """A count with its part of the whole: `28 (72%)`."""
-    return phrases.say("figure.share", count=count, share=phrases.percent(count, whole)) if whole else phrases.number(count)
+        return f"{shown(called(one), 200)}: {words.say(f'change.{self.what}')}; {before} -> {now}"
 
 
 def figures_of(one: Outcome, phrases: Phrases) -> List[Tuple[str, str]]:
@@ -60,7 +54,9 @@ def figures_of(one: Outcome, phrases: Phrases) -> List[Tuple[str, str]]:
               "not-ranked": kinds[Standing.NOT_RANKED_BACK] + kinds[Standing.RANKED_NOBODY]}
     programmes = sum(not programme.withdrawn for programme in one.programmes.values())
     left = sum(programme.unfilled for programme in one.programmes.values())
-    figures = {"taking-part": phrases.number(there), **{what: share(count, there, phrases) for what, count in of_all.items()},
+    shares = {what: phrases.say("figure.share", count=count, share=phrases.percent(count, there)) if there else phrases.number(count)
+              for what, count in of_all.items()}
+    figures = {"taking-part": phrases.number(there), **shares,
                "programmes": phrases.number(programmes), "left": phrases.say("figure.of", count=left, whole=one.places())}
     return [(phrases.say(f"figure.{what}"), figure) for what, figure in figures.items()]
 
@@ -88,7 +84,7 @@ def is_one(name: str, other: str) -> bool:
 
 
 def of_resident(before: Optional[Resident], now: Optional[Resident], same: Mapping[str, str]) -> str:
-    """What became of a resident, or nothing; `same` names each programme now by its name before. Who has another's ID isn't compared."""
+    """What became of a resident, or nothing; `same` names each programme now by its name before. Whoever has another's ID isn't compared."""
     if before is None or now is None:
         return NEW if before is None else GONE
     if not is_one(before.name, now.name):
@@ -130,16 +126,11 @@ def ordered(found: Sequence[Change], phrases: Phrases) -> List[Change]:
     return sorted(found, key=lambda one: (one.side == "programme", order.get(one.what, 0), phrases.alphabetical(one.member.name), one.member.id))
 
 
-def has_ids(outcomes: Iterable[Outcome]) -> bool:
-    """Whether every resident of these matches has an ID."""
-    return all(one.id for outcome in outcomes for one in outcome.residents.values())
-
-
 def summary(before: Outcome, now: Outcome, found: Sequence[Change]) -> str:
     """One line on who stands otherwise, and how they are known."""
     counts = Counter(one.what for one in found if one.side == "resident")
     told = ", ".join(f"{counts[what]:,} {english().say(f'change.{what}')}" for what in ORDER if what in counts) or "nobody stands otherwise"
-    known = "by their IDs" if has_ids((before, now)) else "by their names, since not all have an ID"
+    known = "by their IDs" if all(one.id for outcome in (before, now) for one in outcome.residents.values()) else "by their names, since not all have an ID"
     return f"residents {known}: {told}"
 
 

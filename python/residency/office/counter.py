@@ -1,9 +1,12 @@
 """The counter: what became of each choice of one resident, from a folder alone, in the folder's words."""
-from typing import List, Optional
+from dataclasses import replace
+from datetime import date
+from typing import List, Optional, Sequence, Tuple
 
-from ..names import PROGRAMME, RESIDENT
+from ..names import RESIDENT, Member
 from ..program import DEFAULT_TIMEOUT
 from ..results import Why
+from . import steps
 from .letters import Letters
 from .outcome import Became, Resident, Standing
 from .phrases import Phrases
@@ -13,23 +16,34 @@ from .who import the_one
 LETTERS = {"unranked": Became.NOT_RANKED, "matched": Became.MATCHED, "better": Became.NOT_NEEDED}
 
 
-def reason(one: Why, resident: Resident, phrases: Phrases) -> str:
-    """What became of one programme."""
+def reason(one: Why, resident: Resident, phrases: Phrases, how: str) -> str:
+    """What became of one programme; `how` is `why` where it is said of the resident, and `letter` where to the resident."""
     if one.answer is None:
-        return phrases.say("why.unlisted")
+        return phrases.say(f"{how}.unlisted")
     if one.answer == "full" and one.last_rank is not None:
-        return phrases.say("why.full", rank=phrases.ordinal(one.rank or 0), quota=one.quota, last=phrases.ordinal(one.last_rank))
+        return phrases.say(f"{how}.full", rank=phrases.ordinal(one.rank or 0), quota=one.quota, last=phrases.ordinal(one.last_rank))
     withdrawn = Became.YOU_WITHDREW if resident.standing is Standing.WITHDRAWN else Became.IT_WITHDREW
     return phrases.say(f"letter.became.{LETTERS.get(one.answer, Became.NO_PLACES if one.answer == 'full' else withdrawn).key}")
 
 
-def answer(run: Run, name: str, programme: Optional[str] = None, timeout: float = DEFAULT_TIMEOUT) -> List[str]:
-    """Whose answer it is, how the resident stands, and what became of each choice, or of one programme. OfficeError for a name that
-    nobody has, or several."""
-    phrases, member = run.language().phrases(), the_one(run.names, name, RESIDENT)
+def asked(run: Run, name: str, programme: Optional[str], timeout: float) -> Tuple[Member, Resident, Sequence[Why]]:
+    """Who is meant, and what became of each choice, or of one programme. OfficeError for a name that nobody has, or several."""
+    member = the_one(run.names, name, RESIDENT)
     resident = run.outcome.residents[run.names.name(RESIDENT, member.docket_name)]
-    asked = None if programme is None else run.names.name(PROGRAMME, the_one(run.names, programme, PROGRAMME).docket_name)
-    letters = Letters(run.market, run.outcome, run.about())
-    rows = [(f"{one.choice}. " if one.choice else "") + phrases.say("letter.row", programme=one.programme, said=reason(one, resident, phrases))
-            for one in run.market.why(run.places, resident.name, asked, timeout)]
-    return [member.label, " ".join(letters.said(resident)), *rows]
+    return member, resident, steps.why(run, name, programme or "", timeout)
+
+
+def answer(run: Run, name: str, programme: Optional[str] = None, timeout: float = DEFAULT_TIMEOUT) -> List[str]:
+    """Whose answer it is, how the resident stands, and what became of what was asked."""
+    phrases, (member, resident, found) = run.language().phrases(), asked(run, name, programme, timeout)
+    rows = [(f"{one.choice}. " if one.choice else "") + phrases.say("letter.row", programme=one.programme, said=reason(one, resident, phrases, "why"))
+            for one in found]
+    return [member.label, " ".join(Letters(run.market, run.outcome, run.about()).said(resident)), *rows]
+
+
+def letter(run: Run, name: str, programme: Optional[str], timeout: float, day: date) -> str:
+    """The answer as a letter to the resident, in the resident's language."""
+    _, resident, found = asked(run, name, programme, timeout)
+    letters = Letters(run.market, run.outcome, replace(run.about(), day=day), None, "name", run.language().column, run.texts())
+    return letters.letter(resident, [(one.choice or 0, {"programme": one.programme, "said": reason(one, resident, letters.phrases[resident.name], "letter")})
+                                     for one in found])

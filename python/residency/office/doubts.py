@@ -2,9 +2,12 @@
 import re
 import unicodedata
 from collections import Counter
-from typing import Dict, Iterator, List, Sequence
+from typing import Dict, Iterator, List, Sequence, Set
 
+from ..near import folded
 from .faults import Cell, Fault, Faults, Remedy
+from .headings import plain
+from .languages import sections
 from .settings import Settings
 from .tables import Entry, Item, Table
 
@@ -13,6 +16,13 @@ LOST = "\ufffd"
 ASKED = re.compile(r"[^\W\d_]\?|\?[^\W\d_]")
 # So many names are told of those that are in doubt.
 MOST_NAMES = 3
+# So many addresses that have others' names are no chance.
+FEW_MAILS = 10
+# Signs that stand in no name, words of remarks, and small words that stand in names.
+SIGNS = re.compile(r"[0-9:;!?*=#@%&/\\<>\[\]{}_+|…•§$€£©†‡~^]|--|(?<!\b[JSjs]r)\.\s*$|^[-–—.\"'(]|[)\"]$")
+REMARKS, PARTICLES = (frozenset(sections("words.txt")["REMARKS"][kind].split()) for kind in ("words", "particles"))
+# With so many other names of its table one is compared.
+MOST_COMPARED = 100
 
 
 def names_of(table: Table) -> Iterator[Item]:
@@ -51,6 +61,16 @@ def tell_alike(table: Table, options: Settings, faults: Faults) -> None:
                         remedies=(Remedy("allow_alike", True),))
 
 
+def tell_mails(table: Table, faults: Faults) -> None:
+    """Tells names beside which most e-mail addresses have words of other names: a column was sorted alone."""
+    names = {entry.row: {*folded(entry.name).split()} for entry in table.entries if entry.mail}
+    every = set().union(*names.values())
+    wrong = [one for one in table.entries if one.mail and {*folded(one.mail.partition("@")[0]).split()} & every - names[one.row]]
+    for one in wrong if len(wrong) >= FEW_MAILS and 2 * len(wrong) > len(names) else ():
+        values = {"count": len(wrong), "owners": table.owners, "mail": wrong[0].mail, "name": wrong[0].name}
+        faults.tell("row.mail", table.name, one.row, one.cell, values, (table.name, "mail"))
+
+
 def note_empty(table: Table, lists: Sequence[Sequence[int]], others: Sequence[Sequence[int]]) -> None:
     """Notes members with an empty list whom others rank, those whom most rank first."""
     ranked = Counter(member for listed in others for member in listed)
@@ -66,3 +86,27 @@ def tell(table: Table, options: Settings, faults: Faults) -> None:
     """Tells all doubts."""
     tell_lost_letters(table, options, faults)
     tell_alike(table, options, faults)
+    tell_mails(table, faults)
+
+
+def signs_of(text: str) -> Set[str]:
+    """What about a text is unusual in a name."""
+    words = text.split()
+    found = {"signs" for _ in SIGNS.finditer(text)}
+    found |= {"words" for word in plain(text).split() if word in REMARKS}
+    found |= {"small" for word in words if word[:1].islower() and word.lower() not in PARTICLES}
+    return found | ({"long"} if len(words) > 6 or len(text) > 60 else set()) | ({"one word"} if len(words) == 1 else set())
+
+
+def is_remark(entry: Entry, table: Table) -> bool:
+    """Whether the name of this entry, who has no list and is in none, reads like a remark: as other names of its table don't.
+
+    A remark is a row of its own: below the table, or between its parts. A name is a few words, most of them with a capital; a
+    remark mostly has a digit, a sign, a word of remarks, small words, or another number of words than all names of its table.
+    """
+    if entry.after_blank:
+        return True
+    unusual = signs_of(entry.name)
+    others = [signs_of(other.name) for other in table.entries[:MOST_COMPARED] if other is not entry]
+    few = 4 if "one word" in unusual else 1
+    return len(others) >= few and any(10 * sum(sign in one for one in others) < len(others) for sign in unusual)

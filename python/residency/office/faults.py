@@ -5,6 +5,8 @@ No sentence is here: `sentences` has these, in the words of the command.
 from dataclasses import dataclass, field
 from typing import Any, Dict, List, Mapping, NamedTuple, Optional, Sequence, Tuple
 
+from .. import text
+
 # How many faults a report shows, unless all are asked for; after them a line says how many more there are, by kind.
 MOST_SHOWN = 20
 # So many faults of a kind are kept, and of others it is kept how many there are.
@@ -12,6 +14,7 @@ MOST_KEPT = 50_000
 # How much of a cell a line shows.
 MOST_LETTERS = 80
 Values = Mapping[str, Any]
+counted = text.counted
 
 
 def shown(text: str, most: int = MOST_LETTERS) -> str:
@@ -20,11 +23,6 @@ def shown(text: str, most: int = MOST_LETTERS) -> str:
         return text
     cut = text if len(text) <= most else f"{text[:most]}... ({len(text):,} letters)"
     return "".join(c if c.isprintable() else repr(c)[1:-1] for c in cut)
-
-
-def counted(number: int, one: str, many: str = "") -> str:
-    """A number of things: `1 place`, `2 places`."""
-    return f"{number:,} {one if number == 1 else many or one + 's'}"
 
 
 def column_letters(cell: int) -> str:

@@ -13,19 +13,19 @@ from .writing import PRIVATE, SHARED, cause_of, draft_of, refuse, umask, write_n
 
 DOCKET, KEY, SHEET, JOURNAL, PAGE = "docket.csv", "key.csv", "sheet.csv", "journal.csv", "page.html"
 AUDIT, REPLAY, MATCHES, UNFILLED, CHANGES = "audit.csv", "replay.csv", "matches.csv", "unfilled.csv", "changes.csv"
-MANIFEST, SUMS, LETTERS, ROSTERS, RESULTS = "manifest.json", "SHA256SUMS", "letters", "rosters", "results.csv"
+MANIFEST, SUMS, LETTERS, ROSTERS, RESULTS, EARLIER = "manifest.json", "SHA256SUMS", "letters", "rosters", "results.csv", "earlier.csv"
 # Of a sealed match: the secret, the roots, each member's receipt, what may be published, and what the tables have besides.
 SECRET, ROOTS, RECEIPTS, PUBLIC, DETAILS = "secret.txt", "root.txt", "receipts", "public", "details.csv"
 # What is readable by its owner alone: who is who, and what is for one member alone.
-OWNERS = {KEY, MATCHES, RESULTS, LETTERS, "letters.html", SECRET, RECEIPTS, DETAILS}
+OWNERS = {KEY, MATCHES, RESULTS, EARLIER, LETTERS, "letters.html", SECRET, RECEIPTS, DETAILS}
 # What tells somebody's list, or a hash from which lists can be guessed: it is for its owner, too, unless others may read the folder.
-LISTS = {DOCKET, JOURNAL, PAGE, ROSTERS, CHANGES, MANIFEST, SUMS}
+LISTS = {DOCKET, JOURNAL, PAGE, ROSTERS, "rosters.html", CHANGES, MANIFEST, SUMS}
 # What only the key, which has the real names, can make, and what only the secret can.
-NEEDS_KEY = {KEY, MATCHES, RESULTS, PAGE, UNFILLED, CHANGES, ROSTERS, LETTERS, "letters.html", DETAILS,
+NEEDS_KEY = {KEY, MATCHES, RESULTS, EARLIER, PAGE, UNFILLED, CHANGES, ROSTERS, "rosters.html", LETTERS, "letters.html", DETAILS,
              *(f"{PUBLIC}/{name}" for name in (PAGE, UNFILLED, "cut-offs.csv"))}
 NEEDS_SECRET = {SECRET, RECEIPTS}
 # The entries of a manifest in their order; the digests follow.
-ENTRIES = ("title", "date", "program", "language", "order", "cut_offs", "template", "letter", "tables", "reading", "from", "withdrawn", "details", "sealed", "auditor")
+ENTRIES = ("title", "date", "program", "language", "order", "cut_offs", "template", "letter", "tables", "reading", "from", "after", "withdrawn", "details", "sealed", "auditor")
 # So many files and bytes are more than any match has.
 MOST_FILES, MOST_BYTES = 1_000_000, 2 << 30
 RESERVED = {"con", "prn", "aux", "nul"} | {f"{port}{number}" for port in ("com", "lpt") for number in range(1, 10)}
@@ -145,12 +145,6 @@ def new_folder(out: str, private: bool = False, readable: bool = False) -> Itera
                 os.rename(part, target)
         except OSError as error:
             raise OfficeError("out.unwritten", 1, out, cause=cause_of(error)) from None
-
-
-def free_name(folder: str) -> str:
-    """The first of FOLDER-2, FOLDER-3, .. that isn't there."""
-    stem = os.path.abspath(folder)
-    return next(f"{stem}-{number}" for number in range(2, 10 ** 6) if not os.path.lexists(f"{stem}-{number}"))
 
 
 class Results:

@@ -2,17 +2,12 @@
 from pathlib import Path
 from typing import Dict, Tuple
 
+from .. import text
+
 
 def sections(name: str) -> Dict[str, Dict[str, str]]:
-    """By the heads of its sections, and by their names, the texts of a file beside this one; a line that begins with # says nothing."""
-    found: Dict[str, Dict[str, str]] = {}
-    for line in Path(__file__).with_name(name).read_text(encoding="utf-8").splitlines():
-        if line.startswith("["):
-            section = found.setdefault(line.strip("[]"), {})
-        elif line and not line.startswith("#"):
-            word, _, text = line.partition(" =")
-            section[word] = text.strip()
-    return found
+    """The sections of a file beside this one."""
+    return text.sections(Path(__file__).with_name(name))
 
 
 WORDS = sections("headings.txt")

@@ -4,15 +4,14 @@ import re
 import string
 import textwrap
 from types import MappingProxyType
-from typing import Dict, List, Mapping, Optional, Sequence, Tuple, Union
+from typing import Any, Dict, Iterable, List, Mapping, Optional, Sequence, Tuple, Union
 
 from ..market import Market
 from ..names import docket_names
 from .faults import OfficeError
-from .outcome import Became, Lists, Outcome, Resident, Standing, by_name
-from .page import About, bdi
+from .outcome import Became, Lists, Outcome, Standing, by_name, called
+from .page import COLOURS, LETTERS_STYLE, About, bdi, document, lang
 from .phrases import NEW_LINE, Phrases, languages, named
-from .style import LETTERS_STYLE
 from .text import LINE_END
 from .tree import Roots
 
@@ -20,13 +19,16 @@ from .tree import Roots
 TEXTS = ("sender", "appeals", "signature")
 # Templates of an office: one text, or by a standing each one's, with one for all others.
 Templates = Union[str, Mapping[str, str], None]
-OTHERS = "letter"
+OTHERS, PROGRAMME = "letter", "programme"
+# The rows of a letter: each one's number, and the values of its phrase; those of these names are names.
+Rows = List[Tuple[int, Mapping[str, str]]]
+NAMES = ("programme", "name")
 FIELDS = ("day", "date", "title", "name", "id", "programme", "choice", "listed", "outcome", "list", "docket_name",
           "docket_sha256", "lists_root", "result_root", "sealed", *TEXTS)
 # A hash without a salt, from which lists can be guessed: no letter of a sealed match has it.
 UNSALTED = "docket_sha256"
-# The file of all letters.
-LETTERS_PAGE = "letters.html"
+# The files of all letters, to residents and to programmes.
+LETTERS_PAGE, ROSTERS_PAGE = "letters.html", "rosters.html"
 # How many letters a line of a letter has.
 WIDTH = 72
 # What a sentence on a list that led to no place tells apart.
@@ -86,96 +88,111 @@ def why_not(became: List[Became], phrases: Phrases) -> str:
 
 
 class Letters:
-    """The letters of one match. With a `column` of those that are kept each resident's is in the language that the column says."""
+    """The letters to the residents of one match. With a `column` of those that are kept each resident's is in the language that the
+    column says."""
+
+    # The file of all letters, how their phrases begin, and the kinds of their templates.
+    page_name, said_by, kinds = LETTERS_PAGE, "letter", tuple(one.key for one in Standing)
 
     def __init__(self, market: Market, outcome: Outcome, about: About, template: Templates = None, order: str = "name",
                  column: str = "", texts: Mapping[str, str] = MappingProxyType({})) -> None:
-        self.outcome, self.about, self.order = outcome, about, order
+        self.outcome, self.about, self.order, self.market, self.given = outcome, about, order, market, (market, outcome, about, template, order)
         self.own: Mapping[str, str] = {OTHERS: template} if isinstance(template, str) else template or {}
         self.texts = {name: str(texts.get(name, "")).replace(NEW_LINE, "\n") for name in TEXTS}
-        self.phrases = {one.name: about.phrases for one in outcome.residents.values()}
+        self.phrases = {one.name: about.phrases for one in self.members()}
         if column:
             self.phrases.update(spoken(outcome, outcome.columns.index(column), about.phrases))
-        self.templates = {(one.language, standing): self.template(one, standing)
-                          for one in dict.fromkeys([about.phrases, *self.phrases.values()]) for standing in Standing}
+        self.templates = {(one.language, kind): self.template(one, kind)
+                          for one in dict.fromkeys([about.phrases, *self.phrases.values()]) for kind in self.kinds}
         self.kept = fields_of(outcome.columns)
         self.lists = Lists(market)
 
-    def own_of(self, standing: Standing) -> Optional[str]:
-        """The office's own template for those who stand so."""
-        return self.own.get(standing.key, self.own.get(OTHERS))
+    def programmes(self) -> "ProgrammeLetters":
+        """The letters to the programmes of the same match."""
+        return ProgrammeLetters(*self.given, texts=self.texts)
 
-    def template(self, phrases: Phrases, standing: Standing) -> str:
-        """The template of the letters in a language to those who stand so, checked."""
+    def members(self) -> Iterable[Any]:
+        """Whom the letters are to."""
+        return self.outcome.residents.values()
+
+    def kind(self, one: Any) -> str:
+        """Which template is for a member."""
+        return str(one.standing.key)
+
+    def own_of(self, kind: str) -> Optional[str]:
+        """The office's own template of a kind."""
+        return self.own.get(kind, self.own.get(OTHERS))
+
+    def template(self, phrases: Phrases, kind: str) -> str:
+        """The template of the letters of a kind in a language, checked."""
         said = phrases.say("letter.docket-name", name="\0").replace("$", "$$").replace("\0", "$docket_name")
         has = {"sealed": self.about.roots is not None, **{name: bool(text) for name, text in self.texts.items()}}
         fields = ("sender", "day", "name", "outcome", "list", "", "sealed", "appeals", "signature")
         made = "\n\n".join(f"${name}" if name else said for name in fields if has.get(name, True))
-        own = self.own_of(standing)
+        own = self.own_of(kind)
         text = checked_template(f"{made}\n" if own is None else own, self.outcome.columns)
         if self.about.roots is not None:
             refuse_unsalted(text)
         return text
 
-    def fields(self, resident: Resident) -> Dict[str, str]:
+    def fields(self, one: Any) -> Dict[str, str]:
         """What the fields of the template stand for, without those that a text and a page write differently."""
-        roots, phrases = self.about.roots, self.phrases[resident.name]
+        roots, phrases = self.about.roots, self.phrases[one.name]
         return {
             **self.texts, "day": phrases.day(self.about.day), "date": self.about.day.isoformat(), "title": self.about.title,
-            "name": resident.name, "id": resident.id, "programme": resident.programme or "",
-            "choice": phrases.ordinal(resident.choice) if resident.choice else "", "listed": str(resident.ranked),
-            "docket_name": resident.docket_name, UNSALTED: self.about.digests.get("docket.csv", ""),
-            "lists_root": roots.lists if roots else "", "result_root": roots.result if roots else "", "sealed": how_to_check(roots, phrases),
-            **dict(zip(self.kept, resident.kept)),
+            "name": one.name, "id": one.id, "listed": str(one.ranked), "docket_name": one.docket_name,
+            UNSALTED: self.about.digests.get("docket.csv", ""), "lists_root": roots.lists if roots else "",
+            "result_root": roots.result if roots else "", "sealed": how_to_check(roots, phrases), **self.own_fields(one, phrases),
         }
 
-    def letter(self, resident: Resident) -> str:
-        """A letter as text."""
-        outcome = "\n".join(textwrap.fill(line, WIDTH, break_long_words=False, break_on_hyphens=False)
-                            for line in self.said(resident))
-        rows, phrases = self.rows(resident), self.phrases[resident.name]
-        width = len(str(len(rows)))
-        lines = [f"  {choice:>{width}}. {phrases.say('letter.row', programme=programme, said=said)}"
-                 for choice, (programme, said) in enumerate(rows, 1)]
-        listed = "\n".join([phrases.say("letter.list"), "", *lines]) if rows else phrases.say("letter.list-empty")
-        return string.Template(self.templates[phrases.language, resident.standing]).substitute(self.fields(resident), outcome=outcome, list=listed)
+    def own_fields(self, one: Any, phrases: Phrases) -> Dict[str, str]:
+        """Those of a resident alone."""
+        return {"programme": one.programme or "", "choice": phrases.ordinal(one.choice) if one.choice else "", **dict(zip(self.kept, one.kept))}
 
-    def rows(self, resident: Resident) -> List[Tuple[str, str]]:
+    def letter(self, one: Any, rows: Optional[Rows] = None) -> str:
+        """A letter as text, with these rows where they are given."""
+        outcome = "\n".join(textwrap.fill(line, WIDTH, break_long_words=False, break_on_hyphens=False) for line in self.said(one))
+        rows, phrases = self.rows(one) if rows is None else rows, self.phrases[one.name]
+        width = max((len(str(number)) for number, _ in rows), default=0)
+        lines = [f"  {number:>{width}}. {phrases.say(f'{self.said_by}.row', **values)}" for number, values in rows]
+        listed = "\n".join([phrases.say(f"{self.said_by}.list"), "", *lines]) if rows else phrases.say(f"{self.said_by}.list-empty")
+        return string.Template(self.templates[phrases.language, self.kind(one)]).substitute(self.fields(one), outcome=outcome, list=listed)
+
+    def rows(self, one: Any) -> Rows:
         """The list as it was matched, with what became of each."""
-        phrases = self.phrases[resident.name]
-        return [(programme, phrases.say(f"letter.became.{became.key}")) for programme, became in self.lists.became(resident)]
+        phrases = self.phrases[one.name]
+        return [(choice, {"programme": programme, "said": phrases.say(f"letter.became.{became.key}")})
+                for choice, (programme, became) in enumerate(self.lists.became(one), 1)]
 
-    def said(self, resident: Resident) -> List[str]:
+    def said(self, one: Any) -> List[str]:
         """What the match gave, as lines."""
-        phrases = self.phrases[resident.name]
-        if resident.standing is Standing.MATCHED:
-            values = {"programme": resident.programme, "choice": phrases.ordinal(resident.choice or 0), "count": resident.ranked}
+        phrases = self.phrases[one.name]
+        if one.standing is Standing.MATCHED:
+            values = {"programme": one.programme, "choice": phrases.ordinal(one.choice or 0), "count": one.ranked}
             return [phrases.filled(line, values) for line in phrases.texts["letter.matched"].split(NEW_LINE)]
-        if resident.standing in (Standing.WITHDRAWN, Standing.RANKED_NOBODY):
-            return [phrases.say(f"letter.{resident.standing.key}")]
-        return [phrases.say("letter.unmatched", why=why_not([became for _, became in self.lists.became(resident)], phrases))]
+        if one.standing in (Standing.WITHDRAWN, Standing.RANKED_NOBODY):
+            return [phrases.say(f"letter.{one.standing.key}")]
+        return [phrases.say("letter.unmatched", why=why_not([became for _, became in self.lists.became(one)], phrases))]
 
     def all(self) -> Dict[str, str]:
-        """Each resident's letter, by docket name."""
-        return {one.docket_name: self.letter(one) for one in self.outcome.residents.values()}
+        """Each member's letter, by docket name."""
+        return {one.docket_name: self.letter(one) for one in self.members()}
 
-    def article(self, resident: Resident, blocks: List[string.Template]) -> str:
+    def article(self, one: Any, blocks: List[string.Template]) -> str:
         """A letter as a part of the page."""
-        phrases = self.phrases[resident.name]
-        fields = {name: html.escape(value) for name, value in self.fields(resident).items()}
-        fields.update(name=bdi(resident.name), outcome=html.escape(" ".join(self.said(resident))))
-        rows = "\n".join(f"<li>{phrases.html('letter.row', programme=bdi(programme), said=html.escape(said, False))}</li>"
-                         for programme, said in self.rows(resident))
-        fields["list"] = (f"</p>\n<p>{phrases.html('letter.list')}</p>\n<ol>\n{rows}\n</ol>\n<p>" if rows
-                          else phrases.html("letter.list-empty"))
+        phrases = self.phrases[one.name]
+        fields = {name: html.escape(value) for name, value in self.fields(one).items()}
+        fields.update(name=bdi(one.name), outcome=html.escape(" ".join(self.said(one))))
+        shown = [(number, {name: bdi(text) if name in NAMES else html.escape(text, False) for name, text in values.items()})
+                 for number, values in self.rows(one)]
+        rows = "\n".join((f'<li value="{number}">' if number != count else "<li>") + phrases.html(f"{self.said_by}.row", **values) + "</li>"
+                         for count, (number, values) in enumerate(shown, 1))
+        fields["list"] = (f"</p>\n<p>{phrases.html(f'{self.said_by}.list')}</p>\n<ol>\n{rows}\n</ol>\n<p>" if rows
+                          else phrases.html(f"{self.said_by}.list-empty"))
         text = "\n".join(f"<p>{block.substitute(fields)}</p>" for block in blocks)
-        spoken = "" if phrases is self.about.phrases or self.own_of(resident.standing) is not None else self.language(phrases)
-        begin = f'<article id="{resident.docket_name}"{spoken} aria-label="{html.escape(resident.name)}">'
+        spoken = "" if phrases is self.about.phrases or self.own_of(self.kind(one)) is not None else lang(phrases)
+        begin = f'<article id="{one.docket_name}"{spoken} aria-label="{html.escape(one.name)}">'
         return f'{begin}\n{EMPTY.sub("", text)}\n</article>'
-
-    @staticmethod
-    def language(phrases: Phrases) -> str:
-        return f' lang="{html.escape(phrases.language)}"'
 
     def page(self) -> str:
         """All letters in one file, each on a sheet of its own when it is printed."""
@@ -183,16 +200,41 @@ class Letters:
         for kind, template in self.templates.items():
             parts = re.split(r"\n(?:[ \t]*\n)+", template.strip("\n"))
             blocks[kind] = [string.Template(html.escape(part)) for part in parts if part.strip()]
-        who = by_name(self.outcome.residents.values(), phrases, self.order)
+        who = by_name(self.members(), phrases, self.order)
         title = phrases.html("letters.title", title=html.escape(self.about.title), date=self.about.day.isoformat())
-        inside = "\n".join(self.article(one, blocks[self.phrases[one.name].language, one.standing]) for one in who)
+        inside = "\n".join(self.article(one, blocks[self.phrases[one.name].language, self.kind(one)]) for one in who)
         # The words of a template may be in any language.
-        language = "" if self.own else self.language(phrases)
-        return (f'<!doctype html>\n<html{language}>\n<head>\n<meta charset="utf-8">\n'
-                '<meta name="viewport" content="width=device-width, initial-scale=1">\n'
-                f"<title>{title}</title>\n<style>\n{LETTERS_STYLE}</style>\n</head>\n"
-                f"<body>\n<header>\n<h1>{html.escape(self.about.title)}</h1>\n<p>{phrases.html('letters.told', count=len(who))}</p>\n"
-                f"</header>\n<main>\n{inside}\n</main>\n</body>\n</html>\n")
+        language = "" if any(self.own_of(kind) is not None for kind in self.kinds) else lang(phrases)
+        return document(language, title, COLOURS + LETTERS_STYLE, f"<header>\n<h1>{html.escape(self.about.title)}</h1>\n<p>"
+                        f"{phrases.html('letters.told', count=len(who))}</p>\n</header>\n<main>\n{inside}\n</main>")
+
+
+class ProgrammeLetters(Letters):
+    """The letters to the programmes of one match: each one's residents with their ranks, and how many of its places stay unfilled."""
+
+    page_name, said_by, kinds = ROSTERS_PAGE, PROGRAMME, (PROGRAMME,)
+
+    def members(self) -> Iterable[Any]:
+        return self.outcome.programmes.values()
+
+    def kind(self, one: Any) -> str:
+        return PROGRAMME
+
+    def own_of(self, kind: str) -> Optional[str]:
+        return self.own.get(kind)
+
+    def own_fields(self, one: Any, phrases: Phrases) -> Dict[str, str]:
+        return dict.fromkeys(("programme", "choice", *self.kept), "")
+
+    def rows(self, one: Any) -> Rows:
+        ranks = {name: rank for rank, name in enumerate(self.market.programme_lists.get(one.name, ()), 1)}
+        return [(ranks[name], {"name": called(self.outcome.residents[name])}) for name in one.residents]
+
+    def said(self, one: Any) -> List[str]:
+        phrases = self.phrases[one.name]
+        if one.withdrawn or not one.places:
+            return [phrases.say("programme.withdrawn" if one.withdrawn else "programme.no-places")]
+        return [phrases.say("programme.filled", filled=one.filled, places=one.places), *([phrases.say("programme.unfilled", free=one.unfilled)] * bool(one.unfilled))]
 
 
 def spoken(outcome: Outcome, column: int, otherwise: Phrases) -> Dict[str, Phrases]:
@@ -206,12 +248,11 @@ def spoken(outcome: Outcome, column: int, otherwise: Phrases) -> Dict[str, Phras
 
 
 def how_to_check(roots: Optional[Roots], phrases: Phrases) -> str:
-    """What a letter of a sealed match says of it: the roots, and how to check, in two sentences."""
+    """What a letter of a sealed match says of it: the roots, and how to check, in three lines."""
     if roots is None:
         return ""
-    said = (phrases.say("letter.sealed", count=roots.count), phrases.say("letter.check"))
-    begin, end = (textwrap.fill(one, WIDTH) for one in said)
-    return f"{begin}\n\n  {roots.lists}\n  {roots.result}\n\n{end}"
+    begin, *lines = [phrases.say("letter.sealed", count=roots.count), *phrases.say("letter.check").split(NEW_LINE)]
+    return "\n".join([textwrap.fill(begin, WIDTH), "", f"  {roots.lists}", f"  {roots.result}", "", *lines])
 
 
 # A paragraph of which a field without a text is all.

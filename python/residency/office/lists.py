@@ -10,7 +10,6 @@ from ..records import is_name
 from . import doubts, national
 from .faults import Cell, Fault, Faults, Remedy, Values
 from .headings import bare, meanings
-from .remarks import is_remark
 from .settings import Settings
 from .tables import SCIENTIFIC, Entry, Item, Table
 
@@ -275,7 +274,7 @@ def note_alone(table: Table, lists: List[List[int]], others: List[List[int]], fa
     ranked = {member for listed in others for member in listed}
     alone = [entry for index, (entry, listed) in enumerate(zip(table.entries, lists)) if not listed and index not in ranked]
     for entry in alone if table.owners == "resident" and not options.allow_alone else ():
-        if not entry.items and is_remark(entry, table):
+        if not entry.items and doubts.is_remark(entry, table):
             faults.tell("row.remark", table.name, entry.row, entry.cell, {"name": entry.name}, remedies=(Remedy("allow_alone", True),))
     if alone:
         values = {"owners": table.owners, "names": [(one.name, one.row) for one in alone]}

@@ -9,7 +9,16 @@ from ..names import PROGRAMME, RESIDENT
 from .phrases import Phrases
 
 
-class Standing(Enum):
+class Word(Enum):
+    """A word of an outcome."""
+
+    @property
+    def key(self) -> str:
+        """The end of the names of its phrases."""
+        return str(self.value).replace(" ", "-")
+
+
+class Standing(Word):
     """How a resident stands after a match; the value is the word in tables."""
 
     MATCHED = "matched"
@@ -18,13 +27,8 @@ class Standing(Enum):
     LOST_OUT = "lost out"
     WITHDRAWN = "withdrawn"
 
-    @property
-    def key(self) -> str:
-        """The end of the names of its phrases."""
-        return self.value.replace(" ", "-")
 
-
-class Became(Enum):
+class Became(Word):
     """What became of one programme on a resident's list: the first of these that holds."""
 
     YOU_WITHDREW = "you withdrew"
@@ -34,11 +38,6 @@ class Became(Enum):
     NOT_RANKED = "not ranked back"
     NO_PLACES = "no places"
     FULL = "full"
-
-    @property
-    def key(self) -> str:
-        """The end of the names of its phrases."""
-        return self.value.replace(" ", "-")
 
 
 UNMATCHED = (Standing.LOST_OUT, Standing.NOT_RANKED_BACK, Standing.RANKED_NOBODY)
@@ -149,6 +148,11 @@ def outcome_of(market: Market, places: Mapping[str, Optional[str]], details: Det
         programmes[name] = Programme(name, market.names.id(PROGRAMME, made), made, quota, tuple(one for _, one in taken),
                                      last, ranked, name in gone_programmes)
     return Outcome(residents, programmes, details.columns)
+
+
+def called(one: Union[Resident, Programme]) -> str:
+    """A member's name, with its ID where it has one that isn't in the name."""
+    return one.name if not one.id or one.name.endswith(f"({one.id})") else f"{one.name} ({one.id})"
 
 
 def name_key(one: Union[Resident, Programme], phrases: Phrases) -> Tuple[Tuple[str, str], Tuple[str, str]]:

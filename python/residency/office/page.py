@@ -5,13 +5,15 @@ It is one file that needs nothing else, without a script; it reads on a telephon
 import html
 from dataclasses import dataclass, field
 from datetime import date
+from pathlib import Path
 from typing import Any, Dict, Iterable, List, Optional, Sequence, Tuple, Union
 
-from .outcome import UNMATCHED, Outcome, Programme, Resident, Standing, by_name
+from .outcome import UNMATCHED, Outcome, Programme, Resident, Standing, by_name, called
 from .phrases import Phrases, english
-from .style import STYLE
 from .tree import Roots
 
+# The styles, of which `@FOOT@` and `@OF@` stand for words. Nothing is wider than the screen or the sheet.
+COLOURS, PAGE_STYLE, LETTERS_STYLE = (Path(__file__).with_name(f"{name}.css").read_text(encoding="ascii") for name in ("colours", "page", "letters"))
 # As many choices have a bar of their own; all later ones share one.
 MOST_BARS = 10
 # The parts of the page, by the ends of the names of their phrases.
@@ -35,10 +37,19 @@ def bdi(text: str) -> str:
     return f"<bdi>{html.escape(text)}</bdi>"
 
 
+def lang(phrases: Phrases) -> str:
+    return f' lang="{html.escape(phrases.language)}"'
+
+
+def document(language: str, title: str, style: str, body: str) -> str:
+    """A whole page, of parts of one."""
+    return (f'<!doctype html>\n<html{language}>\n<head>\n<meta charset="utf-8">\n<meta name="viewport" content="width=device-width, initial-scale=1">\n'
+            f"<title>{title}</title>\n<style>\n{style}</style>\n</head>\n<body>\n{body}\n</body>\n</html>\n")
+
+
 def label(member: Union[Programme, Resident]) -> str:
     """A member's name, with its ID where it has one; the family name stands out where it is known, since it gives the order."""
-    named = not member.id or member.name.endswith(f"({member.id})")
-    text = member.name if named else f"{member.name} ({member.id})"
+    text = called(member)
     family = getattr(member, "family", "")
     before, space, after = text.rpartition(f" {family}") if family else ("", "", "")
     if not space:
@@ -201,7 +212,7 @@ class Page:
         return self.phrases.say("page.foot", title=self.about.title, date=self.about.day.isoformat(), digest=docket)
 
     def style(self) -> str:
-        style = STYLE
+        style = COLOURS + PAGE_STYLE
         for mark, text in (("@FOOT@", self.foot()), ("@OF@", self.phrases.say("page.sheet-of"))):
             style = style.replace(mark, "".join(c for c in text if c.isprintable() and c not in '"\\<>&{}'))
         return style
@@ -214,8 +225,5 @@ class Page:
     def text(self) -> str:
         """The whole page."""
         inside = "\n".join(self.sections())
-        return (f'<!doctype html>\n<html lang="{html.escape(self.phrases.language)}">\n<head>\n<meta charset="utf-8">\n'
-                '<meta name="viewport" content="width=device-width, initial-scale=1">\n'
-                f"<title>{html.escape(self.about.title)}, {self.about.day.isoformat()}</title>\n"
-                f"<style>\n{self.style()}</style>\n</head>\n"
-                f"<body>\n{self.head()}\n<main>\n{inside}\n</main>\n</body>\n</html>\n")
+        return document(lang(self.phrases), f"{html.escape(self.about.title)}, {self.about.day.isoformat()}", self.style(),
+                        f"{self.head()}\n<main>\n{inside}\n</main>")

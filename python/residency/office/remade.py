@@ -1,5 +1,5 @@
 """A folder of results made again, from its docket, journal, secret, key and the manifest's settings, by the very code that wrote it.
-Nothing is written but a secret and a sheet, for the program that reads them as files, in a room that is for its owner alone."""
+Nothing is written but a secret, a key and a sheet, for the program that reads them as files, in a room that is for its owner alone."""
 from dataclasses import replace
 from datetime import date
 from pathlib import Path
@@ -24,7 +24,8 @@ Manifest = Dict[str, Any]
 
 
 class Source(NamedTuple):
-    """What a folder is made again from; `has_key` is false where the names are the docket's alone."""
+    """What a folder is made again from; `has_key` is false where the names are the docket's alone, and `earlier` has
+    the rounds before it."""
 
     market: Market
     details: Details
@@ -33,27 +34,24 @@ class Source(NamedTuple):
     secret: Optional[bytes]
     has_key: bool
     timeout: float
+    earlier: bytes = b""
 
     def without(self) -> Set[str]:
         """The files that can't be made for want of a part."""
-        no_secret = is_sealed(self.manifest) and self.secret is None
+        no_secret = "sealed" in self.manifest and self.secret is None
         return (set() if self.has_key else folder.NEEDS_KEY) | (folder.NEEDS_SECRET if no_secret else set())
 
     def roots(self) -> Optional[Roots]:
         """The roots as a sealed folder claims them, for want of the secret. ValueError where they are none."""
-        if not is_sealed(self.manifest) or self.secret is not None:
+        if "sealed" not in self.manifest or self.secret is not None:
             return None
         rows = [f"{word},{self.manifest['sealed'].get('members')},{self.manifest['sealed'].get(word)}\n" for word in ("lists", "result")]
         return Roots.read("".join(rows[:1 + is_matched(self.manifest)]).encode("utf-8", "replace"))
 
 
-def is_sealed(manifest: Manifest) -> bool:
-    return "sealed" in manifest
-
-
 def is_matched(manifest: Manifest) -> bool:
     """Whether a folder of this manifest has a match: each but one that was sealed and has no root of a result."""
-    return not is_sealed(manifest) or bool(manifest["sealed"].get("result"))
+    return "sealed" not in manifest or bool(manifest["sealed"].get("result"))
 
 
 def fault_of(manifest: Any) -> str:
@@ -61,7 +59,7 @@ def fault_of(manifest: Any) -> str:
     if not isinstance(manifest, dict):
         return "it is none that office wrote"
     kinds = {"title": str, "date": str, "program": str, "order": str, "cut_offs": bool, "withdrawn": list, "details": list,
-             "sealed": dict, "from": dict, "auditor": dict, "language": dict, "letter": dict, "tables": list, "reading": dict, "sha256": dict}
+             "sealed": dict, "from": dict, "after": dict, "auditor": dict, "language": dict, "letter": dict, "tables": list, "reading": dict, "sha256": dict}
     wrong = [name for name, kind in kinds.items() if name in manifest and not isinstance(manifest[name], kind)]
     wrong += [name for name in ("title", "date", "program", "withdrawn", "sha256") if name not in manifest]
     own = manifest.get("template")
@@ -129,7 +127,7 @@ class Remade(Draft):
         self.files: Dict[str, bytes] = {}
 
     def write(self, name: str, data: bytes) -> str:
-        if name in (folder.SECRET, folder.SHEET):
+        if name in (folder.KEY, folder.SECRET, folder.SHEET):
             super().write(name, data)
         self.files[name], self.sums[name] = data, digest(data)
         return self.sums[name]
@@ -152,8 +150,8 @@ def remade(room: Path, source: Source, claimed: Dict[str, str]) -> Dict[str, byt
     """Every file that follows from a source, by its name. OfficeError, ValueError, ResidencyError."""
     manifest = source.manifest
     draft = Remade(room, source, claimed)
-    wishes = wishes_of(manifest, source.details.columns, source.timeout)
-    kept = {name: manifest[name] for name in ("program", "tables", "reading", "from") if name in manifest}
+    wishes = replace(wishes_of(manifest, source.details.columns, source.timeout), earlier=source.earlier)
+    kept = {name: manifest[name] for name in ("program", "tables", "reading", "from", "after") if name in manifest}
     if not is_matched(manifest):
         running.fill_sealed(draft, source.market, source.details, wishes, kept, source.secret or b"", source.roots())
         came_from(source, None)
@@ -162,7 +160,7 @@ def remade(room: Path, source: Source, claimed: Dict[str, str]) -> Dict[str, byt
     changes = came_from(source, result)
     if changes is not None:
         draft.write(folder.CHANGES, changes)
-    running.fill(draft, result, wishes, kept, source.secret or b"" if is_sealed(manifest) else b"", source.roots())
+    running.fill(draft, result, wishes, kept, source.secret or b"" if "sealed" in manifest else b"", source.roots())
     return draft.files
 
 

@@ -1,9 +1,10 @@
 """The tables of a match that a spreadsheet or a database takes: rosters, unfilled places, and a row for each resident."""
 import csv
 import io
-from typing import Iterable, List, Mapping, Sequence
+from typing import Iterable, List, Mapping, Sequence, Tuple
 
 from ..key import to_cell
+from ..names import RESIDENT, Names
 from .outcome import Details, Outcome, Programme, by_name
 from .phrases import Phrases
 
@@ -64,13 +65,6 @@ def unfilled(outcome: Outcome, phrases: Phrases) -> bytes:
     return members_table(heads(phrases, "programme", "id", "quota", "filled", "free"), rows, 1)
 
 
-def results(outcome: Outcome, phrases: Phrases, order: str) -> bytes:
-    """A row for each resident, for a spreadsheet: who is where, by which choice, and how all others stand."""
-    rows = [(one.name, one.id, phrases.say(f"standing.{one.standing.key}"), one.programme, one.choice, *one.kept)
-            for one in by_name(outcome.residents.values(), phrases, order)]
-    return members_table([*heads(phrases, "resident", "id", "standing", "programme", "choice"), *outcome.columns], rows, 1)
-
-
 def matches(outcome: Outcome) -> bytes:
     """A row for each resident, in the order of the table, for programs: raw, so that names are as the tables have them."""
     rows: List[Sequence[object]] = []
@@ -89,9 +83,17 @@ def details_table(details: Details, names: Mapping[str, str]) -> bytes:
     return raw_bytes((*DETAIL_COLUMNS, *details.columns), rows)
 
 
-def details_of(data: bytes, names: Mapping[str, str], before: int = len(MATCH_COLUMNS)) -> Details:
-    """The family names and kept columns of a table that `matches` wrote, or `details_table` with fewer columns before those that
-    are kept; `names` has each resident's by the docket's."""
+def rows_below(data: bytes) -> Tuple[List[str], List[List[str]]]:
+    """The heading of a table for a program, and its rows."""
     heading, *rows = csv.reader(io.StringIO(data.decode("utf-8"), newline=""))
+    return heading, rows
+
+
+def details_of(data: bytes, market: Names, is_matched: bool) -> Details:
+    """The family names and kept columns of a table that `matches` wrote, or `details_table` with fewer columns before those that are
+    kept, in the names of a market."""
+    names, before = {one.docket_name: market.name(RESIDENT, one.docket_name) for one in market.members(RESIDENT)}, len(
+        MATCH_COLUMNS if is_matched else DETAIL_COLUMNS)
+    heading, rows = rows_below(data)
     return Details({names[row[0]]: row[before - 1] for row in rows if row[before - 1]}, tuple(heading[before:]),
                    {names[row[0]]: tuple(row[before:]) for row in rows})

@@ -1,17 +1,17 @@
 """A run: from a market to a folder with all that an office, an auditor and each member wants of its match."""
 from dataclasses import dataclass, field
 from datetime import date
-from typing import Any, Dict, List, Mapping, Optional, Sequence
+from typing import Any, Callable, Dict, List, Mapping, Optional, Sequence, TypeVar
 
-from ..errors import DocketFault, KeyFault, MarketFault
+from ..errors import DocketFault
 from ..key import read_key, write_key
 from ..market import Market
 from ..names import PROGRAMME, RESIDENT, Names
 from ..program import DEFAULT_TIMEOUT, run_program
-from . import folder, public, rosters, seal
+from . import folder, public, rosters, rounds, seal
 from .faults import OfficeError
 from .folder import Draft, Results, digest, file_names
-from .letters import LETTERS_PAGE, Letters, Templates
+from .letters import Letters, Templates
 from .outcome import Details, Outcome, outcome_of
 from .page import About, Page
 from .phrases import Language
@@ -19,6 +19,7 @@ from .tree import Roots
 from .who import the_one
 
 TITLE = "The match"
+Read = TypeVar("Read")
 
 
 @dataclass(frozen=True)
@@ -35,6 +36,8 @@ class Wishes:
     readable: bool = False
     language: Language = Language()
     texts: Mapping[str, str] = field(default_factory=dict)
+    # Of a second round: what its folder keeps of the rounds before it.
+    earlier: bytes = b""
 
     def settings(self) -> Dict[str, Any]:
         """What a manifest keeps of these, so that the folder can be made again."""
@@ -89,13 +92,17 @@ def fill(draft: Draft, result: Matched, wishes: Wishes, manifest: Dict[str, Any]
     draft.write(folder.REPLAY, result.replay)
     draft.write(folder.PAGE, Page(outcome, about, wishes.order).text().encode("utf-8"))
     draft.write(folder.MATCHES, rosters.matches(outcome))
-    draft.write(folder.RESULTS, rosters.results(outcome, about.phrases, wishes.order))
+    draft.write(folder.RESULTS, rounds.results(outcome, about.phrases, wishes.order, wishes.earlier))
+    if "after" in manifest:
+        draft.write(folder.EARLIER, wishes.earlier)
     draft.write(folder.UNFILLED, rosters.unfilled(outcome, about.phrases))
     names = file_names((one.docket_name for one in outcome.programmes.values()), ".csv")
     for programme in outcome.programmes.values():
         ranks = result.market.programme_lists.get(programme.name, ())
         draft.write(f"{folder.ROSTERS}/{names[programme.docket_name]}", rosters.roster(outcome, programme, ranks, about.phrases))
-    write_letters(draft, Letters(result.market, outcome, about, wishes.template, wishes.order, wishes.language.column, wishes.texts))
+    letters = Letters(result.market, outcome, about, wishes.template, wishes.order, wishes.language.column, wishes.texts)
+    write_letters(draft, letters, folder.LETTERS + "/")
+    write_letters(draft, letters.programmes(), folder.ROSTERS + "/")
     details = ["family_name"] * any(one.family for one in outcome.residents.values()) + list(outcome.columns)
     draft.finish({**begun(wishes, result.program), **wishes.settings(), **manifest, **ended(result.market, details, roots)})
     return roots
@@ -130,13 +137,13 @@ def fill_sealed(draft: Draft, market: Market, details: Details, wishes: Wishes, 
     return roots
 
 
-def write_letters(draft: Draft, letters: Letters, inside: str = folder.LETTERS + "/") -> int:
-    """Writes each resident's letter, and the page of all of them, and answers how many there are."""
+def write_letters(draft: Draft, letters: Letters, inside: str) -> int:
+    """Writes each member's letter, and the page of all of them, and answers how many there are."""
     written = letters.all()
     names = file_names(written, ".txt")
     for made, text in written.items():
         draft.write(inside + names[made], text.encode("utf-8"))
-    draft.write(LETTERS_PAGE, letters.page().encode("utf-8"))
+    draft.write(letters.page_name, letters.page().encode("utf-8"))
     return len(written)
 
 
@@ -147,20 +154,21 @@ class Kept:
         self.results = Results(path)
         self.at = path
         self.names = self.key()
-        try:
-            self.market = Market.from_docket(self.results.checked(folder.DOCKET), self.names)
-        except (DocketFault, MarketFault) as fault:
-            raise OfficeError("folder.fault", 3, self.at, folder.DOCKET, cause=str(fault)) from None
+        self.market = self.sound(folder.DOCKET, lambda data: Market.from_docket(data, self.names))
         self.details = self.read_details()
+
+    def sound(self, name: str, reads: Callable[[bytes], Read], data: Optional[bytes] = None) -> Read:
+        """What a file says. OfficeError where it is at fault, or was changed."""
+        try:
+            return reads(self.results.checked(name) if data is None else data)
+        except (DocketFault, ValueError) as fault:
+            raise OfficeError("folder.fault", 3, self.at, name, cause=str(fault)) from None
 
     def key(self) -> Names:
         """Who is who. A key that a spreadsheet saved again is taken where it says the same."""
         data = self.results.read(folder.KEY)
         wanted = self.results.manifest["sha256"].get(folder.KEY)
-        try:
-            names = read_key(data)
-        except KeyFault as fault:
-            raise OfficeError("folder.fault", 3, self.at, folder.KEY, cause=str(fault)) from None
+        names = self.sound(folder.KEY, read_key, data)
         if digest(data) != wanted and digest(write_key(names)) != wanted:
             raise OfficeError("folder.other-key", 3, self.at, folder.KEY)
         return names
@@ -174,21 +182,12 @@ class Kept:
 
     def roots(self) -> Optional[Roots]:
         """The roots of a sealed folder."""
-        if not self.is_sealed():
-            return None
-        try:
-            return Roots.read(self.results.checked(folder.ROOTS))
-        except ValueError as error:
-            raise OfficeError("folder.fault", 3, self.at, folder.ROOTS, cause=str(error)) from None
+        return self.sound(folder.ROOTS, Roots.read) if self.is_sealed() else None
 
     def secret(self) -> bytes:
         """The secret of a sealed folder, as it stands in its file."""
-        data = self.results.checked(folder.SECRET)
-        try:
-            seal.secret_of(data)
-        except ValueError as error:
-            raise OfficeError("folder.fault", 3, self.at, folder.SECRET, cause=str(error)) from None
-        return data
+        self.sound(folder.SECRET, seal.secret_of)
+        return self.results.checked(folder.SECRET)
 
     def sheet_places(self) -> Dict[str, Optional[str]]:
         """Where each resident is, by the sheet, in the office's own names."""
@@ -203,10 +202,8 @@ class Kept:
         """The family names and kept columns, where the folder has some."""
         if not self.results.manifest.get("details"):
             return Details()
-        names = {one.docket_name: self.names.name(RESIDENT, one.docket_name) for one in self.names.members(RESIDENT)}
-        if self.is_sealed() and not self.is_matched():
-            return rosters.details_of(self.results.checked(folder.DETAILS), names, len(rosters.DETAIL_COLUMNS))
-        return rosters.details_of(self.results.checked(folder.MATCHES), names)
+        is_matched = self.is_matched() or not self.is_sealed()
+        return rosters.details_of(self.results.checked(folder.MATCHES if is_matched else folder.DETAILS), self.names, is_matched)
 
     def day(self) -> date:
         try:
@@ -219,6 +216,10 @@ class Kept:
             return Language.of(self.results.manifest)
         except ValueError:
             raise OfficeError("folder.no-manifest", 3, self.at, folder.MANIFEST) from None
+
+    def earlier(self) -> bytes:
+        """What a second round's folder keeps of the rounds before it."""
+        return self.results.checked(folder.EARLIER) if "after" in self.results.manifest else b""
 
     def texts(self) -> Dict[str, str]:
         """What the settings said of every letter."""

@@ -3,17 +3,16 @@ have to give the same bytes, else nothing is written."""
 from pathlib import Path
 from typing import Dict, Optional, Sequence, Tuple
 
+from ..docket import bytes_of
 from ..errors import ProgramMissing
-from ..names import PROGRAMME, RESIDENT
-from ..program import DEFAULT_TIMEOUT, find_program, run_program
+from ..names import SIDES
+from ..program import find_program, run_program
 from . import folder, tree
 from .faults import OfficeError
 from .folder import Draft
 from .tree import Roots
 
 Member = Tuple[str, str]
-# How a receipt's file begins, by the member's side.
-STEMS = {PROGRAMME: "programme", RESIDENT: "resident"}
 
 
 def new_secret() -> bytes:
@@ -33,8 +32,8 @@ def secret_of(data: bytes) -> bytes:
 
 def receipt_files(members: Sequence[Member]) -> Dict[Member, str]:
     """The name of each member's receipt; any system takes it, and no two are one in capitals."""
-    stems = {f"{STEMS[side]}-{name}": (side, name) for side, name in members}
-    names = folder.file_names(stems, ".csv")
+    stems = {f"{SIDES[side]}-{name}": (side, name) for side, name in members}
+    names = folder.file_names(stems, ".txt")
     return {stems[stem]: f"{folder.RECEIPTS}/{name}" for stem, name in names.items()}
 
 
@@ -47,16 +46,15 @@ def is_built() -> bool:
     return True
 
 
-def made(docket: bytes, secret: Path, sheet: Optional[Path] = None, timeout: float = DEFAULT_TIMEOUT) -> Tuple[Roots, Dict[Member, bytes]]:
-    """The roots and each member's receipt, of a docket and, after the match, its sheet's file. OfficeError where the program
-    `seal` is here and writes another byte."""
-    own = tree.Sealed(docket, secret_of(secret.read_bytes()), None if sheet is None else sheet.read_bytes())
+def made(docket: bytes, key: Path, secret: Path, sheet: Optional[Path], timeout: float) -> Tuple[Roots, Dict[Member, bytes]]:
+    """The roots and each member's receipt, of a docket with its key and, after the match, its sheet's file. OfficeError where the
+    program `seal` is here and writes another byte."""
+    own = tree.Sealed(docket, secret_of(secret.read_bytes()), None if sheet is None else sheet.read_bytes(), key.read_bytes())
     receipts = own.receipts()
     if is_built():
-        words = ["--secret", str(secret), *([] if sheet is None else ["--sheet", str(sheet)])]
-        _, roots = run_program("seal", ["root", *words], docket, timeout)
-        _, data = run_program("seal", ["receipts", *words], docket, timeout)
-        if roots != own.roots().rows() or data != b"".join(tree.text_of([("member", *one)]) + text for one, text in receipts.items()):
+        words = ["--key", str(key), "--secret", str(secret), *([] if sheet is None else ["--sheet", str(sheet)])]
+        roots, data = (run_program("seal", [word, *words], docket, timeout)[1] for word in ("root", "receipts"))
+        if roots != own.roots().rows() or data != b"".join(bytes_of([("member", *one)]) + text for one, text in receipts.items()):
             raise OfficeError("program.other-seal")
     return own.roots(), receipts
 
@@ -66,7 +64,7 @@ def write(draft: Draft, docket: bytes, secret: bytes, sheet: bool, timeout: floa
     a secret the roots are those that are known, if any."""
     if secret:
         draft.write(folder.SECRET, secret)
-        roots, receipts = made(docket, draft.path / folder.SECRET, draft.path / folder.SHEET if sheet else None, timeout)
+        roots, receipts = made(docket, draft.path / folder.KEY, draft.path / folder.SECRET, draft.path / folder.SHEET if sheet else None, timeout)
         names = receipt_files(list(receipts))
         for member, receipt in receipts.items():
             draft.write(names[member], receipt)

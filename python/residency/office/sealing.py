@@ -1,22 +1,15 @@
 """What the command does with sealed folders: it seals before the match, matches what was sealed, and seals anew."""
-from typing import Dict, List, Mapping, Optional, Sequence, Tuple
+from dataclasses import replace
+from typing import Dict, List, Optional
 
 from ..market import Market
-from ..names import PROGRAMME, RESIDENT, Member, Names, docket_names
-from . import folder, running
+from ..names import SIDES, Member, Names, docket_names
+from . import changed, folder, running
 from . import seal as seals
 from .faults import Fault, OfficeError
 from .outcome import Details
 from .running import Kept, Wishes
 from .tree import Roots
-
-
-def sealed_folder(path: str) -> Kept:
-    """A folder that was sealed. OfficeError for any other."""
-    kept = Kept(path)
-    if not kept.is_sealed():
-        raise OfficeError("folder.not-sealed", 3, kept.at, folder.SECRET)
-    return kept
 
 
 def refuse_readable(is_readable: bool) -> None:
@@ -27,7 +20,7 @@ def refuse_readable(is_readable: bool) -> None:
 
 def refuse_alike(names: Names) -> None:
     """OfficeError where a docket's name tells a reader not whose it is: another's has the same letters, or the name has none."""
-    for side in (PROGRAMME, RESIDENT):
+    for side in SIDES:
         first: Dict[str, Member] = {}
         for one in names.members(side):
             (own,) = docket_names([one.name], side.lower()).values()
@@ -44,9 +37,6 @@ def seal(out: str, market: Market, details: Details, wishes: Wishes, manifest: D
         return running.fill_sealed(draft, market, details, wishes, manifest, seals.new_secret())
 
 
-SIDES = {PROGRAMME: "programme", RESIDENT: "resident"}
-
-
 class OtherTables(OfficeError):
     """Tables say otherwise than what was sealed: each difference, as a fault. Exit status 3."""
 
@@ -55,35 +45,10 @@ class OtherTables(OfficeError):
         self.faults = faults
 
 
-def listed_otherwise(what: str, name: str, before: Sequence[str], now: Sequence[str]) -> Fault:
-    """Where two lists of one member begin to differ."""
-    place = next((place for place, (one, other) in enumerate(zip(before, now)) if one != other), min(len(before), len(now)))
-    was, is_now = (listed[place] if place < len(listed) else "" for listed in (before, now))
-    return Fault("sealed.rank", f"{what}s", values={"what": what, "name": name, "rank": place + 1, "was": was, "now": is_now})
-
-
-def differences(sealed: Market, now: Market) -> List[Fault]:
-    """What tables say otherwise than what was sealed; who withdrew since may stand in a column."""
-    found: List[Fault] = []
-    sides: List[Tuple[str, List[Mapping[str, Sequence[str]]]]] = [
-        ("programme", [{name: market.programme_lists.get(name, ()) for name in market.quotas} for market in (sealed, now)]),
-        ("resident", [market.resident_lists for market in (sealed, now)])]
-    for what, (before, after) in sides:
-        found += [Fault("sealed.gone", f"{what}s", values={"what": what, "name": name}) for name in before if name not in after]
-        found += [Fault("sealed.new", f"{what}s", values={"what": what, "name": name}) for name in after if name not in before]
-        found += [listed_otherwise(what, name, listed, after[name]) for name, listed in before.items()
-                  if name in after and tuple(listed) != tuple(after[name])]
-    for what, gone, known in (("programme", now.withdrawn_programmes, sealed.withdrawn_programmes),
-                              ("resident", now.withdrawn_residents, sealed.withdrawn_residents)):
-        found += [Fault("sealed.withdrawn", f"{what}s", values={"what": what, "name": name}) for name in gone if name not in known]
-    found += [Fault("sealed.places", "programmes", values={"name": name, "was": quota, "now": now.quotas[name]})
-              for name, quota in sealed.quotas.items() if now.quotas.get(name, quota) != quota]
-    return found
-
-
 def refuse_others(sealed: Kept, now: Market) -> None:
-    """OtherTables where tables say otherwise than what was sealed."""
-    found = differences(sealed.market, now)
+    """OtherTables where tables say otherwise than what was sealed; who withdrew since may stand in a column."""
+    found = [replace(one, code=f"sealed{one.code[7:]}") if one.code == "changed.withdrawn" else one
+             for one in changed.since(sealed.market, now, True) if one.code != "changed.back"]
     if found:
         raise OtherTables(sealed.at, found)
 

@@ -1,9 +1,10 @@
 """The sentences of faults and notes, in English and with the names of the command's options: what the command shows of values. Most
 are in sentences.txt."""
+import re
 from typing import Any, Callable, Dict, List, Mapping, Sequence, Union
 
 from .. import naming
-from ..names import PROGRAMME, RESIDENT, Member
+from ..names import PROGRAMME, RESIDENT, SIDES, Member
 from .cells import DELIMITERS, Rows
 from .faults import (KINDS, MOST_KEPT, MOST_LETTERS, MOST_SHOWN, Fault, Faults, FaultsError, OfficeError, Values, column_letters,
                      counted, shown)
@@ -17,7 +18,6 @@ MOST_PLACES = 3
 MOST_NOTED = 5
 # How many sheets or columns a line names.
 MOST_NAMED = 6
-SAVE = "save it as .xlsx or CSV"
 # The sentences that are texts; those that depend on their values are made here. And what one and several faults of a kind are called,
 # and what the bytes of a file are that is no table.
 TEXTS = sections("sentences.txt")
@@ -25,9 +25,16 @@ MANY = {kind: names.split(", ") for kind, names in TEXTS["MANY"].items()}
 FILES = TEXTS["FILES"]
 
 
+# What stands after the colon for rows, and the parts of a row in it.
+EACH, OPTIONAL, PART = re.compile(r"(\d+) (.*<.*)"), re.compile(r"\[([^\]]*<[#A]?(\d)>[^\]]*)\]"), re.compile(r"<([#A]?)(\d)>")
+HOWS: Dict[str, Callable[[Any], str]] = {"": lambda part: f"{Told(part):40}" if isinstance(part, str) else f"{part:,}", "#": str, "A": column_letters}
+
+
 class Told:
     """A value as a sentence shows it, by what stands after the colon: a text with so many letters at most, or `whole`, each of
-    several texts so; a number with commas, plain (`d`), or of things (`cell`); or, after `?`, what is said only where it is there."""
+    several texts so, or the first `few`; a number with commas, plain (`d`), or of things (`cell`); of several texts, after `#`, how many
+    things they are, and after `=` a word for one or for more; of so many texts or rows, each by a form; or, after `?`, what is said only
+    where it is there."""
 
     def __init__(self, value: Any) -> None:
         self.value = value
@@ -38,8 +45,15 @@ class Told:
             return str(value)
         if how.startswith("?"):
             return how[1:] if value else ""
+        if how.startswith(("#", "=")):
+            words = how[1:].split("|")
+            return counted(len(value), *words) if how[0] == "#" else words[len(value) > 1]
+        if how in ("few", "first"):
+            return few(value) if how == "few" else shown(value[0], 40)
+        if found := EACH.fullmatch(how):
+            return each(value, int(found[1]), found[2])
         if isinstance(value, int):
-            return str(value) if how == "d" else counted(value, how) if how else f"{value:,}"
+            return str(value) if how == "d" else counted(value, *how.split("|")) if how else f"{value:,}"
         most = int(how) if how else MOST_LETTERS
         return ", ".join(shown(one, most) for one in value) if isinstance(value, (list, tuple)) else shown(value, most)
 
@@ -62,7 +76,18 @@ def how(table: Table) -> str:
 def few(names: Sequence[str], most: int = 40) -> str:
     """The first of these names, and how many more there are."""
     more = f" and {len(names) - MOST_NAMED} more" if len(names) > MOST_NAMED else ""
-    return ", ".join(shown(name, most) for name in names[:MOST_NAMED]) + more
+    return ", ".join(shown(name, most) for name in names[:MOST_NAMED]) + more if names else "nobody"
+
+
+def each(rows: Sequence[Any], most: int, form: str) -> str:
+    """The first of these rows by a form, in which <0> is a row's first part, <#0> a plain number and <A0> the letters of a column; what is in
+    brackets is left out where its part is nothing. And how many more there are."""
+    def put(row: Any) -> str:
+        parts = row if isinstance(row, (list, tuple)) else (row,)
+        whole = OPTIONAL.sub(lambda found: found[1] if parts[int(found[2])] else "", form)
+        return PART.sub(lambda found: HOWS[found[1]](parts[int(found[2])]), whole)
+
+    return ", ".join(map(put, rows[:most])) + (f" and {len(rows) - most:,} more" if len(rows) > most else "")
 
 
 def no_heading(values: Values) -> str:
@@ -70,12 +95,6 @@ def no_heading(values: Values) -> str:
     begin = TITLES[owners] + (", Places" if owners == "programme" else "")
     wanted = f"{begin}, Rank 1, Rank 2, .. or {begin}, Rank, {TITLES[OTHER[owners]]}"
     return f"a heading row is wanted, with {wanted}; the first row is {Told(values['cells']):30}"
-
-
-def sheets_with_cells(values: Values) -> str:
-    names = values["sheets"]
-    return (f"{counted(len(names), 'sheet')} have cells: {few(names)}; name one "
-            f"(--sheet '{values['table']}={shown(names[0], 40)}')")
 
 
 def other_mark(values: Values) -> str:
@@ -90,21 +109,6 @@ def shared(values: Values) -> str:
                       for name, ids in names[:MOST_NOTED])
     more = f"; and {len(names) - MOST_NOTED:,} more" if len(names) > MOST_NOTED else ""
     return f"{counted(len(names), 'name is', 'names are')} shared: {named}{more}"
-
-
-def empty(values: Values) -> str:
-    names: Sequence[Sequence[Any]] = values["names"]
-    named = ", ".join(f"{shown(name, 40)} (by {count:,})" for name, count in names[:MOST_NOTED])
-    more = f" and {len(names) - MOST_NOTED:,} more" if len(names) > MOST_NOTED else ""
-    return f"{counted(len(names), values['owners'])} with an empty list whom others rank: {named}{more}"
-
-
-def unread(values: Values) -> str:
-    columns: Sequence[Sequence[Any]] = values["columns"]
-    named = ", ".join(f"{shown(heading, 40)} ({column_letters(column)})" for heading, column in columns[:MOST_NAMED])
-    more = f" and {len(columns) - MOST_NAMED} more" if len(columns) > MOST_NAMED else ""
-    keeps = "; --keep keeps one for matches.csv and letters" if values["keeps"] else ""
-    return f"{counted(len(columns), 'column is', 'columns are')} left out: {named}{more}{keeps}"
 
 
 def listed(members: Sequence[Member]) -> str:
@@ -133,44 +137,29 @@ def other_side(values: Values) -> str:
     return f"no {SIDES[side]} is named {Told(values['name'])}, but a {other} is (--{other}); nothing was written"
 
 
+def moved(values: Values) -> str:
+    """Whose list has whom at another rank."""
+    told = [f"{shown(name, 40)} " + (f"from {was} to {now}" if was and now else f"new at {now}" if now else f"gone, was at {was}")
+            for name, was, now in values["moves"]]
+    return f"{values['what']} {Told(values['name'])}: {', '.join(told)}"
+
+
 MEANINGS = {"rank": "the rank", "places": "the number of places", "programme": "the programme"}
-SIDES = {PROGRAMME: "programme", RESIDENT: "resident"}
 Sentence = Union[str, Callable[[Values], str]]
 SENTENCES: Dict[str, Sentence] = {
     **TEXTS["SENTENCES"],
-    "file.kind": lambda values: f"this is {FILES[values['what']]}: {SAVE}",
-    "file.no-sheet": lambda values: f"no sheet is named {shown(values['sheet'])}; there is {few(values['sheets'])}",
-    "file.sheets": sheets_with_cells,
+    "file.kind": lambda values: f"this is {FILES[values['what']]}: save it as .xlsx or CSV",
     "file.set": lambda values: f"its character set isn't known: in {values['title']} it has {Told(values['words']):30}; save the table as UTF-8, or "
                                f"name its set (--encoding {values['table']}=SET): " + "; ".join(
                                    f"{name} has {Told(names):30}" for name, names in values["sets"]),
-    "file.expected": lambda values: f"{counted(values['count'], values['owners'])}, where --expect-{values['table']} says "
-                                    f"{values['expected']:,}",
     "file.some-ids": lambda values: (f"{values['count']:,} of {values['of']:,} {values['owners']}s have" if values["count"] > 1 else
                                      f"{Told(values['name'])} has") + " no ID; every row needs one once one has it",
     "file.phrase-values": lambda values: f"{Told(values['name'])} has " + (f"the values {', '.join(values['values'])}" if values["values"]
                                          else "no value") + ", and no other brace",
-    "file.phrase-missing": lambda values: f"{counted(len(values['names']), 'phrase is', 'phrases are')} missing: {few(values['names'])}",
     "heading.none": no_heading,
     "heading.several": lambda values: f"{Told(values['heading'])} may be " + " or ".join(
         f"{MEANINGS[role]} (--heading '{role}={shown(values['heading'])}')" for role in values["roles"]) + ": say which",
     "row.other-mark": other_mark,
-    "note.withdrawn": lambda values: f"the column {Told(values['heading'])} says who withdrew: "
-                                     f"{few(values['names']) or 'nobody'}",
-    "note.titles": lambda values: f"{counted(len(values['texts']), 'row')} above the headings {'are' if len(values['texts']) > 1 else 'is'} left "
-                                  f"out: {Told(values['texts']):40}",
-    "note.blank-columns": lambda values: f"{counted(len(values['columns']), 'column')} without a heading "
-                                         f"{'are' if len(values['columns']) > 1 else 'is'} empty: {', '.join(map(column_letters, values['columns']))}",
-    "note.hidden": lambda values: f"{counted(len(values['rows']), 'hidden row is', 'hidden rows are')} read too: " + few(
-        [f"row {row}" + (f", {shown(name, 40)}" if name else "") for row, name in values["rows"]], 60),
-    "note.hidden-columns": lambda values: f"{counted(len(values['columns']), 'hidden column is', 'hidden columns are')} read too: " + few(
-        [f"{column_letters(column)}" + (f", {shown(heading, 40)}" if heading else "") for column, heading in values["columns"]], 60),
-    "note.gaps": lambda values: f"{counted(values['count'], 'rank is', 'ranks are')} left out, and what follows moves up; the first is "
-                                f"in the list of {shown(values['name'])}, row {values['row']}",
-    "note.unread": unread,
-    "note.alone": lambda values: f"{counted(len(values['names']), values['owners'])} without a list whom nobody ranks: " + few(
-        [f"{shown(name, 40)} (row {row})" for name, row in values["names"]], 60),
-    "note.empty": empty,
     "note.shared": shared,
 }
 
@@ -184,11 +173,10 @@ ERRORS: Dict[str, Sentence] = {
     "member.nobody": nobody,
     "member.other-side": other_side,
 }
-# What tables say otherwise than what was sealed.
+# What tables say otherwise than a folder.
 OTHERWISE: Dict[str, Sentence] = {
     **TEXTS["OTHERWISE"],
-    "sealed.rank": lambda values: f"{values['what']} {Told(values['name'])}: rank {values['rank']} was sealed as "
-                                  f"{Told(values['was'] or 'nobody')}, and the table has {Told(values['now'] or 'nobody')}",
+    "changed.list": moved,
 }
 
 

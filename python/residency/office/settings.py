@@ -9,6 +9,7 @@ from typing import Any, Callable, Dict, Iterator, List, Mapping, Tuple
 from .cells import WORDS, known_delimiter
 from .faults import Faults, FaultsError, OfficeError
 from .headings import HEADING, ROLES, plain
+from .languages import sections
 from .text import known_encoding
 
 NAME = "residency-office.ini"
@@ -53,10 +54,6 @@ class Settings:
         return list(dict.fromkeys([*self.keep, *([self.language_column] if self.language_column else [])]))
 
 
-def yes_or_no(word: str) -> bool:
-    return {"yes": True, "no": False}[word.lower()]
-
-
 def number(word: str) -> int:
     if not (word.isascii() and word.isdecimal() and 0 < len(word) < 10):
         raise ValueError(word)
@@ -74,14 +71,9 @@ def heading(word: str) -> str:
     return f"{role.strip()}={rest.strip()}"
 
 
-def order(word: str) -> str:
-    return {"name": "name", "table": "table"}[word]
-
-
 @dataclass(frozen=True)
 class Setting:
-    """A setting: in which section it stands, what reads its value, what that has to be, what the setting is, and how a file
-    writes a value."""
+    """A setting: in which section it stands, what reads its value, what that has to be, and what the setting is."""
 
     section: str
     reads: Callable[[str], Any]
@@ -89,32 +81,16 @@ class Setting:
     about: str
 
 
-TEXT, YES, NUMBER = "a text", "yes or no", "a number"
 SEVERAL = ("heading", "ignore", "keep")
+# What reads a value, and what that has to be, by the word that settings.txt has of it.
+READS: Dict[str, Tuple[Callable[[str], Any], str]] = {
+    "heading": (heading, HEADING), "text": (str, "a text"), "yes": (lambda word: {"yes": True, "no": False}[word.lower()], "yes or no"), "row": (from_one, "a number from 1"),
+    "set": (known_encoding, "a character set"), "mark": (known_delimiter, "comma, semicolon, tab, bar or a sign"), "number": (number, "a number"),
+    "order": ({"name": "name", "table": "table"}.__getitem__, "name or table")}
 # The settings by their names, which are those of the options; a section of one table is both tables' here.
 SETTINGS: Dict[str, Setting] = {
-    "heading": Setting(BOTH, heading, HEADING, "a word that heads a column, besides the known ones, as rank=Rang; a line for each"),
-    "ignore": Setting(BOTH, str, TEXT, "a column to leave out without a word; a line for each"),
-    "keep": Setting(BOTH, str, TEXT, "a column of residents to keep for matches.csv and letters; a line for each"),
-    "allow_gaps": Setting(BOTH, yes_or_no, YES, "in long tables, take ranks in their order where one is left out"),
-    "allow_short": Setting(BOTH, yes_or_no, YES, "take rows with fewer cells than the heading"),
-    "allow_alone": Setting(BOTH, yes_or_no, YES, "take a row that looks like a remark for a resident"),
-    "allow_lost_letters": Setting(BOTH, yes_or_no, YES, "take names in which a sign stands for a letter"),
-    "allow_alike": Setting(BOTH, yes_or_no, YES, "take two names that differ in capitals, blanks or accents alone for two members"),
-    "sheet": Setting(TABLES[0], str, TEXT, "the sheet of a workbook"),
-    "heading_row": Setting(TABLES[0], from_one, "a number from 1", "the row of the headings"),
-    "encoding": Setting(TABLES[0], known_encoding, "a character set", "the character set of a text"),
-    "delimiter": Setting(TABLES[0], known_delimiter, "comma, semicolon, tab, bar or a sign", "what parts the cells of a text"),
-    "expect": Setting(TABLES[0], number, NUMBER, "how many members there are; another number is a fault"),
-    "title": Setting(MATCH, str, TEXT, "the title of the page"),
-    "order": Setting(MATCH, order, "name or table", "the order of names in the page"),
-    "cut_offs": Setting(MATCH, yes_or_no, YES, "of a sealed match, publish the last rank that each programme took, too"),
-    "sender": Setting(MATCH, str, TEXT, "what stands above each letter; | begins a new line"),
-    "appeals": Setting(MATCH, str, TEXT, "a sentence on appeals below each letter"),
-    "signature": Setting(MATCH, str, TEXT, "who signs each letter"),
-    "language": Setting(MATCH, str, TEXT, "the language of letters, pages and tables: de, en, es, fr, pl, or a file of phrases of your own"),
-    "language_column": Setting(BOTH, str, TEXT, "a column of residents that says the language of each letter, which is kept"),
-}
+    name: Setting(section, *READS[how], about) for section, lines in sections("settings.txt").items() for line, about in lines.items()
+    for name, how in [line.split()]}
 SECTIONS = (BOTH, *TABLES, MATCH)
 ALLOWED = tuple(name for name in SETTINGS if name.startswith("allow_"))
 

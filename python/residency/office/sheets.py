@@ -1,4 +1,4 @@
-"""Workbooks (.xlsx): the rows of one sheet, cell by cell as their CSV has them, by Python's own zipfile and expat.
+"""Workbooks (.xlsx): the rows of one sheet, cell by cell as their CSV has them, by Python's own zipfile and expat; and plain ones written.
 
 Nothing of a workbook is run, and nothing outside of it is read. One that declares entities, or that is larger unpacked than any
 table, is refused; and what is no workbook is told by the name of what it is.
@@ -11,7 +11,9 @@ import struct
 import zlib
 from dataclasses import dataclass, field
 from datetime import datetime, timedelta
-from typing import TYPE_CHECKING, Callable, Dict, Iterator, List, Optional, Tuple
+from html import escape
+from pathlib import Path
+from typing import TYPE_CHECKING, Callable, Dict, Iterator, List, Optional, Sequence, Tuple
 from xml.parsers import expat
 
 from .faults import Values
@@ -356,3 +358,24 @@ def column_of(letters: str) -> int:
     for letter in letters:
         number = 26 * number + ord(letter) - ord("A") + 1
     return number
+
+
+def book_of(name: str, rows: Sequence[Sequence[object]]) -> bytes:
+    """A workbook whose one sheet has these rows: numbers, and texts that are texts whatever they begin with."""
+    import zipfile
+
+    cells = "".join(f"<row>{''.join(map(cell_of, row))}</row>" for row in rows)
+    data = io.BytesIO()
+    with zipfile.ZipFile(data, "w", zipfile.ZIP_DEFLATED) as archive:
+        for line in Path(__file__).with_name("book.txt").read_text(encoding="utf-8").splitlines():
+            part, _, text = line.partition(" ")
+            archive.writestr(zipfile.ZipInfo(part), text.replace("@NAME@", name).replace("@ROWS@", cells).encode("utf-8"))
+    return data.getvalue()
+
+
+def cell_of(value: object) -> str:
+    """A cell of a workbook; what XML or the form of a cell takes for something else is written by its number."""
+    if isinstance(value, int):
+        return f"<c><v>{value}</v></c>"
+    text = re.sub("_(?=x[0-9A-Fa-f]{4}_)|[\x00-\x1f\ufffe\uffff]", lambda found: f"_x{ord(found[0]):04X}_", str(value))
+    return f'<c t="inlineStr"><is><t xml:space="preserve">{escape(text)}</t></is></c>' if text else "<c/>"

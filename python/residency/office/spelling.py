@@ -7,15 +7,14 @@ import re
 import unicodedata
 from typing import Callable, Dict, Iterator, List, Sequence, Set
 
+from .languages import sections
+
 CELL = re.compile(r'[^,;|"\t\r\n]+')
 # Which letters beyond ASCII are usual in names of Western Europe. Not among them are Icelandic ones, which stand for Turkish
 # and Baltic ones of other sets, and those that stand for Hungarian ones.
 USUAL = set("áàâäåãæçéèêëíìîïñóòôöõøúùüßœšž")
 # What letters beyond ASCII are usual in names where a set is used; of a set that isn't here all letters are.
-OWN = {"windows-1250": "áâăäąçćčďéęëěíîłľĺńňóôőöŕřśšșşťțţúůűüýźżžß", "windows-1252": "áàâäåãæçéèêëíìîïñóòôöõøúùüßœ", "windows-1254": "âçğıöşüî\u0307",
-       "iso-8859-2": "áâăäąçćčďéęëěíîłľĺńňóôőöŕřśšşťţúůűüýźżžß", "windows-1257": "āčēģīķļņšūžąęėįųõäöü", "mac-roman": "", "cp852": "",
-       "windows-1251": "абвгдежзийклмнопрстуфхцчшщъыьэюяёіїєґ", "koi8-r": "абвгдежзийклмнопрстуфхцчшщъыьэюяё",
-       "windows-1253": "αβγδεζηθικλμνξοπρσςτυφχψωάέήίόύώϊϋ"}
+OWN = sections("words.txt")["SETS"]
 # So many names are looked at.
 MOST_LOOKED = 200
 EDGES = "“”„«»…‘’'\"()[]{}.,:!?*–—-&/+#"

@@ -3,6 +3,7 @@
 Nothing here prints, ends a process, or reads a path that isn't given. What strangers send, the two tables, a docket, or a folder that
 is checked, is read in a process of its own, whose limits grow with the bytes. A step that may take long tells its progress by a call.
 """
+import json
 import tempfile
 from contextlib import ExitStack, closing, contextmanager
 from dataclasses import dataclass, field
@@ -12,7 +13,7 @@ from pathlib import Path
 from types import MappingProxyType
 from typing import TYPE_CHECKING, Callable, Dict, Iterator, List, Mapping, Optional, Sequence, Tuple
 
-from ..errors import DocketFault
+from ..errors import DocketFault, ResidencyError
 from ..market import Market
 from ..names import PROGRAMME, RESIDENT
 from ..passes import Passes
@@ -218,8 +219,11 @@ def seal(out: str, market: Market, details: Details, wishes: Wishes, manifest: D
 
 
 def sealed(path: str) -> Kept:
-    """A folder that was sealed, read again."""
-    return sealing.sealed_folder(path)
+    """A folder that was sealed, read again. OfficeError for any other."""
+    kept = Kept(path)
+    if not kept.is_sealed():
+        raise OfficeError("folder.not-sealed", 3, kept.at, folder.SECRET)
+    return kept
 
 
 @dataclass(frozen=True)
@@ -312,35 +316,41 @@ def room_for(what: str) -> Iterator[Path]:
 def read_by(path: str, limits: Optional[Limits] = None) -> Settings:
     """How the tables of a folder were read, by its manifest; nothing of it where that says nothing, or needs more than the limits."""
     try:
-        found = apart(limits or limits_of(path), "manifest_read", (path,), quietly)
+        found = apart(limits or limits_of(path), "reading_of", (path,), quietly)
     except Costly:
         return Settings()
     assert isinstance(found, Settings)
     return found
 
 
-def manifest_read(path: str, progress: Progress) -> Settings:
-    from . import verify
+def reading_of(path: str, progress: Progress) -> Settings:
+    """How the tables of a folder were read, by its manifest, with the columns of residents that were kept; nothing of it where the manifest
+    says nothing."""
+    try:
+        manifest = json.loads((Path(path) / folder.MANIFEST).read_bytes().decode("utf-8"))
+        found = from_values(manifest.get("reading", {}))
+        found.keep = found.keep or [str(one) for one in manifest.get("details", []) if one != "family_name"]
+        return found
+    except (OSError, ValueError, AttributeError, TypeError, KeyError, RecursionError, ResidencyError):
+        return Settings()
 
-    return verify.read_by(path)
 
-
-def verified(path: str, timeout: float, published: "Dict[str, Published]", tables: "Optional[FromTables]", room: Path,
+def verified(path: str, timeout: float, published: "Dict[str, Published]", tables: "Optional[FromTables]", room: Path, after: Optional[str],
              progress: "Callable[[Checked], object]") -> "Verified":
     """Checks a folder of results in this process."""
     from .verify import Verifier
 
-    return Verifier(path, timeout, published, tables, room, progress).verify()
+    return Verifier(path, timeout, published, tables, room, progress, after).verify()
 
 
 def verify(path: str, timeout: float = DEFAULT_TIMEOUT, published: "Optional[Dict[str, Published]]" = None, tables: "Optional[FromTables]" = None,
-           progress: "Callable[[Checked], object]" = quietly, limits: Optional[Limits] = None) -> "Verified":
-    """Checks a folder of results in a process of its own, against the roots that were published where it was sealed and the tables where
-    they are given; `progress` is given each line as soon as it is known. OfficeError for a folder that needs more than the limits, which
+           progress: "Callable[[Checked], object]" = quietly, limits: Optional[Limits] = None, after: Optional[str] = None) -> "Verified":
+    """Checks a folder of results in a process of its own, against the roots that were published where it was sealed, and the tables and the
+    folder of the round before where they are given; `progress` is given each line as soon as it is known. OfficeError for a folder that needs more than the limits, which
     hold for each program that is asked, too."""
     try:
         with room_for("verify") as room:
-            done: Verified = apart(limits or limits_of(path), "verified", (path, timeout, published or {}, tables, room), progress)
+            done: Verified = apart(limits or limits_of(path), "verified", (path, timeout, published or {}, tables, room, after), progress)
             return done
     except Costly as costly:
         raise too_costly(costly, path) from None

@@ -10,7 +10,7 @@ from . import national, sheets
 from .cells import Cells, Rows, other_mark, rows_of, tidied
 from .faults import Cell, Fault, Faults, Remedy, Values
 from .headings import Columns, Words, columns_of, plain
-from .languages import NO, YES
+from .languages import NO, YES, sections
 from .settings import Settings
 from .text import Text, table_text
 
@@ -20,10 +20,7 @@ RANK = re.compile(r"0*([0-9]{1,7})(?:\.0+|\.|st|nd|rd|th)?", re.IGNORECASE)
 THOUSANDS = re.compile(r"[1-9][0-9]{0,2}(?:[.,][0-9]{3})+")
 # A long number as a spreadsheet writes it where its column is too narrow for it.
 SCIENTIFIC = re.compile(r"[0-9](?:[.,][0-9]+)?E\+[0-9]+", re.IGNORECASE)
-TOTALS = {
-    "total", "totals", "sum", "subtotal", "grand total", "total places", "average", "count", "all", "gesamt", "gesamtsumme", "summe", "insgesamt",
-    "zusammen", "zwischensumme", "totaux", "total general", "sous total", "somme", "ensemble", "totales", "suma", "suma total", "totale", "totali",
-    "totale generale", "somma", "ogolem", "razem", "lacznie", "toplam", "genel toplam", "ara toplam"}
+TOTALS = frozenset(sections("words.txt")["TOTALS"]["words"].split(", "))
 # What may stand behind such a word in its cell: a number, and what was counted.
 COUNTED = re.compile("(?: (?:of|von|de|di|du|der|des))? (?:places|platze|stellen|plazas|posti|miejsc|miejsca|yer|postes)$|[ 0-9=]+$")
 MOST = {"programme": MOST_PROGRAMMES, "resident": MOST_RESIDENTS}
@@ -49,7 +46,7 @@ class Item(NamedTuple):
 @dataclass
 class Entry:
     """A member of a table: its name and ID, its places where it is a programme, and its list as written. `family` is the
-    family name where a column has it, `kept` are the cells of the columns that are kept."""
+    family name where a column has it, `kept` are the cells of the columns that are kept, `mail` is an e-mail address in any other."""
 
     name: str
     id: str
@@ -62,6 +59,7 @@ class Entry:
     kept: List[str] = field(default_factory=list)
     after_blank: bool = False
     withdrawn: bool = False
+    mail: str = ""
 
 
 @dataclass(frozen=True)
@@ -131,6 +129,7 @@ class Members:
         self.gaps_before = 0
         table.kept_at, table.kept = [cell for cell, _ in columns.kept], [heading for _, heading in columns.kept]
         table.unread = {cell: (heading, set()) for cell, heading in columns.unread}
+        self.mails = [*table.unread, *table.kept_at]
 
     def tell(self, code: str, row: int, cell: int, values: Optional[Values] = None, key: Tuple[str, ...] = (),
              remedies: Sequence[Remedy] = ()) -> None:
@@ -150,7 +149,8 @@ class Members:
                 return self.tell("row.other-mark", number, 0, values, (other,))
         self.count += 1
         if cells < columns.width:
-            self.measure(number, row)
+            self.short_count += 1
+            self.short += [(number, cells)] * (len(self.short) < MOST_SHORT)
         elif not row[-1]:
             self.padded = True
         if self.has_other_cells or cells > columns.width:
@@ -163,6 +163,7 @@ class Members:
         entry = self.entry(number, row, name)
         if entry is None:
             return
+        entry.mail = entry.mail or next((row[cell] for cell in self.mails if "@" in cell_of(row, cell)), "")
         if self.columns.kept:
             self.keep(number, entry, row)
         if self.columns.places is not None:
@@ -173,12 +174,6 @@ class Members:
             self.ranked(number, entry, row)
         else:
             self.listed(number, entry, row)
-
-    def measure(self, number: int, row: List[str]) -> None:
-        """Notes a row with fewer cells than the heading."""
-        self.short_count += 1
-        if len(self.short) < MOST_SHORT:
-            self.short.append((number, len(row)))
 
     @staticmethod
     def name_in(row: List[str], cell: int, family: Optional[int]) -> str:

@@ -6,17 +6,15 @@ from typing import IO, Callable, List, Optional, Tuple
 
 from ..text import decode
 from .faults import Fault, Faults, OfficeError, Remedy
-from .spelling import is_sound, likeness, names_beyond_ascii, odd_words
+from .languages import sections
+from .spelling import OWN, is_sound, likeness, names_beyond_ascii, odd_words
 
 MOST_BYTES = 256 << 20
 # What people call a character set.
-TITLES = {"utf-8": "UTF-8", "utf-8-sig": "UTF-8", "utf-16": "UTF-16", "utf-16-le": "UTF-16", "utf-16-be": "UTF-16",
-          "utf-32": "UTF-32", "cp1252": "Windows-1252", "iso8859-1": "ISO-8859-1", "latin-1": "ISO-8859-1", "ascii": "ASCII",
-          "xlsx": ".xlsx"}
+TITLES = sections("words.txt")["TITLES"]
 OF_UTF8 = re.compile(rb"[\xc2-\xdf][\x80-\xbf]|[\xe0-\xef][\x80-\xbf]{2}|[\xf0-\xf4][\x80-\xbf]{3}")
 # The sets that tables are most often in, where they aren't found; so many of them are told.
-OTHER_SETS = ("windows-1250", "windows-1252", "windows-1254", "windows-1251", "iso-8859-2", "windows-1253", "windows-1257", "mac-roman", "cp852",
-              "koi8-r", "shift-jis", "gb18030", "big5", "euc-kr", "utf-7", "iso-2022-jp")
+OTHER_SETS = tuple(OWN)
 MOST_SETS = 4
 LINE_END = re.compile(r"\r\n|\r|\n")
 

@@ -1,16 +1,16 @@
-"""The hash trees of a sealed match, made from docket, sheet and secret by docs/sealed.md alone: what the program `seal` writes is
+"""The hash trees of a sealed match, made from docket, key, sheet and secret by docs/sealed.md alone: what the program `seal` writes is
 compared with it. Nothing here asks a program."""
 import hashlib
 import re
 from dataclasses import dataclass
 from typing import Dict, Iterable, Iterator, List, Mapping, Optional, Sequence, Tuple
 
-from ..docket import Docket, read_docket
+from ..docket import Docket, bytes_of, read_docket
 from ..errors import DocketFault
-from ..names import PROGRAMME, RESIDENT
+from ..key import csv_row, read_key, to_cell
+from ..names import PROGRAMME, RESIDENT, Member
 
 LISTS, RESULT = "lists", "result"
-TAGS = {LISTS: b"L", RESULT: b"R"}
 Row = Sequence[object]
 Places = Mapping[str, Optional[str]]
 DIGITS = "[0-9a-f]{64}"
@@ -27,7 +27,7 @@ class Roots:
 
     def rows(self) -> bytes:
         rows: List[Row] = [(LISTS, self.count, self.lists)]
-        return text_of(rows + [(RESULT, self.count, self.result)] * bool(self.result))
+        return bytes_of(rows + [(RESULT, self.count, self.result)] * bool(self.result))
 
     @classmethod
     def read(cls, data: bytes) -> "Roots":
@@ -38,23 +38,21 @@ class Roots:
         return cls(int(found[1]), found[2], found[3] or "")
 
 
-def text_of(rows: Sequence[Row]) -> bytes:
-    return "".join(",".join(map(str, row)) + "\n" for row in rows).encode("ascii")
-
-
 def members(docket: Docket) -> List[Tuple[str, str]]:
     """Each member's side and name: the programmes first, then the residents, in the docket's order."""
     return [(PROGRAMME, name) for name in docket.quotas] + [(RESIDENT, name) for name in docket.resident_lists]
 
 
-def list_texts(docket: Docket) -> Iterator[bytes]:
-    """Each member's list as it was written, in the members' order."""
+def list_texts(docket: Docket, named: Mapping[Tuple[str, str], Member]) -> Iterator[bytes]:
+    """Each member's list as it was written, and the real name and ID as the key has them, in the members' order."""
     gone = {PROGRAMME: docket.withdrawn_programmes, RESIDENT: docket.withdrawn_residents}
     for side, name in members(docket):
         rows: List[Row] = [("R", name, *docket.resident_lists[name])] if side == RESIDENT else [("Q", name, docket.quotas[name])]
         if side == PROGRAMME and name in docket.programme_lists:
             rows.append(("P", name, *docket.programme_lists[name]))
-        yield text_of(rows + [("W", side, name)] * (name in gone[side]))
+        one = named.get((side, name))
+        real = csv_row(("N", *(to_cell(text) for text in one[2:] if text)), ',"') if one else ""
+        yield bytes_of(rows + [("W", side, name)] * (name in gone[side])) + real.encode("utf-8")
 
 
 class Reasons:
@@ -96,10 +94,10 @@ def result_texts(docket: Docket, places: Places) -> Iterator[bytes]:
     for side, name in members(docket):
         if side == PROGRAMME:
             those = reasons.members[name]
-            yield text_of([("F", name, len(those), docket.quotas[name]), *(("M", one, name) for one in those)])
+            yield bytes_of([("F", name, len(those), docket.quotas[name]), *(("M", one, name) for one in those)])
         else:
             where = places[name]
-            yield text_of([("U", name) if where is None else ("M", name, where), *reasons.rows(name)])
+            yield bytes_of([("U", name) if where is None else ("M", name, where), *reasons.rows(name)])
 
 
 def sha(*parts: bytes) -> bytes:
@@ -132,20 +130,20 @@ class Tree:
             sibling = (index >> depth) ^ 1
             path += [level[sibling].hex()] if sibling < len(level) else []
         opens = ("opens", word, index, salt(self.secret, self.tag, index).hex(), *path)
-        return text_of([(word, len(self.texts), self.root()), opens]) + self.texts[index]
+        return bytes_of([(word, len(self.texts), self.root()), opens]) + self.texts[index]
 
 
 class Sealed:
-    """The trees of a docket and, with a sheet, of its result. DocketFault."""
+    """The trees of a docket with its key's names and, with a sheet, of its result. DocketFault, KeyFault."""
 
-    def __init__(self, docket: bytes, secret: bytes, sheet: Optional[bytes] = None) -> None:
+    def __init__(self, docket: bytes, secret: bytes, sheet: Optional[bytes] = None, key: bytes = b"") -> None:
         read = read_docket(docket + (sheet or b""))
         self.members = members(read)
-        self.trees = {LISTS: Tree(list_texts(read), secret, TAGS[LISTS])}
+        self.trees = {LISTS: Tree(list_texts(read, {one[:2]: one for one in read_key(key).members()}), secret, b"L")}
         if sheet is not None:
             if read.sheet is None and self.members:
                 raise DocketFault(0, "no sheet in the docket")
-            self.trees[RESULT] = Tree(result_texts(read, read.sheet or {}), secret, TAGS[RESULT])
+            self.trees[RESULT] = Tree(result_texts(read, read.sheet or {}), secret, b"R")
 
     def roots(self) -> Roots:
         """The roots as they are published."""
@@ -153,5 +151,5 @@ class Sealed:
 
     def receipts(self) -> Dict[Tuple[str, str], bytes]:
         """Each member's receipt, in order."""
-        return {member: text_of([("receipt", 2, *member)]) + b"".join(tree.part(word, index) for word, tree in self.trees.items())
+        return {member: bytes_of([("receipt", 2, *member)]) + b"".join(tree.part(word, index) for word, tree in self.trees.items())
                 for index, member in enumerate(self.members)}

@@ -16,14 +16,13 @@ from typing import Any, Callable, Dict, List, NamedTuple, Optional
 from ..errors import ResidencyError
 from ..key import read_key, write_key
 from ..market import Market
-from ..names import RESIDENT
 from ..program import run_program
-from . import folder, remade, rosters, seal, tree
+from . import folder, remade, rosters, rounds, seal, tree
 from .faults import MOST_SHOWN, OfficeError, counted, shown
 from .outcome import Became, Details, Lists, outcome_of
 from .remade import Source
-from .sentences import said_by
-from .settings import Settings, from_values
+from .running import Run
+from .sentences import cause, said_by
 from .tree import Roots
 from .writing import cause_of
 
@@ -82,9 +81,9 @@ class Verifier:
     known."""
 
     def __init__(self, path: str, timeout: float, published: Dict[str, Published], tables: Optional[FromTables], room: Path,
-                 progress: Callable[[Checked], object]) -> None:
+                 progress: Callable[[Checked], object], after: Optional[str] = None) -> None:
         self.path, self.at, self.timeout = Path(path), path, timeout
-        self.published, self.tables, self.room, self.progress = published, tables, room, progress
+        self.published, self.tables, self.room, self.progress, self.after = published, tables, room, progress, after
         self.done = Verified()
         if not self.path.is_dir():
             raise OfficeError("folder.none", 1, path)
@@ -229,13 +228,11 @@ class Verifier:
 
     def details(self, manifest: Dict[str, Any], market: Market) -> Details:
         """The family names and kept columns, as the folder has them; none where its file isn't one that office wrote."""
-        name, before = (folder.MATCHES, len(rosters.MATCH_COLUMNS)) if remade.is_matched(manifest) else \
-            (folder.DETAILS, len(rosters.DETAIL_COLUMNS))
+        name = folder.MATCHES if remade.is_matched(manifest) else folder.DETAILS
         if not manifest.get("details") or name not in self.there or folder.KEY not in self.there:
             return Details()
-        names = {one.docket_name: market.names.name(RESIDENT, one.docket_name) for one in market.names.members(RESIDENT)}
         try:
-            return rosters.details_of(self.bytes_of(name), names, before)
+            return rosters.details_of(self.bytes_of(name), market.names, name == folder.MATCHES)
         except (ValueError, LookupError, csv.Error):
             return Details()
 
@@ -251,8 +248,21 @@ class Verifier:
             market, details = self.from_tables(market, manifest), self.tables.details
         gone = manifest["withdrawn"]
         parts = (self.joined(folder.JOURNAL) if folder.JOURNAL in self.there else None,
-                 self.bytes_of(folder.SECRET) if folder.SECRET in self.there else None)
-        return Source(remade.in_order(market, gone), details, manifest, *parts, has_key, self.timeout)
+                 self.bytes_of(folder.SECRET) if folder.SECRET in self.there and has_key else None)
+        return Source(remade.in_order(market, gone), details, manifest, *parts, has_key, self.timeout, self.earlier(manifest, market))
+
+    def earlier(self, manifest: Dict[str, Any], market: Market) -> bytes:
+        """What the folder of a second round keeps of the rounds before it, made again from the folder before where that is given."""
+        there = self.bytes_of(folder.EARLIER) if folder.EARLIER in self.there else b""
+        if self.after is None or "after" not in manifest or folder.KEY not in self.there:
+            wanting = "the folder before (--after)" if self.after is None else "the key"
+            self.done.unchecked += [f"who was free, for want of {wanting}"] * ("after" in manifest)
+            return there
+        run = Run(self.after)
+        before = rounds.Before(run)
+        causes = [cause(one) for one in before.faults(market, True).every()] + ["another folder"] * (run.digests() != manifest["after"])
+        self.tell("the round before", "; ".join(causes[:3]) or "nobody has two places, and no place is given twice", not causes)
+        return before.earlier
 
     def from_tables(self, market: Market, manifest: Dict[str, Any]) -> Market:
         """The market of the tables, with those withdrawn who are in the folder; whether it gives the folder's docket and key."""
@@ -282,7 +292,7 @@ class Verifier:
             made = remade.remade(self.room, source, claimed)
         except OSError as error:
             raise OfficeError("out.no-room", 1, str(self.room.parent), cause=cause_of(error)) from None
-        except (ResidencyError, OfficeError, ValueError) as fault:
+        except (ResidencyError, OfficeError, ValueError, LookupError, csv.Error) as fault:
             self.tell("made again", shown(said_by(fault), 300), False)
             return
         if remade.is_matched(source.manifest):
@@ -301,11 +311,10 @@ class Verifier:
             self.add(*one)
         if len(told) > MOST_SHOWN:
             self.add("", f"and {len(told) - MOST_SHOWN:,} more files", False)
-        for names, part in ((folder.NEEDS_SECRET, "the secret"), (folder.NEEDS_KEY, "the key")):
+        for names, what, part in ((folder.NEEDS_SECRET, "roots and receipts", "the key and " * (folder.KEY not in self.there) + "the secret"), (folder.NEEDS_KEY, "names", "the key")):
             if names <= without:
                 count = len([name for name in left if folder.needs(name, names)])
-                more = f" and {counted(count, 'file')} made of them" * bool(count)
-                self.leave(f"{'names' if part == 'the key' else 'roots and receipts'}{more}", part)
+                self.leave(what + f" and {counted(count, 'file')} made of them" * bool(count), part)
         same = len(made) - len([name for name in made if name not in self.there or self.bytes_of(name) != made[name]])
         receipts = len([name for name in made if name.startswith(f"{folder.RECEIPTS}/")])
         if not told:
@@ -338,7 +347,7 @@ class Verifier:
 
     def roots(self, source: Source, made: Dict[str, bytes]) -> None:
         """The roots of a sealed match against those that were published, which are the ones that are given, whatever the folder says."""
-        if not remade.is_sealed(source.manifest):
+        if "sealed" not in source.manifest:
             if self.published:
                 self.tell("published", "this match isn't sealed, and has no roots", False)
             return
@@ -395,15 +404,3 @@ def second_opinion() -> Optional[Path]:
     if (clone / "crates").is_dir() and script.parent == clone / "python" / "residency" / "office":
         script = clone / "examples" / OPINION
     return script if script.is_file() else None
-
-
-def read_by(path: str) -> Settings:
-    """How the tables of a folder were read, by its manifest, with the columns of residents that were kept; nothing of it where
-    the manifest says nothing."""
-    try:
-        manifest = json.loads((Path(path) / folder.MANIFEST).read_bytes().decode("utf-8"))
-        found = from_values(manifest.get("reading", {}))
-        found.keep = found.keep or [str(one) for one in manifest.get("details", []) if one != "family_name"]
-        return found
-    except (OSError, ValueError, AttributeError, TypeError, KeyError, RecursionError, ResidencyError):
-        return Settings()

@@ -1,5 +1,5 @@
 //! The second pass: the lists and the withdrawals.
-ghost use Rattle.std.specs.Prelude.{◌≡◌, ◌<◌, ◌+◌, ℕ, [], List, length, take, map, slice_get, Some, OnOk, IfOk};
+ghost use Rattle.std.specs.Prelude.{◌≡◌, ◌<◌, ◌+◌, ℕ, [], List, None, length, replicate, take, map, slice_get, Some, OnOk, IfOk, true};
 ghost use Rattle.match_model.specs.Draft.{instance_of as made_of};
 ghost use Rattle.std.specs.List.{list_all};
 ghost use Rattle.std.specs.Option.{option_or};
@@ -20,11 +20,12 @@ ghost use Rattle.docket.specs.declared.vocabulary.Side.TheVariants.{Programmes, 
 
 use crate::declarations::model_fault;
 use crate::fault::DocketFault;
+use crate::programme_lists::ProgrammeLists;
 use crate::store::lists::{ListKind, ListRow, Lists};
 use crate::vocabulary::Side;
 use docket_names::Members;
 use match_model::{Instance, InstanceBuilder, ProgrammeNo, ResidentNo, WrittenLists};
-use std::alloc::Global;
+use std::alloc::{AllocError, Global};
 
 // Reads the residents with these names.
 fn listed_residents(
@@ -68,12 +69,14 @@ fn listed_programmes(
     Ok(())
 }
 
-// Gives the builder the list in a row `P,programme,resident,..`.
+// Gives the builder the list in a row `P,programme,resident,..`, and keeps it.
 fn rank_residents(
+    alloc: Global,
     row: &ListRow,
     programmes: &Members,
     residents: &Members,
     builder: &mut InstanceBuilder,
+    given: &mut ProgrammeLists,
     listed: &mut Vec<ResidentNo>,
 ) -> Result<(), DocketFault>
     ensures ranked { OnOk result ((texts : Fields) (rows : List Fields) (k : ℕ)
@@ -94,12 +97,16 @@ fn rank_residents(
         })
         → Answers (ranking_fault rows (take k rows) (row_at rows k)) result }
     ensures limits { OnOk result (builder.new.limits ≡ builder.old.limits) }
+    ensures given { OnOk result (given.old ≡ builder.old.programme_lists
+        → given.new ≡ builder.new.programme_lists) }
 {
     let Some(owner) = programmes.member(row.owner as usize) else {
         return Err(DocketFault::UnknownName { place: row.place });
     };
     listed_residents(row.place, row.listed, residents, listed)?;
-    match builder.programme_list(ProgrammeNo(owner), listed.as_slice()) {
+    let (owner, list) = (ProgrammeNo(owner), listed.as_slice());
+    given.give(alloc, owner, list)?;
+    match builder.programme_list(owner, list) {
         Ok(()) => Ok(()),
         Err(fault) => Err(model_fault(row.place, fault)),
     }
@@ -131,6 +138,7 @@ fn rank_programmes(
         })
         → Answers (ranking_fault rows (take k rows) (row_at rows k)) result }
     ensures limits { OnOk result (builder.new.limits ≡ builder.old.limits) }
+    ensures same { OnOk result (builder.new.programme_lists ≡ builder.old.programme_lists) }
 {
     let Some(owner) = residents.member(row.owner as usize) else {
         return Err(DocketFault::UnknownName { place: row.place });
@@ -165,6 +173,7 @@ fn withdraw_programme(
         })
         → Answers (ranking_fault rows (take k rows) (row_at rows k)) result }
     ensures limits { OnOk result (builder.new.limits ≡ builder.old.limits) }
+    ensures same { OnOk result (builder.new.programme_lists ≡ builder.old.programme_lists) }
 {
     let Some(programme) = programmes.member(row.owner as usize) else {
         return Err(DocketFault::UnknownName { place: row.place });
@@ -198,6 +207,7 @@ fn withdraw_resident(
         })
         → Answers (ranking_fault rows (take k rows) (row_at rows k)) result }
     ensures limits { OnOk result (builder.new.limits ≡ builder.old.limits) }
+    ensures same { OnOk result (builder.new.programme_lists ≡ builder.old.programme_lists) }
 {
     let Some(resident) = residents.member(row.owner as usize) else {
         return Err(DocketFault::UnknownName { place: row.place });
@@ -210,11 +220,13 @@ fn withdraw_resident(
 
 // Gives the builder what row `j` of the store says.
 fn rank_row(
+    alloc: Global,
     lists: &Lists,
     j: usize,
     programmes: &Members,
     residents: &Members,
     builder: &mut InstanceBuilder,
+    given: &mut ProgrammeLists,
     of_programme: &mut Vec<ResidentNo>,
     of_resident: &mut Vec<ProgrammeNo>,
 ) -> Result<(), DocketFault>
@@ -228,12 +240,20 @@ fn rank_row(
         → IsNext texts programmes.now residents.now builder.old rows k entry
         → Answers (ranking_fault rows (take k rows) (row_at rows k)) result }
     ensures limits { OnOk result (builder.new.limits ≡ builder.old.limits) }
+    ensures given { OnOk result (given.old ≡ builder.old.programme_lists
+        → given.new ≡ builder.new.programme_lists) }
 {
     let row = lists.row(j);
     match row.kind {
-        ListKind::Ranking(Side::Programmes) => {
-            rank_residents(&row, programmes, residents, builder, of_programme)
-        }
+        ListKind::Ranking(Side::Programmes) => rank_residents(
+            alloc,
+            &row,
+            programmes,
+            residents,
+            builder,
+            given,
+            of_programme,
+        ),
         ListKind::Ranking(Side::Residents) => {
             rank_programmes(&row, programmes, residents, builder, of_resident)
         }
@@ -242,13 +262,14 @@ fn rank_row(
     }
 }
 
-// Gives the builder all lists and withdrawals, in the order of the rows.
+// Gives the builder all lists and withdrawals, in the order of the rows, and keeps the programmes' lists.
 fn rank(
     alloc: Global,
     lists: &Lists,
     programmes: &Members,
     residents: &Members,
     builder: &mut InstanceBuilder,
+    given: &mut ProgrammeLists,
 ) -> Result<(), DocketFault>
     ensures ranked { OnOk result ((texts : Fields) (rows : List Fields)
         → AreLists texts lists.now rows → AreKnown texts programmes.now residents.now rows
@@ -257,16 +278,20 @@ fn rank(
         → AreLists texts lists.now rows → AreKnown texts programmes.now residents.now rows
         → IsRanked builder.old rows [] → Answers (first_from (ranking_fault rows) [] rows) result }
     ensures limits { OnOk result (builder.new.limits ≡ builder.old.limits) }
+    ensures given { OnOk result (given.old ≡ builder.old.programme_lists
+        → given.new ≡ builder.new.programme_lists) }
 {
     let mut of_programme = Vec::new(alloc);
     let mut of_resident = Vec::new(alloc);
     for j in 0..lists.len() {
         rank_row(
+            alloc,
             lists,
             j,
             programmes,
             residents,
             builder,
+            given,
             &mut of_programme,
             &mut of_resident,
         )?;
@@ -278,20 +303,34 @@ fn rank(
 fn finished(
     builder: InstanceBuilder,
     records: u32,
+    given: ProgrammeLists,
     keeps_lists: bool,
-) -> Result<(Instance, Option<WrittenLists>), DocketFault>
+) -> Result<(Instance, Option<(WrittenLists, ProgrammeLists)>), DocketFault>
     ensures instance { IfOk result (λ made. (rows : List Fields)
         → IsRanked builder rows rows → made.0 ≡ made_of (draft_of rows)) }
     ensures lists { IfOk result (λ made. (rows : List Fields)
-        → IsRanked builder rows rows → made.1 ≡ lists_if keeps_lists rows) }
+        → IsRanked builder rows rows → (keeps_lists ≡ true → given ≡ builder.programme_lists)
+        → made.1 ≡ lists_if keeps_lists rows) }
     ensures fault { (rows : List Fields) → IsRanked builder rows rows
         → records ≡ length rows → Answers (pairs_fault builder.limits rows) result }
 {
     match builder.finish_with_lists() {
-        Ok((instance, lists)) if keeps_lists => Ok((instance, Some(lists))),
+        Ok((instance, lists)) if keeps_lists => Ok((instance, Some((lists, given)))),
         Ok((instance, _)) => Ok((instance, None)),
         Err(refused) => Err(model_fault(records, refused.fault)),
     }
+}
+
+// The programmes before any list is given, if lists are kept; else no programme.
+fn no_lists(
+    alloc: Global,
+    programmes: &Members,
+    keeps_lists: bool,
+) -> Result<ProgrammeLists, AllocError>
+    ensures { keeps_lists ≡ true
+        → IfOk result (λ given. given ≡ replicate (length programmes.now) None) }
+{
+    ProgrammeLists::none(alloc, if keeps_lists { programmes.len() } else { 0 })
 }
 
 /// The instance that the builder makes from the lists and withdrawals of so many records, and the lists if `keeps_lists`
@@ -304,7 +343,7 @@ pub(crate) fn instance_of(
     residents: &Members,
     mut builder: InstanceBuilder,
     keeps_lists: bool,
-) -> Result<(Instance, Option<WrittenLists>), DocketFault>
+) -> Result<(Instance, Option<(WrittenLists, ProgrammeLists)>), DocketFault>
     ensures instance { IfOk result (λ made. (texts : Fields) (rows : List Fields)
         → AreLists texts lists.now rows → AreKnown texts programmes.now residents.now rows
         → IsRanked builder rows [] → records ≡ length rows → made.0 ≡ made_of (draft_of rows)) }
@@ -316,6 +355,14 @@ pub(crate) fn instance_of(
         → IsRanked builder rows [] → records ≡ length rows → Answers (option_or
         (first_from (ranking_fault rows) [] rows) (pairs_fault builder.limits rows)) result }
 {
-    rank(alloc, lists, programmes, residents, &mut builder)?;
-    finished(builder, records, keeps_lists)
+    let mut given = no_lists(alloc, programmes, keeps_lists)?;
+    rank(
+        alloc,
+        lists,
+        programmes,
+        residents,
+        &mut builder,
+        &mut given,
+    )?;
+    finished(builder, records, given, keeps_lists)
 }

@@ -9,6 +9,7 @@ returns-in-Some-clause-files c =
     record {
       secret = sym (c.in-Some.ensures ∙ first_value-rows matches (codes "secret"));
       sheet = sym (c.get_str-in-Some.ensures ∙ first_value-rows matches (codes "sheet"));
+      key = sym (c.get_str-in-Some-2.ensures ∙ first_value-rows matches (codes "key"));
     }
 
 pub returns-in-None-clause-none : goal.returns-in-None-clause-none

@@ -6,4 +6,5 @@ use Rattle.seal_text.proofs.line.sealing.Goals as goal
 pub returns : goal.returns
 returns c =
     let one = c.in_ok-command.ensures.shape c.valued-secret.ensures.own ∙ ap₂ with_rule c.described-command.ensures c.valued-secret.ensures.rule in
-    IfOk-weaker c.arg-2.result _ _ (λ command adds. adds.shape c.valued-sheet.ensures.own ∙ ap₂ with_rule one c.valued-sheet.ensures.rule) c.arg-2.ensures
+    let two = c.in_ok-command-2.ensures.shape c.valued-sheet.ensures.own ∙ ap₂ with_rule one c.valued-sheet.ensures.rule in
+    IfOk-weaker c.arg-3.result _ _ (λ command adds. adds.shape c.valued-key.ensures.own ∙ ap₂ with_rule two c.valued-key.ensures.rule) c.arg-3.ensures

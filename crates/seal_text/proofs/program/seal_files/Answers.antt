@@ -7,11 +7,13 @@ pub returns : goal.returns
 returns g c = inr (record {
   answer = c.serve-answer.result;
   appends = record {
-    docket = c.as_slice.result.now;
+    docket = c.as_slice-docket.result.now;
     sheet = option_copied c.lent-sheet.result;
+    key = option_copied c.lent-key.result;
     secret = c.as_slice-secret.result.now;
     docket_is = search rules;
     sheet_is = ap is_some c.lent-sheet.ensures ∙ c.in-Ok-load_path_if.ensures;
+    key_is = ap is_some c.lent-key.ensures ∙ c.in-Ok-load_path_if-2.ensures;
     answers = answered g.W.Write.contents _ _ c.serve-answer.result _ _ _ c.serve-answer.ensures.text c.serve-answer.ensures.fault c.serve-answer.ensures.before;
   };
   tells = search rules;

@@ -11,7 +11,7 @@ returns-in-Ok-of_docket-clause-case g c =
     case_read _ _ _ _ _ c.in-Ok.ensures.read parts.0 parts.1 c.in-Ok-of_docket.ensures.sheet
 
 pub returns-in-Err-clause-fault : goal.returns-in-Err-clause-fault
-returns-in-Err-clause-fault g c = inl (record { first = c.in-Err.there; is_first = c.in-Err.ensures.fault; is_told = c.told.ensures })
+returns-in-Err-clause-fault g c = inl c.in-Err.ensures.fault
 
 pub returns-in-Err-NoSheet-clause-fault : goal.returns-in-Err-NoSheet-clause-fault
 returns-in-Err-NoSheet-clause-fault g c =

@@ -1,12 +1,12 @@
-use Rattle.records.specs.Reading.{rows_of}
+use Rattle.std.proofs.Common.{refl}
 use Rattle.seal_text.proofs.ServeFacts.{lists_counted, results_counted}
 use Rattle.seal_text.proofs.serve.text_of_case.Goals as goal
 
 pub text_of-requires-clause-lists : goal.text_of-requires-clause-lists
 text_of-requires-clause-lists c =
-    let rows = rows_of c.args.docket_bytes.now in
-    let texts = rw c.docket.ensures at (c.in_ok-lists.ensures rows c.in_ok-records.ensures) in
-    rw c.docket-2.ensures (lists_counted c.args.case.now.docket rows c.in_ok-lists.lists.items texts)
+    let has = c.requires.lists in
+    let texts = rw c.docket.ensures at (c.in_ok-lists.ensures has.draft (rw c.written.ensures has.are_of)) in
+    rw c.docket-2.ensures (lists_counted c.args.case.now.docket has.draft c.args.names.now c.in_ok-lists.lists.items texts)
 
 pub text_of-requires-clause-outcome : goal.text_of-requires-clause-outcome
 text_of-requires-clause-outcome c =

@@ -1,10 +1,14 @@
-use Rattle.std.proofs.Common.{◌∙◌}
+use Rattle.std.proofs.Common.{◌∙◌, sym}
+use Rattle.seal_text.proofs.RecordFacts.{if_some}
 use Rattle.seal_text.proofs.TextFacts.{programme_made}
 use Rattle.seal_text.proofs.texts.programme_lists.Goals as goal
 
+pub put_ranking-requires : goal.put_ranking-requires
+put_ranking-requires c = if_some _ _ (λ list e. c.requires.given c.args.programme list (sym c.list_of.ensures ∙ e))
+
 pub returns : goal.returns
-returns c = λ rows are.
-    programme_made c.args.docket.now rows c.args.programme c.args.records.now c.new-text.result c.put_quota.new.text c.put_line_if.new.text c.put_withdrawal_if.new.text
-    c.as_bytes-name.result.now c.quota-quota.result _ c.programme_withdrawn-gone.result are c.new-text.ensures.items (c.as_bytes-name.ensures.value ∙ c.programme_name.ensures)
-    (rw c.instance.ensures.instance at c.quota-quota.ensures) c.of_programme.ensures (rw c.instance-2.ensures.instance at c.programme_withdrawn-gone.ensures)
-    c.in_ok-put_quota.ensures c.in_ok-put_line_if.ensures c.in_ok-put_withdrawal_if.ensures
+returns c = λ draft are.
+    programme_made c.args.docket.now draft c.args.names.now c.args.programme c.new-text.result c.put_quota.new.text c.put_ranking.new.text c.put_withdrawal_if.new.text c.put_real.new.text
+    c.as_bytes-name.result.now c.quota-quota.result _ c.programme_withdrawn-gone.result _ c.new-text.ensures.items (c.as_bytes-name.ensures.value ∙ c.programme_name.ensures)
+    (rw c.instance.ensures.instance at c.quota-quota.ensures) (rw are at c.list_of.ensures) (rw c.instance-2.ensures.instance at c.programme_withdrawn-gone.ensures)
+    c.programme.ensures c.in_ok-put_quota.ensures c.in_ok-put_ranking.ensures c.in_ok-put_withdrawal_if.ensures c.in_ok-put_real.ensures

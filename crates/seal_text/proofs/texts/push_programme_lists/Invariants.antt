@@ -1,11 +1,10 @@
-use Rattle.std.proofs.Common.{◌≡◌, List, ◌++◌, map}
+use Rattle.std.proofs.Common.{◌≡◌, ◌++◌, map}
 use Rattle.std.specs.List.{range_with_len}
-use Rattle.records.specs.Reading.{Fields}
+use Rattle.match_model.specs.Draft.{Draft}
 use Rattle.seal_text.specs.Grown.{texts_of}
-use Rattle.seal_text.specs.Records.{AreListsOf}
 use Rattle.seal_text.specs.Texts.{programme_lists}
 use Rattle.seal_text.proofs.texts.push_programme_lists.Given as goal
 
 abbrev pub invariant-loop-p : goal.invariant-loop-p
 invariant-loop-p l =
-    (rows : List Fields) → AreListsOf rows l.records → texts_of l.texts.items ≡ texts_of l.fn.texts.items ++ map (programme_lists l.docket rows) (range_with_len 0 l.p)
+    (draft : Draft) → l.given ≡ draft.programme_lists → texts_of l.texts.items ≡ texts_of l.fn.texts.items ++ map (programme_lists l.docket draft l.names) (range_with_len 0 l.p)

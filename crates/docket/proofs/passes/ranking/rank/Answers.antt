@@ -7,7 +7,7 @@ use Rattle.docket.proofs.ListPassFacts.{next_at, all_done, entries_split, no_mor
 use Rattle.docket.proofs.passes.ranking.rank.Goals as goal
 
 pub loop-j-init : goal.loop-j-init
-loop-j-init c = (λ texts rows lists known start. begin_at texts c.args.programmes.now c.args.residents.now c.args.lists.now rows c.args.builder.now lists known start, refl)
+loop-j-init c = (λ texts rows lists known start. begin_at texts c.args.programmes.now c.args.residents.now c.args.lists.now rows c.args.builder.now lists known start, refl, λ same. same)
 
 pub loop-j-preserved : goal.loop-j-preserved
 loop-j-preserved c = (
@@ -17,6 +17,7 @@ loop-j-preserved c = (
       (rw s.split at (c.loop-j.invariant.0 texts rows lists known start)) in
       n.after c.rank_row.new.builder (c.in_ok-rank_row.ensures.ranked texts rows n.k s.entry s.at n.next) (c.in_ok-rank_row.ensures.fault texts rows n.k s.entry s.at n.next),
   c.in_ok-rank_row.ensures.limits ∙ c.loop-j.invariant.1,
+  λ same. c.in_ok-rank_row.ensures.given (c.loop-j.invariant.2 same),
 )
 
 pub returns-in_err-rank_row-clause-fault : goal.returns-in_err-rank_row-clause-fault
@@ -39,3 +40,6 @@ returns-clause-fault c texts rows lists known start =
 
 pub returns-clause-limits : goal.returns-clause-limits
 returns-clause-limits c = c.loop-j.invariant.1
+
+pub returns-clause-given : goal.returns-clause-given
+returns-clause-given c = c.loop-j.invariant.2

@@ -1,0 +1,71 @@
+//! The programmes' lists as they were written.
+ghost use Rattle.std.specs.Prelude.{◌≡◌, IfOk, None, OnOk, Some, map, option_copied, replicate, slice_index_or, slice_set};
+ghost use Rattle.docket.specs.Lists.{items_of};
+
+use match_model::{ProgrammeNo, ResidentNo};
+use std::alloc::{AllocError, Global};
+use std::marker::Model;
+
+/// For each programme the list in its P record, best first, or none if it has no P record.
+#[derive(Drop)]
+pub struct ProgrammeLists {
+    lists: Vec<Option<Vec<ResidentNo>>>,
+}
+
+impl Model for ProgrammeLists {
+    ghost use Rattle.std.specs.Prelude.{List, Option, ℕ, map};
+    ghost use Rattle.docket.specs.Lists.{items_of};
+
+    ghost Value = { List (Option (List ℕ)) };
+
+    ghost view = { λ a. map items_of a.lists.items };
+}
+
+// Puts a list at index `place`, if there is such an index.
+fn put(lists: &mut Vec<Option<Vec<ResidentNo>>>, place: usize, list: Vec<ResidentNo>)
+    ensures { map items_of lists.new.items
+        ≡ slice_set (map items_of lists.old.items) place (Some list.items) }
+{
+    if let Some(slot) = lists.get_mut(place) {
+        *slot = Some(list);
+    }
+}
+
+impl ProgrammeLists {
+    /// So many programmes, none of which has a list yet.
+    pub(crate) fn none(alloc: Global, programmes: usize) -> Result<ProgrammeLists, AllocError>
+        ensures { IfOk result (λ lists. lists ≡ replicate programmes None) }
+    {
+        let mut lists = Vec::new(alloc);
+        for _p in 0..programmes {
+            lists.push(None)?;
+        }
+        Ok(ProgrammeLists { lists })
+    }
+
+    /// Gives a programme its list. Without such a programme nothing changes.
+    pub(crate) fn give(
+        &mut self,
+        alloc: Global,
+        programme: ProgrammeNo,
+        list: &[ResidentNo],
+    ) -> Result<(), AllocError>
+        ensures { OnOk result (self.new ≡ slice_set self.old programme (Some list.now)) }
+    {
+        let place = programme.0 as usize;
+        if place < self.lists.len() {
+            put(&mut self.lists, place, Vec::from_slice(alloc, list)?);
+        }
+        Ok(())
+    }
+
+    /// The list of a programme, or none if it has no P record.
+    pub fn list_of(&self, programme: ProgrammeNo) -> Option<&[ResidentNo]>
+        ensures { option_copied result ≡ slice_index_or self.now programme None }
+    {
+        match self.lists.get(programme.0 as usize) {
+            Some(Some(list)) => Some(list.as_slice()),
+            _ => None,
+        }
+    }
+}

@@ -1,0 +1,313 @@
+//! The members' real names and IDs, as the office wrote them in its key.
+ghost use Rattle.std.specs.Prelude.{◌≡◌, ◌⊎◌, [], IfErr, IfOk, None, OnOk, Some, chars, map, option_map, replicate, slice_index_or, slice_set};
+ghost use Rattle.std.specs.List.{list_any};
+ghost use Rattle.csv.specs.Records.{fields_of};
+ghost use Rattle.reasons_text.specs.Keys.{AreKeyRows, added, unnamed};
+ghost use Rattle.reasons_text.specs.Naming.{both_of};
+ghost use Rattle.reasons_text.specs.Numbers.{AreNumbers};
+ghost use Rattle.reasons_text.specs.RealNames.{AreRealIn, IsNamesFault, IsOutOfMemory, IsRealOf, nobody_named, real_fault, real_fault_from, real_in, with_first, with_row};
+ghost use Rattle.reasons_text.specs.RealNames as spec;
+
+use crate::delimiter::delimiter_of;
+use crate::fault::WhyFault;
+use crate::key::{Key, side_of_row};
+use crate::naming::MemberNumbers;
+use crate::side::{Side, member_count};
+use csv::ByteRecord;
+use docket::{Docket, DocketFault};
+use match_model::{ProgrammeNo, ResidentNo};
+use records::{field, next_row, reader_over};
+use std::alloc::{AllocError, Global};
+use std::hash::RandomState;
+use std::marker::Model;
+use std::random::RandomSource;
+use thiserror::Error;
+
+/// Why a key gives no names that can be sealed.
+#[derive(Debug, PartialEq, Eq, Drop, Error)]
+pub enum NamesFault {
+    /// A row of the key is bad, or memory ran out.
+    #[error(transparent)]
+    Key(WhyFault),
+    /// A name or an ID is no text, or has a character that isn't seen, or that moves other text.
+    #[error("record {place} of the key: its name or ID has a hidden character")]
+    Hidden {
+        /// The number of the record, from 1.
+        place: u64,
+    },
+}
+
+/// For each member of a docket the real name, and the ID if there is one, if the key names the member.
+#[derive(Drop)]
+pub struct RealNames {
+    programmes: Vec<Option<ByteRecord>>,
+    residents: Vec<Option<ByteRecord>>,
+}
+
+impl From<AllocError> for NamesFault {
+    ghost use Rattle.docket.specs.declared.fault.DocketFault.TheVariants as docket_fault;
+    ghost use Rattle.reasons_text.specs.declared.fault.WhyFault.TheVariants.{Docket};
+    ghost use Rattle.reasons_text.specs.declared.real_names.NamesFault.TheVariants.{Key};
+
+    ghost from_gives = { λ _ fault. fault ≡ Key (Docket docket_fault.Memory) };
+
+    fn from(_error: AllocError) -> NamesFault {
+        NamesFault::Key(WhyFault::Docket(DocketFault::Memory))
+    }
+}
+
+// Whether the character isn't seen, or moves other text: a control character, an end of a line or of a paragraph, or a mark
+// of direction.
+fn is_hidden(c: char) -> bool
+    ensures { result ≡ spec.is_hidden c }
+{
+    c.is_control()
+        || c == '\u{61c}'
+        || (c >= '\u{200e}' && c <= '\u{200f}')
+        || (c >= '\u{2028}' && c <= '\u{202e}')
+        || (c >= '\u{2066}' && c <= '\u{2069}')
+}
+
+// Whether a text has a hidden character.
+fn has_hidden(text: &str) -> bool
+    ensures { result ≡ list_any spec.is_hidden (chars text.now) }
+{
+    for c in text.chars() {
+        if is_hidden(c) {
+            return true;
+        }
+    }
+    false
+}
+
+// Whether the bytes are no text, or have a hidden character.
+#[tactic(auto, unfolding(crate::specs::RealNames::is_unclear), using(crate::proofs::TextFacts::is_text, crate::proofs::TextFacts::no_text))]
+fn is_unclear(text: &[u8]) -> bool
+    ensures { result ≡ spec.is_unclear text.now }
+{
+    match str::from_utf8(text) {
+        Ok(text) => has_hidden(text),
+        Err(_) => true,
+    }
+}
+
+// The records of a key.
+fn key_rows(alloc: Global, bytes: &[u8]) -> Result<Vec<ByteRecord>, AllocError>
+    ensures { IfOk result (λ rows. AreKeyRows bytes.now (map fields_of rows.items)) }
+{
+    let mut reader = reader_over(alloc, delimiter_of(bytes), bytes)?;
+    let mut rows = Vec::new(alloc);
+    for _n in 0..u64::MAX {
+        let mut row = ByteRecord::new(alloc);
+        let Ok(found) = next_row(&mut reader, &mut row) else {
+            return Err(AllocError);
+        };
+        if !found {
+            return Ok(rows);
+        }
+        rows.push(row)?;
+    }
+    Err(AllocError)
+}
+
+// The real name in a key's row, and the ID if the row has one.
+fn real_fields(alloc: Global, row: &ByteRecord) -> Result<ByteRecord, AllocError>
+    ensures { IfOk result (λ real. fields_of real ≡ spec.real_fields (fields_of row.now)) }
+{
+    let mut real = ByteRecord::new(alloc);
+    real.push_field(field(row, 2))?;
+    if !field(row, 3).is_empty() {
+        real.push_field(field(row, 3))?;
+    }
+    Ok(real)
+}
+
+// No name for any of so many members.
+fn no_names(alloc: Global, count: u32) -> Result<Vec<Option<ByteRecord>>, AllocError>
+    ensures { IfOk result (λ names. map real_in names.items ≡ replicate count None) }
+{
+    let mut names = Vec::new(alloc);
+    for _n in 0..count {
+        names.push(None)?;
+    }
+    Ok(names)
+}
+
+// The name of a member, if there is one.
+fn name_at(names: &[Option<ByteRecord>], member: usize) -> Option<&ByteRecord>
+    ensures { option_map (λ real. fields_of real.now) result
+        ≡ slice_index_or (map real_in names.now) member None }
+{
+    match names.get(member) {
+        Some(Some(real)) => Some(real),
+        _ => None,
+    }
+}
+
+// Puts a name at index `place`, if there is such an index.
+fn put(names: &mut Vec<Option<ByteRecord>>, place: usize, real: ByteRecord)
+    ensures { map real_in names.new.items
+        ≡ slice_set (map real_in names.old.items) place (Some (fields_of real)) }
+{
+    if let Some(slot) = names.get_mut(place) {
+        *slot = Some(real);
+    }
+}
+
+// Notes a member's name, unless a row before named the member.
+#[tactic(auto, using(crate::proofs::RealFacts::is_none_too))]
+fn note(names: &mut Vec<Option<ByteRecord>>, member: usize, real: ByteRecord)
+    ensures { map real_in names.new.items
+        ≡ with_first (map real_in names.old.items) (Some member) (fields_of real) }
+{
+    if name_at(names.as_slice(), member).is_none() {
+        put(names, member, real);
+    }
+}
+
+impl Model for RealNames {
+    ghost use Rattle.std.specs.Prelude.{map};
+    ghost use Rattle.reasons_text.specs.RealNames.{Real, real_in};
+
+    ghost Value = { Real };
+
+    ghost view = { λ a. record {
+      programmes = map real_in a.programmes.items;
+      residents = map real_in a.residents.items;
+    } };
+}
+
+impl RealNames {
+    /// No name for anyone.
+    pub fn none(alloc: Global) -> RealNames
+        ensures { result ≡ nobody_named }
+    {
+        RealNames {
+            programmes: Vec::new(alloc),
+            residents: Vec::new(alloc),
+        }
+    }
+
+    // Names for the members of a docket, of whom none has one yet.
+    fn unnamed(alloc: Global, docket: &Docket) -> Result<RealNames, AllocError>
+        ensures { IfOk result (AreRealIn docket.now []) }
+    {
+        Ok(RealNames {
+            programmes: no_names(alloc, member_count(docket, Side::Programmes))?,
+            residents: no_names(alloc, member_count(docket, Side::Residents))?,
+        })
+    }
+
+    /// The names in a key's rows, as `why` reads them. The rows may have no fault, and names and IDs no hidden character. Names
+    /// are hashed with keys that the runtime draws.
+    pub fn read<H: RandomSource>(
+        rt: &H,
+        alloc: Global,
+        docket: &Docket,
+        bytes: &[u8],
+    ) -> Result<RealNames, NamesFault>
+        ensures names { IfOk result (IsRealOf docket.now bytes.now) }
+        ensures fault { IfErr result (IsNamesFault docket.now bytes.now) }
+    {
+        let Ok(keys) = RandomState::new(rt) else {
+            return Err(NamesFault::Key(WhyFault::Docket(DocketFault::Read { place: 1 })));
+        };
+        let rows = key_rows(alloc, bytes)?;
+        let numbers = MemberNumbers::of(alloc, keys, docket)?;
+        named(alloc, &numbers, docket, rows.as_slice())
+    }
+
+    // Notes the name in one more row of a key.
+    fn add(
+        &mut self,
+        alloc: Global,
+        numbers: &MemberNumbers,
+        row: &ByteRecord,
+    ) -> Result<(), AllocError>
+        requires { AreNumbers numbers.now }
+        ensures { OnOk result
+            (self.new ≡ with_row numbers.now.docket.now self.old (fields_of row.now)) }
+    {
+        let Some(side) = side_of_row(row) else {
+            return Ok(());
+        };
+        let Some(member) = numbers.number(side, field(row, 1)) else {
+            return Ok(());
+        };
+        let real = real_fields(alloc, row)?;
+        match side {
+            Side::Programmes => note(&mut self.programmes, member as usize, real),
+            Side::Residents => note(&mut self.residents, member as usize, real),
+        }
+        Ok(())
+    }
+
+    /// The name of a programme, if the key names it.
+    pub fn programme(&self, programme: ProgrammeNo) -> Option<&ByteRecord>
+        ensures { option_map (λ real. fields_of real.now) result
+            ≡ slice_index_or self.now.programmes programme None }
+    {
+        name_at(self.programmes.as_slice(), programme.0 as usize)
+    }
+
+    /// The name of a resident, if the key names the resident.
+    pub fn resident(&self, resident: ResidentNo) -> Option<&ByteRecord>
+        ensures { option_map (λ real. fields_of real.now) result
+            ≡ slice_index_or self.now.residents resident None }
+    {
+        name_at(self.residents.as_slice(), resident.0 as usize)
+    }
+}
+
+// The fault of a row, after the rows that gave these names. The names of the row are added.
+fn test_row(
+    alloc: Global,
+    numbers: &MemberNumbers,
+    key: &mut Key,
+    row: &ByteRecord,
+    place: u64,
+) -> Result<(), NamesFault>
+    requires { AreNumbers numbers.now }
+    ensures row { OnOk result (both_of key.new
+        ≡ added numbers.now.docket.now (both_of key.old) (fields_of row.now)) }
+    ensures faultless { OnOk result
+        (real_fault numbers.now.docket.now (both_of key.old) place (fields_of row.now) ≡ None) }
+    ensures fault { IfErr result (λ fault. IsOutOfMemory fault ⊎ (real_fault
+        numbers.now.docket.now (both_of key.old) place (fields_of row.now) ≡ Some fault)) }
+{
+    if let Err(fault) = key.add(alloc, numbers, row, place) {
+        return Err(NamesFault::Key(fault));
+    }
+    if is_unclear(field(row, 2)) || is_unclear(field(row, 3)) {
+        return Err(NamesFault::Hidden { place });
+    }
+    Ok(())
+}
+
+// The names that all rows of a key give.
+fn named(
+    alloc: Global,
+    numbers: &MemberNumbers,
+    docket: &Docket,
+    rows: &[ByteRecord],
+) -> Result<RealNames, NamesFault>
+    requires numbers { AreNumbers numbers.now }
+    requires docket { numbers.now.docket.now ≡ docket.now }
+    ensures names { IfOk result (AreRealIn docket.now (map fields_of rows.now)) }
+    ensures faultless { OnOk result
+        (real_fault_from docket.now (unnamed docket.now) 0 (map fields_of rows.now) ≡ None) }
+    ensures fault { IfErr result (λ fault. IsOutOfMemory fault ⊎ (real_fault_from
+        docket.now (unnamed docket.now) 0 (map fields_of rows.now) ≡ Some fault)) }
+{
+    let mut key = Key::unnamed(alloc, docket)?;
+    let mut names = RealNames::unnamed(alloc, docket)?;
+    for k in 0..rows.len() {
+        let row = &rows[k];
+        match test_row(alloc, numbers, &mut key, row, k as u64 + 1) {
+            Ok(()) => {}
+            Err(fault) => return Err(fault),
+        }
+        names.add(alloc, numbers, row)?;
+    }
+    Ok(names)
+}

@@ -1,0 +1,12 @@
+-- What stands between the commas of a real name's row parts neither fields nor rows.
+use Rattle.std.proofs.Common.{◌≡◌, ℕ, false, List, inl, inr}
+use Rattle.std.specs.Str.{IsUtf8, is_utf8}
+use Rattle.std.proofs.lemmas.Bool.{cases_Bool}
+use Rattle.std.proofs.lemmas.Str.{IsUtf8-from_is_utf8}
+
+-- bytes that are no text fail the test that the code makes
+pub no_text : (text : List ℕ) → (IsUtf8 text → ⊥) → is_utf8 text ≡ false
+no_text text h = elim (cases_Bool (is_utf8 text)) [
+  | inl is ↦ absurd (h (IsUtf8-from_is_utf8 text is))
+  | inr not ↦ not
+]

@@ -1,0 +1,115 @@
+//! The real name of a member in a row of a receipt.
+ghost use Rattle.std.specs.Prelude.{◌≡◌, ◌&&◌, IfOk, bytes_eq, not, ◌==◌};
+ghost use Rattle.std.specs.List.{list_all};
+ghost use Rattle.csv.specs.Records.{fields_of};
+ghost use Rattle.receipt_check.specs.Named as named_row;
+ghost use Rattle.receipt_check.specs.Shown.{fields_in};
+ghost use Rattle.records.specs.Reading.{rows_of};
+
+use crate::print::put_name;
+use csv::ByteRecord;
+use records::{field, next_row, put_line, reader_over};
+use std::alloc::{AllocError, Global};
+
+// Whether a real name or an ID can have the character.
+fn is_shown(c: char) -> bool
+    ensures { result ≡ named_row.is_shown c }
+{
+    let code = c as u32;
+    32 <= code
+        && !(127 <= code && code <= 159)
+        && code != 1564
+        && !(8206 <= code && code <= 8207)
+        && !(8232 <= code && code <= 8238)
+        && !(8294 <= code && code <= 8297)
+}
+
+// Whether what stands between two commas can have the character.
+fn is_part(c: char) -> bool
+    ensures { result ≡ named_row.is_part c }
+{
+    is_shown(c) && c != ','
+}
+
+// Whether what stands between two commas is text of such characters.
+fn is_piece(piece: &[u8]) -> bool
+    ensures { result ≡ named_row.is_piece piece.now }
+{
+    let Ok(text) = str::from_utf8(piece) else {
+        return false;
+    };
+    text.chars().all(|c| is_part(c))
+}
+
+// Whether all are so.
+fn are_pieces(pieces: &[&[u8]]) -> bool
+    ensures { result ≡ list_all named_row.is_piece (fields_in pieces.now) }
+{
+    pieces.iter().all(|piece| is_piece(*piece))
+}
+
+// The row as it is printed.
+fn name_text(alloc: Global, named: &[&[u8]]) -> Result<Vec<u8>, AllocError>
+    ensures { IfOk result (λ text. text.items ≡ named_row.name_text (fields_in named.now)) }
+{
+    let mut text = Vec::new(alloc);
+    put_name(&mut text, named)?;
+    Ok(text)
+}
+
+// The fields of the first row of these bytes, as csv reads them.
+fn first_fields(alloc: Global, bytes: &[u8]) -> Result<ByteRecord, AllocError>
+    ensures { IfOk result (λ row. fields_of row ≡ named_row.first_fields (rows_of bytes.now)) }
+{
+    let mut reader = reader_over(alloc, b',', bytes)?;
+    let mut row = ByteRecord::new(alloc);
+    match next_row(&mut reader, &mut row) {
+        Ok(true) => Ok(row),
+        Ok(false) => Ok(ByteRecord::new(alloc)),
+        Err(_) => Err(AllocError),
+    }
+}
+
+/// The fields of the row, as csv reads them: `N`, the real name, and perhaps an ID.
+#[tactic(auto, unfolding(crate::specs::Named::real_fields))]
+pub(crate) fn real_fields(alloc: Global, named: &[&[u8]]) -> Result<ByteRecord, AllocError>
+    ensures { IfOk result (λ row. fields_of row
+        ≡ named_row.real_fields (fields_in named.now)) }
+{
+    let text = name_text(alloc, named)?;
+    first_fields(alloc, text.as_slice())
+}
+
+// Whether the row is printed exactly as csv prints these fields.
+fn is_printed(alloc: Global, named: &[&[u8]], fields: &ByteRecord) -> Result<bool, AllocError>
+    ensures { IfOk result (λ is. is ≡ named_row.is_printed
+        (fields_in named.now) (fields_of fields.now)) }
+{
+    let text = name_text(alloc, named)?;
+    let mut printed = Vec::new(alloc);
+    put_line(&mut printed, fields)?;
+    Ok(printed.as_slice() == text.as_slice())
+}
+
+// Whether these are a real name, or a real name and an ID, after the `N`.
+fn has_parts(fields: &ByteRecord) -> bool
+    ensures { result ≡ named_row.has_parts (fields_of fields.now) }
+{
+    field(fields, 1).len() != 0
+        && (fields.len() == 2 || fields.len() == 3 && field(fields, 2).len() != 0)
+}
+
+/// Whether the row is that of a real name.
+#[tactic(auto, unfolding(crate::specs::Named::is_real))]
+pub(crate) fn is_real(alloc: Global, named: &[&[u8]]) -> Result<bool, AllocError>
+    ensures { IfOk result (λ is. is ≡ named_row.is_real (fields_in named.now)) }
+{
+    if !are_pieces(named) {
+        return Ok(false);
+    }
+    let fields = real_fields(alloc, named)?;
+    if !is_printed(alloc, named, &fields)? {
+        return Ok(false);
+    }
+    Ok(has_parts(&fields))
+}

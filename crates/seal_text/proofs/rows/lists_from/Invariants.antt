@@ -1,6 +1,0 @@
-use Rattle.records.specs.Reading.{rows_left}
-use Rattle.seal_text.proofs.RecordFacts.{HasLists}
-use Rattle.seal_text.proofs.rows.lists_from.Given as goal
-
-abbrev pub invariant-loop-n : goal.invariant-loop-n
-invariant-loop-n g l = HasLists (rows_left g.R.Read.remaining l.initial.reader) (rows_left g.R.Read.remaining l.reader) l.reader l.lists

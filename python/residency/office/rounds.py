@@ -1,0 +1,149 @@
+"""A second round: the tables that it begins with, who may take part in it, and where everybody is after all rounds."""
+from typing import TYPE_CHECKING, Dict, List, Mapping, NamedTuple, Optional, Sequence, Tuple
+
+from ..market import Market
+from ..names import PROGRAMME, RESIDENT, Member
+from ..near import NearNames
+from . import folder
+from .changed import members_of
+from .compare import is_one
+from .faults import Fault, Faults, OfficeError
+from .outcome import UNMATCHED, Outcome, Resident, Standing, by_name
+from .phrases import Phrases
+from .rosters import MATCH_COLUMNS, heads, members_table, raw_bytes, rows_below
+from .settings import TABLES
+from .sheets import book_of
+from .tables import Table
+
+if TYPE_CHECKING:
+    from .running import Run
+
+
+class Row(NamedTuple):
+    """What a folder keeps of a resident of a round before it: the round, the cells of `matches.csv`, and the columns that are kept."""
+
+    number: int
+    cells: List[str]
+    kept: Mapping[str, str]
+
+
+def tables_of(run: "Run") -> Dict[str, bytes]:
+    """The tables of the next round, each a workbook: the programmes with their free places, and the residents who are unmatched, with
+    empty lists as long as the longest list was. OfficeError where there are none of either."""
+    outcome, phrases, market = run.outcome, run.language().phrases(), run.market
+    programmes, left = outcome.unfilled(), [one for one in outcome.residents.values() if one.standing in UNMATCHED]
+    if not programmes or not left:
+        raise OfficeError("round.none", 3, run.at, what="unmatched resident" if programmes else "free place")
+    names = {(one.side, one.docket_name): one.name for one in run.names.members()}
+    parted = all(one.family and names[RESIDENT, one.docket_name].endswith(f" {one.family}") for one in left)
+    first: List[List[object]] = [[names[PROGRAMME, one.docket_name], one.id, one.unfilled] for one in programmes]
+    second: List[List[object]] = [[*([name[:-len(one.family) - 1], one.family] if parted else [name]), one.id, *one.kept]
+                                  for one in left for name in [names[RESIDENT, one.docket_name]]]
+    made = {}
+    for table, rows, known, lists, most in ((TABLES[0], first, heads(phrases, "programme", "id", "places"), market.programme_lists, len(left)),
+                                            (TABLES[1], second, [*heads(phrases, *(("given", "family") if parted else ("applicant",)), "id"), *outcome.columns],
+                                             market.resident_lists, len(programmes))):
+        ranks = range(1, max(1, min(most, max(map(len, lists.values()), default=0))) + 1)
+        every: List[List[object]] = [[*known, *(phrases.say("head.ranked", number=rank) for rank in ranks)], *rows]
+        at = known.index(phrases.say("head.id"))
+        made[table] = book_of(table, every if any(row[at] for row in rows) else [[*row[:at], *row[at + 1:]] for row in every])
+    return made
+
+
+def rows_of(data: bytes) -> List[Row]:
+    """The rows of what a folder keeps of the rounds before it."""
+    heading, rows = rows_below(data) if data else ([], [])
+    after = 1 + len(MATCH_COLUMNS)
+    return [Row(int(row[0]), row[1:after], dict(zip(heading[after:], row[after:]))) for row in rows]
+
+
+def number_of(earlier: Sequence[Row]) -> int:
+    """Which round comes after these rows."""
+    return 1 + max((row.number for row in earlier), default=0)
+
+
+def earlier_of(run: "Run") -> bytes:
+    """What the folder of the next round keeps: a row for each resident of a round, below those of the rounds before it."""
+    heading, rows = rows_below(run.results.checked(folder.MATCHES))
+    before, after = rows_of(run.earlier()), len(MATCH_COLUMNS)
+    every = [*before, *(Row(number_of(before), row[:after], dict(zip(heading[after:], row[after:]))) for row in rows)]
+    columns = list(dict.fromkeys(name for row in every for name in row.kept))
+    return raw_bytes(("round", *MATCH_COLUMNS, *columns), [(row.number, *row.cells, *(row.kept.get(name, "") for name in columns)) for row in every])
+
+
+def resident_of(row: Row, columns: Sequence[str]) -> Resident:
+    """A resident as a row has it, with what stands in these columns."""
+    made, id, name, standing, _, _, programme, *numbers, family = row.cells
+    choice, rank, ranked = (int(one) if one else None for one in numbers)
+    return Resident(name, id, made, Standing(standing), programme or None, choice, rank, ranked or 0, family,
+                    tuple(row.kept.get(column, "") for column in columns))
+
+
+def everybody(outcome: Outcome, earlier: bytes) -> List[Tuple[int, Resident]]:
+    """Each resident of all rounds with the last round of theirs: known by ID where all have one, and else by name."""
+    before = rows_of(earlier)
+    every = [*((row.number, resident_of(row, outcome.columns)) for row in before), *((number_of(before), one) for one in outcome.residents.values())]
+    by_id = all(one.id for _, one in every)
+    return list({one.id if by_id else one.name: (number, one) for number, one in every}.values())
+
+
+def results(outcome: Outcome, phrases: Phrases, order: str, earlier: bytes) -> bytes:
+    """A row for each resident, for a spreadsheet: who is where, by which choice, and how all others stand; after a second round each
+    resident of all rounds, with the round that gave the place."""
+    numbers = {one: number for number, one in everybody(outcome, earlier)}
+    rows = [(one.name, one.id, phrases.say(f"standing.{one.standing.key}"), one.programme, one.choice,
+             *[numbers[one] if one.programme else ""] * bool(earlier), *one.kept) for one in by_name(numbers, phrases, order)]
+    names = ("resident", "id", "standing", "programme", "choice", *["round"] * bool(earlier))
+    return members_table([*heads(phrases, *names), *outcome.columns], rows, 1)
+
+
+class Stood(NamedTuple):
+    """A member of the rounds before: where a resident is matched, if anywhere, and how many places of a programme stayed free."""
+
+    name: str
+    id: str
+    place: str
+    free: int
+
+
+class Before:
+    """What the rounds before say of who may take part in the next one."""
+
+    def __init__(self, run: "Run") -> None:
+        self.at, self.earlier, self.entry = run.at, earlier_of(run), {"after": run.digests()}
+        full = {row.cells[6]: Stood(row.cells[6], row.cells[5], "", 0) for row in rows_of(self.earlier) if row.cells[6]}
+        programmes = {one.name: Stood(one.name, one.id, "", one.unfilled) for one in run.outcome.programmes.values()}
+        self.known = {PROGRAMME: list({**full, **programmes}.values()),
+                      RESIDENT: [Stood(one.name, one.id, one.programme or "", 0) for _, one in everybody(run.outcome, run.earlier())]}
+
+    def faults(self, market: Market, allow_new: bool, tables: Sequence[Table] = ()) -> Faults:
+        """Who may not take part: who is matched, who has more places than stayed free, whose ID was another's, and who is new, unless
+        these are allowed; then they are noted in their table."""
+        found = Faults()
+        for number, side in enumerate((PROGRAMME, RESIDENT)):
+            members = members_of(market, side)
+            by_id = all(one.id for one in members.values()) and all(one.id for one in self.known[side])
+            known = {one.id if by_id else one.name: one for one in self.known[side]}
+            near, new = NearNames(one.name for one in known.values()), []
+            for index, name in enumerate(members):
+                cell = (tables[number].entries[index].row, tables[number].entries[index].cell) if tables else (None, None)
+                one = known.get(members[name].id if by_id else name)
+                code = self.fault(one, members[name], market.quotas.get(name, 0) if side == PROGRAMME else 0)
+                if one is None and allow_new:
+                    new.append(name)
+                elif code:
+                    values = {"name": name, "at": self.at, "near": near.near(name), "id": members[name].id, "places": market.quotas.get(name)}
+                    code += "-near" if one is None and values["near"] else ""
+                    found.tell(code, TABLES[number], *cell, {**values, **({"was": one.name, "place": one.place, "free": one.free} if one else {})})
+            if new and tables:
+                tables[number].notes.append(Fault("note.new", TABLES[number], values={"names": new, "at": self.at}))
+        return found
+
+    @staticmethod
+    def fault(one: Optional[Stood], now: Member, places: int) -> str:
+        """The code of what keeps a member from taking part, or no text."""
+        if one is None:
+            return "name.new"
+        if not is_one(one.name, now.name) and not is_one(one.name, now.label):
+            return "name.other-before"
+        return "name.matched" if one.place else "places.free" if places > one.free else ""
