@@ -17,14 +17,14 @@ WORDS = {
     "de": ("Besetzt sind {0} von {1} Plätzen.", "Frei bleiben {0} Plätze.", "Ihre Personen, jede mit dem Rang auf Ihrer Liste:", "Niemand hat einen Platz bei Ihnen.",
            "Sie haben Ihre Teilnahme zurückgezogen und bekommen deshalb niemanden.", "Sie hatten keine Plätze in der Zuteilung.",
            "In den Unterlagen der Zuteilung heißen Sie {}.", "20. März 2026"),
-    "es": ("{0} plazas ocupadas de {1}.", "{0} plazas quedan libres.", "Las personas asignadas, cada una con su posición en su lista:", "Nadie tiene plaza con ustedes.",
+    "es": ("{0} plazas ocupadas de {1}.", "{0} plazas quedan libres.", "Las personas asignadas, cada una con su posición en la lista de ustedes:", "Nadie tiene plaza con ustedes.",
            "Ustedes se retiraron de la asignación y por eso no reciben a nadie.", "Ustedes no tenían plazas en la asignación.",
            "En los archivos de la asignación su nombre es {}.", "20 de marzo de 2026"),
     "fr": ("{0} places prises sur {1}.", "{0} places restent libres.", "Les personnes affectées chez vous, chacune avec son rang sur votre liste :", "Personne n’a de place chez vous.",
            "Vous vous êtes retiré de l’appariement et n’y recevez donc personne.", "Vous n’aviez pas de place dans l’appariement.",
            "Dans les fichiers de l’appariement, votre nom est {}.", "20 mars 2026"),
     "pl": ("Zajęte miejsca: {0} z {1}.", "Wolne miejsca: {0}.", "Przydzielone osoby, każda z pozycją na Państwa liście:", "Nikt nie ma u Państwa miejsca.",
-           "Wycofali się Państwo z przydziału, więc nikt nie został przydzielony.", "Nie mieli Państwo miejsc w przydziale.", "W plikach przydziału występujesz jako {}.",
+           "Wycofali się Państwo z przydziału, więc nikt nie został przydzielony.", "Nie mieli Państwo miejsc w przydziale.", "Nazwa w plikach przydziału: {}.",
            "20 marca 2026"),
 }
 MANY_PROGRAMMES = "Programme,Places,1,2,3,4,5,6\nNorth,4,Ana,Bo,Cem,Dan,Eva,Flo\nSouth,3,Gil,,,,,\nWest,0,Ana,,,,,\nEast,2,Bo,,,,,\n"
