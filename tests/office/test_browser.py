@@ -1,5 +1,6 @@
 """The page and the page of letters as Chromium shows them, where there is one: at a desk, on a telephone, and on paper."""
 import html
+import os
 import re
 import shutil
 import subprocess
@@ -59,7 +60,8 @@ class Browser(OfficeTest):
             *words,
             f"file://{quote(str(path))}",
         ]
-        done = subprocess.run(line, capture_output=True, timeout=120)
+        # The browser makes a socket there, whose path has to be short.
+        done = subprocess.run(line, capture_output=True, timeout=120, env={**os.environ, "TMPDIR": "/tmp"})
         self.assertEqual(done.returncode, 0, done.stderr)
         return done.stdout.decode("utf-8")
 

@@ -422,6 +422,22 @@ class Verify(unittest.TestCase):
             said = office("verify", self.at)
             self.assertEqual((said.status, said.out, said.err), (3, "", f"office: {self.at}: {name} is missing\n"))
 
+    def test_a_long_path_is_told_whole(self) -> None:
+        """The end of a path says which file it is: of a table, a folder that is written, and one that lacks a file."""
+        below = self.at.parent.joinpath(*["d" * 200] * 3)
+        below.mkdir(parents=True)
+        tables, match = [below / "programmes.csv", below / "residents.csv"], below / "match"
+        for table, text in zip(tables, ("Programme,Places,1\nNorth,1,Ana\n", "Applicant,1\nAna,North\n")):
+            table.write_text(text)
+        said = office("run", *tables, "--out", match, "--date", "2026-03-20")
+        self.assertEqual((said.status, said.out), (0, (
+            f"programmes: {tables[0]}, UTF-8, commas, a row for each programme; 1 programme, 1 place\n"
+            f"residents: {tables[1]}, UTF-8, commas, a row for each resident; 1 resident\n"
+            f"1 of 1 residents matched; 0 of 1 places unfilled\naudit: stable; replay: good; written to {match}\n")))
+        (match / SHEET).unlink()
+        said = office("verify", match)
+        self.assertEqual((said.status, said.out, said.err), (3, "", f"office: {match}: {SHEET} is missing\n"))
+
 
 if __name__ == "__main__":
     unittest.main()

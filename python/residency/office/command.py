@@ -12,7 +12,7 @@ from ..market import Market
 from ..text import decode
 from . import changed, compare, folder, national, rounds, running, sealing, settings, sheets, steps, stopping, writing
 from .cells import DELIMITERS, known_delimiter
-from .faults import MOST_SHOWN, Faults, FaultsError, OfficeError, column_letters, counted, shown
+from .faults import MOST_OF_PATH, MOST_SHOWN, Faults, FaultsError, OfficeError, column_letters, counted, shown
 from .headings import Words
 from .letters import OTHERS, PROGRAMME, Templates, checked_templates
 from .line import parser
@@ -120,9 +120,10 @@ def settings_of(given: argparse.Namespace, beside: Optional[str] = None, start: 
         there = os.path.join(os.path.dirname(beside), settings.NAME)
         path = there if os.path.isfile(there) else None
     if path is not None:
-        found = settings.read_settings(text_of(path), shown(path))
+        found = settings.read_settings(text_of(path), shown(path, MOST_OF_PATH))
         others = ", ".join(f"--{name.replace('_', '-')}" for name in said)
-        (complain if given.command in QUIET and given.json else say)(f"settings: {shown(path)}" + (f"; of the command line: {others}" if others else ""))
+        (complain if given.command in QUIET and given.json else say)(
+            f"settings: {shown(path, MOST_OF_PATH)}" + (f"; of the command line: {others}" if others else ""))
     for name, value in said.items():
         setattr(found, name, {**getattr(found, name), **value} if isinstance(value, dict) else value)
     Words(found.heading)
@@ -187,7 +188,7 @@ def check(given: argparse.Namespace) -> int:
     if len(given.files) == 1:
         data = bytes_of(given.files[0])
         refuse_one_table(given.files[0], data)
-        return tell_docket(data, shown(given.files[0]), given)
+        return tell_docket(data, shown(given.files[0], MOST_OF_PATH), given)
     if len(given.files) != 2:
         raise OfficeError("words.two-tables", 2)
     try:
@@ -222,7 +223,7 @@ def settings_command(given: argparse.Namespace) -> int:
         for look in looks:
             take_found(found, look)
     writing.new_file(out, settings.file_text(found, remarks).encode("utf-8"))
-    say(f"settings written to {shown(out)}")
+    say(f"settings written to {shown(out, MOST_OF_PATH)}")
     return 0
 
 
@@ -249,7 +250,7 @@ def lint_command(given: argparse.Namespace) -> int:
         if sys.stdin is None:
             raise OfficeError("words.closed")
         return tell_docket(at_most(sys.stdin.buffer, "standard input"), "standard input", given)
-    return tell_docket(bytes_of(given.docket), shown(given.docket), given)
+    return tell_docket(bytes_of(given.docket), shown(given.docket, MOST_OF_PATH), given)
 
 
 def tell_docket(data: bytes, label: str, given: argparse.Namespace) -> int:
@@ -316,7 +317,7 @@ def language_of(chosen: Settings, before: Language = Language()) -> Language:
     if not os.path.exists(word):
         raise OfficeError("words.language", 2, text=word, languages=languages())
     text = text_of(word)
-    return Language(read_phrases(text, shown(word)).language, text, column)
+    return Language(read_phrases(text, shown(word, MOST_OF_PATH)).language, text, column)
 
 
 def title_of_line(given: argparse.Namespace) -> str:
@@ -330,7 +331,7 @@ def title_of_line(given: argparse.Namespace) -> str:
 def text_of(path: str) -> str:
     """The text of a file. OfficeError where it is none."""
     faults = Faults()
-    text = decoded(bytes_of(path), shown(path), None, faults).text
+    text = decoded(bytes_of(path), shown(path, MOST_OF_PATH), None, faults).text
     if len(faults):
         raise FaultsError(faults)
     return text
@@ -434,7 +435,7 @@ def from_of(kept: running.Kept, said: Optional[Dict[str, Dict[str, object]]] = N
 
 
 def sealed(out: str, roots: Roots) -> str:
-    return f"{counted(roots.count, 'member')} sealed, each with a receipt; written to {shown(out)}"
+    return f"{counted(roots.count, 'member')} sealed, each with a receipt; written to {shown(out, MOST_OF_PATH)}"
 
 
 def published(roots: Roots) -> List[str]:
@@ -460,7 +461,7 @@ def told(out: str, result: running.Matched, wishes: Wishes) -> List[str]:
     return [f"{matched:,} of {len(outcome.residents):,} residents matched" + "".join(f", {count}" for count in counts)
             + f"; {left:,} of {outcome.places():,} places unfilled",
             *[f"after all rounds {placed:,} of {len(every):,} residents have a place"] * bool(wishes.earlier),
-            f"audit: stable; replay: good; written to {shown(out)}"]
+            f"audit: stable; replay: good; written to {shown(out, MOST_OF_PATH)}"]
 
 
 def withdraw(given: argparse.Namespace) -> int:
@@ -523,7 +524,7 @@ def letters(given: argparse.Namespace) -> int:
     with folder.new_folder(given.out, private=True) as draft:
         count = running.write_letters(draft, written, "")
         more = running.write_letters(draft, written.programmes(), "programmes/")
-    say(f"{counted(count, 'letter')} to residents and {more:,} to programmes written to {shown(given.out)}")
+    say(f"{counted(count, 'letter')} to residents and {more:,} to programmes written to {shown(given.out, MOST_OF_PATH)}")
     return 0
 
 
@@ -534,7 +535,7 @@ def why_command(given: argparse.Namespace) -> int:
     text = counter.letter(*asked, given.date or date.today()) if given.letter else "\n".join([*counter.answer(*asked), ""])
     if given.out is not None:
         writing.new_file(given.out, text.encode("utf-8"), writing.PRIVATE)
-    say(text.rstrip("\n") if given.out is None else f"written to {shown(given.out)}")
+    say(text.rstrip("\n") if given.out is None else f"written to {shown(given.out, MOST_OF_PATH)}")
     return 0
 
 
@@ -570,7 +571,7 @@ def next_command(given: argparse.Namespace) -> int:
         for name, data in tables.items():
             draft.write(f"{name}.xlsx", data)
     left, free = sum(len(before.outcome.standing(one)) for one in UNMATCHED), len(before.outcome.unfilled())
-    say(f"{counted(free, 'programme')} with free places, {counted(left, 'unmatched resident')}; written to {shown(given.out)}")
+    say(f"{counted(free, 'programme')} with free places, {counted(left, 'unmatched resident')}; written to {shown(given.out, MOST_OF_PATH)}")
     return 0
 
 
@@ -579,7 +580,7 @@ def auditor_command(given: argparse.Namespace) -> int:
 
     writing.refuse(given.out)
     count = auditor.copy(given.folder, given.out, given.key)
-    say(f"{counted(count, 'file')} for an auditor, with{'' if given.key else 'out'} the key; written to {shown(given.out)}")
+    say(f"{counted(count, 'file')} for an auditor, with{'' if given.key else 'out'} the key; written to {shown(given.out, MOST_OF_PATH)}")
     return 0
 
 

@@ -11,8 +11,8 @@ from .. import text
 MOST_SHOWN = 20
 # So many faults of a kind are kept, and of others it is kept how many there are.
 MOST_KEPT = 50_000
-# How much of a cell a line shows.
-MOST_LETTERS = 80
+# How much a line shows of a cell, and of a path on the command line: the end of a path says which file it is, and no system takes more.
+MOST_LETTERS, MOST_OF_PATH = 80, 4_096
 Values = Mapping[str, Any]
 counted = text.counted
 

@@ -6,8 +6,8 @@ from typing import Any, Callable, Dict, List, Mapping, Sequence, Union
 from .. import naming
 from ..names import PROGRAMME, RESIDENT, SIDES, Member
 from .cells import DELIMITERS, Rows
-from .faults import (KINDS, MOST_KEPT, MOST_LETTERS, MOST_SHOWN, Fault, Faults, FaultsError, OfficeError, Values, column_letters,
-                     counted, shown)
+from .faults import (KINDS, MOST_KEPT, MOST_LETTERS, MOST_OF_PATH, MOST_SHOWN, Fault, Faults, FaultsError, OfficeError, Values,
+                     column_letters, counted, shown)
 from .headings import OTHER, TITLES
 from .languages import sections
 from .tables import Table
@@ -36,8 +36,8 @@ class Told:
     things they are, and after `=` a word for one or for more; of so many texts or rows, each by a form; or, after `?`, what is said only
     where it is there."""
 
-    def __init__(self, value: Any) -> None:
-        self.value = value
+    def __init__(self, value: Any, most: int = MOST_LETTERS) -> None:
+        self.value, self.most = value, most
 
     def __format__(self, how: str) -> str:
         value = self.value
@@ -54,7 +54,7 @@ class Told:
             return each(value, int(found[1]), found[2])
         if isinstance(value, int):
             return str(value) if how == "d" else counted(value, *how.split("|")) if how else f"{value:,}"
-        most = int(how) if how else MOST_LETTERS
+        most = int(how) if how else self.most
         return ", ".join(shown(one, most) for one in value) if isinstance(value, (list, tuple)) else shown(value, most)
 
 
@@ -70,7 +70,7 @@ def how(table: Table) -> str:
     """How a table was read."""
     form = "a row for each rank" if table.is_long else f"a row for each {table.owners}"
     language = "" if table.language == "English" else f"headings in {table.language}, "
-    return f"{table.name}: {shown(table.path)}, {table.text.title()}, {parted(table.rows)}, {language}{form}"
+    return f"{table.name}: {shown(table.path, MOST_OF_PATH)}, {table.text.title()}, {parted(table.rows)}, {language}{form}"
 
 
 def few(names: Sequence[str], most: int = 40) -> str:
@@ -197,7 +197,7 @@ def said_by(error: Exception) -> str:
         return str(error)
     fault = error.fault
     said = as_sentence(ERRORS[fault.code], {**fault.values, "at": error.at, "table": fault.table, "row": fault.row})
-    return f"{shown(error.at)}: {said}" if error.at and fault.kind == "member" else said
+    return f"{shown(error.at, MOST_OF_PATH)}: {said}" if error.at and fault.kind == "member" else said
 
 
 def said_otherwise(error: OfficeError, faults: Sequence[Fault], all_of_them: bool) -> str:
@@ -211,7 +211,7 @@ class Tellable(Dict[str, Told]):
     """Values as a sentence shows them."""
 
     def __init__(self, values: Mapping[str, Any]) -> None:
-        super().__init__({name: Told(value) for name, value in values.items()})
+        super().__init__({name: Told(value, MOST_OF_PATH if name == "at" else MOST_LETTERS) for name, value in values.items()})
 
 
 def place(fault: Fault) -> str:
